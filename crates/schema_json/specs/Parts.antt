@@ -1,0 +1,64 @@
+-- Part lists: the parts of which a file is made.
+use Rattle.std.specs.Prelude.{ℕ, ◌+◌, ◌≤◌, Bool, List, [], ◌∷◌, Option, Some, None, codes, nat_le, option_and_then, option_map, if◌then◌else◌, All}
+use Rattle.serde_json.specs.Data.{Data, Items, no_items, item}
+use Rattle.serde_json.specs.Find.{get, as_array}
+use Rattle.schema_json.specs.Fields.{ref_in, whole_at, whole_or_zero}
+use Rattle.schema_json.specs.declared.parts.Origin.{Origin}
+use Rattle.schema_json.specs.declared.parts.Origin.TheVariants.{Zeros, Blob, Tree}
+use Rattle.schema_json.specs.declared.parts.Part.{Part}
+
+-- no offset, no size and no sum of sizes is greater: 256 TiB
+abbrev pub greatest_length : ℕ
+greatest_length = 281474976710656
+
+abbrev pub is_length : ℕ → Bool
+is_length n = nat_le n greatest_length
+
+-- a whole number within the limit
+abbrev pub length_in : Option ℕ → Option ℕ
+length_in found = option_and_then (λ n. if is_length n then Some n else None) found
+
+-- an origin by the values under `blobRef` and `bytesRef`: at most one may stand, and it is a ref. Where none stands the part is zeros.
+abbrev pub origin_of : Option Data → Option Data → Option Origin
+origin_of None None = Some Zeros
+origin_of (Some blob) None = option_map Blob (ref_in blob)
+origin_of None (Some tree) = option_map Tree (ref_in tree)
+origin_of (Some blob) (Some tree) = None
+
+abbrev pub origin_in : Data → Option Origin
+origin_in d = origin_of (get (codes "blobRef") d) (get (codes "bytesRef") d)
+
+-- a part: an object with `size`, optionally `offset`, and an origin
+abbrev pub part_in : Data → Option Part
+part_in d =
+    option_and_then (λ size.
+    option_and_then (λ offset.
+    option_map (λ origin. record { size = size; offset = offset; origin = origin })
+    (origin_in d))
+    (length_in (whole_or_zero (get (codes "offset") d))))
+    (length_in (whole_at (codes "size") d))
+
+-- each item a part
+abbrev pub parts_of : Items → Option (List Part)
+parts_of no_items = Some []
+parts_of (item d ds) = option_and_then (λ part. option_map (λ parts. part ∷ parts) (parts_of ds)) (part_in d)
+
+-- how many bytes the parts have together
+abbrev pub total_size : List Part → ℕ
+total_size [] = 0
+total_size (part ∷ parts) = part.size + total_size parts
+
+-- the part list under `parts`
+abbrev pub part_list_of : Data → Option (List Part)
+part_list_of d =
+    option_and_then (λ parts. if is_length (total_size parts) then Some parts else None)
+    (option_and_then parts_of (option_and_then as_array (get (codes "parts") d)))
+
+-- a part within the limits
+abbrev pub IsShortPart : Part → Type 0
+IsShortPart part = (part.size ≤ greatest_length) × (part.offset ≤ greatest_length)
+
+-- a part list within the limits
+pub record MeetsLimits (parts : List Part) : Type 0 where
+  pub each : All IsShortPart parts
+  pub together : total_size parts ≤ greatest_length

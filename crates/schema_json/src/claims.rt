@@ -1,0 +1,149 @@
+//! What claims say.
+ghost use Rattle.std.specs.Prelude.{◌≡◌, IfOk, option_copied};
+ghost use Rattle.serde_json.specs.View.{view};
+ghost use Rattle.schema_json.specs.Facts.{attribute_of, change_of, set_of, add_of, del_of, delete_of, what_by, what_of, claim_of, claim_kind, date_of};
+
+use crate::date::Date;
+use crate::fields::{has_type, ref_at, text_at, text_or_empty};
+use crate::kinds::{Kind, Signed, What};
+use crate::signing::signed_in;
+use blobref::{NoMemory, Ref, Text};
+use serde_json::Value;
+use std::alloc::Global;
+
+// What an attribute claim is about.
+#[derive(Drop)]
+struct Change {
+    on: Ref,
+    attr: Text,
+    value: Text,
+}
+
+// A claim: a signed blob whose payload has the type, a date and what it says.
+pub fn claim_kind(alloc: Global, bytes: &[u8]) -> Result<Option<Kind>, NoMemory>
+    ensures { IfOk result (λ kind. kind ≡ claim_kind bytes.now) }
+{
+    match signed_in(alloc, bytes)? {
+        Some((object, signed)) => claim_of(alloc, &object, signed),
+        None => Ok(None),
+    }
+}
+
+fn claim_of(alloc: Global, object: &Value, signed: Signed) -> Result<Option<Kind>, NoMemory>
+    ensures { IfOk result (λ kind. kind ≡ claim_of (view object.now) signed) }
+{
+    if !has_type(object, "claim") {
+        return Ok(None);
+    }
+    let Some(date) = date_of(object) else {
+        return Ok(None);
+    };
+    match what_of(alloc, object)? {
+        Some(what) => Ok(Some(Kind::Claim { signed, date, what })),
+        None => Ok(None),
+    }
+}
+
+fn date_of(object: &Value) -> Option<Date>
+    ensures { result ≡ date_of (view object.now) }
+{
+    Date::read(text_at(object, "claimDate")?.as_bytes())
+}
+
+fn what_of(alloc: Global, object: &Value) -> Result<Option<What>, NoMemory>
+    ensures { IfOk result (λ what. what ≡ what_of (view object.now)) }
+{
+    match text_at(object, "claimType") {
+        Some(type_name) => what_by(alloc, type_name, object),
+        None => Ok(None),
+    }
+}
+
+// What a claim of this `claimType` says.
+fn what_by(alloc: Global, type_name: &str, object: &Value) -> Result<Option<What>, NoMemory>
+    ensures { IfOk result (λ what. what ≡ what_by type_name.now (view object.now)) }
+{
+    match type_name {
+        "set-attribute" => set_of(alloc, object),
+        "add-attribute" => add_of(alloc, object),
+        "del-attribute" => del_of(alloc, object),
+        "delete" => Ok(delete_of(object)),
+        _ => Ok(None),
+    }
+}
+
+fn set_of(alloc: Global, object: &Value) -> Result<Option<What>, NoMemory>
+    ensures { IfOk result (λ what. what ≡ set_of (view object.now)) }
+{
+    match change_of(alloc, text_at(object, "value"), object)? {
+        Some(change) => Ok(Some(What::Set {
+            on: change.on,
+            attr: change.attr,
+            value: change.value,
+        })),
+        None => Ok(None),
+    }
+}
+
+fn add_of(alloc: Global, object: &Value) -> Result<Option<What>, NoMemory>
+    ensures { IfOk result (λ what. what ≡ add_of (view object.now)) }
+{
+    match change_of(alloc, text_at(object, "value"), object)? {
+        Some(change) => Ok(Some(What::Add {
+            on: change.on,
+            attr: change.attr,
+            value: change.value,
+        })),
+        None => Ok(None),
+    }
+}
+
+// A missing value is the empty one.
+fn del_of(alloc: Global, object: &Value) -> Result<Option<What>, NoMemory>
+    ensures { IfOk result (λ what. what ≡ del_of (view object.now)) }
+{
+    match change_of(alloc, text_or_empty(object, "value"), object)? {
+        Some(change) => Ok(Some(What::Del {
+            on: change.on,
+            attr: change.attr,
+            value: change.value,
+        })),
+        None => Ok(None),
+    }
+}
+
+fn delete_of(object: &Value) -> Option<What>
+    ensures { result ≡ delete_of (view object.now) }
+{
+    let target = ref_at(object, "target")?;
+    Some(What::Delete { target })
+}
+
+// The permanode and the attribute of an attribute claim, with this value.
+fn change_of(alloc: Global, value: Option<&str>, object: &Value) -> Result<Option<Change>, NoMemory>
+    ensures { IfOk result (λ change. change ≡ change_of (option_copied value.entry) (view object.now)) }
+{
+    let Some(on) = ref_at(object, "permaNode") else {
+        return Ok(None);
+    };
+    let Some(attr) = attribute_of(object) else {
+        return Ok(None);
+    };
+    let Some(value) = value else {
+        return Ok(None);
+    };
+    let attr = Text::copy(alloc, attr)?;
+    let value = Text::copy(alloc, value)?;
+    Ok(Some(Change { on, attr, value }))
+}
+
+// The attribute, which is not empty.
+fn attribute_of(object: &Value) -> Option<&str>
+    ensures { option_copied result ≡ attribute_of (view object.now) }
+{
+    let name = text_at(object, "attribute")?;
+    if name.is_empty() {
+        return None;
+    }
+    Some(name)
+}

@@ -1,0 +1,116 @@
+//! The fields of JSON objects that facts are made of.
+ghost use Rattle.std.specs.Prelude.{◌≡◌, IfOk, Some, None, option_map, option_copied};
+ghost use Rattle.serde_json.specs.View.{view, items_view};
+ghost use Rattle.serde_json.specs.Find.{get};
+ghost use Rattle.schema_json.specs.Fields.{json_in, text_at, text_or_empty, whole_at, whole_or_zero, ref_in, ref_at, refs_at, refs_of, type_of, has_type};
+
+use blobref::{NoMemory, Ref, RefList};
+use serde_json::Value;
+use std::alloc::Global;
+
+// The one JSON value that the bytes are.
+pub fn json_in(alloc: Global, bytes: &[u8]) -> Result<Option<Value>, NoMemory>
+    ensures { IfOk result (λ value. option_map view value ≡ json_in bytes.now) }
+{
+    match Value::from_slice(alloc, bytes) {
+        Ok(value) => Ok(Some(value)),
+        Err(error) => {
+            if error.is_memory() {
+                Err(NoMemory)
+            } else {
+                Ok(None)
+            }
+        }
+    }
+}
+
+// The text under a key.
+pub fn text_at<'v>(object: &'v Value, key: &str) -> Option<&'v str>
+    ensures { option_copied result ≡ text_at key.now (view object.now) }
+{
+    object.get(key).and_then(Value::as_str)
+}
+
+// The text under a key, or the empty one where there is no such key.
+pub fn text_or_empty<'v>(object: &'v Value, key: &str) -> Option<&'v str>
+    ensures { option_copied result ≡ text_or_empty (get key.now (view object.now)) }
+{
+    match object.get(key) {
+        None => Some(""),
+        Some(value) => value.as_str(),
+    }
+}
+
+// The whole number under a key.
+pub fn whole_at(object: &Value, key: &str) -> Option<u64>
+    ensures { result ≡ whole_at key.now (view object.now) }
+{
+    object.get(key).and_then(Value::as_u64)
+}
+
+// The whole number under a key, or zero where there is no such key.
+pub fn whole_or_zero(object: &Value, key: &str) -> Option<u64>
+    ensures { result ≡ whole_or_zero (get key.now (view object.now)) }
+{
+    match object.get(key) {
+        None => Some(0),
+        Some(value) => value.as_u64(),
+    }
+}
+
+// The ref that a value is.
+pub fn ref_in(value: &Value) -> Option<Ref>
+    ensures { result ≡ ref_in (view value.now) }
+{
+    Ref::read(value.as_str()?.as_bytes())
+}
+
+// The ref under a key.
+pub fn ref_at(object: &Value, key: &str) -> Option<Ref>
+    ensures { result ≡ ref_at key.now (view object.now) }
+{
+    ref_in(object.get(key)?)
+}
+
+// The list of refs under a key.
+pub fn refs_at(alloc: Global, object: &Value, key: &str) -> Result<Option<RefList>, NoMemory>
+    ensures { IfOk result (λ refs. refs ≡ refs_at key.now (view object.now)) }
+{
+    match object.get(key).and_then(Value::as_array) {
+        Some(items) => refs_of(alloc, items),
+        None => Ok(None),
+    }
+}
+
+fn refs_of(alloc: Global, items: &[Value]) -> Result<Option<RefList>, NoMemory>
+    ensures { IfOk result (λ refs. refs ≡ refs_of (items_view items.now)) }
+{
+    let mut refs = RefList::empty(alloc);
+    for value in items {
+        let Some(r) = ref_in(value) else {
+            return Ok(None);
+        };
+        refs.push(r)?;
+    }
+    Ok(Some(refs))
+}
+
+// The type of a schema object.
+pub fn type_of(object: &Value) -> Option<&str>
+    ensures { option_copied result ≡ type_of (view object.now) }
+{
+    if whole_at(object, "camliVersion")? != 1 {
+        return None;
+    }
+    text_at(object, "camliType")
+}
+
+// Whether it is a schema object of this type.
+pub fn has_type(object: &Value, name: &str) -> bool
+    ensures { result ≡ has_type name.now (view object.now) }
+{
+    match type_of(object) {
+        Some(found) => found == name,
+        None => false,
+    }
+}

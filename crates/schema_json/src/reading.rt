@@ -1,0 +1,159 @@
+//! What blobs say.
+ghost use Rattle.std.specs.Prelude.{◌≡◌, IfOk};
+ghost use Rattle.serde_json.specs.View.{view};
+ghost use Rattle.schema_json.specs.Facts.{fact_of, kind_of, schema_kind, object_kind, known_kind, signed_kind, file_kind, bytes_kind, directory_kind, set_kind, permanode_kind, key_in, IsValid};
+
+use crate::claims::claim_kind;
+use crate::fields::{has_type, json_in, ref_at, refs_at, text_or_empty, type_of};
+use crate::kinds::{Fact, Kind};
+use crate::part_list::part_list_of;
+use crate::signing::signed_in;
+use blobref::{NoMemory, Text};
+use claim_verify::KeyName;
+use serde_json::Value;
+use std::alloc::Global;
+
+const LONGEST_SCHEMA: usize = 1_048_576;
+
+/// What the blob of these bytes says (`docs/formats/schema.md`).
+#[tactic(auto, unfolding(crate::specs::Facts::fact_of))]
+pub fn fact(alloc: Global, bytes: &[u8]) -> Result<Fact, NoMemory>
+    ensures value { IfOk result (λ found. found ≡ fact_of bytes.now) }
+    ensures valid { IfOk result IsValid }
+{
+    let size = bytes.len() as u64;
+    let kind = kind_of(alloc, bytes)?;
+    Ok(Fact { size, kind })
+}
+
+fn kind_of(alloc: Global, bytes: &[u8]) -> Result<Kind, NoMemory>
+    ensures { IfOk result (λ kind. kind ≡ kind_of bytes.now) }
+{
+    match key_in(bytes) {
+        Some(name) => Ok(Kind::Key(name)),
+        None => schema_kind(alloc, bytes),
+    }
+}
+
+// The name of the key whose blob it is.
+fn key_in(bytes: &[u8]) -> Option<KeyName>
+    ensures { result ≡ key_in bytes.now }
+{
+    let line = bytes.strip_prefix(b"perkeep-hmac-sha256 ")?;
+    KeyName::read(line.strip_suffix(b"\n")?)
+}
+
+// What a blob that is no key says.
+fn schema_kind(alloc: Global, bytes: &[u8]) -> Result<Kind, NoMemory>
+    ensures { IfOk result (λ kind. kind ≡ schema_kind bytes.now) }
+{
+    if bytes.len() > LONGEST_SCHEMA {
+        return Ok(Kind::Plain);
+    }
+    match json_in(alloc, bytes)? {
+        Some(value) => object_kind(alloc, bytes, &value),
+        None => Ok(Kind::Plain),
+    }
+}
+
+// What the blob of this JSON value says.
+fn object_kind(alloc: Global, bytes: &[u8], value: &Value) -> Result<Kind, NoMemory>
+    ensures { IfOk result (λ kind. kind ≡ object_kind bytes.now (view value.now)) }
+{
+    let Some(type_name) = type_of(value) else {
+        return Ok(Kind::Plain);
+    };
+    match known_kind(alloc, type_name, bytes, value)? {
+        Some(kind) => Ok(kind),
+        None => Ok(Kind::Unread(Text::copy(alloc, type_name)?)),
+    }
+}
+
+// What the blob of an object of this type says, where it meets the conditions of the type.
+fn known_kind(
+    alloc: Global,
+    type_name: &str,
+    bytes: &[u8],
+    value: &Value,
+) -> Result<Option<Kind>, NoMemory>
+    ensures { IfOk result (λ kind. kind ≡ known_kind type_name.now bytes.now (view value.now)) }
+{
+    match type_name {
+        "file" => file_kind(alloc, value),
+        "bytes" => bytes_kind(alloc, value),
+        "directory" => directory_kind(alloc, value),
+        "static-set" => set_kind(alloc, value),
+        _ => signed_kind(alloc, type_name, bytes),
+    }
+}
+
+// What a blob of this type says that must be signed.
+fn signed_kind(alloc: Global, type_name: &str, bytes: &[u8]) -> Result<Option<Kind>, NoMemory>
+    ensures { IfOk result (λ kind. kind ≡ signed_kind type_name.now bytes.now) }
+{
+    match type_name {
+        "permanode" => permanode_kind(alloc, bytes),
+        "claim" => claim_kind(alloc, bytes),
+        _ => Ok(None),
+    }
+}
+
+fn file_kind(alloc: Global, value: &Value) -> Result<Option<Kind>, NoMemory>
+    ensures { IfOk result (λ kind. kind ≡ file_kind (view value.now)) }
+{
+    let Some(name) = text_or_empty(value, "fileName") else {
+        return Ok(None);
+    };
+    let Some(parts) = part_list_of(alloc, value)? else {
+        return Ok(None);
+    };
+    let name = Text::copy(alloc, name)?;
+    Ok(Some(Kind::File { name, parts }))
+}
+
+fn bytes_kind(alloc: Global, value: &Value) -> Result<Option<Kind>, NoMemory>
+    ensures { IfOk result (λ kind. kind ≡ bytes_kind (view value.now)) }
+{
+    match part_list_of(alloc, value)? {
+        Some(parts) => Ok(Some(Kind::Bytes(parts))),
+        None => Ok(None),
+    }
+}
+
+fn directory_kind(alloc: Global, value: &Value) -> Result<Option<Kind>, NoMemory>
+    ensures { IfOk result (λ kind. kind ≡ directory_kind (view value.now)) }
+{
+    let Some(name) = text_or_empty(value, "fileName") else {
+        return Ok(None);
+    };
+    let Some(entries) = ref_at(value, "entries") else {
+        return Ok(None);
+    };
+    let name = Text::copy(alloc, name)?;
+    Ok(Some(Kind::Directory { name, entries }))
+}
+
+fn set_kind(alloc: Global, value: &Value) -> Result<Option<Kind>, NoMemory>
+    ensures { IfOk result (λ kind. kind ≡ set_kind (view value.now)) }
+{
+    if value.get("mergeSets").is_some() {
+        return Ok(None);
+    }
+    match refs_at(alloc, value, "members")? {
+        Some(members) => Ok(Some(Kind::StaticSet(members))),
+        None => Ok(None),
+    }
+}
+
+fn permanode_kind(alloc: Global, bytes: &[u8]) -> Result<Option<Kind>, NoMemory>
+    ensures { IfOk result (λ kind. kind ≡ permanode_kind bytes.now) }
+{
+    let Some((object, signed)) = signed_in(alloc, bytes)? else {
+        return Ok(None);
+    };
+    if has_type(&object, "permanode") {
+        Ok(Some(Kind::Permanode(signed)))
+    } else {
+        Ok(None)
+    }
+}

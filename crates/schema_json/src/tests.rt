@@ -1,0 +1,129 @@
+use crate::{Fact, Kind, Origin, fact};
+use blobref::{NoMemory, Ref};
+use claim_verify::hmac_sha256;
+
+const KEY: &[u8; 25] = b"perkeep-hmac-sha256 jefe\n";
+
+const PERMANODE: &str =
+    r#"{"camliVersion":1,"camliType":"permanode","camliSigner":"sha224-da4a89851a3c8f7ce55ef510378a1b717451b9f0b152bb73f28508dc","random":"000102030405060708090a0b0c0d0e0f","camliSig":"1e5bcf1913a8b2517cf5f29a6fc8dd96fbc6dd1c9ed88e9f61f486dc9b161526"}"#;
+
+const TWICE_MARKED: &str =
+    r#"{"camliVersion":1,"camliType":"permanode","camliSigner":"sha224-da4a89851a3c8f7ce55ef510378a1b717451b9f0b152bb73f28508dc","random":"000102030405060708090a0b0c0d0e0f","note":{"a":1,"camliSig":"zz"},"camliSig":"d669f66d01b3f36a439c86ac0c9886ba9bf78c3ca0c05e7caf570760190f7ca9"}"#;
+
+fn name_of(fact: &Fact) -> &str {
+    match &fact.kind {
+        Kind::Plain => "plain",
+        Kind::Key(_) => "key",
+        Kind::File { .. } => "file",
+        Kind::Bytes(_) => "bytes",
+        Kind::Directory { .. } => "directory",
+        Kind::StaticSet(_) => "set",
+        Kind::Permanode(_) => "permanode",
+        Kind::Claim { .. } => "claim",
+        Kind::Unread(_) => "unread",
+    }
+}
+
+// Each line is a kind and a text of that kind.
+const TEXTS: &str = r#"unread {"camliVersion":1,"camliType":"link"}
+plain perkeep-hmac-sha256 jefe
+plain {"camliVersion":1.0,"camliType":"link"}
+plain {"camliVersion":1}
+plain {"camliVersion":1,"camliType":"link"}}
+directory {"camliVersion":2,"camliType":"x","camliVersion":1,"camliType":"directory","entries":"sha224-23097d223405d8228642a477bda255b32aadbce4bda0b3f7e36c9da7"}
+unread {"camliVersion":1,"camliType":"directory","entries":"sha224-23"}
+unread {"camliVersion":1,"camliType":"directory","fileName":null,"entries":"sha224-23097d223405d8228642a477bda255b32aadbce4bda0b3f7e36c9da7"}
+set {"camliVersion":1,"camliType":"static-set","members":["sha224-23097d223405d8228642a477bda255b32aadbce4bda0b3f7e36c9da7"]}
+unread {"camliVersion":1,"camliType":"static-set","members":[1]}
+unread {"camliVersion":1,"camliType":"static-set","members":[],"mergeSets":[]}
+unread {"camliVersion":1,"camliType":"permanode"}"#;
+
+// Each line is a kind, and the parts of a bytes blob of that kind.
+const PART_LISTS: &str = r#"bytes {"size":281474976710656},{"size":0,"offset":281474976710656}
+unread {"size":281474976710656},{"size":1}
+unread {"size":18446744073709551615},{"size":1}
+unread {"size":0,"offset":281474976710657}
+unread {"size":1,"offset":null}
+unread {"size":1,"blobRef":null}
+unread {"size":-0}
+unread {"offset":0}
+unread {"size":1,"blobRef":"sha224-23097d223405d8228642a477bda255b32aadbce4bda0b3f7e36c9da7","bytesRef":"sha224-23097d223405d8228642a477bda255b32aadbce4bda0b3f7e36c9da7"}"#;
+
+#[test]
+fn texts_have_their_kinds(rt: HostRuntime) -> Result<(), NoMemory> {
+    for line in TEXTS.lines() {
+        let (want, text) = line.split_once(' ').unwrap_or(("", ""));
+        let found = fact(rt.alloc(), text.as_bytes())?;
+        assert_eq!(rt; name_of(&found), want, "{text}");
+        assert!(rt; found.size == text.len() as u64);
+    }
+    Ok(())
+}
+
+#[test]
+fn part_lists_have_their_limits(rt: HostRuntime) -> Result<(), NoMemory> {
+    for line in PART_LISTS.lines() {
+        let (want, parts) = line.split_once(' ').unwrap_or(("", ""));
+        let text = format!(in rt.alloc();
+            r#"{{"camliVersion":1,"camliType":"bytes","parts":[{parts}]}}"#
+        )?;
+        let found = fact(rt.alloc(), text.as_bytes())?;
+        assert_eq!(rt; name_of(&found), want, "{parts}");
+    }
+    Ok(())
+}
+
+#[test]
+fn bytes_have_their_kinds(rt: HostRuntime) -> Result<(), NoMemory> {
+    assert_eq!(rt; name_of(&fact(rt.alloc(), KEY)?), "key");
+    assert_eq!(rt;
+        name_of(&fact(rt.alloc(), b"perkeep-hmac-sha256 jefe\n\n")?),
+        "plain"
+    );
+    let not_utf8 = b"{\"camliVersion\":1,\"camliType\":\"\xff\"}";
+    assert_eq!(rt; name_of(&fact(rt.alloc(), not_utf8)?), "plain");
+    let mut bytes = Vec::from_slice(rt.alloc(), br#"{"camliVersion":1,"camliType":"link"}"#)?;
+    bytes.resize(1_048_576, b' ')?;
+    assert_eq!(rt; name_of(&fact(rt.alloc(), &bytes)?), "unread");
+    bytes.push(b' ')?;
+    assert_eq!(rt; name_of(&fact(rt.alloc(), &bytes)?), "plain");
+    Ok(())
+}
+
+#[test]
+fn a_file_tells_its_parts_and_their_refs(rt: HostRuntime) -> Result<(), NoMemory> {
+    let text =
+        r#"{"camliVersion":1,"camliType":"file","fileName":"a.txt","parts":[{"size":3,"blobRef":"sha224-23097d223405d8228642a477bda255b32aadbce4bda0b3f7e36c9da7"},{"size":4},{"size":5,"offset":6,"bytesRef":"sha224-d14a028c2a3a2bc9476102bb288234c415a2b01f828ea62ac5b3e42f"}]}"#;
+    let found = fact(rt.alloc(), text.as_bytes())?.copy(rt.alloc())?;
+    assert!(rt; found.dep_count() == 2);
+    assert!(rt; found.dep(0) == Ref::of(b"abc"));
+    assert!(rt; found.dep(1) == Ref::of(b""));
+    let Kind::File { name, parts } = &found.kind else {
+        assert!(rt; false);
+        return Ok(());
+    };
+    assert!(rt; name.as_str() == "a.txt");
+    assert!(rt; parts.len() == 3);
+    assert!(rt; matches!(parts.at(1).origin, Origin::Zeros));
+    assert!(rt; parts.at(2).offset == 6);
+    Ok(())
+}
+
+// The digits were made by Python's `hmac`.
+#[test]
+fn a_permanode_is_signed_up_to_the_last_marker(rt: HostRuntime) -> Result<(), NoMemory> {
+    for text in [PERMANODE, TWICE_MARKED] {
+        let found = fact(rt.alloc(), text.as_bytes())?;
+        assert!(rt; found.dep_count() == 1);
+        assert!(rt; found.dep(0) == Ref::of(KEY));
+        let Kind::Permanode(signed) = &found.kind else {
+            assert!(rt; false);
+            return Ok(());
+        };
+        assert_eq!(rt; signed.sig, hmac_sha256(b"Jefe", signed.payload.as_slice()));
+    }
+    let front = PERMANODE.strip_suffix("}").unwrap_or("");
+    let text = format!(in rt.alloc(); "{front},\"a\":1}}")?;
+    assert_eq!(rt; name_of(&fact(rt.alloc(), text.as_bytes())?), "unread");
+    Ok(())
+}
