@@ -14,7 +14,7 @@ pub fn search_text(alloc: Global, refs: &RefList) -> Result<Octets, NoMemory>
     text.extend_from_slice(b"{\"blobs\":[")?;
     push_entries(&mut text, refs.as_slice())?;
     text.extend_from_slice(b"]}")?;
-    Octets::copy(alloc, &text)
+    Ok(Octets::from_vec(text))
 }
 
 // Writes the entries of the refs, with a comma between each two.

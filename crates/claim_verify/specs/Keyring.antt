@@ -59,7 +59,7 @@ pub record IsTextOf (text : List ℕ) (held : Keys) : Type 0 where
   pub whole : BeginsWithKeys text lines []
   pub held_is : held ≡ from_entries lines
 
--- the text's first line is the line of no key
+-- the text's first line is the line of no key: a key's line has one line feed, its last byte, so it is the first line of each text that it begins
 abbrev pub NoKeyBegins : List ℕ → Type 0
 NoKeyBegins text = (key : Key) (rest : List ℕ) → IsKey key → text ≢ key_line key ++ rest
 
@@ -101,7 +101,7 @@ WritesNoSecret digits = (secret : List ℕ) → IsSecret secret → digits ≢ e
 abbrev pub Lacks : ℕ → List ℕ → Type 0
 Lacks byte text = All (λ b. (b == byte) ≡ false) text
 
--- the byte stands once between these parts, and not in the first
+-- the text is cut at the first such byte, into what stands before it and after it
 pub record SplitsOnce (byte : ℕ) (text before after : List ℕ) : Type 0 where
   pub whole : text ≡ before ++ byte ∷ after
   pub first : Lacks byte before

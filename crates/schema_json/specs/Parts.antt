@@ -1,5 +1,5 @@
 -- Part lists: the parts of which a file is made.
-use Rattle.std.specs.Prelude.{ℕ, ◌+◌, ◌≤◌, Bool, List, [], ◌∷◌, Option, Some, None, codes, nat_le, option_and_then, option_map, if◌then◌else◌, All}
+use Rattle.std.specs.Prelude.{ℕ, ◌≤◌, Bool, List, [], ◌∷◌, Option, Some, None, codes, nat_le, option_and_then, option_map, if◌then◌else◌, All, sum_by}
 use Rattle.serde_json.specs.Data.{Data, Items, no_items, item}
 use Rattle.serde_json.specs.Find.{get, as_array}
 use Rattle.schema_json.specs.Fields.{ref_in, whole_at, whole_or_zero}
@@ -45,8 +45,7 @@ parts_of (item d ds) = option_and_then (λ part. option_map (λ parts. part ∷ 
 
 -- how many bytes the parts have together
 abbrev pub total_size : List Part → ℕ
-total_size [] = 0
-total_size (part ∷ parts) = part.size + total_size parts
+total_size parts = sum_by (λ part. part.size) parts
 
 -- the part list under `parts`
 abbrev pub part_list_of : Data → Option (List Part)

@@ -20,7 +20,7 @@ struct Change {
 }
 
 // A claim: a signed blob whose payload has the type, a date and what it says.
-pub fn claim_kind(alloc: Global, bytes: &[u8]) -> Result<Option<Kind>, NoMemory>
+pub(crate) fn claim_kind(alloc: Global, bytes: &[u8]) -> Result<Option<Kind>, NoMemory>
     ensures { IfOk result (λ kind. kind ≡ claim_kind bytes.now) }
 {
     match signed_in(alloc, bytes)? {

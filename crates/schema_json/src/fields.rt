@@ -9,7 +9,7 @@ use serde_json::Value;
 use std::alloc::Global;
 
 // The one JSON value that the bytes are.
-pub fn json_in(alloc: Global, bytes: &[u8]) -> Result<Option<Value>, NoMemory>
+pub(crate) fn json_in(alloc: Global, bytes: &[u8]) -> Result<Option<Value>, NoMemory>
     ensures { IfOk result (λ value. option_map view value ≡ json_in bytes.now) }
 {
     match Value::from_slice(alloc, bytes) {
@@ -25,14 +25,14 @@ pub fn json_in(alloc: Global, bytes: &[u8]) -> Result<Option<Value>, NoMemory>
 }
 
 // The text under a key.
-pub fn text_at<'v>(object: &'v Value, key: &str) -> Option<&'v str>
+pub(crate) fn text_at<'v>(object: &'v Value, key: &str) -> Option<&'v str>
     ensures { option_copied result ≡ text_at key.now (view object.now) }
 {
     object.get(key).and_then(Value::as_str)
 }
 
 // The text under a key, or the empty one where there is no such key.
-pub fn text_or_empty<'v>(object: &'v Value, key: &str) -> Option<&'v str>
+pub(crate) fn text_or_empty<'v>(object: &'v Value, key: &str) -> Option<&'v str>
     ensures { option_copied result ≡ text_or_empty (get key.now (view object.now)) }
 {
     match object.get(key) {
@@ -42,14 +42,14 @@ pub fn text_or_empty<'v>(object: &'v Value, key: &str) -> Option<&'v str>
 }
 
 // The whole number under a key.
-pub fn whole_at(object: &Value, key: &str) -> Option<u64>
+pub(crate) fn whole_at(object: &Value, key: &str) -> Option<u64>
     ensures { result ≡ whole_at key.now (view object.now) }
 {
     object.get(key).and_then(Value::as_u64)
 }
 
 // The whole number under a key, or zero where there is no such key.
-pub fn whole_or_zero(object: &Value, key: &str) -> Option<u64>
+pub(crate) fn whole_or_zero(object: &Value, key: &str) -> Option<u64>
     ensures { result ≡ whole_or_zero (get key.now (view object.now)) }
 {
     match object.get(key) {
@@ -59,21 +59,21 @@ pub fn whole_or_zero(object: &Value, key: &str) -> Option<u64>
 }
 
 // The ref that a value is.
-pub fn ref_in(value: &Value) -> Option<Ref>
+pub(crate) fn ref_in(value: &Value) -> Option<Ref>
     ensures { result ≡ ref_in (view value.now) }
 {
     Ref::read(value.as_str()?.as_bytes())
 }
 
 // The ref under a key.
-pub fn ref_at(object: &Value, key: &str) -> Option<Ref>
+pub(crate) fn ref_at(object: &Value, key: &str) -> Option<Ref>
     ensures { result ≡ ref_at key.now (view object.now) }
 {
     ref_in(object.get(key)?)
 }
 
 // The list of refs under a key.
-pub fn refs_at(alloc: Global, object: &Value, key: &str) -> Result<Option<RefList>, NoMemory>
+pub(crate) fn refs_at(alloc: Global, object: &Value, key: &str) -> Result<Option<RefList>, NoMemory>
     ensures { IfOk result (λ refs. refs ≡ refs_at key.now (view object.now)) }
 {
     match object.get(key).and_then(Value::as_array) {
@@ -96,7 +96,7 @@ fn refs_of(alloc: Global, items: &[Value]) -> Result<Option<RefList>, NoMemory>
 }
 
 // The type of a schema object.
-pub fn type_of(object: &Value) -> Option<&str>
+pub(crate) fn type_of(object: &Value) -> Option<&str>
     ensures { option_copied result ≡ type_of (view object.now) }
 {
     if whole_at(object, "camliVersion")? != 1 {
@@ -106,11 +106,8 @@ pub fn type_of(object: &Value) -> Option<&str>
 }
 
 // Whether it is a schema object of this type.
-pub fn has_type(object: &Value, name: &str) -> bool
+pub(crate) fn has_type(object: &Value, name: &str) -> bool
     ensures { result ≡ has_type name.now (view object.now) }
 {
-    match type_of(object) {
-        Some(found) => found == name,
-        None => false,
-    }
+    type_of(object) == Some(name)
 }

@@ -31,7 +31,7 @@ pub enum What {
     Delete { target: Ref },
 }
 
-/// What kind of blob it is, with what it says.
+/// What kind of blob it is, with what it says (`docs/formats/schema.md`).
 #[derive(Drop)]
 pub enum Kind {
     /// No schema blob.
@@ -57,9 +57,10 @@ pub enum Kind {
     Unread(Text),
 }
 
-/// What a blob says, with its length in bytes.
+/// What a blob says.
 #[derive(Drop)]
 pub struct Fact {
+    /// The blob's length in bytes.
     pub size: u64,
     pub kind: Kind,
 }

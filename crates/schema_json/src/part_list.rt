@@ -12,7 +12,7 @@ use std::alloc::Global;
 const GREATEST_LENGTH: u64 = 281_474_976_710_656;
 
 // The part list under `parts`.
-pub fn part_list_of(alloc: Global, object: &Value) -> Result<Option<PartList>, NoMemory>
+pub(crate) fn part_list_of(alloc: Global, object: &Value) -> Result<Option<PartList>, NoMemory>
     ensures { IfOk result (λ parts. parts ≡ part_list_of (view object.now)) }
 {
     let Some(items) = object.get("parts").and_then(Value::as_array) else {

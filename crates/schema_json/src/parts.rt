@@ -107,21 +107,28 @@ impl PartList {
     pub(crate) fn ref_count(&self) -> usize
         ensures { result ≡ length (part_refs self.now) }
     {
-        self.parts.iter().filter_map(|part| part.origin.r()).count()
+        self.parts
+            .iter()
+            .filter_map(|part| part.origin.blob())
+            .count()
     }
 
     // The refs of the parts, by their place among them.
     pub(crate) fn ref_at(&self, i: usize) -> Option<Ref>
         ensures { result ≡ slice_get (part_refs self.now) i }
     {
-        self.parts.iter().filter_map(|part| part.origin.r()).nth(i)
+        self.parts
+            .iter()
+            .filter_map(|part| part.origin.blob())
+            .nth(i)
     }
 }
 
 impl Origin {
     ghost use Rattle.schema_json.specs.Dependencies.{origin_ref};
 
-    fn r(&self) -> Option<Ref>
+    // The blob from which the bytes come.
+    fn blob(&self) -> Option<Ref>
         ensures { result ≡ origin_ref self.now }
     {
         match self {

@@ -15,7 +15,8 @@ use std::alloc::Global;
 
 const LONGEST_SCHEMA: usize = 1_048_576;
 
-/// What the blob of these bytes says (`docs/formats/schema.md`).
+/// What the blob of these bytes says (`docs/formats/schema.md`). The fact is valid: its part list, if it has one, meets the limits
+/// on offsets, sizes and their sum. The only error is want of memory.
 #[tactic(auto, unfolding(crate::specs::Facts::fact_of))]
 pub fn fact(alloc: Global, bytes: &[u8]) -> Result<Fact, NoMemory>
     ensures value { IfOk result (λ found. found ≡ fact_of bytes.now) }
@@ -114,10 +115,7 @@ fn file_kind(alloc: Global, value: &Value) -> Result<Option<Kind>, NoMemory>
 fn bytes_kind(alloc: Global, value: &Value) -> Result<Option<Kind>, NoMemory>
     ensures { IfOk result (λ kind. kind ≡ bytes_kind (view value.now)) }
 {
-    match part_list_of(alloc, value)? {
-        Some(parts) => Ok(Some(Kind::Bytes(parts))),
-        None => Ok(None),
-    }
+    Ok(part_list_of(alloc, value)?.map(Kind::Bytes))
 }
 
 fn directory_kind(alloc: Global, value: &Value) -> Result<Option<Kind>, NoMemory>
@@ -139,10 +137,7 @@ fn set_kind(alloc: Global, value: &Value) -> Result<Option<Kind>, NoMemory>
     if value.get("mergeSets").is_some() {
         return Ok(None);
     }
-    match refs_at(alloc, value, "members")? {
-        Some(members) => Ok(Some(Kind::StaticSet(members))),
-        None => Ok(None),
-    }
+    Ok(refs_at(alloc, value, "members")?.map(Kind::StaticSet))
 }
 
 fn permanode_kind(alloc: Global, bytes: &[u8]) -> Result<Option<Kind>, NoMemory>

@@ -13,7 +13,7 @@ use serde_json::Value;
 use std::alloc::Global;
 
 // The payload's object, with what is signed.
-pub fn signed_in(alloc: Global, blob: &[u8]) -> Result<Option<(Value, Signed)>, NoMemory>
+pub(crate) fn signed_in(alloc: Global, blob: &[u8]) -> Result<Option<(Value, Signed)>, NoMemory>
     ensures { IfOk result (λ found. option_map (λ pair. (view pair.0, pair.1)) found ≡ signed_in blob.now) }
 {
     match split_signed(blob) {
@@ -60,10 +60,7 @@ fn signature_after(alloc: Global, rest: &[u8]) -> Result<Option<[u8; 32]>, NoMem
     ensures { IfOk result (λ sig. sig ≡ signature_after rest.now) }
 {
     let text = joined(alloc, b"{", rest)?;
-    match json_in(alloc, &text)? {
-        Some(value) => Ok(signature_of(&value)),
-        None => Ok(None),
-    }
+    Ok(json_in(alloc, &text)?.and_then(|value| signature_of(&value)))
 }
 
 fn signature_of(value: &Value) -> Option<[u8; 32]>

@@ -1,4 +1,4 @@
-use crate::{Fact, Kind, Origin, fact};
+use crate::{Fact, Kind, Origin, What, fact};
 use blobref::{NoMemory, Ref};
 use claim_verify::hmac_sha256;
 
@@ -125,5 +125,43 @@ fn a_permanode_is_signed_up_to_the_last_marker(rt: HostRuntime) -> Result<(), No
     let front = PERMANODE.strip_suffix("}").unwrap_or("");
     let text = format!(in rt.alloc(); "{front},\"a\":1}}")?;
     assert_eq!(rt; name_of(&fact(rt.alloc(), text.as_bytes())?), "unread");
+    Ok(())
+}
+
+// Each line is what is read of a claim, and the fields of its payload. The digits are of no importance.
+const CLAIMS: &str =
+    r#"set "claimDate":"2020-01-01T00:00:00Z","claimType":"set-attribute","permaNode":"sha224-23097d223405d8228642a477bda255b32aadbce4bda0b3f7e36c9da7","attribute":"tag","value":""
+add "claimDate":"2020-01-01T00:00:00Z","claimType":"add-attribute","permaNode":"sha224-23097d223405d8228642a477bda255b32aadbce4bda0b3f7e36c9da7","attribute":"tag","value":"a"
+del "claimDate":"2020-01-01T00:00:00Z","claimType":"del-attribute","permaNode":"sha224-23097d223405d8228642a477bda255b32aadbce4bda0b3f7e36c9da7","attribute":"tag"
+delete "claimDate":"2020-01-01T00:00:00Z","claimType":"delete","target":"sha224-23097d223405d8228642a477bda255b32aadbce4bda0b3f7e36c9da7"
+unread "claimDate":"2020-01-01T00:00:00Z","claimType":"set-attribute","permaNode":"sha224-23097d223405d8228642a477bda255b32aadbce4bda0b3f7e36c9da7","attribute":"tag"
+unread "claimDate":"2020-01-01T00:00:00Z","claimType":"del-attribute","permaNode":"sha224-23097d223405d8228642a477bda255b32aadbce4bda0b3f7e36c9da7","attribute":"tag","value":null
+unread "claimDate":"2020-01-01T00:00:00Z","claimType":"set-attribute","permaNode":"sha224-23097d223405d8228642a477bda255b32aadbce4bda0b3f7e36c9da7","attribute":"","value":"a"
+unread "claimDate":"2020-02-30T00:00:00Z","claimType":"delete","target":"sha224-23097d223405d8228642a477bda255b32aadbce4bda0b3f7e36c9da7"
+unread "claimType":"delete","target":"sha224-23097d223405d8228642a477bda255b32aadbce4bda0b3f7e36c9da7"
+unread "claimDate":"2020-01-01T00:00:00Z","claimType":"undelete","target":"sha224-23097d223405d8228642a477bda255b32aadbce4bda0b3f7e36c9da7""#;
+
+fn what_of(fact: &Fact) -> &str {
+    match &fact.kind {
+        Kind::Claim { what, .. } => match what {
+            What::Set { .. } => "set",
+            What::Add { .. } => "add",
+            What::Del { .. } => "del",
+            What::Delete { .. } => "delete",
+        },
+        _ => name_of(fact),
+    }
+}
+
+#[test]
+fn claims_say_what_their_payload_says(rt: HostRuntime) -> Result<(), NoMemory> {
+    for line in CLAIMS.lines() {
+        let (want, fields) = line.split_once(' ').unwrap_or(("", ""));
+        let text = format!(in rt.alloc();
+            r#"{{"camliVersion":1,"camliType":"claim","camliSigner":"sha224-23097d223405d8228642a477bda255b32aadbce4bda0b3f7e36c9da7",{fields},"camliSig":"0000000000000000000000000000000000000000000000000000000000000000"}}"#
+        )?;
+        let found = fact(rt.alloc(), text.as_bytes())?;
+        assert_eq!(rt; what_of(&found), want, "{fields}");
+    }
     Ok(())
 }

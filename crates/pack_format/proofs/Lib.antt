@@ -1,0 +1,6 @@
+pub mod Fields
+pub mod Numbers
+pub mod Blobs
+pub mod Deleted
+pub mod Headers
+pub mod Digests

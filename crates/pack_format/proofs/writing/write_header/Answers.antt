@@ -1,0 +1,13 @@
+use Rattle.std.proofs.Common.{◌≡◌, ◌++◌, ◌∷◌, length, ap, ◌∙◌}
+use Rattle.blobref.proofs.Spelled.{blobref_parts}
+use Rattle.pack_format.specs.Header.{header, size_field}
+use Rattle.pack_format.proofs.Fields.{take_header}
+use Rattle.pack_format.proofs.writing.write_header.Goals as goal
+
+pub returns : goal.returns
+unfolding header
+returns c =
+    let long : length c.copy_from_slice.new.self ≡ 63 = ap length c.copy_from_slice.ensures.after ∙ (blobref_parts _ c.text.ensures.form).length in
+    let r : c.copy_from_slice.new.self ≡ c.args.r.now = c.copy_from_slice.ensures.after ∙ c.text.ensures.text in
+    let field : c.copy_from_slice-2.new.self ≡ size_field c.args.size = c.copy_from_slice-2.ensures.after ∙ c.as_slice-field.ensures.text ∙ c.of-field.ensures in
+    take_header _ _ _ _ _ long (ap length c.copy_from_slice-2.ensures.after) ∙ (λ i. 91 ∷ (r i ++ field i))

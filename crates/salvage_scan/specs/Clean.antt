@@ -1,0 +1,30 @@
+-- What a reader and a writer of packs may rely on, as docs/formats/packs.md has it.
+use Rattle.std.specs.Prelude.{◌≡◌, ℕ, ◌+◌, ◌≤◌, List, [], ◌∷◌, ◌++◌, length}
+use Rattle.blobref.specs.Blobref.{ref_of}
+use Rattle.pack_format.specs.Header.{max_size, header, record_of, deleted_header, IsDeletedForm, IsDeletedRecord}
+use Rattle.salvage_scan.specs.Salvage.{salvage_past, salvage, broken_past, broken, IsClean}
+use Rattle.salvage_scan.specs.Rules.{finding}
+
+-- the text is records and deleted records, one after another, with nothing between them
+pub data IsConcatenation : List ℕ → Type 0 where
+  nothing : IsConcatenation []
+  kept : (bytes rest : List ℕ) → length bytes ≤ max_size → IsConcatenation rest → IsConcatenation (record_of bytes ++ rest)
+  deleted : (text rest : List ℕ) → IsDeletedRecord text → IsConcatenation rest → IsConcatenation (text ++ rest)
+
+pub record CleanPacks : Type 0 where
+  -- a pack is clean exactly where it is such records
+  pub clean : (pack : List ℕ) → IsConcatenation pack → IsClean pack
+  pub only_clean : (pack : List ℕ) → IsClean pack → IsConcatenation pack
+  -- what is found in a clean pack comes first, whatever follows it, and what follows it is searched as a text at its end
+  pub first : (pack more : List ℕ) → IsClean pack → salvage (pack ++ more) ≡ salvage pack ++ salvage_past (length pack) 0 more
+  pub then_broken : (pack more : List ℕ) → IsClean pack → broken (pack ++ more) ≡ broken_past (length pack) 0 more
+  -- a record that was appended to a clean pack is found, whatever follows it, and the pack is clean again
+  pub found : (pack bytes more : List ℕ) → length bytes ≤ max_size → IsClean pack
+      → salvage (pack ++ record_of bytes ++ more) ≡ salvage pack ++ finding (length pack) bytes ∷ salvage_past (length pack + length (record_of bytes)) 0 more
+  pub again : (pack bytes : List ℕ) → length bytes ≤ max_size → IsClean pack → IsClean (pack ++ record_of bytes)
+  -- behind the header of a torn record a record is taken as the bytes of that header's blob
+  pub swallowed : (pack bytes : List ℕ) → length (record_of bytes) ≤ max_size → IsClean pack
+      → salvage (pack ++ header (ref_of (record_of bytes)) (length (record_of bytes)) ++ record_of bytes) ≡ salvage pack ++ finding (length pack) (record_of bytes) ∷ []
+  -- and behind that of a torn deleted record it is passed over
+  pub lost : (pack bytes : List ℕ) (letters digits : ℕ) → IsDeletedForm letters digits (length (record_of bytes)) → IsClean pack
+      → salvage (pack ++ deleted_header letters digits (length (record_of bytes)) ++ record_of bytes) ≡ salvage pack

@@ -1,0 +1,5 @@
+pub mod Salvage
+pub mod Rules
+pub mod Scan
+pub mod Arrivals
+pub mod Clean

@@ -1,0 +1,13 @@
+//! Salvage: the blobs that can be found in a pack, whatever stands between them.
+#![tactic(auto)]
+
+mod found;
+mod laws;
+mod scanning;
+
+pub use found::{Clean, Found, FoundList};
+pub use laws::{arrival_rules, clean_rules, salvage_rules};
+pub use scanning::scan;
+
+#[cfg(test)]
+mod tests;
