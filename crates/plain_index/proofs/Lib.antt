@@ -1,0 +1,9 @@
+pub mod Order
+pub mod Tables
+pub mod Settling
+pub mod Groups
+pub mod Deletion
+pub mod Keys
+pub mod Texts
+pub mod Counting
+pub mod Lasts

@@ -1,0 +1,271 @@
+//! The index from scratch.
+ghost use Rattle.std.specs.Prelude.{◌≡◌, [], IfOk, OnOk, fold, map, option_copied, option_map};
+ghost use Rattle.std.specs.FinMap as finite;
+ghost use Rattle.std.specs.List.{filter_map};
+ghost use Rattle.blobref.specs.Blobref.{ref_cmp};
+ghost use Rattle.claim_model.specs.Claims.{counted};
+ghost use Rattle.claim_model.specs.Deleted.{can_be_deleted, deletes, deleted_within};
+ghost use Rattle.claim_model.specs.Facts.{AreDistinct, passes};
+ghost use Rattle.claim_model.specs.Genuine.{is_genuine, is_genuine_permanode, permanodes};
+ghost use Rattle.claim_model.specs.Ready.{is_ready};
+ghost use Rattle.plain_index.specs.Claims.{claims_about, apply_said, counted_claim, said};
+ghost use Rattle.plain_index.specs.Latest.{latest};
+
+use crate::claims::{can_be_deleted, claims, claims_about, deletes};
+use crate::facts::FactList;
+use crate::genuine::{genuine, is_permanode, permanodes};
+use crate::look::Look;
+use crate::lookup::{beside, fact_at, first_after};
+use crate::rounds::ready;
+use crate::values::{apply, claim_says, copied, later, moment_on};
+use blobref::{NoMemory, Ref, Text, TextList};
+use claim_verify::Verifier;
+use schema_json::{Date, Fact, What, When};
+use std::alloc::Global;
+use std::marker::Model;
+
+/// An index that is computed at once out of all facts. A contract sees the map of the facts, and the keys.
+#[derive(Drop)]
+pub struct PlainIndex<V: Verifier> {
+    alloc: Global,
+    facts: Vec<(Ref, Fact)>,
+    ready: Vec<bool>,
+    genuine: Vec<bool>,
+    permanodes: Vec<Ref>,
+    claims: Vec<(Ref, Ref)>,
+    keys: V,
+}
+
+impl<V: Verifier> Model for PlainIndex<V> {
+    ghost use Rattle.std.specs.FinMap as finite;
+    ghost use Rattle.std.specs.Coded.{coded_ℕ, coded_list, coded×};
+    ghost use Rattle.schema_json.specs.contracts.kinds.Fact as fact;
+    ghost use Rattle.claim_model.specs.Facts.{Facts};
+    ghost use Rattle.plain_index.specs.Computed.{IsComputed};
+
+    ghost Value = { Facts × V };
+
+    ghost coded = { coded× (finite.code (coded_list coded_ℕ) fact.the_row.coded) V.code };
+
+    ghost view = { λ a. (finite.from_entries a.facts.items, a.keys) };
+
+    ghost invariant = { λ a. IsComputed (V.accepts a.keys) a.facts.items a.ready.items a.genuine.items a.permanodes.items a.claims.items };
+}
+
+impl<V: Verifier> PlainIndex<V> {
+    /// The index over the facts, whatever their order. It keeps the allocator, and takes all its memory from it. `NoMemory` comes
+    /// only where no memory is left.
+    pub fn build(alloc: Global, facts: FactList, keys: V) -> Result<PlainIndex<V>, NoMemory>
+    where
+        V: Drop,
+        requires { AreDistinct facts }
+        ensures facts { IfOk result (λ index. index.0 ≡ finite.from_entries facts) }
+        ensures keys { IfOk result (λ index. index.1 ≡ keys) }
+    {
+        let facts = facts.sorted()?;
+        let ready = ready(alloc, &facts)?;
+        let genuine = genuine(alloc, &facts, &ready, &keys)?;
+        let permanodes = permanodes(alloc, &facts, &genuine)?;
+        let claims = claims(alloc, &facts, &genuine)?;
+        Ok(PlainIndex {
+            alloc,
+            facts,
+            ready,
+            genuine,
+            permanodes,
+            claims,
+            keys,
+        })
+    }
+
+    fn is_ready(&self, r: &Ref) -> bool
+        ensures { result ≡ is_ready self.now.0 r.now }
+    {
+        beside(&self.facts, &self.ready, r)
+    }
+
+    fn is_genuine(&self, r: &Ref) -> bool
+        ensures { result ≡ is_genuine self.now.0 (V.accepts self.now.1) r.now }
+    {
+        beside(&self.facts, &self.genuine, r)
+    }
+
+    fn fact_at(&self, r: &Ref) -> Option<&Fact>
+        ensures { option_copied result ≡ finite.get self.now.0 r.now }
+    {
+        fact_at(&self.facts, r)
+    }
+
+    fn permanodes(&self) -> &[Ref]
+        ensures { result.now ≡ permanodes self.now.0 (V.accepts self.now.1) }
+    {
+        &self.permanodes
+    }
+
+    fn len(&self) -> usize
+        ensures { result ≡ finite.len self.now.0 }
+    {
+        self.facts.len()
+    }
+
+    // The claims about a ref, each behind that ref.
+    fn claims_about(&self, q: &Ref) -> &[(Ref, Ref)]
+        ensures { result.now ≡ claims_about self.now.0 (V.accepts self.now.1) q.now }
+    {
+        claims_about(&self.claims, q)
+    }
+
+    // Whether the blob can be deleted at all.
+    fn can_be_deleted(&self, r: &Ref) -> bool
+        ensures { result ≡ passes (λ fact. can_be_deleted fact.kind) (finite.get self.now.0 r.now) }
+    {
+        match self.fact_at(r) {
+            Some(fact) => can_be_deleted(&fact.kind),
+            None => false,
+        }
+    }
+
+    fn deletes(&self, target: &Ref, when: &When, r: &Ref) -> bool
+        ensures { result ≡ passes (λ fact. deletes target.now when.now fact.kind) (finite.get self.now.0 r.now) }
+    {
+        match self.fact_at(r) {
+            Some(fact) => deletes(target, when, &fact.kind),
+            None => false,
+        }
+    }
+
+    // Whether the blob is deleted, where deletions of deletions are looked at so deep. Each claim has one target, so none is looked
+    // at twice.
+    fn deleted_within(&self, x: &Ref, when: &When, depth: usize) -> bool
+        ensures { result ≡ deleted_within self.now.0 (V.accepts self.now.1) when.now depth x.now }
+    {
+        if depth == 0 || !self.can_be_deleted(x) {
+            return false;
+        }
+        for (_, r) in self.claims_about(x) {
+            if self.deletes(x, when, r) && !self.deleted_within(r, when, depth - 1) {
+                return true;
+            }
+        }
+        false
+    }
+
+    fn is_genuine_permanode(&self, r: &Ref) -> bool
+        ensures { result ≡ is_genuine_permanode self.now.0 (V.accepts self.now.1) r.now }
+    {
+        match self.fact_at(r) {
+            Some(fact) => self.is_genuine(r) && is_permanode(&fact.kind),
+            None => false,
+        }
+    }
+
+    // The moment of a claim on the permanode, where it counts at that time.
+    fn moment(&self, p: &Ref, when: &When, r: &Ref) -> Option<(Date, Ref)>
+        ensures { result ≡ option_map (λ c. c.0) (counted_claim self.now.0 (V.accepts self.now.1) when.now p.now r.now) }
+    {
+        if self.deleted(r, when) {
+            return None;
+        }
+        let fact = self.fact_at(r)?;
+        moment_on(p, when, r, &fact.kind)
+    }
+
+    // The moments of the counted claims on a genuine permanode, as they come.
+    fn moments_of(&self, p: &Ref, when: &When) -> Result<Vec<(Date, Ref)>, NoMemory>
+        ensures { IfOk result (λ moments. moments.items
+            ≡ filter_map (λ c. option_map (λ d. d.0) (counted_claim self.now.0 (V.accepts self.now.1) when.now p.now c.1)) (claims_about self.now.0 (V.accepts self.now.1) p.now)) }
+    {
+        let moments = self
+            .claims_about(p)
+            .iter()
+            .filter_map(|claim| self.moment(p, when, &claim.1))
+            .collect(self.alloc)?;
+        Ok(moments)
+    }
+
+    // The moments of the counted claims on a permanode, in their order.
+    fn moments(&self, p: &Ref, when: &When) -> Result<Vec<(Date, Ref)>, NoMemory>
+        ensures { IfOk result (λ moments. moments.items ≡ finite.keys (counted self.now.0 (V.accepts self.now.1) when.now p.now)) }
+    {
+        if !self.is_genuine_permanode(p) {
+            return Ok(Vec::new(self.alloc));
+        }
+        let mut moments = self.moments_of(p, when)?;
+        moments.sort()?;
+        Ok(moments)
+    }
+
+    // The latest moment of a counted claim on a genuine permanode.
+    fn latest(&self, p: &Ref, when: &When) -> Option<(Date, Ref)>
+        ensures { result ≡ latest (filter_map (λ c. option_map (λ d. d.0) (counted_claim self.now.0 (V.accepts self.now.1) when.now p.now c.1)) (claims_about self.now.0 (V.accepts self.now.1) p.now)) }
+    {
+        let claims = self.claims_about(p);
+        let mut last = None;
+        for i in (0..claims.len()).rev() {
+            last = later(self.moment(p, when, &claims[i].1), last);
+        }
+        last
+    }
+
+    // What a claim says.
+    fn said(&self, r: &Ref) -> Option<&What>
+        ensures { option_copied result ≡ said self.now.0 r.now }
+    {
+        claim_says(&self.fact_at(r)?.kind)
+    }
+
+    // What a claim makes of the values of the attribute.
+    fn apply<'a>(&'a self, found: &mut Vec<&'a Text>, r: &Ref, attr: &str) -> Result<(), NoMemory>
+        ensures { OnOk result (map (λ t. t.now) found.new.items ≡ apply_said attr.now (map (λ t. t.now) found.old.items) (said self.now.0 r.now)) }
+    {
+        match self.said(r) {
+            Some(what) => apply(found, what, attr),
+            None => Ok(()),
+        }
+    }
+
+    // The values of the attribute after these claims, one after another.
+    fn folded(&self, moments: &[(Date, Ref)], attr: &str) -> Result<TextList, NoMemory>
+        ensures { IfOk result (λ texts. texts ≡ fold (λ found m. apply_said attr.now found (said self.now.0 m.1)) [] moments.now) }
+    {
+        let mut found = Vec::new(self.alloc);
+        for (_, r) in moments {
+            self.apply(&mut found, r, attr)?;
+        }
+        copied(self.alloc, &found)
+    }
+}
+
+impl<V: Verifier> Look for PlainIndex<V> {
+    ghost facts = { λ index. index.0 };
+
+    ghost accepts = { λ index. V.accepts index.1 };
+
+    fn fact_of(&self, r: &Ref) -> Option<&Fact> {
+        if self.is_ready(r) {
+            self.fact_at(r)
+        } else {
+            None
+        }
+    }
+
+    fn permanode_after(&self, after: Option<&Ref>) -> Option<Ref> {
+        first_after(self.permanodes(), after)
+    }
+
+    fn deleted(&self, r: &Ref, when: &When) -> bool {
+        self.deleted_within(r, when, self.len())
+    }
+
+    fn values(&self, p: &Ref, attr: &str, when: &When) -> Result<TextList, NoMemory> {
+        let moments = self.moments(p, when)?;
+        self.folded(&moments, attr)
+    }
+
+    fn last_change(&self, p: &Ref, when: &When) -> Option<Date> {
+        if !self.is_genuine_permanode(p) {
+            return None;
+        }
+        self.latest(p, when).map(|last| last.0)
+    }
+}

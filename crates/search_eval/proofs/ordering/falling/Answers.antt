@@ -1,0 +1,18 @@
+use Rattle.std.proofs.Common.{◌≡◌, ◌∙◌, map, ap, subst, List, rules}
+use Rattle.std.specs.List.Sorted.{IsPermutation}
+use Rattle.std.proofs.lemmas.List.Sorted.{answers_always}
+use Rattle.std.proofs.lemmas.Result.{IfOk-weaker}
+use Rattle.claim_model.specs.Claims.{last_change}
+use Rattle.search_eval.specs.Answer.{Dated}
+use Rattle.search_eval.proofs.Orders.{falls}
+use Rattle.search_eval.proofs.ordering.falling.Goals as goal
+
+pub returns : goal.returns
+returns g c =
+    let changed = last_change (g.K.Look.facts c.args.look.now) (g.K.Look.accepts c.args.look.now) c.args.when.now in
+    let sorted = c.sort_by_key.new.self.items in
+    let ordered = falls changed c.args.refs.now sorted c.requires
+    (subst (λ (ds : List Dated). IsPermutation ds sorted) c.in_ok-dated.ensures c.sort_by_key.ensures.permutation)
+    (c.in_ok-sort_by_key.ensures.sorted (λ e. (record { 0 = e.0 }, e.1)) (answers_always _ _ _ (λ f a r g called. search rules))) in
+    IfOk-weaker c.undated.result (λ refs. refs ≡ map (λ (e : Dated). e.1) c.deref.result.now) _
+    (λ refs is. is ∙ ap (map (λ (e : Dated). e.1)) c.deref.ensures.value ∙ ordered) c.undated.ensures

@@ -1,0 +1,17 @@
+use Rattle.std.proofs.Common.{◌≡◌, ◌∙◌, map, ap, subst, List}
+use Rattle.std.specs.List.Sorted.{IsPermutation}
+use Rattle.std.proofs.lemmas.Result.{IfOk-weaker}
+use Rattle.claim_model.specs.Claims.{last_change}
+use Rattle.search_eval.specs.Answer.{Dated}
+use Rattle.search_eval.proofs.Orders.{rises}
+use Rattle.search_eval.proofs.ordering.rising.Goals as goal
+
+pub returns : goal.returns
+returns g c =
+    let changed = last_change (g.K.Look.facts c.args.look.now) (g.K.Look.accepts c.args.look.now) c.args.when.now in
+    let sorted = c.sort.new.self.items in
+    let ordered = rises changed c.args.refs.now sorted c.requires
+    (subst (λ (ds : List Dated). IsPermutation ds sorted) c.in_ok-dated.ensures c.sort.ensures.permutation)
+    c.in_ok-sort.ensures.sorted in
+    IfOk-weaker c.undated.result (λ refs. refs ≡ map (λ (e : Dated). e.1) c.deref.result.now) _
+    (λ refs is. is ∙ ap (map (λ (e : Dated). e.1)) c.deref.ensures.value ∙ ordered) c.undated.ensures

@@ -1,0 +1,82 @@
+//! The answer to a query.
+ghost use Rattle.std.specs.Prelude.{◌≡◌, ◌++◌, ◌∷◌, [], IfOk, OnOk, filter, take};
+ghost use Rattle.std.specs.List.Sorted.{IsStrictlySortedBy};
+ghost use Rattle.blobref.specs.Blobref.{ref_cmp};
+ghost use Rattle.claim_model.specs.Claims.{last_change};
+ghost use Rattle.search_eval.specs.Answer.{answer, found, in_order};
+ghost use Rattle.search_eval.specs.Walk.{is_found};
+
+use crate::meeting::values_meet;
+use crate::ordering::in_order;
+use blobref::{NoMemory, Ref, RefList};
+use plain_index::Look;
+use search_query::Query;
+use std::alloc::Global;
+
+/// The refs that the query asks for, in its order, at most its limit (`docs/search.md`). `NoMemory` comes only where no
+/// memory is left. It asks for each genuine permanode whether it is deleted, and for its values.
+pub fn answer<K: Look>(alloc: Global, look: &K, query: &Query) -> Result<RefList, NoMemory>
+    ensures { IfOk result (λ refs. refs ≡ answer (K.facts look.now) (K.accepts look.now) query.now) }
+{
+    let found = found(alloc, look, query)?;
+    let ordered = in_order(alloc, look, query, found)?;
+    first(alloc, ordered.as_slice(), query.limit)
+}
+
+// The permanodes that meet the query's constraint at its date, ascending.
+fn found<K: Look>(alloc: Global, look: &K, query: &Query) -> Result<RefList, NoMemory>
+    ensures all { IfOk result (λ refs. refs ≡ found (K.facts look.now) (K.accepts look.now) query.now) }
+    ensures ascending { IfOk result (λ refs. IsStrictlySortedBy ref_cmp refs) }
+{
+    let mut kept = RefList::empty(alloc);
+    let mut after = None;
+    'walk: while let Some(p) = look.permanode_after(after.as_ref()) {
+        keep_found(look, query, &mut kept, p)?;
+        after = Some(p);
+    }
+    Ok(kept)
+}
+
+// Keeps a genuine permanode where it isn't deleted and meets the query's constraint.
+fn keep_found<K: Look>(look: &K, query: &Query, kept: &mut RefList, p: Ref) -> Result<(), NoMemory>
+    ensures { OnOk result (kept.new ≡ kept.old ++ filter (is_found (K.facts look.now) (K.accepts look.now) query.now) (p ∷ [])) }
+{
+    if is_found(look, query, &p)? {
+        kept.push(p)?;
+    }
+    Ok(())
+}
+
+// Whether a permanode that is genuine isn't deleted and meets the query's constraint.
+fn is_found<K: Look>(look: &K, query: &Query, p: &Ref) -> Result<bool, NoMemory>
+    ensures { IfOk result (λ kept. kept ≡ is_found (K.facts look.now) (K.accepts look.now) query.now p.now) }
+{
+    if look.deleted(p, &query.at) {
+        return Ok(false);
+    }
+    match &query.constraint.permanode {
+        None => Ok(true),
+        Some(test) => values_meet(look, test, p, &query.at),
+    }
+}
+
+// The first refs, at most so many.
+fn first(alloc: Global, refs: &[Ref], limit: u32) -> Result<RefList, NoMemory>
+    ensures { IfOk result (λ kept. kept ≡ take limit refs.now) }
+{
+    if refs.len() <= limit as usize {
+        copied(alloc, refs)
+    } else {
+        copied(alloc, &refs[..limit as usize])
+    }
+}
+
+fn copied(alloc: Global, refs: &[Ref]) -> Result<RefList, NoMemory>
+    ensures { IfOk result (λ copy. copy ≡ refs.now) }
+{
+    let mut copy = RefList::empty(alloc);
+    for r in refs {
+        copy.push(*r)?;
+    }
+    Ok(copy)
+}
