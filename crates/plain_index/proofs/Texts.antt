@@ -1,5 +1,5 @@
 -- Lists of references, and the list of what they point to.
-use Rattle.std.proofs.Common.{◌≡◌, Bool, true, false, cond, List, [], ◌∷◌, map, filter, Bor, refl}
+use Rattle.std.proofs.Common.{◌≡◌, Bool, true, false, cond, List, [], ◌∷◌, map, filter, Bor, refl, ◌&&◌}
 
 pub shown-filter : {X : Type 0} (t : X → Bool) (xs : List (Bor X)) → map (λ x. x.now) (filter (λ x. t x.now) xs) ≡ filter t (map (λ x. x.now) xs)
 shown-filter t [] = refl
@@ -7,4 +7,13 @@ shown-filter {X} t (x ∷ xs) = by (t x.now) (shown-filter t xs)
   where
     by : (b : Bool) → map (λ (y : Bor X). y.now) (filter (λ y. t y.now) xs) ≡ filter t (map (λ y. y.now) xs) → map (λ (y : Bor X). y.now) (cond b (x ∷ filter (λ y. t y.now) xs) (filter (λ y. t y.now) xs)) ≡ cond b (x.now ∷ filter t (map (λ y. y.now) xs)) (filter t (map (λ y. y.now) xs))
     by true h = λ i. x.now ∷ h i
+    by false h = h
+
+-- two filters, one after the other
+pub filter-twice : {X : Type 0} (p q : X → Bool) (xs : List X) → filter (λ x. p x && q x) xs ≡ filter q (filter p xs)
+filter-twice p q [] = refl
+filter-twice {X} p q (x ∷ xs) = by (p x) (filter-twice p q xs)
+  where
+    by : (b : Bool) → filter (λ y. p y && q y) xs ≡ filter q (filter p xs) → cond (b && q x) (x ∷ filter (λ y. p y && q y) xs) (filter (λ y. p y && q y) xs) ≡ filter q (cond b (x ∷ filter p xs) (filter p xs))
+    by true h = λ i. cond (q x) (x ∷ h i) (h i)
     by false h = h

@@ -1,10 +1,10 @@
 //! The index from scratch.
-ghost use Rattle.std.specs.Prelude.{◌≡◌, [], IfOk, OnOk, fold, map, option_copied, option_map};
+ghost use Rattle.std.specs.Prelude.{◌≡◌, ◌&&◌, [], IfOk, OnOk, filter, fold, map, not, option_copied, option_map};
 ghost use Rattle.std.specs.FinMap as finite;
 ghost use Rattle.std.specs.List.{filter_map};
 ghost use Rattle.blobref.specs.Blobref.{ref_cmp};
-ghost use Rattle.claim_model.specs.Claims.{counted};
-ghost use Rattle.claim_model.specs.Deleted.{can_be_deleted, deletes, deleted_within};
+ghost use Rattle.claim_model.specs.Claims.{counted, has_value};
+ghost use Rattle.claim_model.specs.Deleted.{can_be_deleted, deletes, deleted_within, is_deleted, live_permanodes};
 ghost use Rattle.claim_model.specs.Facts.{AreDistinct, passes};
 ghost use Rattle.claim_model.specs.Genuine.{is_genuine, is_genuine_permanode, permanodes};
 ghost use Rattle.claim_model.specs.Ready.{is_ready};
@@ -17,8 +17,8 @@ use crate::genuine::{genuine, is_permanode, permanodes};
 use crate::look::Look;
 use crate::lookup::{beside, fact_at, first_after};
 use crate::rounds::ready;
-use crate::values::{apply, claim_says, copied, later, moment_on};
-use blobref::{NoMemory, Ref, Text, TextList};
+use crate::values::{apply, claim_says, copied, is_among, later, moment_on};
+use blobref::{NoMemory, Ref, RefList, Text, TextList};
 use claim_verify::Verifier;
 use schema_json::{Date, Fact, What, When};
 use std::alloc::Global;
@@ -175,12 +175,12 @@ impl<V: Verifier> PlainIndex<V> {
         ensures { IfOk result (λ moments. moments.items
             ≡ filter_map (λ c. option_map (λ d. d.0) (counted_claim self.now.0 (V.accepts self.now.1) when.now p.now c.1)) (claims_about self.now.0 (V.accepts self.now.1) p.now)) }
     {
-        let moments = self
+        let found = self
             .claims_about(p)
             .iter()
             .filter_map(|claim| self.moment(p, when, &claim.1))
             .collect(self.alloc)?;
-        Ok(moments)
+        Ok(found)
     }
 
     // The moments of the counted claims on a permanode, in their order.
@@ -234,6 +234,32 @@ impl<V: Verifier> PlainIndex<V> {
         }
         copied(self.alloc, &found)
     }
+
+    // Whether a permanode isn't deleted at that time, and has the value.
+    fn holds(&self, p: &Ref, attr: &str, value: &[u8], when: &When) -> Result<bool, NoMemory>
+        ensures { IfOk result (λ holds. holds
+            ≡ (not (is_deleted self.now.0 (V.accepts self.now.1) when.now p.now) && has_value self.now.0 (V.accepts self.now.1) when.now attr.now value.now p.now)) }
+    {
+        if self.deleted(p, when) {
+            return Ok(false);
+        }
+        let texts = self.values(p, attr, when)?;
+        Ok(is_among(value, texts.as_slice()))
+    }
+
+    // The genuine permanodes not deleted at that time that have the value, ascending.
+    fn holding(&self, attr: &str, value: &[u8], when: &When) -> Result<RefList, NoMemory>
+        ensures { IfOk result (λ refs. refs
+            ≡ filter (has_value self.now.0 (V.accepts self.now.1) when.now attr.now value.now) (live_permanodes self.now.0 (V.accepts self.now.1) when.now)) }
+    {
+        let mut found = RefList::empty(self.alloc);
+        for p in self.permanodes() {
+            if self.holds(p, attr, value, when)? {
+                found.push(*p)?;
+            }
+        }
+        Ok(found)
+    }
 }
 
 impl<V: Verifier> Look for PlainIndex<V> {
@@ -267,5 +293,13 @@ impl<V: Verifier> Look for PlainIndex<V> {
             return None;
         }
         self.latest(p, when).map(|last| last.0)
+    }
+
+    fn holders(&self, attr: &str, value: &str) -> Result<RefList, NoMemory> {
+        self.holding(attr, value.as_bytes(), &When::Always)
+    }
+
+    fn parents(&self, child: &Ref, when: &When) -> Result<RefList, NoMemory> {
+        self.holding("camliMember", &child.text(), when)
     }
 }

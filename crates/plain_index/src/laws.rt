@@ -1,7 +1,7 @@
 //! Laws of indexes.
 ghost use Rattle.std.specs.Prelude.{◌≡◌, ℕ, List, Option};
 ghost use Rattle.claim_model.specs.Ready.{ready_fact};
-ghost use Rattle.claim_model.specs.Claims.{last_change, values};
+ghost use Rattle.claim_model.specs.Claims.{holders, last_change, parents, values};
 ghost use Rattle.claim_model.specs.Deleted.{is_deleted};
 ghost use Rattle.schema_json.specs.declared.date.When.{When};
 ghost use Rattle.plain_index.specs.Look.{permanode_after};

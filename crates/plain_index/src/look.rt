@@ -2,12 +2,12 @@
 ghost use Rattle.std.specs.Prelude.{◌≡◌, IfOk, option_copied};
 ghost use Rattle.claim_model.specs.Facts.{Facts};
 ghost use Rattle.claim_model.specs.Ready.{ready_fact};
-ghost use Rattle.claim_model.specs.Claims.{last_change, values};
+ghost use Rattle.claim_model.specs.Claims.{holders, last_change, parents, values};
 ghost use Rattle.claim_model.specs.Deleted.{is_deleted};
 ghost use Rattle.claim_verify.specs.Verifier.{Accepts};
 ghost use Rattle.plain_index.specs.Look.{permanode_after};
 
-use blobref::{NoMemory, Ref, TextList};
+use blobref::{NoMemory, Ref, RefList, TextList};
 use schema_json::{Date, Fact, When};
 
 /// An index over facts under their refs, and what its keys accept. Whatever way it is kept, its answers are those of the
@@ -38,4 +38,14 @@ pub trait Look {
     /// The date of the last counted claim on a permanode at that time, and `None` exactly where nothing is counted.
     fn last_change(&self, p: &Ref, when: &When) -> Option<Date>
         ensures { result ≡ last_change (facts self.now) (accepts self.now) when.now p.now };
+
+    /// The genuine permanodes not deleted that have the value of the attribute, by claims of every date, ascending. `NoMemory`
+    /// comes only where no memory is left.
+    fn holders(&self, attr: &str, value: &str) -> Result<RefList, NoMemory>
+        ensures { IfOk result (λ refs. refs ≡ holders (facts self.now) (accepts self.now) attr.now value.now) };
+
+    /// The genuine permanodes not deleted at that time that have the child's text among their values of `camliMember` at that
+    /// time, ascending. `NoMemory` comes only where no memory is left.
+    fn parents(&self, child: &Ref, when: &When) -> Result<RefList, NoMemory>
+        ensures { IfOk result (λ refs. refs ≡ parents (facts self.now) (accepts self.now) when.now child.now) };
 }

@@ -1,5 +1,6 @@
 //! The values of attributes, folded out of counted claims.
 ghost use Rattle.std.specs.Prelude.{◌≡◌, [], IfOk, OnOk, map, filter, not, option_map, option_copied, length, ◌==◌, if◌then◌else◌};
+ghost use Rattle.std.specs.List.{list_any};
 ghost use Rattle.std.specs.Str.{bytes_eq};
 ghost use Rattle.claim_model.specs.Claims.{apply, claim_on, is_attribute_claim_on};
 ghost use Rattle.plain_index.specs.Claims.{claim_says};
@@ -108,4 +109,10 @@ pub(crate) fn later(moment: Option<(Date, Ref)>, other: Option<(Date, Ref)>) -> 
     } else {
         Some(other)
     }
+}
+
+pub(crate) fn is_among(value: &[u8], texts: &[Text]) -> bool
+    ensures { result ≡ list_any (bytes_eq value.now) texts.now }
+{
+    texts.iter().any(|text| value == text.as_str().as_bytes())
 }

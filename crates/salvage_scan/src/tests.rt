@@ -47,6 +47,7 @@ fn blobs_of_whole_and_torn_packs(rt: HostRuntime) -> Result<(), NoMemory> {
         (DELETED_BETWEEN, Some(abc(67)), Some(empty(146)), Clean::Yes),
         (WITHIN_A_BLOB, Some(outer), None, Clean::Yes),
         (BEHIND_JUNK, Some(abc(135)), None, Clean::No { at: 0 }),
+        (LEADING_ZERO, None, None, Clean::No { at: 0 }),
     ] {
         let (found, told) = scan(rt.alloc(), pack)?;
         assert!(rt; told == clean);

@@ -10,7 +10,7 @@ use Rattle.schema_json.specs.Dates.{day_of, is_calendar_day}
 same_pos : (a b : ℕ) → pos a ≡ pos b → a ≡ b
 same_pos a b e = ap unsigned_abs e
 
-is_day : (y m d : ℕ) → 1 ≤ y → 1 ≤ m → m ≤ 12 → 1 ≤ d → d ≤ days_in_month (pos y) m → is_calendar_day y m d ≡ true
+pub is_day : (y m d : ℕ) → 1 ≤ y → 1 ≤ m → m ≤ 12 → 1 ≤ d → d ≤ days_in_month (pos y) m → is_calendar_day y m d ≡ true
 is_day y m d a b c e f = rw (le-leb 1 y a, le-leb 1 m b, le-leb m 12 c, le-leb 1 d e, le-leb d (days_in_month (pos y) m) f) refl
 
 known : (y m d : ℕ) → is_calendar_day y m d ≡ true → Some (days_from_civil (pos y) m d) ≡ day_of y m d

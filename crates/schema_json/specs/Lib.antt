@@ -1,4 +1,5 @@
 pub mod Dates
+pub mod DateTexts
 pub mod Fields
 pub mod Parts
 pub mod Signing

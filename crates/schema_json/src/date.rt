@@ -1,9 +1,11 @@
 //! Moments, and the times at which claims are looked at.
-ghost use Rattle.std.specs.Prelude.{◌≡◌, ◌≤◌, ◌<◌, ◌^◌, true, ◌*◌, ◌-◌, length, IfSome, option_map, pos, ◌*ℤ◌, ◌+ℤ◌, ◌-ℤ◌};
+ghost use Rattle.std.specs.Prelude.{◌≡◌, ◌≤◌, ◌<◌, ◌^◌, true, ◌*◌, ◌-◌, length, IfSome, Some, option_map, pos, ◌*ℤ◌, ◌+ℤ◌, ◌-ℤ◌};
 ghost use Rattle.schema_json.specs.Dates.{date_of, are_digits, digits_in, number, day_of, day_in, clock_of, clock_in, seconds_in, zone_in, fraction_in, rest_in, time_in, date_in, is_digit};
+ghost use Rattle.schema_json.specs.DateTexts.{IsDateText};
 ghost use Rattle.std.specs.List.{take_while};
 ghost use Rattle.jiff.specs.Words.{IsEpochDay, IsWithin};
 
+use crate::date_text::{DateText, written_date};
 use jiff::civil;
 use std::marker::Model;
 
@@ -65,6 +67,15 @@ impl Date {
             return None;
         }
         time_in(day_in(&text[..10])?, text)
+    }
+
+    /// The text of the date, in UTC with `Z`: the fraction is left out where it is zero, and else its last digit isn't zero
+    /// (`docs/formats/dates.md`). `Date::read` of it gives this date. It takes no memory.
+    pub fn text(&self) -> DateText
+        ensures text { IsDateText self.now result }
+        ensures read { date_in result ≡ Some self.now }
+    {
+        written_date(self.nanoseconds)
     }
 }
 

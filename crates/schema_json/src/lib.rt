@@ -3,6 +3,7 @@
 
 mod claims;
 mod date;
+mod date_text;
 mod fields;
 mod kinds;
 mod part_list;
@@ -11,6 +12,7 @@ mod reading;
 mod signing;
 
 pub use date::{Date, When};
+pub use date_text::{DateText, written_dates_are_one, written_dates_are_read};
 pub use kinds::{Fact, Kind, Signed, What};
 pub use parts::{Origin, Part, PartList};
 pub use reading::fact;

@@ -24,16 +24,20 @@ same_date None (Some b) e = absurd (let p : Less ≡ Equal = e in cc p)
 same_date (Some a) None e = absurd (let p : Greater ≡ Equal = e in cc p)
 same_date (Some a) (Some b) e = ap Some (int_cmp-IsAntisymmetric a b e)
 
-rising_total : IsTotalOrder rising_cmp
+pub rising_total : IsTotalOrder rising_cmp
 rising_total = then_total (on_total (λ (a : Dated). a.0) dates_total) (on_total (λ (a : Dated). a.1) nat_list_cmp_total)
 
-falling_total : IsTotalOrder falling_cmp
+pub falling_total : IsTotalOrder falling_cmp
 falling_total = then_total (on_total (λ (a : Dated). a.0) (back_total dates_total)) (on_total (λ (a : Dated). a.1) nat_list_cmp_total)
 
 less_then : (o : Ordering) → is_eq (ordering_then o Less) ≡ false
 less_then Less = refl
 less_then Equal = refl
 less_then Greater = refl
+
+pub keys_are : (ds : List Dated) → keys_of (map (λ (e : Dated). (e, e.1)) ds) ≡ ds
+keys_are [] = refl
+keys_are (d ∷ ds) = λ i. d ∷ keys_are ds i
 
 module _ (by_date : Option ℤ → Option ℤ → Ordering) where
   -- by date in some way, then by ref
@@ -58,10 +62,6 @@ module _ (by_date : Option ℤ → Option ℤ → Ordering) where
     distinct [] h = tt
     distinct (r ∷ rs) h =
         IsDistinct-cons (eq_by_cmp by_both) (changed r, r) (dated changed rs) (apart (changed r, r) rs (sorted_head ref_cmp r rs h)) (distinct rs (sorted_tail ref_cmp r rs h))
-
-    keys_are : (ds : List Dated) → keys_of (map (λ (e : Dated). (e, e.1)) ds) ≡ ds
-    keys_are [] = refl
-    keys_are (d ∷ ds) = λ i. d ∷ keys_are ds i
 
     ordered : IsTotalOrder by_both → IsAntisymmetric by_date → (rs : List (List ℕ)) (ds : List Dated) → IsStrictlySortedBy ref_cmp rs → IsPermutation (dated changed rs) ds → IsSorted by_both ds
         → map (λ e. e.1) ds ≡ refs_by by_both (dated changed rs)

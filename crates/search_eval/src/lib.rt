@@ -2,7 +2,9 @@
 #![tactic(auto)]
 
 mod answering;
+mod laws;
 mod meeting;
 mod ordering;
 
 pub use answering::answer;
+pub use laws::{answers_are_asked, same_answers};

@@ -1,0 +1,71 @@
+//! The outside as sources and sinks. They don't tell what they hold, and count their failures.
+ghost use Rattle.std.specs.Prelude.{◌≡◌, None};
+
+use edge_base::{Failed, Sink, Source};
+use std::io::{Read, Write};
+
+/// A reader as a source.
+#[derive(Drop)]
+pub(crate) struct ReadSource<R> {
+    reader: R,
+    faults: u64,
+}
+
+impl<R> ReadSource<R> {
+    pub(crate) fn new(reader: R) -> ReadSource<R> {
+        ReadSource { reader, faults: 0 }
+    }
+}
+
+impl<R: Read> Source for ReadSource<R> {
+    ghost left = { λ _. None };
+
+    ghost faults = { λ source. source.faults };
+
+    fn read(&mut self, buf: &mut [u8]) -> Result<usize, Failed> {
+        match self.reader.read(buf) {
+            Ok(n) => Ok(n),
+            Err(_) => {
+                self.faults = self.faults.saturating_add(1);
+                Err(Failed)
+            }
+        }
+    }
+
+    fn faults(&self) -> u64 {
+        self.faults
+    }
+}
+
+/// A writer as a sink. A write that takes nothing has failed.
+#[derive(Drop)]
+pub(crate) struct WriteSink<W> {
+    writer: W,
+    faults: u64,
+}
+
+impl<W> WriteSink<W> {
+    pub(crate) fn new(writer: W) -> WriteSink<W> {
+        WriteSink { writer, faults: 0 }
+    }
+}
+
+impl<W: Write> Sink for WriteSink<W> {
+    ghost written = { λ _. None };
+
+    ghost faults = { λ sink. sink.faults };
+
+    fn write(&mut self, piece: &[u8]) -> Result<usize, Failed> {
+        match self.writer.write(piece) {
+            Ok(n) if n > 0 || piece.is_empty() => Ok(n),
+            _ => {
+                self.faults = self.faults.saturating_add(1);
+                Err(Failed)
+            }
+        }
+    }
+
+    fn faults(&self) -> u64 {
+        self.faults
+    }
+}

@@ -1,0 +1,45 @@
+//! The keyring in its file.
+use crate::edges::ReadSource;
+use crate::ending::Ending;
+use claim_verify::{Keyring, KeyringFault};
+use edge_base::{ReadAllError, read_all};
+use perkeep_top::Status;
+use std::fs::File;
+use std::io::ErrorKind;
+
+// A keyring's file is in the working folder.
+const FILE: &str = "keyring";
+
+const LONGEST_KEYRING: usize = 1_048_576;
+
+/// The keyring of the working folder: of its file `keyring`, or empty where there is no such file.
+pub(crate) fn read_keyring(rt: &HostRuntime) -> Result<Keyring, Ending> {
+    let file = match File::open(rt, FILE) {
+        Ok(file) => file,
+        Err(error) => {
+            return match error.kind() {
+                ErrorKind::NotFound => Ok(Keyring::empty(rt.alloc())),
+                ErrorKind::OutOfMemory => Err(Ending::Ran(Status::NoMemory)),
+                _ => Err(Ending::Ran(Status::ReadFault)),
+            };
+        }
+    };
+    let mut source = ReadSource::new(file);
+    let text = read_all(rt.alloc(), &mut source, LONGEST_KEYRING).map_err(unread)?;
+    Keyring::read(rt.alloc(), &text).map_err(unusable)
+}
+
+fn unread(error: ReadAllError) -> Ending {
+    match error {
+        ReadAllError::ReadFault => Ending::Ran(Status::ReadFault),
+        ReadAllError::TooLong => Ending::BadKeyring,
+        ReadAllError::NoMemory => Ending::Ran(Status::NoMemory),
+    }
+}
+
+fn unusable(fault: KeyringFault) -> Ending {
+    match fault {
+        KeyringFault::BadLine { .. } | KeyringFault::Twice { .. } => Ending::BadKeyring,
+        KeyringFault::NoMemory => Ending::Ran(Status::NoMemory),
+    }
+}

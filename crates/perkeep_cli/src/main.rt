@@ -1,0 +1,67 @@
+//! The program: its words, the keyring, standard input and standard output.
+#![tactic(auto)]
+
+mod edges;
+mod ending;
+mod keys;
+
+use crate::edges::{ReadSource, WriteSink};
+use crate::ending::Ending;
+use crate::keys::read_keyring;
+use blobref::{NoMemory, Text};
+use perkeep_top::{Status, run};
+use perkeep_words::Command;
+use std::alloc::Global;
+use std::env;
+use std::io::ErrorKind;
+use std::process::ExitCode;
+
+fn main(rt: HostRuntime) -> ExitCode {
+    let ending = ending_of(&rt);
+    if ending != Ending::Ran(Status::Done) {
+        // Where this fails too nothing more can be told.
+        let _ = rt.eprintln(format_args!("perkeep: {}", ending.word()));
+    }
+    ExitCode::from(ending.code())
+}
+
+// Does what the command line asks for, over standard input and standard output.
+fn ending_of(rt: &HostRuntime) -> Ending {
+    let words = match words(rt) {
+        Ok(words) => words,
+        Err(status) => return Ending::Ran(status),
+    };
+    if Command::read(&words).is_none() {
+        return Ending::Ran(Status::BadWords);
+    }
+    let keys = match read_keyring(rt) {
+        Ok(keys) => keys,
+        Err(ending) => return ending,
+    };
+    let mut source = ReadSource::new(rt.stdin());
+    let mut sink = WriteSink::new(rt.stdout());
+    Ending::Ran(run(rt.alloc(), &words, &keys, &mut source, &mut sink))
+}
+
+// The words of the command line. Where one isn't UTF-8 they are bad words.
+fn words(rt: &HostRuntime) -> Result<Vec<Text>, Status> {
+    match env::args(rt) {
+        Ok(args) => match texts(rt.alloc(), args) {
+            Ok(words) => Ok(words),
+            Err(NoMemory) => Err(Status::NoMemory),
+        },
+        Err(error) => match error.kind() {
+            ErrorKind::OutOfMemory => Err(Status::NoMemory),
+            _ => Err(Status::BadWords),
+        },
+    }
+}
+
+// The words behind the name of the program.
+fn texts(alloc: Global, args: env::Args<Global>) -> Result<Vec<Text>, NoMemory> {
+    let mut words = Vec::new(alloc);
+    for word in args.skip(1) {
+        words.push(Text::copy(alloc, word.as_str())?)?;
+    }
+    Ok(words)
+}

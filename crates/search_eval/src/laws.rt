@@ -1,0 +1,23 @@
+//! Laws of answers.
+ghost use Rattle.std.specs.Prelude.{◌≡◌};
+ghost use Rattle.search_query.specs.declared.query.Query.{Query};
+ghost use Rattle.search_eval.specs.Answer.{answer, answer_bytes};
+ghost use Rattle.search_eval.specs.Laws.{AnswersAreAsked};
+
+use plain_index::Look;
+
+/// Two indexes over the same facts, whose keys accept the same, answer every query alike, and with the same text, whichever way
+/// each is kept.
+pub fn same_answers<A: Look, B: Look>(a: &A, b: &B)
+    requires facts { A.facts a.now ≡ B.facts b.now }
+    requires accepts { A.accepts a.now ≡ B.accepts b.now }
+    ensures refs { (query : Query) → answer (A.facts a.now) (A.accepts a.now) query ≡ answer (B.facts b.now) (B.accepts b.now) query }
+    ensures text { (query : Query)
+        → answer_bytes (A.facts a.now) (A.accepts a.now) query ≡ answer_bytes (B.facts b.now) (B.accepts b.now) query }
+{}
+
+/// Each ref of an answer is a genuine permanode that isn't deleted at the query's date and meets its constraint then, and there are
+/// at most `limit` of them.
+pub fn answers_are_asked()
+    ensures { AnswersAreAsked }
+{}

@@ -1,0 +1,420 @@
+"""What `perkeep search-pack A V` answers, worked out a second time.
+
+Everything here is written from the pages of docs/formats alone, to be read beside them: packs.md, blobrefs.md, schema.md, dates.md,
+keyring.md and answers.md. It is slow and plain on purpose. The tests compare the program with it.
+
+Bytes are `bytes`, refs and texts are `str`. A moment is a number of nanoseconds, and ALWAYS stands for no moment at all.
+"""
+
+import datetime
+import hashlib
+import hmac
+import re
+from typing import NamedTuple, Optional
+
+import strict_json
+
+ALWAYS = None
+LARGEST_BLOB = 16_777_216
+LARGEST_SCHEMA_BLOB = 1_048_576
+LARGEST_PACK = 1_073_741_824
+LARGEST_KEYRING = 1_048_576
+MOST_BYTES_OF_A_FILE = 281_474_976_710_656
+MOST_ANSWERS = 1_000_000
+
+
+# Blobrefs (blobrefs.md)
+
+REF = re.compile(r"sha224-[0-9a-f]{56}")
+
+
+def ref_of(blob):
+    return "sha224-" + hashlib.sha224(blob).hexdigest()
+
+
+def is_ref(value):
+    return isinstance(value, str) and REF.fullmatch(value) is not None
+
+
+# Packs (packs.md)
+
+BLOB_HEADER = re.compile(rb"\[(sha224-[0-9a-f]{56}) (0|[1-9][0-9]{0,7})\]")
+DELETED_HEADER = re.compile(rb"\[x{1,16}-0{1,128} (0|[1-9][0-9]{0,7})\]")
+
+
+class Found(NamedTuple):
+    ref: str
+    at: int
+    blob: bytes
+
+
+def salvage(pack):
+    """The blobs found in a pack, in order, and the first place that was passed over (None in a clean pack)."""
+    found = []
+    broken = None
+    at = 0
+    while at < len(pack):
+        record = record_at(pack, at)
+        if record is not None:
+            found.append(record)
+            at = record.at + len(record.blob)
+            continue
+        behind = behind_deleted(pack, at)
+        if behind is not None:
+            at = behind
+            continue
+        if broken is None:
+            broken = at
+        # One byte is passed over, and with it all up to the next bracket: no header begins before that.
+        at = pack.find(b"[", at + 1)
+        if at < 0:
+            break
+    return found, broken
+
+
+def record_at(pack, at):
+    """The record that begins at a place of the pack, if one does."""
+    header = BLOB_HEADER.match(pack, at)
+    end = body_end(pack, header, 2)
+    if end is None:
+        return None
+    blob = pack[header.end() : end]
+    ref = ref_of(blob)
+    return Found(ref, header.end(), blob) if ref.encode() == header[1] else None
+
+
+def behind_deleted(pack, at):
+    """The place behind the deleted record that begins at a place of the pack, if one does."""
+    return body_end(pack, DELETED_HEADER.match(pack, at), 1)
+
+
+def body_end(pack, header, size_group):
+    """Where the bytes that a header announces end; None without a header, or where they don't lie in the pack."""
+    if header is None:
+        return None
+    size = int(header[size_group])
+    end = header.end() + size
+    return end if size <= LARGEST_BLOB and end <= len(pack) else None
+
+
+def content(found):
+    """The blobs by their refs."""
+    return {one.ref: one.blob for one in found}
+
+
+# Dates (dates.md)
+
+DATE = re.compile(
+    r"([0-9]{4})-([0-9]{2})-([0-9]{2})T([0-9]{2}):([0-9]{2}):([0-9]{2})(?:\.([0-9]{1,9}))?(?:Z|([+-])([0-9]{2}):([0-9]{2}))"
+)
+LEAST_MOMENT = -62_135_596_800 * 10**9
+GREATEST_MOMENT = 253_402_300_800 * 10**9 - 1
+DAY_0 = datetime.date(1970, 1, 1).toordinal()
+
+
+def moment_of(text):
+    """The nanoseconds of a date's text; None where it is no date."""
+    parts = DATE.fullmatch(text)
+    if parts is None:
+        return None
+    year, month, day, hour, minute, second = (int(parts[i]) for i in range(1, 7))
+    sign, offset_hour, offset_minute = parts[8], int(parts[9] or 0), int(parts[10] or 0)
+    if max(hour, offset_hour) > 23 or max(minute, second, offset_minute) > 59:
+        return None
+    try:
+        days = datetime.date(year, month, day).toordinal() - DAY_0
+    except ValueError:
+        return None
+    offset = (offset_hour * 60 + offset_minute) * 60
+    seconds = days * 86_400 + hour * 3_600 + minute * 60 + second - (-offset if sign == "-" else offset)
+    moment = seconds * 10**9 + int((parts[7] or "").ljust(9, "0"))
+    return moment if LEAST_MOMENT <= moment <= GREATEST_MOMENT else None
+
+
+# Keys and the keyring (keyring.md)
+
+KEY_NAME = re.compile(rb"[a-z0-9-]{1,64}")
+KEYRING_LINE = re.compile(rb"([a-z0-9-]{1,64}) ((?:[0-9a-f]{2}){1,128})")
+
+
+class KeyringFault(Exception):
+    """What is wrong, `BadLine` or `Twice`, and in which line, counted from 1."""
+
+
+def read_keyring(text):
+    """The secrets of a keyring by their names; KeyringFault where the text is no keyring."""
+    keys = {}
+    lines = text.split(b"\n")
+    last = lines.pop()
+    for number, line in enumerate(lines, 1):
+        parts = KEYRING_LINE.fullmatch(line)
+        if parts is None:
+            raise KeyringFault("BadLine", number)
+        if parts[1] in keys:
+            raise KeyringFault("Twice", number)
+        keys[parts[1]] = bytes.fromhex(parts[2].decode())
+    if last:
+        raise KeyringFault("BadLine", len(lines) + 1)
+    return keys
+
+
+def signature(secret, payload):
+    return hmac.digest(secret, payload, "sha256")
+
+
+# Facts (schema.md)
+
+class Signed(NamedTuple):
+    signer: str
+    payload: bytes
+    signature: bytes
+
+
+class Fact(NamedTuple):
+    """What a blob says. Fields that its kind doesn't have are None."""
+
+    kind: str
+    needs: tuple = ()
+    name: Optional[object] = None
+    signed: Optional[Signed] = None
+    date: Optional[int] = None
+    claim: Optional[str] = None
+    target: Optional[str] = None
+    attribute: Optional[str] = None
+    value: Optional[str] = None
+
+
+KEY_BLOB = re.compile(rb"perkeep-hmac-sha256 ([a-z0-9-]{1,64})\n")
+MARKER = b',"camliSig":"'
+SIGNATURE_DIGITS = re.compile(r"[0-9a-f]{64}")
+
+
+def fact_of(blob):
+    """The first row of the table of kinds that fits."""
+    key = KEY_BLOB.fullmatch(blob)
+    if key is not None:
+        return Fact("Key", name=key[1])
+    body = object_of(blob) if len(blob) <= LARGEST_SCHEMA_BLOB else None
+    if body is None or not is_version_1(body) or not isinstance(body.get("camliType"), str):
+        return Fact("Plain")
+    rows = {
+        "file": lambda: file_fact(body),
+        "bytes": lambda: bytes_fact(body),
+        "directory": lambda: directory_fact(body),
+        "static-set": lambda: static_set_fact(body),
+        "permanode": lambda: permanode_fact(blob),
+        "claim": lambda: claim_fact(blob),
+    }
+    row = rows.get(body["camliType"])
+    return (row and row()) or Fact("Unread", name=body["camliType"])
+
+
+def object_of(text):
+    """The object that a text of bytes is; None where it is none."""
+    try:
+        value = strict_json.read(text)
+    except strict_json.Unread:
+        return None
+    return value if isinstance(value, dict) else None
+
+
+def is_whole(value):
+    return type(value) is int
+
+
+def is_version_1(body):
+    return is_whole(body.get("camliVersion")) and body["camliVersion"] == 1
+
+
+def file_fact(body):
+    name = body.get("fileName", "")
+    refs = part_refs(body.get("parts"))
+    return Fact("File", refs, name) if isinstance(name, str) and refs is not None else None
+
+
+def bytes_fact(body):
+    refs = part_refs(body.get("parts"))
+    return Fact("Bytes", refs) if refs is not None else None
+
+
+def directory_fact(body):
+    name, entries = body.get("fileName", ""), body.get("entries")
+    return Fact("Directory", (entries,), name) if isinstance(name, str) and is_ref(entries) else None
+
+
+def static_set_fact(body):
+    members = body.get("members")
+    good = isinstance(members, list) and all(map(is_ref, members)) and "mergeSets" not in body
+    return Fact("StaticSet") if good else None
+
+
+def part_refs(parts):
+    """The refs of a part list, as they come; None where it is no part list."""
+    if not isinstance(parts, list):
+        return None
+    refs = []
+    total = 0
+    for part in parts:
+        if not isinstance(part, dict):
+            return None
+        size, offset = part.get("size"), part.get("offset", 0)
+        origins = [part[key] for key in ("blobRef", "bytesRef") if key in part]
+        if not (is_whole(size) and is_whole(offset) and len(origins) <= 1 and all(map(is_ref, origins))):
+            return None
+        total += size
+        if max(total, offset) > MOST_BYTES_OF_A_FILE:
+            return None
+        refs += origins
+    return tuple(refs)
+
+
+def permanode_fact(blob):
+    signed, body = signed_of(blob)
+    if signed is None or not is_version_1(body) or body.get("camliType") != "permanode":
+        return None
+    return Fact("Permanode", (signed.signer,), signed=signed)
+
+
+def claim_fact(blob):
+    signed, body = signed_of(blob)
+    if signed is None or not is_version_1(body) or body.get("camliType") != "claim":
+        return None
+    text = body.get("claimDate")
+    date = moment_of(text) if isinstance(text, str) else None
+    if date is None:
+        return None
+    claim = body.get("claimType")
+    fact = Fact("Claim", (signed.signer,), signed=signed, date=date, claim=claim)
+    if claim == "delete":
+        target = body.get("target")
+        return fact._replace(target=target, needs=(signed.signer, target)) if is_ref(target) else None
+    if claim not in ("set-attribute", "add-attribute", "del-attribute"):
+        return None
+    on, attribute = body.get("permaNode"), body.get("attribute")
+    value = body.get("value", "" if claim == "del-attribute" else None)
+    good = is_ref(on) and isinstance(attribute, str) and attribute != "" and isinstance(value, str)
+    return fact._replace(target=on, attribute=attribute, value=value) if good else None
+
+
+def signed_of(blob):
+    """What is signed, and the payload's object; None twice where the blob isn't signed."""
+    unsigned = None, None
+    place = blob.rfind(MARKER)
+    if place < 0:
+        return unsigned
+    payload = blob[:place]
+    body = object_of(payload + b"}")
+    tail = object_of(b"{" + blob[place + 1 :])
+    if body is None or not is_ref(body.get("camliSigner")) or tail is None or list(tail) != ["camliSig"]:
+        return unsigned
+    digits = tail["camliSig"]
+    if not isinstance(digits, str) or SIGNATURE_DIGITS.fullmatch(digits) is None:
+        return unsigned
+    return Signed(body["camliSigner"], payload, bytes.fromhex(digits)), body
+
+
+# The archive that the blobs are: what is ready, genuine, deleted, and which values stand (schema.md, claims.md)
+
+class Archive:
+    def __init__(self, blobs, keys):
+        """From blobs by their refs, and secrets by the names of their keys."""
+        self.facts = {ref: fact_of(blob) for ref, blob in blobs.items()}
+        self.keys = keys
+        self.ready = self.rounds()
+        self.genuine = {ref for ref in self.ready if self.is_genuine(self.facts[ref])}
+        self.deletes = self.claims_by_target(lambda fact: fact.claim == "delete")
+        self.attribute_claims = self.claims_by_target(lambda fact: fact.attribute is not None)
+        self.known_deleted = {}
+
+    def rounds(self):
+        """The refs that are ready: round by round those whose needs all are, until a round brings none."""
+        ready = set()
+        waiting = set(self.facts)
+        while True:
+            now = {ref for ref in waiting if ready.issuperset(self.facts[ref].needs)}
+            if not now:
+                return ready
+            ready |= now
+            waiting -= now
+
+    def is_genuine(self, fact):
+        """Whether a ready fact is a permanode or a claim whose signature its key accepts."""
+        if fact.signed is None:
+            return False
+        signer = self.facts[fact.signed.signer]
+        if signer.kind != "Key" or signer.name not in self.keys:
+            return False
+        return signature(self.keys[signer.name], fact.signed.payload) == fact.signed.signature
+
+    def claims_by_target(self, wanted):
+        """The genuine claims that are wanted, by the ref that they are on."""
+        claims = {}
+        for ref in self.genuine:
+            fact = self.facts[ref]
+            if fact.kind == "Claim" and wanted(fact):
+                claims.setdefault(fact.target, []).append(ref)
+        return claims
+
+    def deleted(self, ref, when):
+        """Whether a permanode or claim is deleted: some delete claim on it counts at the moment, and isn't deleted itself."""
+        if ref not in self.facts or self.facts[ref].kind not in ("Permanode", "Claim"):
+            return False
+        if (ref, when) not in self.known_deleted:
+            self.known_deleted[ref, when] = any(
+                self.counts_at(claim, when) and not self.deleted(claim, when) for claim in self.deletes.get(ref, ())
+            )
+        return self.known_deleted[ref, when]
+
+    def counts_at(self, claim, when):
+        return when is ALWAYS or self.facts[claim].date <= when
+
+    def is_permanode(self, ref):
+        return ref in self.genuine and self.facts[ref].kind == "Permanode"
+
+    def values(self, permanode, attribute, when):
+        """The values of an attribute, in the order in which they were given."""
+        if not self.is_permanode(permanode):
+            return []
+        claims = [
+            claim
+            for claim in self.attribute_claims.get(permanode, ())
+            if self.counts_at(claim, when) and not self.deleted(claim, when)
+        ]
+        values = []
+        for claim in sorted(claims, key=lambda claim: (self.facts[claim].date, claim)):
+            fact = self.facts[claim]
+            if fact.attribute != attribute:
+                continue
+            if fact.claim == "set-attribute":
+                values = [fact.value]
+            elif fact.claim == "add-attribute":
+                values.append(fact.value)
+            elif fact.value == "":
+                values = []
+            else:
+                values = [value for value in values if value != fact.value]
+        return values
+
+    def holders(self, attribute, value):
+        """The permanodes that have the value, in the order of their refs."""
+        return [
+            ref
+            for ref in sorted(filter(self.is_permanode, self.genuine))
+            if not self.deleted(ref, ALWAYS) and value in self.values(ref, attribute, ALWAYS)
+        ][:MOST_ANSWERS]
+
+
+# Answers (answers.md)
+
+def search_text(refs):
+    return b'{"blobs":[' + b",".join(b'{"blob":"' + ref.encode() + b'"}' for ref in refs) + b"]}"
+
+
+def archive_of(pack, keyring):
+    """The archive of a pack under the text of a keyring."""
+    return Archive(content(salvage(pack)[0]), read_keyring(keyring))
+
+
+def search_pack(pack, keyring, attribute, value):
+    """What the command prints for a pack."""
+    return search_text(archive_of(pack, keyring).holders(attribute, value)) + b"\n"

@@ -1,0 +1,364 @@
+"""Runs `perkeep search-pack` over many inputs, and compares standard output, standard error and the exit status byte by byte.
+
+    search_pack.py PROGRAM [GROUP..]
+
+Most inputs have an expected answer that is written down here, and the reference has to give it as well as the program. The random
+packs are compared with the reference alone.
+"""
+
+import concurrent.futures
+import hashlib
+import itertools
+import os
+import pathlib
+import random
+import subprocess
+import sys
+import tempfile
+from typing import NamedTuple, Optional
+
+import inputs
+import reference
+from writing import keyring_line, pack, record
+
+WORDS = {2: b"words", 4: b"input", 5: b"read", 6: b"write"}
+SECONDS = 100
+AT_ONCE = 4
+EXAMPLES = pathlib.Path(__file__).resolve().parent.parent / "examples"
+
+
+class Case(NamedTuple):
+    """One start of the program, and how it has to end."""
+
+    what: str
+    words: tuple
+    source: bytes = b""
+    keyring: Optional[bytes] = inputs.KEYRING
+    status: int = 0
+    out: bytes = b""
+    found: Optional[list] = None
+
+
+class Difference(Exception):
+    """What differs, and both sides."""
+
+
+def answer(what, source, found, attribute="tag", value="a", keyring=inputs.KEYRING):
+    """A pack, and what is found in it: a list of refs, or whether the example's permanode is. The reference has to find it too."""
+    if isinstance(found, bool):
+        found = inputs.FOUND if found else []
+    out = reference.search_text(sorted(found)) + b"\n"
+    return Case(what, ("search-pack", attribute, value), source, keyring, out=out, found=sorted(found))
+
+
+def as_reference(what, archive, source, keyring, attribute, value):
+    """A pack whose answer the reference gives."""
+    out = reference.search_text(archive.holders(attribute, value)) + b"\n"
+    return Case(what, ("search-pack", attribute, value), source, keyring, out=out)
+
+
+def refused(what, status, words=("search-pack", "tag", "a"), source=b"", keyring=inputs.KEYRING):
+    return Case(what, tuple(words), source, keyring, status)
+
+
+# Running
+
+class Program:
+    """The program, and the working folders in which it finds its keyrings."""
+
+    def __init__(self, path, folder):
+        self.path = path
+        self.folder = pathlib.Path(folder)
+
+    def working_folder(self, keyring):
+        """A folder that holds the keyring, or none."""
+        name = "none" if keyring is None else hashlib.sha256(keyring).hexdigest()
+        folder = self.folder / name
+        folder.mkdir(exist_ok=True)
+        if keyring is not None and not (folder / "keyring").exists():
+            # Other runs may look for the file at the same time, so it comes whole.
+            with tempfile.NamedTemporaryFile(dir=self.folder, delete=False) as file:
+                file.write(keyring)
+            os.replace(file.name, folder / "keyring")
+        return folder
+
+    def start(self, words, folder, **streams):
+        return subprocess.Popen([self.path, *words], cwd=folder, stderr=subprocess.PIPE, **streams)
+
+    def check(self, case):
+        """Runs a case; Difference where it ends otherwise."""
+        if case.found is not None:
+            _, attribute, value = case.words
+            found = reference.archive_of(case.source, case.keyring or b"").holders(attribute, value)
+            compare(case.what, "refs found by the reference", case.found, found)
+        folder = self.working_folder(case.keyring)
+        process = self.start(case.words, folder, stdin=subprocess.PIPE, stdout=subprocess.PIPE)
+        out, err = finish(case.what, process, case.source)
+        compare_ending(case.what, case.status, process.returncode, err)
+        compare(case.what, "standard output", case.out, out)
+
+
+def finish(what, process, source=None):
+    """The output and the errors of a process."""
+    try:
+        return process.communicate(source, timeout=SECONDS)
+    except subprocess.TimeoutExpired:
+        process.kill()
+        process.communicate()
+        raise Difference(f"{what}: no end after {SECONDS} seconds") from None
+
+
+def compare_ending(what, status, is_status, err):
+    compare(what, "exit status", status, is_status)
+    compare(what, "standard error", b"" if status == 0 else b"perkeep: " + WORDS[status] + b"\n", err)
+
+
+def compare(what, side, expected, got):
+    if expected != got:
+        raise Difference(f"{what}: {side}\n  expected {short(expected)}\n  got      {short(got)}")
+
+
+def short(value):
+    written = repr(value)
+    return written if len(written) <= 400 else f"{written[:200]} .. {written[-150:]} ({len(value)} long)"
+
+
+# Groups of cases
+
+def example():
+    """The example of the repository, or the same one made here."""
+    try:
+        source, keyring = (EXAMPLES / "tagged.pack").read_bytes(), (EXAMPLES / "keyring").read_bytes()
+    except FileNotFoundError:
+        source, keyring = inputs.EXAMPLE, keyring_line()
+    archive = reference.archive_of(source, keyring)
+    found = as_reference("the tag of the example", archive, source, keyring, "tag", "a")
+    compare(found.what, "length of the answer", 87, len(found.out))
+    yield found
+    yield answer("a tag that isn't there", source, [], value="b", keyring=keyring)
+    yield answer("empty input", b"", [], keyring=keyring)
+    yield answer("the example under this script's key", inputs.EXAMPLE, True)
+
+
+def salvage():
+    for what, source, is_found in inputs.damaged_packs():
+        yield answer(what, source, is_found)
+
+
+def torn():
+    """A key, a permanode, its claim and a delete of the claim, cut off behind each byte."""
+    whole = pack(*inputs.EXAMPLE_BLOBS, inputs.DELETE)
+    tagged = len(inputs.EXAMPLE)
+    for cut in range(len(whole) + 1):
+        yield answer(f"cut at {cut}", whole[:cut], tagged <= cut < len(whole))
+
+
+def flipped():
+    """One bit of the claim's record turned over, in each of its bytes."""
+    start = len(inputs.EXAMPLE) - len(record(inputs.CLAIM))
+    for at in range(start, len(inputs.EXAMPLE)):
+        damaged = bytearray(inputs.EXAMPLE)
+        damaged[at] ^= 1 << at % 8
+        yield answer(f"a flipped bit at {at}", bytes(damaged), [])
+
+
+def json():
+    for what, source, value, is_found in inputs.json_texts():
+        yield answer(what, source, is_found, value=value)
+
+
+def facts():
+    for what, source, found in inputs.fact_packs():
+        yield answer(what, source, found)
+
+
+def dates():
+    for text, is_date in inputs.DATES:
+        yield answer(f"the date {text}", inputs.with_claim_changed(inputs.DATE, text), is_date)
+
+
+def keys():
+    for what, source, found, keyring in inputs.key_packs():
+        yield answer(what, source, found, keyring=keyring)
+
+
+def claims():
+    for what, blobs, expected in inputs.claim_packs():
+        for value, found in expected.items():
+            yield answer(f"{what}: {value!r}", pack(*blobs), found, value=value)
+
+
+def orders():
+    """What a pack answers doesn't depend on the order of its blobs."""
+    for what, blobs, found in inputs.order_packs():
+        for number, order in enumerate(itertools.permutations(blobs)):
+            yield answer(f"{what}, order {number}", pack(*order), found)
+
+
+def words():
+    for line, attribute, value in inputs.GOOD_WORDS:
+        source, found = inputs.pack_with_value(attribute, value)
+        case = answer(f"words {line}", source, found, attribute, value)
+        compare(case.what, "refs found by the reference", found, reference.archive_of(source, case.keyring).holders(attribute, value))
+        yield case._replace(words=tuple(line), found=None)
+    for line in inputs.BAD_WORDS:
+        yield refused(f"words {line}", 2, line, inputs.EXAMPLE)
+        yield refused(f"words {line} with a bad keyring", 2, line, keyring=b"no keyring")
+    for line in inputs.EMPTY_ATTRIBUTES:
+        yield refused(f"words {line}", 4, line, inputs.EXAMPLE)
+
+
+def keyrings():
+    yield answer("no keyring", inputs.EXAMPLE, [], keyring=None)
+    for what, text, source, found in inputs.good_keyrings():
+        yield answer(what, source, found, keyring=text)
+    for what, text in inputs.bad_keyrings():
+        try:
+            reference.read_keyring(text)
+            accepted = len(text) <= reference.LARGEST_KEYRING
+        except reference.KeyringFault:
+            accepted = False
+        compare(what, "accepted by the reference", False, accepted)
+        yield refused(what, 4, source=inputs.EXAMPLE, keyring=text)
+
+
+def random_packs():
+    """Large packs by a seeded generator, with a little of everything in random order."""
+    for what, source, keyring in inputs.random_packs():
+        archive = reference.archive_of(source, keyring)
+        sizes = set()
+        for attribute, value in inputs.RANDOM_QUERIES:
+            case = as_reference(f"{what}: {attribute} {value}", archive, source, keyring, attribute, value)
+            sizes.add(len(case.out))
+            yield case
+        if len(sizes) < 3:
+            raise Difference(f"{what}: the queries hardly differ")
+
+
+# Groups that need streams of their own. Each check is a function of the program.
+
+def edges():
+    """Standard input, standard output and a keyring that fail."""
+    line = ("search-pack", "tag", "a")
+
+    def input_folder(program):
+        with_streams(program, "standard input is a folder", line, 5, source=program.folder)
+
+    def text_before_read(program):
+        with_streams(program, "an empty attribute, standard input a folder", ("search-pack", "", "a"), 4, source=program.folder)
+
+    def words_before_read(program):
+        with_streams(program, "bad words, standard input a folder", ("search-pack", "tag"), 2, source=program.folder)
+
+    def full(program):
+        with_streams(program, "standard output is full", line, 6, sink="/dev/full")
+
+    def read_before_write(program):
+        with_streams(program, "both fail", line, 5, source=program.folder, sink="/dev/full")
+
+    def no_reader(program):
+        read_end, write_end = os.pipe()
+        os.close(read_end)
+        with os.fdopen(write_end, "wb") as sink:
+            with_streams(program, "nobody reads standard output", line, 6, sink=sink.fileno())
+
+    def keyring_folder(program):
+        folder = program.folder / "folder"
+        (folder / "keyring").mkdir(parents=True)
+        with_streams(program, "the keyring is a folder", line, 5, folder=folder)
+        with_streams(program, "bad words, the keyring is a folder", ("search-pack",), 2, folder=folder)
+
+    return [input_folder, text_before_read, words_before_read, full, read_before_write, no_reader, keyring_folder]
+
+
+def with_streams(program, what, line, status, source=os.devnull, sink=os.devnull, folder=None):
+    """Runs the program with streams that are paths, or open files; it has to end with the status."""
+    source = os.open(source, os.O_RDONLY) if not isinstance(source, int) else os.dup(source)
+    sink = os.open(sink, os.O_WRONLY) if not isinstance(sink, int) else os.dup(sink)
+    try:
+        process = program.start(line, folder or program.working_folder(inputs.KEYRING), stdin=source, stdout=sink)
+    finally:
+        os.close(source)
+        os.close(sink)
+    _, err = finish(what, process)
+    compare_ending(what, status, process.returncode, err)
+
+
+def limits():
+    """A pack of the greatest length, and a longer one, of which the rest isn't read."""
+
+    def greatest(program):
+        poured(program, "a pack of the greatest length", reference.LARGEST_PACK, 0)
+
+    def longer(program):
+        # What the program doesn't read may stand in the pipe.
+        most = reference.LARGEST_PACK + 2 * PIECE
+        taken = poured(program, "a longer pack", reference.LARGEST_PACK + 64 * PIECE, 4)
+        if taken > most:
+            raise Difference(f"a longer pack: {taken} bytes were taken, at most {most} should be")
+
+    return [greatest, longer]
+
+
+PIECE = 1_048_576
+
+
+def poured(program, what, length, status):
+    """Pours zeros into the program until it ends or all are taken; answers how many were."""
+    folder = program.working_folder(inputs.KEYRING)
+    process = program.start(("search-pack", "tag", "a"), folder, stdin=subprocess.PIPE, stdout=subprocess.PIPE, bufsize=0)
+    taken = 0
+    zeros = bytes(PIECE)
+    try:
+        while taken < length:
+            taken += process.stdin.write(zeros[: length - taken])
+    except BrokenPipeError:
+        pass
+    out, err = finish(what, process)
+    compare_ending(what, status, process.returncode, err)
+    compare(what, "standard output", b'{"blobs":[]}\n' if status == 0 else b"", out)
+    return taken
+
+
+GROUPS = [example, salvage, torn, flipped, json, facts, dates, keys, claims, orders, words, keyrings, random_packs]
+GROUPS_WITH_STREAMS = [edges, limits]
+
+
+def checks_of(program, group):
+    """The checks of a group, as functions to be called."""
+    if group in GROUPS_WITH_STREAMS:
+        return [lambda check=check: check(program) for check in group()]
+    return [lambda case=case: program.check(case) for case in group()]
+
+
+def run_group(program, group):
+    """Runs the checks of a group, some at once; answers how many there were."""
+    checks = checks_of(program, group)
+    at_once = 1 if group in GROUPS_WITH_STREAMS else AT_ONCE
+    with concurrent.futures.ThreadPoolExecutor(at_once) as pool:
+        try:
+            for _ in pool.map(lambda check: check(), checks):
+                pass
+        except Difference:
+            pool.shutdown(cancel_futures=True)
+            raise
+    return len(checks)
+
+
+def main(path, *names):
+    groups = [group for group in GROUPS + GROUPS_WITH_STREAMS if not names or group.__name__ in names]
+    total = 0
+    with tempfile.TemporaryDirectory() as folder:
+        program = Program(path, folder)
+        for group in groups:
+            try:
+                count = run_group(program, group)
+            except Difference as difference:
+                sys.exit(f"{group.__name__}: {difference}")
+            total += count
+            print(f"{group.__name__}: {count}", flush=True)
+    print(f"search-pack: {total} checks, no difference")
+
+
+if __name__ == "__main__":
+    main(*sys.argv[1:])

@@ -1,0 +1,115 @@
+"""Writes packs, and the schema blobs in them, as docs/formats describes them. The tests and the benches make their inputs with it."""
+
+import json
+
+from reference import MARKER, ref_of, signature
+
+NAME = "jefe"
+SECRET = b"Jefe"
+RANDOM = "00112233445566778899aabbccddeeff"
+
+
+def text(value):
+    """The JSON of a text, with its quotes, or of a list of texts."""
+    return json.dumps(value, ensure_ascii=False, separators=(",", ":"))
+
+
+# Keys and signatures
+
+def key_blob(name=NAME):
+    return f"perkeep-hmac-sha256 {name}\n".encode()
+
+
+KEY = ref_of(key_blob())
+
+
+def keyring_line(name=NAME, secret=SECRET):
+    return f"{name} {secret.hex()}\n".encode()
+
+
+def signed(payload, secret=SECRET):
+    """The blob of a payload and its signature. A payload is an object without its last brace."""
+    payload = octets(payload)
+    return payload + MARKER + signature(secret, payload).hex().encode() + b'"}\n'
+
+
+def octets(value):
+    return value.encode() if isinstance(value, str) else value
+
+
+# Payloads
+
+def permanode_payload(random=RANDOM, signer=KEY):
+    return f'{{"camliVersion":1,"camliType":"permanode","camliSigner":"{signer}","random":"{random}"'
+
+
+def claim_head(date, signer=KEY):
+    return f'{{"camliVersion":1,"camliType":"claim","camliSigner":"{signer}","claimDate":"{date}"'
+
+
+def attribute_payload(kind, permanode, attribute, value, date, signer=KEY):
+    """A claim of the kind `set`, `add` or `del`; a del of all values has the empty value, which isn't written."""
+    written = "" if kind == "del" and value == "" else f',"value":{text(value)}'
+    rest = f',"claimType":"{kind}-attribute","permaNode":"{permanode}","attribute":{text(attribute)}{written}'
+    return claim_head(date, signer) + rest
+
+
+def delete_payload(target, date, signer=KEY):
+    return claim_head(date, signer) + f',"claimType":"delete","target":"{target}"'
+
+
+# Signed blobs
+
+def permanode(random=RANDOM, signer=KEY, secret=SECRET):
+    return signed(permanode_payload(random, signer), secret)
+
+
+def claim(kind, permanode_ref, attribute, value, date, signer=KEY, secret=SECRET):
+    return signed(attribute_payload(kind, permanode_ref, attribute, value, date, signer), secret)
+
+
+def delete(target, date, signer=KEY, secret=SECRET):
+    return signed(delete_payload(target, date, signer), secret)
+
+
+# Files, directories and sets
+
+def part(size, ref=None, key="blobRef", offset=0):
+    origin = f'"{key}":"{ref}",' if ref else ""
+    return "{" + origin + f'"size":{size}' + (f',"offset":{offset}' if offset else "") + "}"
+
+
+def file_blob(name, parts):
+    return f'{{"camliVersion":1,"camliType":"file","fileName":{text(name)},"parts":[{",".join(parts)}]}}\n'.encode()
+
+
+def bytes_blob(parts):
+    return f'{{"camliVersion":1,"camliType":"bytes","parts":[{",".join(parts)}]}}\n'.encode()
+
+
+def directory(name, entries):
+    return f'{{"camliVersion":1,"camliType":"directory","fileName":{text(name)},"entries":"{entries}"}}\n'.encode()
+
+
+def static_set(members):
+    return f'{{"camliVersion":1,"camliType":"static-set","members":{text(list(members))}}}\n'.encode()
+
+
+# Packs
+
+def header(blob):
+    return f"[{ref_of(blob)} {len(blob)}]".encode()
+
+
+def record(blob):
+    return header(blob) + blob
+
+
+def pack(*blobs):
+    return b"".join(map(record, blobs))
+
+
+def deleted_record(size_or_bytes, letters=6, zeros=56):
+    """A deleted record of the bytes, or of as many dots."""
+    body = b"." * size_or_bytes if isinstance(size_or_bytes, int) else size_or_bytes
+    return b"[" + b"x" * letters + b"-" + b"0" * zeros + f" {len(body)}]".encode() + body
