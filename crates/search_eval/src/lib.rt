@@ -8,3 +8,6 @@ mod ordering;
 
 pub use answering::answer;
 pub use laws::{answers_are_asked, same_answers};
+
+#[cfg(test)]
+mod tests;
