@@ -15,7 +15,7 @@ import hmac
 import pathlib
 
 NAME = "jefe"
-SECRET = b"jefe"
+SECRET = b"Jefe"
 
 
 def ref_of(blob):

@@ -8,21 +8,21 @@ use std::alloc::Global;
 const KEY: &str = "perkeep-hmac-sha256 jefe\n";
 
 const PERMANODE: &str =
-    r#"{"camliVersion":1,"camliType":"permanode","camliSigner":"sha224-da4a89851a3c8f7ce55ef510378a1b717451b9f0b152bb73f28508dc","random":"00112233445566778899aabbccddeeff","camliSig":"c2304ff1ac9564846f0c20f457f003281aaef6bb30a4cd43b03ebce37b55b701"}
+    r#"{"camliVersion":1,"camliType":"permanode","camliSigner":"sha224-da4a89851a3c8f7ce55ef510378a1b717451b9f0b152bb73f28508dc","random":"00112233445566778899aabbccddeeff","camliSig":"20480ddb6050caf547458d70031d535e53bcdb1e1c6be755f5c37d2722b3a864"}
 "#;
 
 // Sets the attribute `tag` of the permanode to `a`.
 const CLAIM: &str =
-    r#"{"camliVersion":1,"camliType":"claim","camliSigner":"sha224-da4a89851a3c8f7ce55ef510378a1b717451b9f0b152bb73f28508dc","claimDate":"2020-01-01T00:00:00Z","claimType":"set-attribute","permaNode":"sha224-866272826b9234a08c69a035a98834cef742d3233a18f11457ab8391","attribute":"tag","value":"a","camliSig":"2165524c936a23d8b337fa6e861e2b3e1906e18a9d2eb7e6373faa0943119dd8"}
+    r#"{"camliVersion":1,"camliType":"claim","camliSigner":"sha224-da4a89851a3c8f7ce55ef510378a1b717451b9f0b152bb73f28508dc","claimDate":"2020-01-01T00:00:00Z","claimType":"set-attribute","permaNode":"sha224-adef53a16a87934f7f5595fa4225e39e14c1c80a4e3ed252d959d9b1","attribute":"tag","value":"a","camliSig":"10d1df5725e386c0844211f029346266308cb6a1fa16dc782132134c54b3e52d"}
 "#;
 
 // The last digit of its signature is another one.
 const FALSE_CLAIM: &str =
-    r#"{"camliVersion":1,"camliType":"claim","camliSigner":"sha224-da4a89851a3c8f7ce55ef510378a1b717451b9f0b152bb73f28508dc","claimDate":"2020-01-01T00:00:00Z","claimType":"set-attribute","permaNode":"sha224-866272826b9234a08c69a035a98834cef742d3233a18f11457ab8391","attribute":"tag","value":"a","camliSig":"2165524c936a23d8b337fa6e861e2b3e1906e18a9d2eb7e6373faa0943119dd9"}
+    r#"{"camliVersion":1,"camliType":"claim","camliSigner":"sha224-da4a89851a3c8f7ce55ef510378a1b717451b9f0b152bb73f28508dc","claimDate":"2020-01-01T00:00:00Z","claimType":"set-attribute","permaNode":"sha224-adef53a16a87934f7f5595fa4225e39e14c1c80a4e3ed252d959d9b1","attribute":"tag","value":"a","camliSig":"10d1df5725e386c0844211f029346266308cb6a1fa16dc782132134c54b3e52c"}
 "#;
 
 const FOUND: &str =
-    "{\"blobs\":[{\"blob\":\"sha224-866272826b9234a08c69a035a98834cef742d3233a18f11457ab8391\"}]}\n";
+    "{\"blobs\":[{\"blob\":\"sha224-adef53a16a87934f7f5595fa4225e39e14c1c80a4e3ed252d959d9b1\"}]}\n";
 
 const NOTHING: &str = "{\"blobs\":[]}\n";
 
@@ -48,7 +48,7 @@ fn failing(alloc: Global, call: Option<u64>) -> Result<CallList, NoMemory> {
     Ok(calls)
 }
 
-// Runs the words of a line by the key of the name and secret `jefe`.
+// Runs the words of a line by the key of the name `jefe` and the secret `Jefe`.
 fn run_line<S: Source, K: Sink>(
     alloc: Global,
     line: &str,
@@ -57,7 +57,7 @@ fn run_line<S: Source, K: Sink>(
 ) -> Result<Status, NoMemory> {
     let mut keys = Keyring::empty(alloc);
     if let Some(name) = KeyName::read(b"jefe") {
-        if keys.add(&name, b"jefe").is_err() {
+        if keys.add(&name, b"Jefe").is_err() {
             return Err(NoMemory);
         }
     }
