@@ -2,8 +2,8 @@
 
     compare.py PROGRAM KIND FOLDER
 
-The folder holds what make_pack.py has written for the kind. Both are run three times, in turn, and the best time of each counts. Ends
-with status 1 where the answer is wrong, and however the times are.
+The folder holds what make_pack.py has written for the kind. Both are run three times, in turn, and the best time of each counts.
+Ends with status 1 where the answer is wrong, and else with 0, however the times are.
 """
 
 import os

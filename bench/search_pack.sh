@@ -6,6 +6,10 @@
 set -eu
 cd "$(dirname "$0")/.."
 program=$(realpath "${PERKEEP:-./perkeep}")
+if [ ! -x "$program" ]; then
+  echo "there is no program at $program" >&2
+  exit 2
+fi
 folder=$(mktemp -d)
 trap 'rm -rf "$folder"' EXIT
 python3 bench/make_pack.py store "$folder"

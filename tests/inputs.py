@@ -1,7 +1,8 @@
 """The inputs of search_pack.py, with what has to be found in each.
 
-Most are the example with something changed: a key, a permanode signed with it, and a claim that sets `tag` to `a` on the permanode.
-As the program shows nothing but permanodes with a value, what is to be seen hangs on whether the claim, or the permanode, is read.
+Most are the example with something changed: a key, a permanode signed with it, and a claim that sets `tag` to `a` on the
+permanode. As the program shows nothing but permanodes with a value, what is to be seen hangs on whether the claim, or the
+permanode, is read.
 """
 
 import hashlib
@@ -10,8 +11,8 @@ import random
 import reference
 import writing
 from reference import MARKER, ref_of
-from writing import attribute_payload, claim, delete, delete_payload, deleted_record, header, key_blob, keyring_line, pack, permanode
-from writing import permanode_payload, record, signed
+from writing import attribute_payload, claim, delete, delete_payload, deleted_record, header, key_blob, keyring_line
+from writing import pack, permanode, permanode_payload, record, signed
 
 SECRET = writing.SECRET
 OTHER_SECRET = b"another secret"
@@ -53,6 +54,59 @@ def with_claim_changed(old, new, payload=PAYLOAD):
 def with_member(member):
     """The claim with one member more."""
     return with_claim(signed(PAYLOAD.encode() + b"," + writing.octets(member)))
+
+
+# The examples of the pages
+
+def page_examples():
+    """What is looked at, what the reference gives, and what the pages of docs/formats say."""
+    empty = "sha224-d14a028c2a3a2bc9476102bb288234c415a2b01f828ea62ac5b3e42f"
+    abc = "sha224-23097d223405d8228642a477bda255b32aadbce4bda0b3f7e36c9da7"
+    yield "the ref of the empty blob", ref_of(b""), empty
+    yield "the ref of abc", ref_of(b"abc"), abc
+    yield "the record of abc", record(b"abc"), f"[{abc} 3]abc".encode()
+    two = record(b"abc") + record(b"")
+    for what, whole, found, broken in [
+        ("two records", two, [(abc, 67), (empty, 137)], None),
+        ("all but their last byte", two[:-1], [(abc, 67)], 70),
+        ("the first one torn", two[:69], [], 0),
+        ("a deleted record between them", record(b"abc") + b"[x-0 2]zz" + record(b""), [(abc, 67), (empty, 146)], None),
+        ("a leading zero", f"[{abc} 03]abc".encode(), [], 0),
+    ]:
+        blobs, first_broken = reference.salvage(whole)
+        yield what, ([(one.ref, one.at) for one in blobs], first_broken), (found, broken)
+    for text, moment in MOMENTS:
+        yield f"the date {text}", reference.moment_of(text), moment
+    test_case = reference.signature(b"Jefe", b"what do ya want for nothing?").hex()
+    yield "case 2 of RFC 4231", test_case, "5bdcc146bf60754e6a042426089575c75a003f089d2739839dec58b964ec3843"
+    yield "a keyring", reference.read_keyring(b"jefe 4a656665\n"), {b"jefe": b"Jefe"}
+    yield from values_in_time()
+
+
+MOMENTS = [
+    ("2011-11-28T01:32:36.5+01:00", 1_322_440_356_500_000_000),
+    ("1970-01-01T00:00:00Z", 0),
+    ("0001-01-01T00:00:00Z", -62_135_596_800_000_000_000),
+    ("9999-12-31T23:59:59.999999999Z", 253_402_300_799_999_999_999),
+    ("0001-01-01T00:00:00+00:01", None),
+    ("2011-02-29T00:00:00Z", None),
+    ("2011-01-01T24:00:00Z", None),
+    ("2011-01-01T00:00:00z", None),
+]
+
+
+def values_in_time():
+    """A tag that is set on one day, deleted on the next and back on the third, looked at between."""
+    undone = delete(ref_of(DELETE), day(3))
+    archive = reference.archive_of(pack(*EXAMPLE_BLOBS, DELETE, undone), KEYRING)
+    for when, values in [
+        ("2019-12-31T00:00:00Z", []),
+        (day(1, "T12:00:00Z"), ["a"]),
+        (day(2, "T12:00:00Z"), []),
+        (day(3, "T12:00:00Z"), ["a"]),
+    ]:
+        yield f"the tag at {when}", archive.values(ref_of(NODE), "tag", reference.moment_of(when)), values
+    yield "the tag always", archive.values(ref_of(NODE), "tag", reference.ALWAYS), ["a"]
 
 
 # Packs
@@ -407,7 +461,15 @@ VALUES = [
     ("", ""),
     (" a", " a"),
 ]
-NO_VALUES = [("a", "\u00e4"), ("a\u0308", "\u00e4"), ("\u00e4", "a\u0308"), ("a ", "a"), ("aa", "a"), ("a\\u0000", "a"), ("", "a")]
+NO_VALUES = [
+    ("a", "\u00e4"),
+    ("a\u0308", "\u00e4"),
+    ("\u00e4", "a\u0308"),
+    ("a ", "a"),
+    ("aa", "a"),
+    ("a\\u0000", "a"),
+    ("", "a"),
+]
 
 
 def json_texts():
@@ -472,7 +534,8 @@ def signed_blobs():
     two = b'","camliSig" :"' + sig.encode() + b'"}\n'
     yield "the key of the signature twice behind the marker", with_claim(payload + MARKER + b"zz" + two), True
     yield "the first of two signatures", with_claim(payload + MARKER + sig.encode() + b'","camliSig" :"zz"}\n'), False
-    yield "the first marker counts for nothing", with_claim(payload + MARKER + sig.encode() + b'","n":1' + MARKER + b'zz"}\n'), False
+    last = b'","n":1' + MARKER + b'zz"}\n'
+    yield "the first marker counts for nothing", with_claim(payload + MARKER + sig.encode() + last), False
     yield "the payload with its brace signed", with_claim(payload + MARKER + signature_of(payload + b"}") + b'"}\n'), False
     yield "the payload with its comma signed", with_claim(payload + MARKER + signature_of(payload + b",") + b'"}\n'), False
     yield "signed with another secret", with_claim(signed(PAYLOAD, OTHER_SECRET)), False
@@ -714,8 +777,10 @@ def key_packs():
         yield f"another secret of {length} bytes", *tagged_by(KEY, secret[:-1] + b"!", False), line
     # Short secrets are filled up with zeros, and long ones are hashed.
     yield "a secret with a zero behind it", *tagged_by(KEY, b"ab", True), keyring_line("jefe", b"ab\0")
-    yield "the hash of a long secret", *tagged_by(KEY, hashlib.sha256(b"s" * 65).digest(), True), keyring_line("jefe", b"s" * 65)
-    yield "the hash of a secret of one block", *tagged_by(KEY, hashlib.sha256(b"s" * 64).digest(), False), keyring_line("jefe", b"s" * 64)
+    for length in (64, 65):
+        secret = b"s" * length
+        hashed = hashlib.sha256(secret).digest()
+        yield f"the hash of a secret of {length} bytes", *tagged_by(KEY, hashed, length > 64), keyring_line("jefe", secret)
 
 
 def tagged_by(key, secret, is_found):
@@ -765,6 +830,11 @@ def attribute_claims():
     yield "set twice", [on_tag("set", u, d1), on_tag("set", v, d2)], {u: False, v: True}
     yield "set of the empty value", [on_tag("set", u, d1), on_tag("set", "", d2)], {u: False, "": True}
     yield "add", [on_tag("add", u, d1)], {u: True}
+    no_texts = [("no value", ""), ("null", ',"value":null'), ("a number", ',"value":7'), ("a list", f',"value":["{v}"]')]
+    for kind in ("set", "add"):
+        for what, value in no_texts:
+            payload = changed(attribute_payload(kind, ref_of(NODE), "tag", v, d2), f',"value":"{v}"', value)
+            yield f"{kind} of {what}", [on_tag("set", u, d1), signed(payload)], {u: True, v: False, "": False, "7": False}
     yield "add twice", [on_tag("add", u, d1), on_tag("add", v, d2)], {u: True, v: True}
     yield "add of the empty value", [on_tag("add", u, d1), on_tag("add", "", d2)], {u: True, "": True}
     yield "set, then add", [on_tag("set", u, d1), on_tag("add", v, d2)], {u: True, v: True}
@@ -880,7 +950,8 @@ def signers():
     yield "a claim by another key", [first, other, by_other], {u: False, v: True}
     yield "a claim by a key that isn't there", [first, by_other], {u: True, v: False}
     yield "a claim by a key without its secret", [first, lost, on_tag("set", v, day(2), ref_of(lost))], {u: True, v: False}
-    yield "a claim by one key with the other's secret", [first, other, on_tag("set", v, day(2), ref_of(other))], {u: True, v: False}
+    crossed = on_tag("set", v, day(2), ref_of(other))
+    yield "a claim by one key with the other's secret", [first, other, crossed], {u: True, v: False}
     yield "a claim by a plain blob", [first, b"plain", on_tag("set", v, day(2), ref_of(b"plain"))], {u: True, v: False}
     yield "a claim by a permanode", [first, on_tag("set", v, day(2), ref_of(NODE))], {u: True, v: False}
     yield "a claim by a claim", [first, on_tag("set", v, day(2), ref_of(first))], {u: True, v: False}
@@ -991,7 +1062,12 @@ BAD_WORDS = [
     ("search-pack", "tag", "a", b"\xff"),
     (b"\xff",),
 ]
-EMPTY_ATTRIBUTES = [("search-pack", "", "a"), ("search-pack", "", ""), ("search-pack", "--", "", "a"), ("search-pack", "", "--", "-a")]
+EMPTY_ATTRIBUTES = [
+    ("search-pack", "", "a"),
+    ("search-pack", "", ""),
+    ("search-pack", "--", "", "a"),
+    ("search-pack", "", "--", "-a"),
+]
 
 
 def pack_with_value(attribute, value):
@@ -1123,7 +1199,8 @@ def random_plain(chance, nodes):
 def random_date(chance):
     fraction = chance.choice(("", "", ".5", ".50", f".{chance.randrange(10**9):09}"))
     zone = chance.choice(("Z", "Z", "+00:00", "-02:00", "+05:30"))
-    return f"{chance.choice((1969, 2020, 2020, 2021))}-02-{chance.randrange(1, 6):02}T{chance.randrange(4):02}:00:00{fraction}{zone}"
+    year, month_day, hour = chance.choice((1969, 2020, 2020, 2021)), chance.randrange(1, 6), chance.randrange(4)
+    return f"{year}-02-{month_day:02}T{hour:02}:00:00{fraction}{zone}"
 
 
 def with_junk(chance, records):

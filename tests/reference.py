@@ -1,7 +1,7 @@
 """What `perkeep search-pack A V` answers, worked out a second time.
 
-Everything here is written from the pages of docs/formats alone, to be read beside them: packs.md, blobrefs.md, schema.md, dates.md,
-keyring.md and answers.md. It is slow and plain on purpose. The tests compare the program with it.
+Everything here is written from the pages of docs/ alone, to be read beside them: claims.md, and of formats/ packs.md, blobrefs.md, schema.md,
+dates.md, keyring.md and answers.md. It is slow and plain on purpose. The tests compare the program with it.
 
 Bytes are `bytes`, refs and texts are `str`. A moment is a number of nanoseconds, and ALWAYS stands for no moment at all.
 """
@@ -313,7 +313,7 @@ def signed_of(blob):
     return Signed(body["camliSigner"], payload, bytes.fromhex(digits)), body
 
 
-# The archive that the blobs are: what is ready, genuine, deleted, and which values stand (schema.md, claims.md)
+# What the blobs say together: which are ready, genuine and deleted, and which values stand
 
 class Archive:
     def __init__(self, blobs, keys):
@@ -356,12 +356,13 @@ class Archive:
         return claims
 
     def deleted(self, ref, when):
-        """Whether a permanode or claim is deleted: some delete claim on it counts at the moment, and isn't deleted itself."""
+        """Whether a permanode or a claim is deleted: some delete claim on it counts at the moment and isn't deleted itself."""
         if ref not in self.facts or self.facts[ref].kind not in ("Permanode", "Claim"):
             return False
         if (ref, when) not in self.known_deleted:
+            claims = self.deletes.get(ref, ())
             self.known_deleted[ref, when] = any(
-                self.counts_at(claim, when) and not self.deleted(claim, when) for claim in self.deletes.get(ref, ())
+                self.counts_at(claim, when) and not self.deleted(claim, when) for claim in claims
             )
         return self.known_deleted[ref, when]
 

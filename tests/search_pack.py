@@ -44,7 +44,7 @@ class Difference(Exception):
 
 
 def answer(what, source, found, attribute="tag", value="a", keyring=inputs.KEYRING):
-    """A pack, and what is found in it: a list of refs, or whether the example's permanode is. The reference has to find it too."""
+    """A pack, and what is found in it: a list of refs, or whether the example's permanode is. The reference must find it too."""
     if isinstance(found, bool):
         found = inputs.FOUND if found else []
     out = reference.search_text(sorted(found)) + b"\n"
@@ -199,7 +199,8 @@ def words():
     for line, attribute, value in inputs.GOOD_WORDS:
         source, found = inputs.pack_with_value(attribute, value)
         case = answer(f"words {line}", source, found, attribute, value)
-        compare(case.what, "refs found by the reference", found, reference.archive_of(source, case.keyring).holders(attribute, value))
+        archive = reference.archive_of(source, case.keyring)
+        compare(case.what, "refs found by the reference", found, archive.holders(attribute, value))
         yield case._replace(words=tuple(line), found=None)
     for line in inputs.BAD_WORDS:
         yield refused(f"words {line}", 2, line, inputs.EXAMPLE)
@@ -235,7 +236,15 @@ def random_packs():
             raise Difference(f"{what}: the queries hardly differ")
 
 
-# Groups that need streams of their own. Each check is a function of the program.
+# Groups of checks that aren't cases. Each check is a function of the program.
+
+def pages():
+    """The reference alone, against the examples of the pages of docs/formats."""
+    return [
+        lambda _, what=what, got=got, expected=expected: compare(what, "the reference", expected, got)
+        for what, got, expected in inputs.page_examples()
+    ]
+
 
 def edges():
     """Standard input, standard output and a keyring that fail."""
@@ -262,21 +271,27 @@ def edges():
         with os.fdopen(write_end, "wb") as sink:
             with_streams(program, "nobody reads standard output", line, 6, sink=sink.fileno())
 
+    def closed(program):
+        with_streams(program, "standard output is closed", line, 6, closed=1)
+        with_streams(program, "standard input is closed", line, 5, closed=0)
+
     def keyring_folder(program):
         folder = program.folder / "folder"
         (folder / "keyring").mkdir(parents=True)
         with_streams(program, "the keyring is a folder", line, 5, folder=folder)
         with_streams(program, "bad words, the keyring is a folder", ("search-pack",), 2, folder=folder)
 
-    return [input_folder, text_before_read, words_before_read, full, read_before_write, no_reader, keyring_folder]
+    return [input_folder, text_before_read, words_before_read, full, read_before_write, no_reader, closed, keyring_folder]
 
 
-def with_streams(program, what, line, status, source=os.devnull, sink=os.devnull, folder=None):
-    """Runs the program with streams that are paths, or open files; it has to end with the status."""
+def with_streams(program, what, line, status, source=os.devnull, sink=os.devnull, closed=None, folder=None):
+    """Runs the program with streams that are paths, or open files, or one of them closed; it has to end with the status."""
     source = os.open(source, os.O_RDONLY) if not isinstance(source, int) else os.dup(source)
     sink = os.open(sink, os.O_WRONLY) if not isinstance(sink, int) else os.dup(sink)
+    close = None if closed is None else lambda: os.close(closed)
+    folder = folder or program.working_folder(inputs.KEYRING)
     try:
-        process = program.start(line, folder or program.working_folder(inputs.KEYRING), stdin=source, stdout=sink)
+        process = program.start(line, folder, stdin=source, stdout=sink, preexec_fn=close)
     finally:
         os.close(source)
         os.close(sink)
@@ -321,12 +336,12 @@ def poured(program, what, length, status):
 
 
 GROUPS = [example, salvage, torn, flipped, json, facts, dates, keys, claims, orders, words, keyrings, random_packs]
-GROUPS_WITH_STREAMS = [edges, limits]
+GROUPS_OF_CHECKS = [pages, edges, limits]
 
 
 def checks_of(program, group):
     """The checks of a group, as functions to be called."""
-    if group in GROUPS_WITH_STREAMS:
+    if group in GROUPS_OF_CHECKS:
         return [lambda check=check: check(program) for check in group()]
     return [lambda case=case: program.check(case) for case in group()]
 
@@ -334,7 +349,7 @@ def checks_of(program, group):
 def run_group(program, group):
     """Runs the checks of a group, some at once; answers how many there were."""
     checks = checks_of(program, group)
-    at_once = 1 if group in GROUPS_WITH_STREAMS else AT_ONCE
+    at_once = 1 if group in GROUPS_OF_CHECKS else AT_ONCE
     with concurrent.futures.ThreadPoolExecutor(at_once) as pool:
         try:
             for _ in pool.map(lambda check: check(), checks):
@@ -346,7 +361,7 @@ def run_group(program, group):
 
 
 def main(path, *names):
-    groups = [group for group in GROUPS + GROUPS_WITH_STREAMS if not names or group.__name__ in names]
+    groups = [group for group in GROUPS + GROUPS_OF_CHECKS if not names or group.__name__ in names]
     total = 0
     with tempfile.TemporaryDirectory() as folder:
         program = Program(path, folder)

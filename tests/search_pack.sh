@@ -8,4 +8,8 @@
 set -eu
 cd "$(dirname "$0")/.."
 program=$(realpath "${PERKEEP:-./perkeep}")
+if [ ! -x "$program" ]; then
+  echo "there is no program at $program" >&2
+  exit 2
+fi
 PYTHONDONTWRITEBYTECODE=1 exec python3 tests/search_pack.py "$program" "$@"

@@ -1,4 +1,7 @@
-"""Writes packs, and the schema blobs in them, as docs/formats describes them. The tests and the benches make their inputs with it."""
+"""Writes packs, and the schema blobs in them, as docs/formats describes them.
+
+The tests and the benches make their inputs with it.
+"""
 
 import json
 

@@ -7,3 +7,4 @@ pub mod Keys
 pub mod Texts
 pub mod Counting
 pub mod Lasts
+pub mod Distinct

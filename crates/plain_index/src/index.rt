@@ -24,7 +24,10 @@ use schema_json::{Date, Fact, What, When};
 use std::alloc::Global;
 use std::marker::Model;
 
-/// An index that is computed at once out of all facts. A contract sees the map of the facts, and the keys.
+/// An index that is computed at once out of all facts, and keeps them in the order of their refs. A contract sees the map of the
+/// facts, and the keys.
+///
+/// Costs are given for n facts. A look-up of a ref is a binary search, of at most 1 + log n comparisons.
 #[derive(Drop)]
 pub struct PlainIndex<V: Verifier> {
     alloc: Global,
@@ -55,6 +58,10 @@ impl<V: Verifier> Model for PlainIndex<V> {
 impl<V: Verifier> PlainIndex<V> {
     /// The index over the facts, whatever their order. It keeps the allocator, and takes all its memory from it. `NoMemory` comes
     /// only where no memory is left.
+    ///
+    /// It sorts the facts and the claims, in n log n steps, asks the keys once for each permanode and claim that is ready, and
+    /// goes over all facts in rounds, as many as the longest chain of dependencies has links and two more at most; a round looks
+    /// each dependency up once.
     pub fn build(alloc: Global, facts: FactList, keys: V) -> Result<PlainIndex<V>, NoMemory>
     where
         V: Drop,
@@ -267,6 +274,7 @@ impl<V: Verifier> Look for PlainIndex<V> {
 
     ghost accepts = { λ index. V.accepts index.1 };
 
+    /// Two look-ups.
     fn fact_of(&self, r: &Ref) -> Option<&Fact> {
         if self.is_ready(r) {
             self.fact_at(r)
@@ -275,19 +283,24 @@ impl<V: Verifier> Look for PlainIndex<V> {
         }
     }
 
+    /// One binary search among the genuine permanodes.
     fn permanode_after(&self, after: Option<&Ref>) -> Option<Ref> {
         first_after(self.permanodes(), after)
     }
 
+    /// It looks at the claims about the ref, and about each delete claim that it comes to, with two look-ups and two binary
+    /// searches each. The stack grows with the longest chain of deletions of deletions.
     fn deleted(&self, r: &Ref, when: &When) -> bool {
         self.deleted_within(r, when, self.len())
     }
 
+    /// It looks at the claims about the permanode alone, asks for each whether it is deleted, and sorts those that count.
     fn values(&self, p: &Ref, attr: &str, when: &When) -> Result<TextList, NoMemory> {
         let moments = self.moments(p, when)?;
         self.folded(&moments, attr)
     }
 
+    /// It looks at the claims about the permanode alone, and asks for each whether it is deleted.
     fn last_change(&self, p: &Ref, when: &When) -> Option<Date> {
         if !self.is_genuine_permanode(p) {
             return None;
@@ -295,10 +308,12 @@ impl<V: Verifier> Look for PlainIndex<V> {
         self.latest(p, when).map(|last| last.0)
     }
 
+    /// It asks each genuine permanode for its values.
     fn holders(&self, attr: &str, value: &str) -> Result<RefList, NoMemory> {
         self.holding(attr, value.as_bytes(), &When::Always)
     }
 
+    /// It asks each genuine permanode for its values.
     fn parents(&self, child: &Ref, when: &When) -> Result<RefList, NoMemory> {
         self.holding("camliMember", &child.text(), when)
     }

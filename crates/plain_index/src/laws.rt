@@ -22,4 +22,8 @@ pub fn equal_maps_give_equal_answers<A: Look, B: Look>(a: &A, b: &B)
         → values (A.facts a.now) (A.accepts a.now) when p name ≡ values (B.facts b.now) (B.accepts b.now) when p name }
     ensures last_change { (when : When) (p : List ℕ)
         → last_change (A.facts a.now) (A.accepts a.now) when p ≡ last_change (B.facts b.now) (B.accepts b.now) when p }
+    ensures holders { (name value : List ℕ)
+        → holders (A.facts a.now) (A.accepts a.now) name value ≡ holders (B.facts b.now) (B.accepts b.now) name value }
+    ensures parents { (when : When) (child : List ℕ)
+        → parents (A.facts a.now) (A.accepts a.now) when child ≡ parents (B.facts b.now) (B.accepts b.now) when child }
 {}

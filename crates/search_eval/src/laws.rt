@@ -16,8 +16,8 @@ pub fn same_answers<A: Look, B: Look>(a: &A, b: &B)
         → answer_bytes (A.facts a.now) (A.accepts a.now) query ≡ answer_bytes (B.facts b.now) (B.accepts b.now) query }
 {}
 
-/// Each ref of an answer is a genuine permanode that isn't deleted at the query's date and meets its constraint then, and there are
-/// at most `limit` of them.
+/// Each ref of an answer is a genuine permanode that isn't deleted at the query's date and meets its constraint then; there are at
+/// most `limit` of them; and they are in the query's order, none twice.
 pub fn answers_are_asked()
     ensures { AnswersAreAsked }
 {}
