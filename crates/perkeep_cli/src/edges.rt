@@ -1,5 +1,6 @@
 //! The outside as sources and sinks. They don't tell what they hold, and count their failures.
 ghost use Rattle.std.specs.Prelude.{◌≡◌, None};
+ghost use Rattle.edge_base.specs.Edge.{one_more};
 
 use edge_base::{Failed, Sink, Source};
 use std::io::{Read, Write};
@@ -26,7 +27,7 @@ impl<R: Read> Source for ReadSource<R> {
         match self.reader.read(buf) {
             Ok(n) => Ok(n),
             Err(_) => {
-                self.faults = self.faults.saturating_add(1);
+                self.faults = after_fault(self.faults);
                 Err(Failed)
             }
         }
@@ -59,7 +60,7 @@ impl<W: Write> Sink for WriteSink<W> {
         match self.writer.write(piece) {
             Ok(n) if n > 0 || piece.is_empty() => Ok(n),
             _ => {
-                self.faults = self.faults.saturating_add(1);
+                self.faults = after_fault(self.faults);
                 Err(Failed)
             }
         }
@@ -68,4 +69,11 @@ impl<W: Write> Sink for WriteSink<W> {
     fn faults(&self) -> u64 {
         self.faults
     }
+}
+
+// A count of faults after one more. At the last value of its type it stays.
+fn after_fault(faults: u64) -> u64
+    ensures { result ≡ one_more faults }
+{
+    faults.saturating_add(1)
 }
