@@ -15,6 +15,12 @@ const WITHIN_A_BLOB: &[u8] =
 const LEADING_ZERO: &[u8] =
     b"[sha224-23097d223405d8228642a477bda255b32aadbce4bda0b3f7e36c9da7 03]abc";
 
+const SIZE_ABOVE_THE_LIMIT: &[u8] =
+    b"[sha224-23097d223405d8228642a477bda255b32aadbce4bda0b3f7e36c9da7 99999999]abc";
+
+const ONE_BYTE_MISSING: &[u8] =
+    b"[sha224-23097d223405d8228642a477bda255b32aadbce4bda0b3f7e36c9da7 4]abc";
+
 const BEHIND_JUNK: &[u8] =
     b"(sha224-f89d539e40511659a0d402159dfa725adf6f2772c398c7d1396323a3 70][sha224-23097d223405d8228642a477bda255b32aadbce4bda0b3f7e36c9da7 3]abc";
 
@@ -48,6 +54,8 @@ fn blobs_of_whole_and_torn_packs(rt: HostRuntime) -> Result<(), NoMemory> {
         (WITHIN_A_BLOB, Some(outer), None, Clean::Yes),
         (BEHIND_JUNK, Some(abc(135)), None, Clean::No { at: 0 }),
         (LEADING_ZERO, None, None, Clean::No { at: 0 }),
+        (SIZE_ABOVE_THE_LIMIT, None, None, Clean::No { at: 0 }),
+        (ONE_BYTE_MISSING, None, None, Clean::No { at: 0 }),
     ] {
         let (found, told) = scan(rt.alloc(), pack)?;
         assert!(rt; told == clean);

@@ -1,0 +1,18 @@
+#!/usr/bin/env bash
+# Times a scan of large packs against hashing the same bytes alone, both by the same crates: 512 MiB of small blobs, and 512 MiB of
+# large ones. The program is scan_bench, which is built where it is missing, or what SCAN_BENCH names.
+#
+# Prints the time of the scan as a multiple of the time of hashing; the goals are 1.5 for small blobs and 1.1 for large ones.
+set -eu
+cd "$(dirname "$0")/.."
+program=${SCAN_BENCH:-crates/scan_bench/out/scan_bench}
+if [ ! -x "$program" ]; then
+  (cd crates/scan_bench && rt run </dev/null >&2)
+fi
+program=$(realpath "$program")
+folder=$(mktemp -d)
+trap 'rm -rf "$folder"' EXIT
+for kind in small-blobs large-blobs; do
+  python3 bench/make_pack.py "$kind" "$folder"
+  PYTHONDONTWRITEBYTECODE=1 python3 bench/scan.py "$program" "$kind" "$folder"
+done
