@@ -1,7 +1,5 @@
 -- The exit statuses (docs/commands.md).
 use Rattle.std.specs.Prelude.{ℕ, List, codes}
-use Rattle.perkeep_top.specs.declared.status.InputFault.{InputFault}
-use Rattle.perkeep_top.specs.declared.status.InputFault.TheVariants.{BadName, TooBig}
 use Rattle.perkeep_top.specs.declared.status.Status.{Status}
 use Rattle.perkeep_top.specs.declared.status.Status.TheVariants.{Done, NoMemory, BadWords, BadInput, ReadFault, WriteFault, NotBuilt}
 
