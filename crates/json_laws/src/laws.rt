@@ -1,0 +1,48 @@
+//! Laws of written JSON texts.
+ghost use Rattle.json_laws.specs.Written.{ObjectsAreRead, MembersAreFound, PairsAreFound, ObjectsAreUtf8, ListsAreRead, ListsAreUtf8, TextsAreRead, TextsAreUtf8, NumbersAreRead, SpaceMayFollow};
+ghost use Rattle.json_laws.specs.Signing.{SignaturesAreRead, SignaturesAreUtf8, PayloadsEnd};
+
+/// An object that is written pair by pair is read as the object of its pairs (`docs/formats/schema.md`): under each key
+/// stands the value of the last pair with that key, so each pair is found where the keys are distinct. Its text is UTF-8 where the keys and the values' texts are.
+pub fn objects_are_read()
+    ensures value { ObjectsAreRead }
+    ensures members { MembersAreFound }
+    ensures pairs { PairsAreFound }
+    ensures utf8 { ObjectsAreUtf8 }
+{}
+
+/// A list that is written item by item is read as the list of its items (`docs/formats/schema.md`). Its text is UTF-8
+/// where the items' texts are.
+pub fn lists_are_read()
+    ensures value { ListsAreRead }
+    ensures utf8 { ListsAreUtf8 }
+{}
+
+/// The JSON string that is written for a text is read as that text (`docs/formats/schema.md`). It is UTF-8 where the text is.
+pub fn texts_are_read()
+    ensures value { TextsAreRead }
+    ensures utf8 { TextsAreUtf8 }
+{}
+
+/// The decimal digits of a number below 2^64 are read as that number (`docs/formats/schema.md`).
+pub fn numbers_are_read()
+    ensures { NumbersAreRead }
+{}
+
+/// White space may follow a text that is read, and changes nothing (`docs/formats/schema.md`).
+pub fn space_may_follow()
+    ensures { SpaceMayFollow }
+{}
+
+/// The text of a signature, with a brace before it, is read as the object whose one key `camliSig` holds the digits
+/// (`docs/formats/schema.md`). It is UTF-8.
+pub fn signatures_are_read()
+    ensures value { SignaturesAreRead }
+    ensures utf8 { SignaturesAreUtf8 }
+{}
+
+/// The last marker of a blob that was written as a payload, a comma and the text of a signature stands where the payload
+/// ends, whatever the payload holds (`docs/formats/schema.md`).
+pub fn payloads_end()
+    ensures { PayloadsEnd }
+{}
