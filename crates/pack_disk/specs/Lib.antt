@@ -1,2 +1,9 @@
 pub mod Packs
 pub mod Disk
+pub mod Plan
+pub mod PackState
+pub mod Past
+pub mod Told
+pub mod Left
+pub mod Image
+pub mod Model

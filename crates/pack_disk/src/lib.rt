@@ -2,5 +2,17 @@
 #![tactic(auto)]
 
 mod disk;
+mod history;
+mod image;
+mod laws;
+mod loss;
+mod memory;
+mod pack;
+mod plan;
 
 pub use disk::Disk;
+pub use laws::disk_model;
+pub use memory::MemDisk;
+
+#[cfg(test)]
+mod tests;

@@ -1,0 +1,7 @@
+pub mod Steps
+pub mod Holding
+pub mod Least
+pub mod Tails
+pub mod Gathering
+pub mod Crashes
+pub mod Models
