@@ -1,0 +1,16 @@
+pub mod Numbers
+pub mod Still
+pub mod Taking
+pub mod Buffers
+pub mod Walking
+pub mod Packing
+pub mod Looking
+pub mod Damage
+pub mod Pages
+pub mod Held
+pub mod Moments
+pub mod Rowing
+pub mod Appending
+pub mod Standing
+pub mod Soundness
+pub mod LastPack

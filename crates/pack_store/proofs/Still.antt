@@ -1,0 +1,30 @@
+-- A store stays sound where nothing was changed on its disk.
+use Rattle.std.proofs.Common.{ℕ, ◌≤◌, List, Option, sym, ◌∙◌}
+use Rattle.std.specs.FinMap.{FinMap}
+use Rattle.blobref.specs.Blobref.{ref_cmp}
+use Rattle.pack_disk.specs.Packs.{Packs}
+use Rattle.pack_disk.specs.Disk.{Stays}
+use Rattle.pack_store.specs.declared.limits.Limits.{Limits}
+use Rattle.pack_store.specs.declared.rows.Row.{Row}
+use Rattle.pack_store.specs.declared.rows.Current.{Current}
+use Rattle.pack_store.specs.Archive.{IsSound}
+use Rattle.pack_store.proofs.Moments.{stays_images}
+
+module _ {D : Type 0} (packs : D → Option Packs) (images : D → Packs → Type 0) (moment : D → ℕ) (images_since : D → ℕ → Packs → Type 0)
+    (counts_now : (d : D) (t : ℕ) (image : Packs) → t ≤ moment d → images d image → images_since d t image)
+    (only_now : (d : D) (image : Packs) → images_since d (moment d) image → images d image) where
+  pub still_sound : (places : FinMap ref_cmp ℕ) (rows : List Row) (limits : Limits) (next : ℕ) (current : Option Current) (old new : D)
+      → IsSound packs images places (record { rows = rows; limits = limits; next = next; current = current; disk = old }) → Stays packs images moment images_since old new
+      → IsSound packs images places (record { rows = rows; limits = limits; next = next; current = current; disk = new })
+  still_sound places rows limits next current old new sound still =
+      let fewer = stays_images packs images moment images_since counts_now only_now old new still in
+      record {
+        limited = sound.limited;
+        placed = sound.placed;
+        kept = λ held told k d lt. let row = sound.kept held (sym still.told ∙ told) k d lt in record { found = λ image is. row.found image (fewer image is); same = λ image is. row.same image (fewer image is) };
+        last = sound.last;
+        long = λ c is held told. sound.long c is held (sym still.told ∙ told);
+        clean = λ c is image among. sound.clean c is image (fewer image among);
+        unused = λ held told. sound.unused held (sym still.told ∙ told);
+        numbered = sound.numbered;
+      }

@@ -1,0 +1,19 @@
+use Rattle.std.proofs.Common.{ap, ◌∙◌}
+use Rattle.pack_store.specs.Adding.{AddsRecord}
+use Rattle.pack_store.specs.Archive.{is_filled, needs_pack}
+use Rattle.pack_store.specs.Putting.{target, fill}
+use Rattle.pack_store.proofs.LastPack.{goes_behind, next_behind, arrives_last, ends_current, ends_next, told_both}
+use Rattle.pack_store.proofs.opened_laws.puts_last.Goals as goal
+
+pub returns : goal.returns
+returns g c = record {
+  arrived = λ s held now bytes on small none added.
+      arrives_last held now (target s) (fill s) bytes (goes_behind held s.next s.current (needs_pack s) on.next on.current (ap (is_filled s.limits.pack_bytes))) small none added;
+  goes_on = λ old new held now bytes on small before after stores.
+      let added = told_both _ _ (AddsRecord (target old) bytes) held now before after stores.added in
+      let behind = goes_behind held old.next old.current (needs_pack old) on.next on.current (ap (is_filled old.limits.pack_bytes)) in
+      record {
+        next = ap (λ s. s.next) stores.value ∙ next_behind held old.next old.current (needs_pack old) on.next on.current (ap (is_filled old.limits.pack_bytes)) ∙ ends_next held now (target old) (fill old) bytes behind added;
+        current = ap (λ s. s.current) stores.value ∙ ends_current held now (target old) (fill old) bytes behind small added;
+      };
+}

@@ -1,0 +1,10 @@
+pub mod Packs
+pub mod Rows
+pub mod Adding
+pub mod Archive
+pub mod Putting
+pub mod Walk
+pub mod Opening
+pub mod PutsLast
+pub mod Reading
+pub mod Lives

@@ -1,0 +1,27 @@
+//! A store of blobs in packs on a disk, which a crash may leave at any moment.
+#![tactic(auto)]
+
+mod adding;
+mod laws;
+mod limits;
+mod listing;
+mod opened_laws;
+mod opening;
+mod places;
+mod putting;
+mod reading;
+mod records;
+mod rows;
+mod store;
+mod whole;
+
+pub use laws::lives_keep;
+pub use limits::Limits;
+pub use opened_laws::puts_last;
+pub use opening::OpenFault;
+pub use rows::{Current, Row};
+pub use store::Store;
+pub use whole::{PackFault, read_pack};
+
+#[cfg(test)]
+mod tests;
