@@ -1,8 +1,7 @@
 -- A delete claim stands in a later round than its target, so deletions of deletions go no deeper than there are facts.
-use Rattle.std.proofs.Common.{◌≡◌, ℕ, zero, suc, ◌+◌, ◌≤◌, Bool, true, false, T, not, ◌&&◌, ◌||◌, cond, List, [], ◌∷◌, Option, Some, None, refl, sym, ap, subst, ◌∙◌, arith, inl, inr, ◌⊎◌, Ordering, add-zero, zero-add}
-use Rattle.std.proofs.lemmas.Bool.{and_parts, cases_Bool, false≢true}
+use Rattle.std.proofs.Common.{◌≡◌, ℕ, zero, suc, ◌+◌, ◌≤◌, Bool, true, false, T, not, ◌&&◌, ◌||◌, cond, List, [], ◌∷◌, Some, refl, sym, ap, ◌∙◌, arith, Ordering, add-zero, zero-add}
+use Rattle.std.proofs.lemmas.Bool.{and_parts, false≢true}
 use Rattle.std.proofs.lemmas.Slice.Eq.{bytes_eq-Decides}
-use Rattle.std.specs.Str.{bytes_eq}
 use Rattle.std.specs.List.{list_all, list_any, AllByRecursion}
 use Rattle.std.specs.Ordering.{is_eq, is_lt, ordering_reverse}
 use Rattle.std.specs.declared.cmp.Ordering.TheVariants.{Less, Equal, Greater}
@@ -13,7 +12,6 @@ use Rattle.std.proofs.lemmas.Cmp.{tied_itself}
 use Rattle.blobref.specs.Blobref.{ref_cmp}
 use Rattle.claim_verify.specs.Verifier.{Accepts}
 use Rattle.schema_json.specs.declared.date.When.{When}
-use Rattle.schema_json.specs.declared.kinds.Fact.{Fact}
 use Rattle.schema_json.specs.declared.kinds.What.{What}
 use Rattle.schema_json.specs.declared.kinds.What.TheVariants.{Set, Add, Del, Delete}
 use Rattle.schema_json.specs.declared.kinds.Kind.{Kind}
@@ -22,7 +20,7 @@ use Rattle.schema_json.specs.Dependencies.{dependencies, kind_dependencies, targ
 use Rattle.claim_model.specs.Facts.{Facts, Entry, passes}
 use Rattle.claim_model.specs.Ready.{round, is_ready}
 use Rattle.claim_model.specs.Genuine.{is_genuine, is_signed}
-use Rattle.claim_model.specs.Deleted.{deletes, what_deletes, counts_at, can_be_deleted, deleted_within, is_deleted}
+use Rattle.claim_model.specs.Deleted.{deletes, what_deletes, counts_at, can_be_deleted, deleted_within}
 use Rattle.claim_model.specs.Laws.{DeletionIsSettled}
 use Rattle.claim_model.proofs.Rounds.{ready_is_settled}
 

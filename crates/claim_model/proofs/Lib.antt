@@ -1,3 +1,5 @@
 pub mod Held
+pub mod Iterated
 pub mod Rounds
 pub mod Deletion
+pub mod Soundness

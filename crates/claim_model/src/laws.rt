@@ -1,5 +1,5 @@
 //! Laws of the definitions.
-ghost use Rattle.claim_model.specs.Laws.{OrderIsFree, ReadyIsSettled, RoundsEnd, DeletionIsSettled};
+ghost use Rattle.claim_model.specs.Laws.{OrderIsFree, ReadyIsSettled, RoundsEnd, DeletionIsSettled, SoundnessIsSettled, SoundnessEnds};
 
 /// Lists that hold the same facts make the same map, whatever their order.
 pub fn order_is_free()
@@ -19,4 +19,14 @@ pub fn rounds_end()
 /// A blob is deleted at a date exactly where a genuine delete claim that counts then is not itself deleted then.
 pub fn deletion_is_settled()
     ensures { DeletionIsSettled }
+{}
+
+/// A ref is a sound tree exactly where it is a ready file or bytes blob all of whose parts stand in their origins.
+pub fn soundness_is_settled()
+    ensures { SoundnessIsSettled }
+{}
+
+/// Looking for trees within trees deeper than there are facts changes nothing.
+pub fn soundness_ends()
+    ensures { SoundnessEnds }
 {}

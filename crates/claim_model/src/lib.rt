@@ -4,4 +4,7 @@
 
 mod laws;
 
-pub use laws::{deletion_is_settled, order_is_free, ready_is_settled, rounds_end};
+pub use laws::{
+    deletion_is_settled, order_is_free, ready_is_settled, rounds_end, soundness_ends,
+    soundness_is_settled,
+};

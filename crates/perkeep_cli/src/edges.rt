@@ -72,7 +72,7 @@ impl<W: Write> Sink for WriteSink<W> {
 }
 
 // A count of faults after one more. At the last value of its type it stays.
-fn after_fault(faults: u64) -> u64
+pub(crate) fn after_fault(faults: u64) -> u64
     ensures { result ≡ one_more faults }
 {
     faults.saturating_add(1)

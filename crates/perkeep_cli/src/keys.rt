@@ -7,18 +7,21 @@ use perkeep_top::Status;
 use std::fs::File;
 use std::io::ErrorKind;
 
-// A keyring's file is in the working folder.
-const FILE: &str = "keyring";
-
 const LONGEST_KEYRING: usize = 1_048_576;
 
-/// The keyring of the working folder: of its file `keyring`, or empty where there is no such file.
-pub(crate) fn read_keyring(rt: &HostRuntime) -> Result<Keyring, Ending> {
-    let file = match File::open(rt, FILE) {
+/// The keyring of a folder: of its file `keyring`, or empty where there is no such file, or no such folder.
+pub(crate) fn read_keyring(rt: &HostRuntime, folder: &str) -> Result<Keyring, Ending> {
+    if folder.is_empty() {
+        return Ok(Keyring::empty(rt.alloc()));
+    }
+    let Ok(path) = format!(in rt.alloc(); "{folder}/keyring") else {
+        return Err(Ending::Ran(Status::NoMemory));
+    };
+    let file = match File::open(rt, path.as_str()) {
         Ok(file) => file,
         Err(error) => {
             return match error.kind() {
-                ErrorKind::NotFound => Ok(Keyring::empty(rt.alloc())),
+                ErrorKind::NotFound | ErrorKind::NotADirectory => Ok(Keyring::empty(rt.alloc())),
                 ErrorKind::OutOfMemory => Err(Ending::Ran(Status::NoMemory)),
                 _ => Err(Ending::Ran(Status::ReadFault)),
             };

@@ -1,16 +1,18 @@
-//! The program: its words, the keyring, standard input and standard output.
+//! The program: its words, the keyring, the folder of the store, standard input and standard output.
 #![tactic(auto)]
 
 mod edges;
 mod ending;
+mod folder;
 mod keys;
 
 use crate::edges::{ReadSource, WriteSink};
 use crate::ending::Ending;
+use crate::folder::FolderDisk;
 use crate::keys::read_keyring;
 use blobref::{NoMemory, Text};
 use perkeep_top::{Status, run};
-use perkeep_words::Command;
+use perkeep_words::{Line, places};
 use std::alloc::Global;
 use std::env;
 use std::io::ErrorKind;
@@ -31,16 +33,27 @@ fn ending_of(rt: &HostRuntime) -> Ending {
         Ok(words) => words,
         Err(status) => return Ending::Ran(status),
     };
-    if Command::read(&words).is_none() {
+    if Line::read(&words).is_none() {
         return Ending::Ran(Status::BadWords);
     }
-    let keys = match read_keyring(rt) {
+    let folder = folder_named(&words);
+    let keys = match read_keyring(rt, folder) {
         Ok(keys) => keys,
         Err(ending) => return ending,
     };
+    let disk = FolderDisk::new(rt, folder);
     let mut source = ReadSource::new(rt.stdin());
     let mut sink = WriteSink::new(rt.stdout());
-    Ending::Ran(run(rt.alloc(), &words, &keys, &mut source, &mut sink))
+    let (_disk, status) = run(rt.alloc(), &words, disk, &keys, &mut source, &mut sink);
+    Ending::Ran(status)
+}
+
+// The folder that the words name, or the working folder where they name none.
+fn folder_named(words: &[Text]) -> &str {
+    match places(words).dir {
+        Some(place) => words[place].as_str(),
+        None => ".",
+    }
 }
 
 // The words of the command line. Where one isn't UTF-8 they are bad words.

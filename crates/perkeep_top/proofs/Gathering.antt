@@ -1,6 +1,7 @@
 -- Facts that are gathered place by place are those of the arrivals.
-use Rattle.std.proofs.Common.{◌≡◌, ℕ, ◌&&◌, ◌||◌, Bool, true, false, cond, not, Some, List, [], ◌∷◌, ◌++◌, map, refl, sym, ap, subst, ◌∙◌, nat_eq}
+use Rattle.std.proofs.Common.{◌≡◌, ℕ, zero, suc, ◌+◌, ◌&&◌, ◌||◌, Bool, true, false, cond, not, Some, List, [], ◌∷◌, ◌++◌, drop, map, slice_get, refl, sym, ap, subst, ◌∙◌, nat_eq, arith, append_assoc}
 use Rattle.std.proofs.lemmas.List.{append-nil}
+use Rattle.std.proofs.lemmas.List.Elements.{All-append, All-cons, All-nil}
 use Rattle.std.proofs.lemmas.Map.Keys.{IsDistinct-head, IsDistinct-tail}
 use Rattle.std.specs.BTreeSet.{BTreeSet, Updates}
 use Rattle.std.specs.Cmp.Lexicographic.{pointwise, nat_list_cmp_total, texts_ties}
@@ -12,10 +13,11 @@ use Rattle.std.specs.Ordering.{eq_by_cmp}
 use Rattle.std.specs.Prelude.{IsTrue}
 use Rattle.std.specs.Str.{bytes_eq}
 use Rattle.blobref.specs.Blobref.{ref_cmp}
-use Rattle.schema_json.specs.Facts.{fact_of}
-use Rattle.claim_model.specs.Facts.{Entry, AreDistinct}
+use Rattle.schema_json.specs.Facts.{fact_of, IsValid}
+use Rattle.schema_json.proofs.ValidFacts.{HasValidParts-kind_of}
+use Rattle.claim_model.specs.Facts.{Entry, AreDistinct, AreValid}
 use Rattle.salvage_scan.specs.declared.found.Found.{Found}
-use Rattle.salvage_scan.specs.Arrivals.{arrive, arrivals, blob_of}
+use Rattle.salvage_scan.specs.Arrivals.{arrive, arrivals, content, blob_of}
 use Rattle.salvage_scan.specs.Salvage.{salvage}
 use Rattle.salvage_scan.specs.Scan.{place_of}
 use Rattle.salvage_scan.proofs.Arriving.{arrivals_are_firsts}
@@ -99,6 +101,16 @@ distinct (e ∷ es) h = (apart e.0 es (IsDistinct-head (pointwise nat_eq) e.0 (k
 pub gathered_distinct : (pack : List ℕ) (places : List Found) (facts : List Entry) → places ≡ map place_of (salvage pack) → facts ≡ with_blobs [] (map (blob_at pack) places) → AreDistinct facts
 gathered_distinct pack places facts shown is = subst AreDistinct (sym (is ∙ gathered pack places shown)) (distinct (arrivals ((0, pack) ∷ [])) (arrivals_are_firsts.distinct ((0, pack) ∷ [])))
 
+-- ---- what is read is valid
+
+valid : (es : List Blob) → AreValid (map entry_of es)
+unfolding fact_of
+valid [] = All-nil (λ (e : Entry). IsValid e.1)
+valid (e ∷ es) = All-cons (λ (f : Entry). IsValid f.1) (entry_of e) (map entry_of es) (HasValidParts-kind_of e.1) (valid es)
+
+pub gathered_valid : (pack : List ℕ) (places : List Found) (facts : List Entry) → places ≡ map place_of (salvage pack) → facts ≡ with_blobs [] (map (blob_at pack) places) → AreValid facts
+gathered_valid pack places facts shown is = subst AreValid (sym (is ∙ gathered pack places shown)) (valid (arrivals ((0, pack) ∷ [])))
+
 -- ---- one blob more
 
 has-push : (facts : List Entry) (e : Entry) (q : List ℕ) → has_fact (facts ++ e ∷ []) q ≡ cond (bytes_eq e.0 q) true (has_fact facts q)
@@ -118,3 +130,84 @@ has-push (f ∷ facts) e q = ap (λ b. bytes_eq f.0 q || b) (has-push facts e q)
 pub has_refs_push : (seen next : BTreeSet (List ℕ)) (facts pushed : List Entry) (e : Entry) → HasRefsOf seen facts → Updates ref_cmp seen next e.0 true → pushed ≡ facts ++ e ∷ [] → HasRefsOf next pushed
 has_refs_push seen next facts pushed e has more is q =
     more.0 q ∙ (λ i. cond (sym (texts_ties e.0 q) i) true (has q i)) ∙ sym (ap (λ es. has_fact es q) is ∙ has-push facts e q)
+
+-- ---- the arrivals of a store
+
+-- one arrival more, of those that are left
+pub gathered_more : (facts pushed : List Entry) (r bytes : List ℕ) (all : List Blob) (number : ℕ) → slice_get all number ≡ Some (r, bytes) → pushed ≡ with_blob facts (r, bytes)
+    → with_blobs facts (drop number all) ≡ with_blobs [] all → with_blobs pushed (drop (number + 1) all) ≡ with_blobs [] all
+gathered_more facts pushed r bytes all number at is so_far =
+    ap (λ es. with_blobs es (drop (number + 1) all)) is ∙ sym (ap (with_blobs facts) (drop_next all number at)) ∙ so_far
+  where
+    drop_next : (all : List Blob) (number : ℕ) → slice_get all number ≡ Some (r, bytes) → drop number all ≡ (r, bytes) ∷ drop (number + 1) all
+    drop_next [] number at = absurd (cc at)
+    drop_next (a ∷ all) zero at = let same : a ≡ (r, bytes) = cc at in ap (λ b. b ∷ all) same
+    drop_next (a ∷ all) (suc n) at = let e : suc n + 1 ≡ suc (n + 1) = omega arith in rw e (drop_next all n at)
+
+either_false : (a b : Bool) → (a || b) ≡ false → (a ≡ false) × (b ≡ false)
+either_false true b e = absurd (cc e)
+either_false false b e = (refl, e)
+
+all_push : (r : List ℕ) (es : List Entry) (e : Entry) → IsTrue (list_all (λ (f : Entry). not (bytes_eq r f.0)) es) → bytes_eq r e.0 ≡ false → IsTrue (list_all (λ (f : Entry). not (bytes_eq r f.0)) (es ++ e ∷ []))
+all_push r [] e all differs = go (bytes_eq r e.0) differs
+  where
+    go : (b : Bool) → b ≡ false → IsTrue (not b && true)
+    go true same = absurd (cc same)
+    go false same = refl
+all_push r (f ∷ es) e all differs = go (bytes_eq r f.0) all (λ rest. all_push r es e rest differs)
+  where
+    go : (b : Bool) → IsTrue (not b && list_all (λ (f : Entry). not (bytes_eq r f.0)) es)
+        → (IsTrue (list_all (λ (f : Entry). not (bytes_eq r f.0)) es) → IsTrue (list_all (λ (f : Entry). not (bytes_eq r f.0)) (es ++ e ∷ [])))
+        → IsTrue (not b && list_all (λ (f : Entry). not (bytes_eq r f.0)) (es ++ e ∷ []))
+    go true h more = absurd (cc h)
+    go false h more = more h
+
+distinct_push : (facts : List Entry) (e : Entry) → has_fact facts e.0 ≡ false → AreDistinct facts → AreDistinct (facts ++ e ∷ [])
+distinct_push [] e lacking d = (refl, tt)
+distinct_push (f ∷ facts) e lacking d =
+    let both = either_false (bytes_eq f.0 e.0) (has_fact facts e.0) lacking in
+    (all_push f.0 facts e d.0 both.0, distinct_push facts e both.1 d.1)
+
+-- a fact more keeps refs apart
+pub distinct_more : (facts pushed : List Entry) (blob : Blob) → pushed ≡ with_blob facts blob → AreDistinct facts → AreDistinct pushed
+distinct_more facts pushed blob is apart_now = subst AreDistinct (sym is) (go (has_fact facts blob.0) refl)
+  where
+    go : (b : Bool) → has_fact facts blob.0 ≡ b → AreDistinct (cond b facts (facts ++ entry_of blob ∷ []))
+    go true there = apart_now
+    go false lacking = distinct_push facts (entry_of blob) lacking apart_now
+
+-- and each is valid
+pub valid_more : (facts pushed : List Entry) (blob : Blob) → pushed ≡ with_blob facts blob → AreValid facts → AreValid pushed
+unfolding fact_of
+valid_more facts pushed blob is valid_now = subst AreValid (sym is) (go (has_fact facts blob.0))
+  where
+    go : (b : Bool) → AreValid (cond b facts (facts ++ entry_of blob ∷ []))
+    go true = valid_now
+    go false = All-append (λ (e : Entry). IsValid e.1) facts (entry_of blob ∷ []) valid_now (All-cons (λ (e : Entry). IsValid e.1) (entry_of blob) [] (HasValidParts-kind_of blob.1) (All-nil (λ (e : Entry). IsValid e.1)))
+
+all_at : (P : List ℕ → Type 0) (before : List Blob) (f : Blob) (fs : List Blob) → AllByRecursion P (keys_of (before ++ f ∷ fs)) → P f.0
+all_at P [] f fs h = h.0
+all_at P (b ∷ before) f fs h = all_at P before f fs h.1
+
+not_among : (before : List Blob) (f : Blob) (fs : List Blob) → IsDistinct (pointwise nat_eq) (keys_of (before ++ f ∷ fs)) → list_any (λ (a : Blob). pointwise nat_eq a.0 f.0) before ≡ false
+not_among [] f fs d = refl
+not_among (b ∷ before) f fs d =
+    go (pointwise nat_eq b.0 f.0) (all_at (λ y. pointwise nat_eq b.0 y ≡ false) before f fs (IsDistinct-head (pointwise nat_eq) b.0 (keys_of (before ++ f ∷ fs)) d))
+    (not_among before f fs (IsDistinct-tail (pointwise nat_eq) b.0 (keys_of (before ++ f ∷ fs)) d))
+  where
+    go : (c : Bool) → c ≡ false → list_any (λ (a : Blob). pointwise nat_eq a.0 f.0) before ≡ false → (c || list_any (λ (a : Blob). pointwise nat_eq a.0 f.0) before) ≡ false
+    go true e more = absurd (cc e)
+    go false e more = more
+
+-- what is distinct arrives as it is
+arrive_distinct : (fs before : List Blob) → IsDistinct (pointwise nat_eq) (keys_of (before ++ fs)) → arrive before fs ≡ before ++ fs
+arrive_distinct [] before d = sym (append-nil before)
+arrive_distinct (f ∷ fs) before d =
+    let joined : (before ++ f ∷ []) ++ fs ≡ before ++ f ∷ fs = append_assoc before (f ∷ []) fs in
+    ap (λ b. arrive (cond b before (before ++ f ∷ [])) fs) (not_among before f fs d)
+    ∙ arrive_distinct fs (before ++ f ∷ []) (subst (λ l. IsDistinct (pointwise nat_eq) (keys_of l)) (sym joined) d) ∙ joined
+
+-- the facts of arrivals, gathered in their order
+pub facts_of_arrivals : (packs : List (ℕ × List ℕ)) → from_entries (with_blobs [] (arrivals packs)) ≡ facts_of_content (content packs)
+facts_of_arrivals packs =
+    ap from_entries (sym (entries-arrive (arrivals packs) []) ∙ ap (map entry_of) (arrive_distinct (arrivals packs) [] (arrivals_are_firsts.distinct packs))) ∙ facts-content (arrivals packs)

@@ -1,16 +1,20 @@
 -- The exit statuses (docs/commands.md).
 use Rattle.std.specs.Prelude.{ℕ, List, codes}
 use Rattle.perkeep_top.specs.declared.status.Status.{Status}
-use Rattle.perkeep_top.specs.declared.status.Status.TheVariants.{Done, NoMemory, BadWords, BadInput, ReadFault, WriteFault, NotBuilt}
+use Rattle.perkeep_top.specs.declared.status.Status.TheVariants.{Done, NoMemory, BadWords, Absent, BadInput, ReadFault, WriteFault, Disk, Full, Damaged, NotBuilt}
 
 -- the exit status of the process
 abbrev pub code : Status → ℕ
 code Done = 0
 code NoMemory = 1
 code BadWords = 2
+code (Absent r) = 3
 code (BadInput fault) = 4
 code ReadFault = 5
 code WriteFault = 6
+code Disk = 7
+code (Full blobs pack) = 9
+code (Damaged want is) = 10
 code NotBuilt = 13
 
 -- the word that is printed on standard error
@@ -18,7 +22,11 @@ abbrev pub word : Status → List ℕ
 word Done = codes "done"
 word NoMemory = codes "memory"
 word BadWords = codes "words"
+word (Absent r) = codes "absent"
 word (BadInput fault) = codes "input"
 word ReadFault = codes "read"
 word WriteFault = codes "write"
+word Disk = codes "disk"
+word (Full blobs pack) = codes "full"
+word (Damaged want is) = codes "damaged"
 word NotBuilt = codes "not built"

@@ -1,11 +1,20 @@
-//! What the blobs of a pack say.
-ghost use Rattle.std.specs.Prelude.{◌≡◌, [], map, All, IfOk, OnOk};
+//! What the blobs of a pack and of a store say.
+ghost use Rattle.std.specs.Prelude.{◌≡◌, ◌≤◌, ◌<◌, [], map, slice_get, All, IfOk, IfErr, OnOk, Some, None};
+ghost use Rattle.std.specs.Option.{ForSome};
 ghost use Rattle.std.specs.FinMap.{from_entries};
-ghost use Rattle.claim_model.specs.Facts.{AreDistinct};
+ghost use Rattle.claim_model.specs.Facts.{AreDistinct, AreValid};
 ghost use Rattle.salvage_scan.specs.Scan.{LiesIn, bytes_at};
+ghost use Rattle.pack_store.specs.Archive.{count};
+ghost use Rattle.pack_store.specs.Reading.{StaysStill};
+ghost use Rattle.pack_store.specs.Rows.{arrivals_in};
+ghost use Rattle.perkeep_top.specs.Stored.{Refuses};
 ghost use Rattle.perkeep_top.specs.Blobs.{pack_facts, blob_at, with_blob, with_blobs, HasRefsOf};
 
-use blobref::{NoMemory, Ref};
+use crate::asking::unread;
+use crate::refusal::Refusal;
+use blobref::{NoMemory, Octets, Ref};
+use pack_disk::Disk;
+use pack_store::Store;
 use plain_index::FactList;
 use salvage_scan::{Found, scan};
 use schema_json::fact;
@@ -14,10 +23,11 @@ use std::collections::BTreeSet;
 
 /// The facts of the blobs that are salvaged from a pack, each ref once: the first finding of a ref counts, and later ones
 /// are passed over (`docs/formats/packs.md`, `docs/formats/schema.md`). `NoMemory` comes only where no memory is left.
-#[tactic(auto, using(crate::proofs::Gathering::gathered_facts, crate::proofs::Gathering::gathered_distinct))]
+#[tactic(auto, using(crate::proofs::Gathering::gathered_facts, crate::proofs::Gathering::gathered_distinct, crate::proofs::Gathering::gathered_valid))]
 pub fn pack_facts(alloc: Global, pack: &[u8]) -> Result<FactList, NoMemory>
     ensures facts { IfOk result (λ facts. from_entries facts ≡ pack_facts pack.now) }
     ensures distinct { IfOk result (λ facts. AreDistinct facts) }
+    ensures valid { IfOk result (λ facts. AreValid facts) }
 {
     let (found, _clean) = scan(alloc, pack)?;
     first_facts(alloc, pack, found.as_slice())
@@ -36,6 +46,39 @@ fn first_facts(alloc: Global, pack: &[u8], found: &[Found]) -> Result<FactList, 
     Ok(facts)
 }
 
+/// The facts of the blobs of a store, each ref once.
+pub(crate) fn store_facts<D: Disk>(alloc: Global, store: &mut Store<D>) -> Result<FactList, Refusal>
+    ensures facts { IfOk result (λ facts. ForSome (D.packs store.old.disk) (λ held. facts ≡ with_blobs [] (arrivals_in held store.old.rows))) }
+    ensures distinct { IfOk result AreDistinct }
+    ensures valid { IfOk result AreValid }
+    ensures refused { IfErr result (Refuses None None (D.packs store.old.disk) (D.faults store.old.disk) (D.faults store.new.disk)) }
+    ensures stays { StaysStill D.packs D.images D.moment D.images_since store.old store.new }
+    ensures later { D.faults store.old.disk ≤ D.faults store.new.disk }
+{
+    let mut seen = BTreeSet::new(alloc);
+    let mut facts = FactList::empty(alloc);
+    for number in 0..store.count() {
+        let (r, bytes) = arrival_at(store, number)?;
+        add_blob(alloc, r, bytes.as_slice(), &mut seen, &mut facts)?;
+    }
+    Ok(facts)
+}
+
+// The arrival of a number.
+fn arrival_at<D: Disk>(store: &mut Store<D>, number: u64) -> Result<(Ref, Octets), Refusal>
+    requires { number < count store.old }
+    ensures bytes { IfOk result (λ arrival. ForSome (D.packs store.old.disk) (λ held. slice_get (arrivals_in held store.old.rows) number ≡ Some arrival)) }
+    ensures refused { IfErr result (Refuses None None (D.packs store.old.disk) (D.faults store.old.disk) (D.faults store.new.disk)) }
+    ensures stays { StaysStill D.packs D.images D.moment D.images_since store.old store.new }
+    ensures later { D.faults store.old.disk ≤ D.faults store.new.disk }
+{
+    match store.arrival(number) {
+        Ok(Some(arrival)) => Ok(arrival),
+        Ok(None) => unreachable!(),
+        Err(fault) => Err(unread(fault)),
+    }
+}
+
 // Adds the fact of the blob at the place, unless its ref was seen.
 fn add_first(
     alloc: Global,
@@ -49,9 +92,24 @@ fn add_first(
     ensures facts { OnOk result (facts.new ≡ with_blob facts.old (blob_at pack.now place.now)) }
     ensures seen { OnOk result (HasRefsOf seen.new facts.new) }
 {
-    if seen.insert(place.r)? {
-        let said = fact(alloc, blob_bytes(pack, place))?;
-        facts.push((place.r, said))?;
+    add_blob(alloc, place.r, blob_bytes(pack, place), seen, facts)
+}
+
+// Adds the fact of a blob, unless its ref was seen.
+fn add_blob(
+    alloc: Global,
+    r: Ref,
+    bytes: &[u8],
+    seen: &mut BTreeSet<Ref>,
+    facts: &mut FactList,
+) -> Result<(), NoMemory>
+    requires seen { HasRefsOf seen.old facts.old }
+    ensures facts { OnOk result (facts.new ≡ with_blob facts.old (r, bytes.now)) }
+    ensures seen { OnOk result (HasRefsOf seen.new facts.new) }
+{
+    if seen.insert(r)? {
+        let said = fact(alloc, bytes)?;
+        facts.push((r, said))?;
     }
     Ok(())
 }

@@ -1,8 +1,14 @@
 //! The program, from its words to its bytes.
 #![tactic(auto)]
 
+mod asking;
 mod blobs;
+mod lines;
+mod opening;
+mod putting;
+mod refusal;
 mod running;
+mod salvaging;
 mod search;
 mod status;
 

@@ -2,6 +2,7 @@ use crate::{InputFault, Status, run};
 use blobref::{NoMemory, Octets, Ref, Text};
 use claim_verify::{KeyName, Keyring};
 use edge_base::{CallList, MemSink, MemSource, Sink, Source};
+use pack_disk::MemDisk;
 use std::alloc::Global;
 
 // The blobs, the false signature and the refs in the answers were made by another program.
@@ -48,13 +49,19 @@ fn failing(alloc: Global, call: Option<u64>) -> Result<CallList, NoMemory> {
     Ok(calls)
 }
 
+// A disk without packs, none of whose calls fails.
+fn no_packs(alloc: Global) -> MemDisk {
+    MemDisk::empty(alloc, CallList::empty(alloc), u64::MAX)
+}
+
 // Runs the words of a line by the key of the name `jefe` and the secret `Jefe`.
 fn run_line<S: Source, K: Sink>(
     alloc: Global,
     line: &str,
+    disk: MemDisk,
     source: &mut S,
     sink: &mut K,
-) -> Result<Status, NoMemory> {
+) -> Result<(MemDisk, Status), NoMemory> {
     let mut keys = Keyring::empty(alloc);
     if let Some(name) = KeyName::read(b"jefe") {
         if keys.add(&name, b"Jefe").is_err() {
@@ -65,7 +72,7 @@ fn run_line<S: Source, K: Sink>(
     for word in line.split(' ') {
         words.push(Text::copy(alloc, word)?)?;
     }
-    Ok(run(alloc, &words, &keys, source, sink))
+    Ok(run(alloc, &words, disk, &keys, source, sink))
 }
 
 #[test]
@@ -90,8 +97,8 @@ fn packs_are_searched(rt: HostRuntime) -> Result<(), NoMemory> {
     ] {
         let mut source = MemSource::of(pack_of(alloc, blobs)?, CallList::empty(alloc));
         let mut sink = MemSink::empty(alloc, CallList::empty(alloc));
-        let status = run_line(alloc, line, &mut source, &mut sink)?;
-        assert_eq!(rt; status, Status::Done);
+        let (_disk, status) = run_line(alloc, line, no_packs(alloc), &mut source, &mut sink)?;
+        assert!(rt; status == Status::Done);
         assert_eq!(rt; sink.written(), want.as_bytes());
     }
     Ok(())
@@ -142,7 +149,7 @@ fn refusals_and_failing_calls(rt: HostRuntime) -> Result<(), NoMemory> {
             2,
             "words",
         ),
-        ("search", Some(0), Some(0), Status::BadWords, 2, "words"),
+        ("searches", Some(0), Some(0), Status::BadWords, 2, "words"),
         ("", None, None, Status::BadWords, 2, "words"),
         (
             "search-pack  a",
@@ -156,11 +163,105 @@ fn refusals_and_failing_calls(rt: HostRuntime) -> Result<(), NoMemory> {
         let pack = pack_of(alloc, &[KEY, PERMANODE, CLAIM])?;
         let mut source = MemSource::of(pack, failing(alloc, read)?);
         let mut sink = MemSink::empty(alloc, failing(alloc, write)?);
-        let ended = run_line(alloc, line, &mut source, &mut sink)?;
-        assert_eq!(rt; ended, status);
+        let (_disk, ended) = run_line(alloc, line, no_packs(alloc), &mut source, &mut sink)?;
+        assert!(rt; ended == status);
         assert_eq!(rt; (ended.code(), ended.word()), (code, word));
         let want = if code == 0 { FOUND } else { "" };
         assert_eq!(rt; sink.written(), want.as_bytes());
+    }
+    Ok(())
+}
+
+// One store, from its first blob to a search. The refs were made by another program.
+#[test]
+fn commands_over_one_store(rt: HostRuntime) -> Result<(), NoMemory> {
+    let alloc = rt.alloc();
+    let mut disk = no_packs(alloc);
+    for (line, input, code, want) in [
+        ("list d", "", 0, ""),
+        (
+            "put d",
+            "",
+            0,
+            "sha224-d14a028c2a3a2bc9476102bb288234c415a2b01f828ea62ac5b3e42f\n",
+        ),
+        (
+            "put d",
+            "abc",
+            0,
+            "sha224-23097d223405d8228642a477bda255b32aadbce4bda0b3f7e36c9da7\n",
+        ),
+        (
+            "put d",
+            "",
+            0,
+            "sha224-d14a028c2a3a2bc9476102bb288234c415a2b01f828ea62ac5b3e42f\n",
+        ),
+        (
+            "salvage d",
+            "",
+            0,
+            "pack-00000.blobs 67 sha224-d14a028c2a3a2bc9476102bb288234c415a2b01f828ea62ac5b3e42f 0\npack-00000.blobs 134 sha224-23097d223405d8228642a477bda255b32aadbce4bda0b3f7e36c9da7 3\npack-00000.blobs clean\n",
+        ),
+        (
+            "list d --after sha224-23097d223405d8228642a477bda255b32aadbce4bda0b3f7e36c9da7 --limit 1",
+            "",
+            0,
+            "sha224-d14a028c2a3a2bc9476102bb288234c415a2b01f828ea62ac5b3e42f 0\n",
+        ),
+        (
+            "get d sha224-23097d223405d8228642a477bda255b32aadbce4bda0b3f7e36c9da7",
+            "",
+            0,
+            "abc",
+        ),
+        (
+            "stat d sha224-23097d223405d8228642a477bda255b32aadbce4bda0b3f7e36c9da7",
+            "",
+            0,
+            "sha224-23097d223405d8228642a477bda255b32aadbce4bda0b3f7e36c9da7 3\n",
+        ),
+        (
+            "get d sha224-adef53a16a87934f7f5595fa4225e39e14c1c80a4e3ed252d959d9b1",
+            "",
+            3,
+            "",
+        ),
+        ("get d abc", "", 4, ""),
+        ("search d --attr tag --value a", "", 0, NOTHING),
+        (
+            "put d",
+            CLAIM,
+            0,
+            "sha224-fdf2b2a7262df1d5a2da6a596527afe7a7c33c1241d7e446d13a7b61\n",
+        ),
+        (
+            "put d",
+            PERMANODE,
+            0,
+            "sha224-adef53a16a87934f7f5595fa4225e39e14c1c80a4e3ed252d959d9b1\n",
+        ),
+        (
+            "put d",
+            KEY,
+            0,
+            "sha224-da4a89851a3c8f7ce55ef510378a1b717451b9f0b152bb73f28508dc\n",
+        ),
+        ("search d --attr tag --value a", "", 0, FOUND),
+        (
+            "search d --attr tag --value a --at 2019-12-31T00:00:00Z",
+            "",
+            0,
+            NOTHING,
+        ),
+    ] {
+        let bytes = Octets::copy(alloc, input.as_bytes())?;
+        let mut source = MemSource::of(bytes, CallList::empty(alloc));
+        let mut sink = MemSink::empty(alloc, CallList::empty(alloc));
+        let (kept, status) = run_line(alloc, line, disk, &mut source, &mut sink)?;
+        disk = kept;
+        assert_eq!(rt; status.code(), code, "{line}");
+        assert_eq!(rt; sink.written(), want.as_bytes(), "{line}");
     }
     Ok(())
 }

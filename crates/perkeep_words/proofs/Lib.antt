@@ -1,2 +1,6 @@
-pub mod Lines
-pub mod Commands
+pub mod PartReadings
+pub mod Numbers
+pub mod Faults
+pub mod LineReadings
+pub mod Placing
+pub mod Naming

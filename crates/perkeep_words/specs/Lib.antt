@@ -1,2 +1,5 @@
 pub mod Words
-pub mod Command
+pub mod Parts
+pub mod Forms
+pub mod Reading
+pub mod Places

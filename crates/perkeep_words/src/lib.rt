@@ -1,11 +1,16 @@
 //! The command line: which words are which command.
 #![tactic(auto)]
 
-mod command;
-mod line;
+mod finding;
+mod forms;
+mod parts;
+mod place;
+mod reading;
 
-pub use command::{Command, readings_agree};
-pub use line::{Positions, line_readings_agree};
+pub use finding::places;
+pub use parts::parts_agree;
+pub use place::Places;
+pub use reading::{Command, Line, TextFault, readings_agree};
 
 #[cfg(test)]
 mod tests;

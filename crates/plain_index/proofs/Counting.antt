@@ -99,7 +99,7 @@ module _ (p : List ℕ) (read : Pair → Option Moment) (rest : List Pair) (tail
   one true d None m r h is = nothing d m h
   one true d (Some on) m r h is = one_about (bytes_eq p on) d m (on, r) h (is on)
 
-filter_map-cond : {X Y : Type 0} (h : X → Option Y) (b : Bool) (x : X) (xs : List X) → filter_map h (cond b (x ∷ xs) xs) ≡ cond b (cons_option (h x) (filter_map h xs)) (filter_map h xs)
+pub filter_map-cond : {X Y : Type 0} (h : X → Option Y) (b : Bool) (x : X) (xs : List X) → filter_map h (cond b (x ∷ xs) xs) ≡ cond b (cons_option (h x) (filter_map h xs)) (filter_map h xs)
 filter_map-cond h true x xs = refl
 filter_map-cond h false x xs = refl
 

@@ -43,7 +43,7 @@ find_at t (x ∷ xs) (suc i) off on =
     find_at t xs i (λ k d low lt. off (suc k) d (omega arith) (omega arith)) (λ k d low lt. on (suc k) d (omega arith) (omega arith))
     ∙ sym (cond-false (t x) (Some x) (find t xs) (off zero x (omega arith) (omega arith)))
 
-is_Less : (o : Ordering) → is_lt o ≡ true → o ≡ Less
+pub is_Less : (o : Ordering) → is_lt o ≡ true → o ≡ Less
 is_Less Less e = refl
 is_Less Equal e = absurd (let p : false ≡ true = e in cc p)
 is_Less Greater e = absurd (let p : false ≡ true = e in cc p)
@@ -55,7 +55,7 @@ is_Equal Greater e = absurd (let p : false ≡ true = e in cc p)
 
 module _ {K : Type 0} {R : K → K → Ordering} (o : IsTotalOrder R) where
   -- what does not come after one that is less is less
-  less_too : (a b q : K) → is_lt (R b a) ≡ false → R b q ≡ Less → R a q ≡ Less
+  pub less_too : (a b q : K) → is_lt (R b a) ≡ false → R b q ≡ Less → R a q ≡ Less
   less_too a b q h less = by (R a b) refl
     where
       by : (r : Ordering) → R a b ≡ r → R a q ≡ Less
@@ -120,12 +120,12 @@ parted_up_to rs q h i j d le lt most = by (ref_cmp (get_or rs i d) q) refl
         ] in
         absurd (let p : false ≡ true = ap (λ r. not (is_gt r)) (sym beyond) ∙ most in cc p)
 
-greater : (o : Ordering) → not (is_gt o) ≡ false → o ≡ Greater
+pub greater : (o : Ordering) → not (is_gt o) ≡ false → o ≡ Greater
 greater Less e = absurd (let p : true ≡ false = e in cc p)
 greater Equal e = absurd (let p : true ≡ false = e in cc p)
 greater Greater e = refl
 
-not_less : (o : Ordering) → not (is_gt o) ≡ true → is_lt (ordering_reverse o) ≡ false
+pub not_less : (o : Ordering) → not (is_gt o) ≡ true → is_lt (ordering_reverse o) ≡ false
 not_less Less e = refl
 not_less Equal e = refl
 not_less Greater e = absurd (let p : false ≡ true = e in cc p)

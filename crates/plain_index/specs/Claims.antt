@@ -1,5 +1,5 @@
 -- The genuine claims, grouped by what they are about.
-use Rattle.std.specs.Prelude.{ℕ, Bool, List, filter, Option, Some, None, option_map, option_and_then, if◌then◌else◌, ℤ}
+use Rattle.std.specs.Prelude.{ℕ, ◌&&◌, not, Bool, List, filter, Option, Some, None, option_map, option_and_then, if◌then◌else◌, ℤ}
 use Rattle.std.specs.List.{filter_map}
 use Rattle.std.specs.Str.{bytes_eq}
 use Rattle.std.specs.FinMap.{entries, get}
@@ -10,9 +10,9 @@ use Rattle.schema_json.specs.declared.kinds.What.TheVariants.{Set, Add, Del, Del
 use Rattle.schema_json.specs.declared.kinds.Kind.{Kind}
 use Rattle.schema_json.specs.declared.kinds.Kind.TheVariants.{Plain, Key, File, Bytes, Directory, StaticSet, Permanode, Claim, Unread}
 use Rattle.claim_model.specs.Facts.{Entry, Facts}
-use Rattle.claim_model.specs.Genuine.{is_genuine}
+use Rattle.claim_model.specs.Genuine.{is_genuine, is_genuine_permanode}
 use Rattle.claim_model.specs.Deleted.{is_deleted}
-use Rattle.claim_model.specs.Claims.{claim_on, apply}
+use Rattle.claim_model.specs.Claims.{claim_on, apply, stands_at, has_value}
 
 -- the permanode whose attribute it changes, or the target that it deletes
 abbrev pub what_subject : What → List ℕ
@@ -65,3 +65,13 @@ said facts r = option_and_then (λ fact. claim_says fact.kind) (get facts r)
 abbrev pub apply_said : List ℕ → List (List ℕ) → Option What → List (List ℕ)
 apply_said name found None = found
 apply_said name found (Some what) = apply name found what
+
+-- the moment of an attribute claim on p that counts at that time, is genuine, and isn't deleted then
+abbrev pub standing_moment : Facts → Accepts → When → List ℕ → Entry → Option (ℤ × List ℕ)
+standing_moment facts accepts when p e =
+    option_and_then (λ m. if stands_at facts accepts when e.0 then Some m else None) (option_map (λ c. c.0) (claim_on p when e.0 e.1.kind))
+
+-- whether it is a genuine permanode that isn't deleted at that time and has the value of the attribute then
+abbrev pub is_holder : Facts → Accepts → When → List ℕ → List ℕ → List ℕ → Bool
+is_holder facts accepts when name value r =
+    (is_genuine_permanode facts accepts r && not (is_deleted facts accepts when r)) && has_value facts accepts when name value r

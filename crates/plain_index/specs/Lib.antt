@@ -1,5 +1,7 @@
 pub mod Tables
 pub mod Look
+pub mod Walk
+pub mod Parts
 pub mod Claims
 pub mod Latest
 pub mod Computed

@@ -2,7 +2,7 @@
 ghost use Rattle.std.specs.Prelude.{◌≡◌, ◌<◌, ◌∷◌, [], ◌++◌, length, IfOk, OnOk, OnErr, Some, slice_get};
 ghost use Rattle.std.specs.FinMap as finite;
 ghost use Rattle.blobref.specs.Blobref.{ref_cmp};
-ghost use Rattle.claim_model.specs.Facts.{AreDistinct};
+ghost use Rattle.claim_model.specs.Facts.{AreDistinct, AreValid};
 ghost use Rattle.plain_index.specs.Tables.{IsAscending};
 
 use blobref::{NoMemory, Ref};
@@ -72,7 +72,9 @@ impl FactList {
 
     // The same facts in the order of their refs.
     pub(crate) fn sorted(self) -> Result<Vec<(Ref, Fact)>, NoMemory>
-        requires { AreDistinct self }
+        requires distinct { AreDistinct self }
+        requires valid { AreValid self }
+        ensures valid { IfOk result (λ facts. AreValid facts.items) }
         ensures ascending { IfOk result (λ facts. IsAscending facts.items) }
         ensures same { IfOk result (λ facts. finite.from_entries {R = ref_cmp} facts.items ≡ finite.from_entries self) }
     {

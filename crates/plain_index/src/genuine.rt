@@ -70,7 +70,7 @@ fn is_signed<V: Verifier>(facts: &[(Ref, Fact)], keys: &V, fact: &Fact) -> bool
     key_accepts(keys, signed, &signer.kind)
 }
 
-fn key_accepts<V: Verifier>(keys: &V, signed: &Signed, kind: &Kind) -> bool
+pub(crate) fn key_accepts<V: Verifier>(keys: &V, signed: &Signed, kind: &Kind) -> bool
     ensures { result ≡ key_accepts (V.accepts keys.now) signed.now kind.now }
 {
     match kind {

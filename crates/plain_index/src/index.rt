@@ -1,28 +1,35 @@
 //! The index from scratch.
-ghost use Rattle.std.specs.Prelude.{◌≡◌, ◌&&◌, [], IfOk, OnOk, filter, fold, map, not, option_copied, option_map};
+ghost use Rattle.std.specs.Prelude.{◌≡◌, ◌&&◌, ◌++◌, [], IfOk, IfSome, OnOk, option_to_list, filter, fold, map, not, option_copied, option_map};
 ghost use Rattle.std.specs.FinMap as finite;
 ghost use Rattle.std.specs.List.{filter_map};
 ghost use Rattle.blobref.specs.Blobref.{ref_cmp};
+ghost use Rattle.schema_json.specs.Facts.{IsValid};
 ghost use Rattle.claim_model.specs.Claims.{counted, has_value};
 ghost use Rattle.claim_model.specs.Deleted.{can_be_deleted, deletes, deleted_within, is_deleted, live_permanodes};
-ghost use Rattle.claim_model.specs.Facts.{AreDistinct, passes};
+ghost use Rattle.claim_model.specs.Facts.{AreDistinct, AreValid, passes};
 ghost use Rattle.claim_model.specs.Genuine.{is_genuine, is_genuine_permanode, permanodes};
 ghost use Rattle.claim_model.specs.Ready.{is_ready};
+ghost use Rattle.claim_model.specs.Trees.{file_size, is_file, is_sound_tree, tree_size};
 ghost use Rattle.plain_index.specs.Claims.{claims_about, apply_said, counted_claim, said};
 ghost use Rattle.plain_index.specs.Latest.{latest};
+ghost use Rattle.plain_index.specs.Walk.{ref_after};
 
 use crate::claims::{can_be_deleted, claims, claims_about, deletes};
 use crate::facts::FactList;
 use crate::genuine::{genuine, is_permanode, permanodes};
 use crate::look::Look;
-use crate::lookup::{beside, fact_at, first_after};
+use crate::lookup::{beside, fact_at, first_after, ref_after};
 use crate::rounds::ready;
+use crate::soundness::{is_file, size_at, sizes, sound};
+use crate::table::FactTable;
 use crate::values::{apply, claim_says, copied, is_among, later, moment_on};
 use blobref::{NoMemory, Ref, RefList, Text, TextList};
 use claim_verify::Verifier;
+use edge_base::Steps;
 use schema_json::{Date, Fact, What, When};
 use std::alloc::Global;
 use std::marker::Model;
+use std::sync::ledger::Ledger;
 
 /// An index that is computed at once out of all facts, and keeps them in the order of their refs. A contract sees the map of the
 /// facts, and the keys.
@@ -33,6 +40,8 @@ pub struct PlainIndex<V: Verifier> {
     alloc: Global,
     facts: Vec<(Ref, Fact)>,
     ready: Vec<bool>,
+    sound: Vec<bool>,
+    sizes: Vec<Option<u64>>,
     genuine: Vec<bool>,
     permanodes: Vec<Ref>,
     claims: Vec<(Ref, Ref)>,
@@ -52,7 +61,7 @@ impl<V: Verifier> Model for PlainIndex<V> {
 
     ghost view = { λ a. (finite.from_entries a.facts.items, a.keys) };
 
-    ghost invariant = { λ a. IsComputed (V.accepts a.keys) a.facts.items a.ready.items a.genuine.items a.permanodes.items a.claims.items };
+    ghost invariant = { λ a. IsComputed (V.accepts a.keys) a.facts.items a.ready.items a.sound.items a.sizes.items a.genuine.items a.permanodes.items a.claims.items };
 }
 
 impl<V: Verifier> PlainIndex<V> {
@@ -65,12 +74,15 @@ impl<V: Verifier> PlainIndex<V> {
     pub fn build(alloc: Global, facts: FactList, keys: V) -> Result<PlainIndex<V>, NoMemory>
     where
         V: Drop,
-        requires { AreDistinct facts }
+        requires distinct { AreDistinct facts }
+        requires valid { AreValid facts }
         ensures facts { IfOk result (λ index. index.0 ≡ finite.from_entries facts) }
         ensures keys { IfOk result (λ index. index.1 ≡ keys) }
     {
         let facts = facts.sorted()?;
         let ready = ready(alloc, &facts)?;
+        let sizes = sizes(alloc, &facts)?;
+        let sound = sound(alloc, &facts, &ready, &sizes)?;
         let genuine = genuine(alloc, &facts, &ready, &keys)?;
         let permanodes = permanodes(alloc, &facts, &genuine)?;
         let claims = claims(alloc, &facts, &genuine)?;
@@ -78,6 +90,8 @@ impl<V: Verifier> PlainIndex<V> {
             alloc,
             facts,
             ready,
+            sound,
+            sizes,
             genuine,
             permanodes,
             claims,
@@ -91,16 +105,46 @@ impl<V: Verifier> PlainIndex<V> {
         beside(&self.facts, &self.ready, r)
     }
 
+    fn is_sound_tree(&self, r: &Ref) -> bool
+        ensures { result ≡ is_sound_tree self.now.0 r.now }
+    {
+        beside(&self.facts, &self.sound, r)
+    }
+
+    fn tree_size(&self, r: &Ref) -> Option<u64>
+        ensures { result ≡ tree_size self.now.0 r.now }
+    {
+        size_at(&self.facts, &self.sizes, r)
+    }
+
+    fn is_file<L: Ledger>(&self, r: &Ref, steps: &mut Steps<L>) -> bool
+        ensures { result ≡ passes (λ fact. is_file fact.kind) (finite.get self.now.0 r.now) }
+    {
+        match self.found_at(r, steps) {
+            Some(fact) => is_file(&fact.kind),
+            None => false,
+        }
+    }
+
     fn is_genuine(&self, r: &Ref) -> bool
         ensures { result ≡ is_genuine self.now.0 (V.accepts self.now.1) r.now }
     {
         beside(&self.facts, &self.genuine, r)
     }
 
-    fn fact_at(&self, r: &Ref) -> Option<&Fact>
-        ensures { option_copied result ≡ finite.get self.now.0 r.now }
+    fn found_at<L: Ledger>(&self, r: &Ref, steps: &mut Steps<L>) -> Option<&Fact>
+        ensures value { option_copied result ≡ finite.get self.now.0 r.now }
+        ensures valid { IfSome result (λ fact. IsValid fact.now) }
     {
+        steps.tick();
         fact_at(&self.facts, r)
+    }
+
+    fn ref_after<L: Ledger>(&self, after: Option<&Ref>, steps: &mut Steps<L>) -> Option<Ref>
+        ensures { result ≡ ref_after self.now.0 (option_copied after.entry) }
+    {
+        steps.tick();
+        ref_after(&self.facts, after)
     }
 
     fn permanodes(&self) -> &[Ref]
@@ -123,19 +167,19 @@ impl<V: Verifier> PlainIndex<V> {
     }
 
     // Whether the blob can be deleted at all.
-    fn can_be_deleted(&self, r: &Ref) -> bool
+    fn can_be_deleted<L: Ledger>(&self, r: &Ref, steps: &mut Steps<L>) -> bool
         ensures { result ≡ passes (λ fact. can_be_deleted fact.kind) (finite.get self.now.0 r.now) }
     {
-        match self.fact_at(r) {
+        match self.found_at(r, steps) {
             Some(fact) => can_be_deleted(&fact.kind),
             None => false,
         }
     }
 
-    fn deletes(&self, target: &Ref, when: &When, r: &Ref) -> bool
+    fn deletes<L: Ledger>(&self, target: &Ref, when: &When, r: &Ref, steps: &mut Steps<L>) -> bool
         ensures { result ≡ passes (λ fact. deletes target.now when.now fact.kind) (finite.get self.now.0 r.now) }
     {
-        match self.fact_at(r) {
+        match self.found_at(r, steps) {
             Some(fact) => deletes(target, when, &fact.kind),
             None => false,
         }
@@ -143,125 +187,188 @@ impl<V: Verifier> PlainIndex<V> {
 
     // Whether the blob is deleted, where deletions of deletions are looked at so deep. Each claim has one target, so none is looked
     // at twice.
-    fn deleted_within(&self, x: &Ref, when: &When, depth: usize) -> bool
+    fn deleted_within<L: Ledger>(
+        &self,
+        x: &Ref,
+        when: &When,
+        depth: usize,
+        steps: &mut Steps<L>,
+    ) -> bool
         ensures { result ≡ deleted_within self.now.0 (V.accepts self.now.1) when.now depth x.now }
     {
-        if depth == 0 || !self.can_be_deleted(x) {
+        if depth == 0 || !self.can_be_deleted(x, steps) {
             return false;
         }
         for (_, r) in self.claims_about(x) {
-            if self.deletes(x, when, r) && !self.deleted_within(r, when, depth - 1) {
+            if self.deletes(x, when, r, steps) && !self.deleted_within(r, when, depth - 1, steps) {
                 return true;
             }
         }
         false
     }
 
-    fn is_genuine_permanode(&self, r: &Ref) -> bool
+    fn is_genuine_permanode<L: Ledger>(&self, r: &Ref, steps: &mut Steps<L>) -> bool
         ensures { result ≡ is_genuine_permanode self.now.0 (V.accepts self.now.1) r.now }
     {
-        match self.fact_at(r) {
+        match self.found_at(r, steps) {
             Some(fact) => self.is_genuine(r) && is_permanode(&fact.kind),
             None => false,
         }
     }
 
     // The moment of a claim on the permanode, where it counts at that time.
-    fn moment(&self, p: &Ref, when: &When, r: &Ref) -> Option<(Date, Ref)>
+    fn moment<L: Ledger>(
+        &self,
+        p: &Ref,
+        when: &When,
+        r: &Ref,
+        steps: &mut Steps<L>,
+    ) -> Option<(Date, Ref)>
         ensures { result ≡ option_map (λ c. c.0) (counted_claim self.now.0 (V.accepts self.now.1) when.now p.now r.now) }
     {
-        if self.deleted(r, when) {
+        if self.deleted(r, when, steps) {
             return None;
         }
-        let fact = self.fact_at(r)?;
+        let fact = self.found_at(r, steps)?;
         moment_on(p, when, r, &fact.kind)
     }
 
+    // Keeps the moment of a claim on the permanode, where it counts at that time.
+    fn keep_moment<L: Ledger>(
+        &self,
+        found: &mut Vec<(Date, Ref)>,
+        p: &Ref,
+        when: &When,
+        r: &Ref,
+        steps: &mut Steps<L>,
+    ) -> Result<(), NoMemory>
+        ensures { OnOk result (found.new.items ≡ found.old.items
+            ++ option_to_list (option_map (λ c. c.0) (counted_claim self.now.0 (V.accepts self.now.1) when.now p.now r.now))) }
+    {
+        if let Some(moment) = self.moment(p, when, r, steps) {
+            found.push(moment)?;
+        }
+        Ok(())
+    }
+
     // The moments of the counted claims on a genuine permanode, as they come.
-    fn moments_of(&self, p: &Ref, when: &When) -> Result<Vec<(Date, Ref)>, NoMemory>
+    fn moments_of<L: Ledger>(
+        &self,
+        p: &Ref,
+        when: &When,
+        steps: &mut Steps<L>,
+    ) -> Result<Vec<(Date, Ref)>, NoMemory>
         ensures { IfOk result (λ moments. moments.items
             ≡ filter_map (λ c. option_map (λ d. d.0) (counted_claim self.now.0 (V.accepts self.now.1) when.now p.now c.1)) (claims_about self.now.0 (V.accepts self.now.1) p.now)) }
     {
-        let found = self
-            .claims_about(p)
-            .iter()
-            .filter_map(|claim| self.moment(p, when, &claim.1))
-            .collect(self.alloc)?;
+        let mut found = Vec::new(self.alloc);
+        for (_, r) in self.claims_about(p) {
+            self.keep_moment(&mut found, p, when, r, steps)?;
+        }
         Ok(found)
     }
 
     // The moments of the counted claims on a permanode, in their order.
-    fn moments(&self, p: &Ref, when: &When) -> Result<Vec<(Date, Ref)>, NoMemory>
+    fn moments<L: Ledger>(
+        &self,
+        p: &Ref,
+        when: &When,
+        steps: &mut Steps<L>,
+    ) -> Result<Vec<(Date, Ref)>, NoMemory>
         ensures { IfOk result (λ moments. moments.items ≡ finite.keys (counted self.now.0 (V.accepts self.now.1) when.now p.now)) }
     {
-        if !self.is_genuine_permanode(p) {
+        if !self.is_genuine_permanode(p, steps) {
             return Ok(Vec::new(self.alloc));
         }
-        let mut moments = self.moments_of(p, when)?;
+        let mut moments = self.moments_of(p, when, steps)?;
         moments.sort()?;
         Ok(moments)
     }
 
     // The latest moment of a counted claim on a genuine permanode.
-    fn latest(&self, p: &Ref, when: &When) -> Option<(Date, Ref)>
+    fn latest<L: Ledger>(&self, p: &Ref, when: &When, steps: &mut Steps<L>) -> Option<(Date, Ref)>
         ensures { result ≡ latest (filter_map (λ c. option_map (λ d. d.0) (counted_claim self.now.0 (V.accepts self.now.1) when.now p.now c.1)) (claims_about self.now.0 (V.accepts self.now.1) p.now)) }
     {
         let claims = self.claims_about(p);
         let mut last = None;
         for i in (0..claims.len()).rev() {
-            last = later(self.moment(p, when, &claims[i].1), last);
+            last = later(self.moment(p, when, &claims[i].1, steps), last);
         }
         last
     }
 
     // What a claim says.
-    fn said(&self, r: &Ref) -> Option<&What>
+    fn said<L: Ledger>(&self, r: &Ref, steps: &mut Steps<L>) -> Option<&What>
         ensures { option_copied result ≡ said self.now.0 r.now }
     {
-        claim_says(&self.fact_at(r)?.kind)
+        claim_says(&self.found_at(r, steps)?.kind)
     }
 
     // What a claim makes of the values of the attribute.
-    fn apply<'a>(&'a self, found: &mut Vec<&'a Text>, r: &Ref, attr: &str) -> Result<(), NoMemory>
+    fn apply<'a, L: Ledger>(
+        &'a self,
+        found: &mut Vec<&'a Text>,
+        r: &Ref,
+        attr: &str,
+        steps: &mut Steps<L>,
+    ) -> Result<(), NoMemory>
         ensures { OnOk result (map (λ t. t.now) found.new.items ≡ apply_said attr.now (map (λ t. t.now) found.old.items) (said self.now.0 r.now)) }
     {
-        match self.said(r) {
+        match self.said(r, steps) {
             Some(what) => apply(found, what, attr),
             None => Ok(()),
         }
     }
 
     // The values of the attribute after these claims, one after another.
-    fn folded(&self, moments: &[(Date, Ref)], attr: &str) -> Result<TextList, NoMemory>
+    fn folded<L: Ledger>(
+        &self,
+        moments: &[(Date, Ref)],
+        attr: &str,
+        steps: &mut Steps<L>,
+    ) -> Result<TextList, NoMemory>
         ensures { IfOk result (λ texts. texts ≡ fold (λ found m. apply_said attr.now found (said self.now.0 m.1)) [] moments.now) }
     {
         let mut found = Vec::new(self.alloc);
         for (_, r) in moments {
-            self.apply(&mut found, r, attr)?;
+            self.apply(&mut found, r, attr, steps)?;
         }
         copied(self.alloc, &found)
     }
 
     // Whether a permanode isn't deleted at that time, and has the value.
-    fn holds(&self, p: &Ref, attr: &str, value: &[u8], when: &When) -> Result<bool, NoMemory>
+    fn holds<L: Ledger>(
+        &self,
+        p: &Ref,
+        attr: &str,
+        value: &[u8],
+        when: &When,
+        steps: &mut Steps<L>,
+    ) -> Result<bool, NoMemory>
         ensures { IfOk result (λ holds. holds
             ≡ (not (is_deleted self.now.0 (V.accepts self.now.1) when.now p.now) && has_value self.now.0 (V.accepts self.now.1) when.now attr.now value.now p.now)) }
     {
-        if self.deleted(p, when) {
+        if self.deleted(p, when, steps) {
             return Ok(false);
         }
-        let texts = self.values(p, attr, when)?;
+        let texts = self.values(p, attr, when, steps)?;
         Ok(is_among(value, texts.as_slice()))
     }
 
     // The genuine permanodes not deleted at that time that have the value, ascending.
-    fn holding(&self, attr: &str, value: &[u8], when: &When) -> Result<RefList, NoMemory>
+    fn holding<L: Ledger>(
+        &self,
+        attr: &str,
+        value: &[u8],
+        when: &When,
+        steps: &mut Steps<L>,
+    ) -> Result<RefList, NoMemory>
         ensures { IfOk result (λ refs. refs
             ≡ filter (has_value self.now.0 (V.accepts self.now.1) when.now attr.now value.now) (live_permanodes self.now.0 (V.accepts self.now.1) when.now)) }
     {
         let mut found = RefList::empty(self.alloc);
         for p in self.permanodes() {
-            if self.holds(p, attr, value, when)? {
+            if self.holds(p, attr, value, when, steps)? {
                 found.push(*p)?;
             }
         }
@@ -274,47 +381,86 @@ impl<V: Verifier> Look for PlainIndex<V> {
 
     ghost accepts = { λ index. V.accepts index.1 };
 
+    ghost quick = { λ index. ⊥ };
+
     /// Two look-ups.
-    fn fact_of(&self, r: &Ref) -> Option<&Fact> {
-        if self.is_ready(r) {
-            self.fact_at(r)
-        } else {
-            None
-        }
+    fn fact_of<L: Ledger>(&self, r: &Ref, steps: &mut Steps<L>) -> Option<&Fact> {
+        let fact = self.found_at(r, steps)?;
+        if self.is_ready(r) { Some(fact) } else { None }
     }
 
     /// One binary search among the genuine permanodes.
-    fn permanode_after(&self, after: Option<&Ref>) -> Option<Ref> {
+    fn permanode_after<L: Ledger>(&self, after: Option<&Ref>, steps: &mut Steps<L>) -> Option<Ref> {
+        steps.tick();
         first_after(self.permanodes(), after)
     }
 
     /// It looks at the claims about the ref, and about each delete claim that it comes to, with two look-ups and two binary
     /// searches each. The stack grows with the longest chain of deletions of deletions.
-    fn deleted(&self, r: &Ref, when: &When) -> bool {
-        self.deleted_within(r, when, self.len())
+    fn deleted<L: Ledger>(&self, r: &Ref, when: &When, steps: &mut Steps<L>) -> bool {
+        self.deleted_within(r, when, self.len(), steps)
     }
 
     /// It looks at the claims about the permanode alone, asks for each whether it is deleted, and sorts those that count.
-    fn values(&self, p: &Ref, attr: &str, when: &When) -> Result<TextList, NoMemory> {
-        let moments = self.moments(p, when)?;
-        self.folded(&moments, attr)
+    fn values<L: Ledger>(
+        &self,
+        p: &Ref,
+        attr: &str,
+        when: &When,
+        steps: &mut Steps<L>,
+    ) -> Result<TextList, NoMemory> {
+        let moments = self.moments(p, when, steps)?;
+        self.folded(&moments, attr, steps)
     }
 
     /// It looks at the claims about the permanode alone, and asks for each whether it is deleted.
-    fn last_change(&self, p: &Ref, when: &When) -> Option<Date> {
-        if !self.is_genuine_permanode(p) {
+    fn last_change<L: Ledger>(&self, p: &Ref, when: &When, steps: &mut Steps<L>) -> Option<Date> {
+        if !self.is_genuine_permanode(p, steps) {
             return None;
         }
-        self.latest(p, when).map(|last| last.0)
+        self.latest(p, when, steps).map(|last| last.0)
+    }
+
+    /// Three look-ups.
+    fn file_size<L: Ledger>(&self, r: &Ref, steps: &mut Steps<L>) -> Option<u64> {
+        if self.is_sound_tree(r) && self.is_file(r, steps) {
+            self.tree_size(r)
+        } else {
+            None
+        }
     }
 
     /// It asks each genuine permanode for its values.
-    fn holders(&self, attr: &str, value: &str) -> Result<RefList, NoMemory> {
-        self.holding(attr, value.as_bytes(), &When::Always)
+    fn holders<L: Ledger>(
+        &self,
+        attr: &str,
+        value: &str,
+        steps: &mut Steps<L>,
+    ) -> Result<RefList, NoMemory> {
+        self.holding(attr, value.as_bytes(), &When::Always, steps)
     }
 
     /// It asks each genuine permanode for its values.
-    fn parents(&self, child: &Ref, when: &When) -> Result<RefList, NoMemory> {
-        self.holding("camliMember", &child.text(), when)
+    fn parents<L: Ledger>(
+        &self,
+        child: &Ref,
+        when: &When,
+        steps: &mut Steps<L>,
+    ) -> Result<RefList, NoMemory> {
+        self.holding("camliMember", &child.text(), when, steps)
+    }
+}
+
+impl<V: Verifier> FactTable for PlainIndex<V> {
+    ghost facts = { λ index. index.0 };
+
+    /// One binary search.
+    fn fact_at<L: Ledger>(&self, r: &Ref, steps: &mut Steps<L>) -> Option<&Fact> {
+        self.found_at(r, steps)
+    }
+
+    /// One binary search.
+    fn fact_after<L: Ledger>(&self, after: Option<&Ref>, steps: &mut Steps<L>) -> Option<Ref> {
+        self.ref_after(after, steps)
     }
 }

@@ -2,6 +2,7 @@
 ghost use Rattle.std.specs.Prelude.{◌≡◌, ℕ, List, Option};
 ghost use Rattle.claim_model.specs.Ready.{ready_fact};
 ghost use Rattle.claim_model.specs.Claims.{holders, last_change, parents, values};
+ghost use Rattle.claim_model.specs.Trees.{file_size};
 ghost use Rattle.claim_model.specs.Deleted.{is_deleted};
 ghost use Rattle.schema_json.specs.declared.date.When.{When};
 ghost use Rattle.plain_index.specs.Look.{permanode_after};
@@ -22,6 +23,7 @@ pub fn equal_maps_give_equal_answers<A: Look, B: Look>(a: &A, b: &B)
         → values (A.facts a.now) (A.accepts a.now) when p name ≡ values (B.facts b.now) (B.accepts b.now) when p name }
     ensures last_change { (when : When) (p : List ℕ)
         → last_change (A.facts a.now) (A.accepts a.now) when p ≡ last_change (B.facts b.now) (B.accepts b.now) when p }
+    ensures file_size { (r : List ℕ) → file_size (A.facts a.now) r ≡ file_size (B.facts b.now) r }
     ensures holders { (name value : List ℕ)
         → holders (A.facts a.now) (A.accepts a.now) name value ≡ holders (B.facts b.now) (B.accepts b.now) name value }
     ensures parents { (when : When) (child : List ℕ)

@@ -3,6 +3,7 @@ ghost use Rattle.std.specs.Prelude.{◌≡◌, None, Some, length, IfSome, IfNon
 ghost use Rattle.std.specs.List.{find};
 ghost use Rattle.std.specs.List.Sorted.{IsStrictlySortedBy};
 ghost use Rattle.std.specs.FinMap as finite;
+ghost use Rattle.std.specs.Map.{keys_of};
 ghost use Rattle.blobref.specs.Blobref.{ref_cmp};
 ghost use Rattle.plain_index.specs.Look.{is_after};
 ghost use Rattle.plain_index.specs.Tables.{IsAscending, IsPlaceOf, beside};
@@ -57,4 +58,23 @@ fn first_greater(refs: &[Ref], after: &Ref) -> Option<Ref>
 {
     let place = refs.partition_point(|r| r <= after);
     refs.get(place).copied()
+}
+
+// The first ref of ascending facts that is greater than `after`, or of all.
+pub(crate) fn ref_after(facts: &[(Ref, Fact)], after: Option<&Ref>) -> Option<Ref>
+    requires { IsAscending facts.now }
+    ensures { result ≡ find (is_after (option_copied after.entry)) (keys_of facts.now) }
+{
+    match after {
+        Some(after) => ref_greater(facts, after),
+        None => Some(facts.first()?.0),
+    }
+}
+
+fn ref_greater(facts: &[(Ref, Fact)], after: &Ref) -> Option<Ref>
+    requires { IsAscending facts.now }
+    ensures { result ≡ find (is_after (Some after.now)) (keys_of facts.now) }
+{
+    let place = facts.partition_point(|entry| entry.0 <= *after);
+    Some(facts.get(place)?.0)
 }

@@ -77,7 +77,7 @@ fn parts_stand(facts: &[(Ref, Fact)], standing: &[bool], parts: &[Part]) -> bool
 }
 
 // The ref from which a part's bytes come.
-fn origin_ref(origin: &Origin) -> Option<Ref>
+pub(crate) fn origin_ref(origin: &Origin) -> Option<Ref>
     ensures { result ≡ origin_ref origin.now }
 {
     match origin {

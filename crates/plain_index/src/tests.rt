@@ -1,13 +1,16 @@
-ghost use Rattle.std.specs.Prelude.{◌≡◌, true, not, IfOk};
+ghost use Rattle.std.specs.Prelude.{◌≡◌, ◌<◌, true, not, IfOk};
 ghost use Rattle.std.specs.List.{list_all};
 ghost use Rattle.std.specs.Str.{bytes_eq};
 ghost use Rattle.claim_model.specs.Facts.{AreDistinct};
 
-use crate::{FactList, Look, PlainIndex};
-use blobref::{NoMemory, Ref};
+use crate::{FactList, Look, PlainIndex, plain};
+use blobref::{NoMemory, Ref, RefList, TextList};
 use claim_verify::{KeyName, Keyring};
+use edge_base::Steps;
 use schema_json::{Date, Fact, When, fact};
 use std::alloc::Global;
+use std::marker::Brand;
+use std::sync::ledger::{Blank, Ledger};
 
 // Blobs that were signed outside, with the secret `Jefe` under the name `jefe`; `FORGED` with another.
 const KEY: &str = "perkeep-hmac-sha256 jefe\n";
@@ -42,6 +45,42 @@ const ORDERS: [[&str; 3]; 6] = [
     [TAG, PERMANODE, KEY],
 ];
 
+// Two chunks, and file trees over them: the sizes are those of their parts together.
+const HELLO: &str = "hello ";
+
+const WORLD: &str = "world\n";
+
+const WHOLE: &str =
+    r#"{"camliVersion":1,"camliType":"file","parts":[{"blobRef":"sha224-fd4ddb6699f418b0897cb4d18140284748415d3c9ecfb1ce09e93ae7","size":6},{"blobRef":"sha224-c5ae6e4ed4d8c0aec0f671978451411c37c765b76cda4050152e85a0","size":6}]}"#;
+
+// From its second byte on the first chunk has five bytes, not six.
+const BEYOND: &str =
+    r#"{"camliVersion":1,"camliType":"file","parts":[{"blobRef":"sha224-fd4ddb6699f418b0897cb4d18140284748415d3c9ecfb1ce09e93ae7","size":6,"offset":1}]}"#;
+
+const INNER: &str =
+    r#"{"camliVersion":1,"camliType":"bytes","parts":[{"blobRef":"sha224-fd4ddb6699f418b0897cb4d18140284748415d3c9ecfb1ce09e93ae7","size":6},{"blobRef":"sha224-c5ae6e4ed4d8c0aec0f671978451411c37c765b76cda4050152e85a0","size":6}]}"#;
+
+// The last nine of the twelve bytes of the tree within, five zeros, and one byte of the tree again.
+const OUTER: &str =
+    r#"{"camliVersion":1,"camliType":"file","parts":[{"bytesRef":"sha224-796b4795d772927462373aeb21f418931b98e66b533866a4d1848afa","size":9,"offset":3},{"size":5},{"bytesRef":"sha224-796b4795d772927462373aeb21f418931b98e66b533866a4d1848afa","size":1}]}"#;
+
+const TOO_FAR: &str =
+    r#"{"camliVersion":1,"camliType":"file","parts":[{"bytesRef":"sha224-796b4795d772927462373aeb21f418931b98e66b533866a4d1848afa","size":10,"offset":3}]}"#;
+
+// A chunk is no tree.
+const NO_TREE: &str =
+    r#"{"camliVersion":1,"camliType":"file","parts":[{"bytesRef":"sha224-fd4ddb6699f418b0897cb4d18140284748415d3c9ecfb1ce09e93ae7","size":6}]}"#;
+
+// A file over a chunk that is not there.
+const WAITS: &str =
+    r#"{"camliVersion":1,"camliType":"file","parts":[{"blobRef":"sha224-a69e13094bcb2fad05dd97c63c923430d0e5972f007a2372e823bc2f","size":7}]}"#;
+
+const UNSOUND: &str =
+    r#"{"camliVersion":1,"camliType":"bytes","parts":[{"blobRef":"sha224-fd4ddb6699f418b0897cb4d18140284748415d3c9ecfb1ce09e93ae7","size":7}]}"#;
+
+const OVER_UNSOUND: &str =
+    r#"{"camliVersion":1,"camliType":"file","parts":[{"bytesRef":"sha224-c5e05ad72a7c6250cd7b06a67631cd94cfc411276a3c06f5c5c92ef3","size":1}]}"#;
+
 fn all_apart(r: &Ref, facts: &[(Ref, Fact)]) -> bool
     ensures { result ≡ list_all (λ e. not (bytes_eq r.now e.0)) facts.now }
 {
@@ -57,25 +96,23 @@ fn are_distinct(facts: &[(Ref, Fact)]) -> bool
     }
 }
 
+fn keyring(alloc: Global) -> Keyring {
+    let mut keys = Keyring::empty(alloc);
+    if let Some(name) = KeyName::read(b"jefe") {
+        let _ = keys.add(&name, b"Jefe");
+    }
+    keys
+}
+
 fn index_of(alloc: Global, blobs: &[&str]) -> Result<PlainIndex<Keyring>, NoMemory> {
     let mut facts = FactList::empty(alloc);
     for blob in blobs {
         facts.push((Ref::of(blob.as_bytes()), fact(alloc, blob.as_bytes())?))?;
     }
-    let mut keys = Keyring::empty(alloc);
-    if let Some(name) = KeyName::read(b"jefe") {
-        let _ = keys.add(&name, b"Jefe");
-    }
     if !are_distinct(facts.as_slice()) {
         return Err(NoMemory);
     }
-    PlainIndex::build(alloc, facts, keys)
-}
-
-// The one tag at that time, and the empty text where there is none or more than one.
-fn has_tag(index: &PlainIndex<Keyring>, when: &When, want: &str) -> Result<bool, NoMemory> {
-    let tags = index.values(&Ref::of(PERMANODE.as_bytes()), "tag", when)?;
-    Ok(tags.len() == 1 && tags.at(0).as_str() == want)
+    PlainIndex::build(alloc, facts, keyring(alloc))
 }
 
 fn time_of(text: &str) -> When {
@@ -85,55 +122,193 @@ fn time_of(text: &str) -> When {
     }
 }
 
+fn is_one_text(texts: &TextList, want: &str) -> bool {
+    texts.len() == 1 && texts.at(0).as_str() == want
+}
+
+fn is_one_ref(refs: &RefList, want: &Ref) -> bool {
+    refs.len() == 1 && *refs.at(0) == *want
+}
+
+// Whether the tag is the permanode's one tag, from its date on.
+fn is_tagged<L: Ledger>(index: &PlainIndex<Keyring>, blank: Blank) -> Result<bool, NoMemory>
+    requires name { blank.name ≡ L.name }
+    requires parts { blank.parts ≡ L.parts }
+    requires some { 0 < blank.parts }
+{
+    let mut steps = Steps::<L>::start(blank);
+    let p = Ref::of(PERMANODE.as_bytes());
+    let now = index.values(&p, "tag", &When::Always, &mut steps)?;
+    let before = index.values(&p, "tag", &time_of("2014-01-01T23:59:59Z"), &mut steps)?;
+    let holders = index.holders("tag", "sunset", &mut steps)?;
+    Ok(
+        index.fact_of(&p, &mut steps).is_some()
+            && index.permanode_after(None, &mut steps) == Some(p)
+            && index.permanode_after(Some(&p), &mut steps).is_none()
+            && index.last_change(&p, &When::Always, &mut steps)
+                == Date::read(b"2014-01-02T00:00:00Z")
+            && is_one_text(&now, "sunset")
+            && before.len() == 0
+            && is_one_ref(&holders, &p),
+    )
+}
+
 #[test]
 fn a_tagged_permanode_is_seen_in_each_order(rt: HostRuntime) -> Result<(), NoMemory> {
     for order in ORDERS {
         let index = index_of(rt.alloc(), &order)?;
-        let p = Ref::of(PERMANODE.as_bytes());
-        assert!(rt; index.fact_of(&p).is_some());
-        assert!(rt; index.permanode_after(None) == Some(p));
-        assert!(rt; index.permanode_after(Some(&p)).is_none());
-        assert!(rt; has_tag(&index, &When::Always, "sunset")?);
-        assert!(rt; index.last_change(&p, &When::Always) == Date::read(b"2014-01-02T00:00:00Z"));
-        assert!(rt;
-            index
-                .values(&p, "tag", &time_of("2014-01-01T23:59:59Z"))?
-                .len()
-                == 0
-        );
+        assert!(rt; is_tagged::<Brand>(&index, Blank::new(1))?);
     }
+    let index = index_of(rt.alloc(), &[FORGED, KEY, PERMANODE, TAG])?;
+    assert!(rt; is_tagged::<Brand>(&index, Blank::new(1))?);
     Ok(())
+}
+
+fn is_unknown<L: Ledger>(index: &PlainIndex<Keyring>, blank: Blank) -> bool
+    requires name { blank.name ≡ L.name }
+    requires parts { blank.parts ≡ L.parts }
+    requires some { 0 < blank.parts }
+{
+    let mut steps = Steps::<L>::start(blank);
+    index.permanode_after(None, &mut steps).is_none()
+        && index
+            .fact_of(&Ref::of(TAG.as_bytes()), &mut steps)
+            .is_none()
 }
 
 #[test]
 fn without_its_key_nothing_is_genuine(rt: HostRuntime) -> Result<(), NoMemory> {
     let index = index_of(rt.alloc(), &[PERMANODE, TAG])?;
-    assert!(rt; index.permanode_after(None).is_none());
-    assert!(rt; index.fact_of(&Ref::of(TAG.as_bytes())).is_none());
+    assert!(rt; is_unknown::<Brand>(&index, Blank::new(1)));
     Ok(())
 }
 
-#[test]
-fn a_false_signature_counts_for_nothing(rt: HostRuntime) -> Result<(), NoMemory> {
-    let index = index_of(rt.alloc(), &[FORGED, KEY, PERMANODE, TAG])?;
-    assert!(rt; index.fact_of(&Ref::of(FORGED.as_bytes())).is_some());
-    assert!(rt; has_tag(&index, &When::Always, "sunset")?);
-    Ok(())
+// The tag is deleted on the 3rd, undeleted on the 4th and deleted again on the 5th.
+const GONE: [(&str, bool); 5] = [
+    ("2014-01-02T12:00:00Z", false),
+    ("2014-01-03T00:00:00Z", true),
+    ("2014-01-04T00:00:00Z", false),
+    ("2014-01-05T00:00:00Z", true),
+    ("always", true),
+];
+
+// Whether the tag is deleted just at those of the times.
+fn is_gone_in_time<L: Ledger>(index: &PlainIndex<Keyring>, blank: Blank) -> bool
+    requires name { blank.name ≡ L.name }
+    requires parts { blank.parts ≡ L.parts }
+    requires some { 0 < blank.parts }
+{
+    let mut steps = Steps::<L>::start(blank);
+    let tag = Ref::of(TAG.as_bytes());
+    for (when, want) in GONE {
+        if index.deleted(&tag, &time_of(when), &mut steps) != want {
+            return false;
+        }
+    }
+    true
 }
 
 #[test]
 fn deletions_of_deletions_count_at_their_dates(rt: HostRuntime) -> Result<(), NoMemory> {
-    let index = index_of(
-        rt.alloc(),
-        &[DELETE_AGAIN, UNDELETE, DELETE, TAG, PERMANODE, KEY],
-    )?;
+    let blobs = [DELETE_AGAIN, UNDELETE, DELETE, TAG, PERMANODE, KEY];
+    let index = index_of(rt.alloc(), &blobs)?;
+    assert!(rt; is_gone_in_time::<Brand>(&index, Blank::new(1)));
+    Ok(())
+}
+
+const TREES: [&str; 11] = [
+    OVER_UNSOUND,
+    UNSOUND,
+    WAITS,
+    NO_TREE,
+    TOO_FAR,
+    OUTER,
+    INNER,
+    BEYOND,
+    WHOLE,
+    WORLD,
+    HELLO,
+];
+
+const SIZES: [(&str, Option<u64>); 9] = [
+    (WHOLE, Some(12)),
+    (OUTER, Some(15)),
+    (BEYOND, None),
+    (INNER, None),
+    (TOO_FAR, None),
+    (NO_TREE, None),
+    (WAITS, None),
+    (OVER_UNSOUND, None),
+    (HELLO, None),
+];
+
+// Whether each file has its size, by the index and by its table.
+fn have_sizes<L: Ledger>(index: &PlainIndex<Keyring>, keys: &Keyring, blank: Blank) -> bool
+    requires name { blank.name ≡ L.name }
+    requires parts { blank.parts ≡ L.parts }
+    requires some { 0 < blank.parts }
+{
+    let mut steps = Steps::<L>::start(blank);
+    for (blob, want) in SIZES {
+        let r = Ref::of(blob.as_bytes());
+        if index.file_size(&r, &mut steps) != want {
+            return false;
+        }
+        if plain::file_size(index, keys, &r, &mut steps) != want {
+            return false;
+        }
+    }
+    true
+}
+
+#[test]
+fn sound_files_have_the_size_of_their_parts(rt: HostRuntime) -> Result<(), NoMemory> {
+    let index = index_of(rt.alloc(), &TREES)?;
+    let keys = keyring(rt.alloc());
+    assert!(rt; have_sizes::<Brand>(&index, &keys, Blank::new(1)));
+    Ok(())
+}
+
+// Whether a table with the tag and its three deletions answers as the index does.
+fn is_plain<L: Ledger>(
+    alloc: Global,
+    table: &PlainIndex<Keyring>,
+    keys: &Keyring,
+    blank: Blank,
+) -> Result<bool, NoMemory>
+    requires name { blank.name ≡ L.name }
+    requires parts { blank.parts ≡ L.parts }
+    requires some { 0 < blank.parts }
+{
+    let mut steps = Steps::<L>::start(blank);
+    let p = Ref::of(PERMANODE.as_bytes());
     let tag = Ref::of(TAG.as_bytes());
-    assert!(rt; !index.deleted(&tag, &time_of("2014-01-02T12:00:00Z")));
-    assert!(rt; index.deleted(&tag, &time_of("2014-01-03T00:00:00Z")));
-    assert!(rt; !index.deleted(&tag, &time_of("2014-01-04T00:00:00Z")));
-    assert!(rt; index.deleted(&tag, &time_of("2014-01-05T00:00:00Z")));
-    assert!(rt; index.deleted(&tag, &When::Always));
-    assert!(rt; has_tag(&index, &time_of("2014-01-04T12:00:00Z"), "sunset")?);
-    assert!(rt; !has_tag(&index, &When::Always, "sunset")?);
+    let fourth = time_of("2014-01-04T12:00:00Z");
+    let then = plain::values(alloc, table, keys, &p, "tag", &fourth, &mut steps)?;
+    let now = plain::values(alloc, table, keys, &p, "tag", &When::Always, &mut steps)?;
+    let holders = plain::holders(alloc, table, keys, "tag", "sunset", &mut steps)?;
+    let parents = plain::parents(alloc, table, keys, &tag, &When::Always, &mut steps)?;
+    Ok(
+        is_one_text(&then, "sunset")
+            && now.len() == 0
+            && holders.len() == 0
+            && parents.len() == 0
+            && plain::fact_of(table, keys, &p, &mut steps).is_some()
+            && plain::permanode_after(table, keys, None, &mut steps) == Some(p)
+            && plain::permanode_after(table, keys, Some(&p), &mut steps).is_none()
+            && !plain::deleted(table, keys, &tag, &fourth, &mut steps)
+            && plain::deleted(table, keys, &tag, &When::Always, &mut steps)
+            && plain::last_change(table, keys, &p, &fourth, &mut steps)
+                == Date::read(b"2014-01-02T00:00:00Z")
+            && plain::last_change(table, keys, &p, &When::Always, &mut steps).is_none(),
+    )
+}
+
+#[test]
+fn a_table_answers_as_the_index_does(rt: HostRuntime) -> Result<(), NoMemory> {
+    let blobs = [DELETE_AGAIN, UNDELETE, DELETE, TAG, PERMANODE, KEY];
+    let table = index_of(rt.alloc(), &blobs)?;
+    let keys = keyring(rt.alloc());
+    assert!(rt; is_plain::<Brand>(rt.alloc(), &table, &keys, Blank::new(1))?);
     Ok(())
 }

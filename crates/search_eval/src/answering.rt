@@ -9,54 +9,77 @@ ghost use Rattle.search_eval.specs.Walk.{is_found};
 use crate::meeting::values_meet;
 use crate::ordering::in_order;
 use blobref::{NoMemory, Ref, RefList};
+use edge_base::Steps;
 use plain_index::Look;
 use search_query::Query;
 use std::alloc::Global;
+use std::sync::ledger::Ledger;
 
 /// The refs that the query asks for, in its order, at most its limit (`docs/search.md`). `NoMemory` comes only where no
-/// memory is left. It asks for each genuine permanode whether it is deleted, and for its values.
-pub fn answer<K: Look>(alloc: Global, look: &K, query: &Query) -> Result<RefList, NoMemory>
+/// memory is left. It asks for each genuine permanode whether it is deleted, and for its values; `steps` counts the steps of the index.
+pub fn answer<K: Look, L: Ledger>(
+    alloc: Global,
+    look: &K,
+    query: &Query,
+    steps: &mut Steps<L>,
+) -> Result<RefList, NoMemory>
     ensures { IfOk result (λ refs. refs ≡ answer (K.facts look.now) (K.accepts look.now) query.now) }
 {
-    let found = found(alloc, look, query)?;
-    let ordered = in_order(alloc, look, query, found)?;
+    let found = found(alloc, look, query, steps)?;
+    let ordered = in_order(alloc, look, query, found, steps)?;
     first(alloc, ordered.as_slice(), query.limit)
 }
 
 // The permanodes that meet the query's constraint at its date, ascending.
-fn found<K: Look>(alloc: Global, look: &K, query: &Query) -> Result<RefList, NoMemory>
+fn found<K: Look, L: Ledger>(
+    alloc: Global,
+    look: &K,
+    query: &Query,
+    steps: &mut Steps<L>,
+) -> Result<RefList, NoMemory>
     ensures all { IfOk result (λ refs. refs ≡ found (K.facts look.now) (K.accepts look.now) query.now) }
     ensures ascending { IfOk result (λ refs. IsStrictlySortedBy ref_cmp refs) }
 {
     let mut kept = RefList::empty(alloc);
     let mut after = None;
-    'walk: while let Some(p) = look.permanode_after(after.as_ref()) {
-        keep_found(look, query, &mut kept, p)?;
+    'walk: while let Some(p) = look.permanode_after(after.as_ref(), steps) {
+        keep_found(look, query, &mut kept, p, steps)?;
         after = Some(p);
     }
     Ok(kept)
 }
 
 // Keeps a genuine permanode where it isn't deleted and meets the query's constraint.
-fn keep_found<K: Look>(look: &K, query: &Query, kept: &mut RefList, p: Ref) -> Result<(), NoMemory>
+fn keep_found<K: Look, L: Ledger>(
+    look: &K,
+    query: &Query,
+    kept: &mut RefList,
+    p: Ref,
+    steps: &mut Steps<L>,
+) -> Result<(), NoMemory>
     ensures { OnOk result (kept.new ≡ kept.old ++ filter (is_found (K.facts look.now) (K.accepts look.now) query.now) (p ∷ [])) }
 {
-    if is_found(look, query, &p)? {
+    if is_found(look, query, &p, steps)? {
         kept.push(p)?;
     }
     Ok(())
 }
 
 // Whether a permanode that is genuine isn't deleted and meets the query's constraint.
-fn is_found<K: Look>(look: &K, query: &Query, p: &Ref) -> Result<bool, NoMemory>
+fn is_found<K: Look, L: Ledger>(
+    look: &K,
+    query: &Query,
+    p: &Ref,
+    steps: &mut Steps<L>,
+) -> Result<bool, NoMemory>
     ensures { IfOk result (λ kept. kept ≡ is_found (K.facts look.now) (K.accepts look.now) query.now p.now) }
 {
-    if look.deleted(p, &query.at) {
+    if look.deleted(p, &query.at, steps) {
         return Ok(false);
     }
     match &query.constraint.permanode {
         None => Ok(true),
-        Some(test) => values_meet(look, test, p, &query.at),
+        Some(test) => values_meet(look, test, p, &query.at, steps),
     }
 }
 

@@ -5,9 +5,11 @@ ghost use Rattle.std.specs.Str.{bytes_eq};
 ghost use Rattle.search_eval.specs.Meaning.{values_meet, some_value};
 
 use blobref::{NoMemory, Ref, Text};
+use edge_base::Steps;
 use plain_index::Look;
 use schema_json::When;
 use search_query::PermanodeTest;
+use std::sync::ledger::Ledger;
 
 // Whether one of the values is the one asked. Where none is asked there must be one.
 pub(crate) fn some_value(asked: &Option<Text>, found: &[Text]) -> bool
@@ -26,18 +28,19 @@ fn holds(found: &[Text], value: &str) -> bool
 }
 
 // Whether the values of the attribute that the test names meet it.
-pub(crate) fn values_meet<K: Look>(
+pub(crate) fn values_meet<K: Look, L: Ledger>(
     look: &K,
     test: &PermanodeTest,
     p: &Ref,
     when: &When,
+    steps: &mut Steps<L>,
 ) -> Result<bool, NoMemory>
     ensures { IfOk result (λ met. met ≡ values_meet (K.facts look.now) (K.accepts look.now) when.now test.now.attr test.now.value p.now) }
 {
     match &test.attr {
         None => Ok(true),
         Some(attr) => {
-            let found = look.values(p, attr.as_str(), when)?;
+            let found = look.values(p, attr.as_str(), when, steps)?;
             Ok(some_value(&test.value, found.as_slice()))
         }
     }

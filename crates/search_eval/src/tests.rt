@@ -1,15 +1,18 @@
-ghost use Rattle.std.specs.Prelude.{◌≡◌, true, not};
+ghost use Rattle.std.specs.Prelude.{◌≡◌, ◌<◌, true, not};
 ghost use Rattle.std.specs.List.{list_all};
 ghost use Rattle.std.specs.Str.{bytes_eq};
 ghost use Rattle.claim_model.specs.Facts.{AreDistinct};
 
 use crate::answer;
-use blobref::{NoMemory, Ref};
+use blobref::{NoMemory, Ref, RefList};
 use claim_verify::{KeyName, Keyring};
+use edge_base::Steps;
 use plain_index::{FactList, PlainIndex};
 use schema_json::{Date, Fact, When, fact};
 use search_query::{Constraint, Query, Sort};
 use std::alloc::Global;
+use std::marker::Brand;
+use std::sync::ledger::{Blank, Ledger};
 
 // Blobs that were signed outside, with the secret `Jefe` under the name `jefe`. The three permanodes stand in the order of their refs.
 const KEY: &str = "perkeep-hmac-sha256 jefe\n";
@@ -57,9 +60,18 @@ fn index(alloc: Global) -> Result<PlainIndex<Keyring>, NoMemory> {
     PlainIndex::build(alloc, facts, keys)
 }
 
+fn answered<L: Ledger>(alloc: Global, query: &Query, blank: Blank) -> Result<RefList, NoMemory>
+    requires name { blank.name ≡ L.name }
+    requires parts { blank.parts ≡ L.parts }
+    requires some { 0 < blank.parts }
+{
+    let mut steps = Steps::<L>::start(blank);
+    answer(alloc, &index(alloc)?, query, &mut steps)
+}
+
 // Whether the answer has these blobs, in this order.
 fn finds(alloc: Global, query: &Query, want: &[&str]) -> Result<bool, NoMemory> {
-    let found = answer(alloc, &index(alloc)?, query)?;
+    let found = answered::<Brand>(alloc, query, Blank::new(1))?;
     Ok(
         found.len() == want.len()
             && found

@@ -1,6 +1,8 @@
 use Rattle.std.proofs.Common.{rules, ap, ◌∙◌}
 use Rattle.std.specs.FinMap.{from_entries}
-use Rattle.std.proofs.lemmas.List.Sorted.{answers_always}
+use Rattle.std.proofs.lemmas.List.Sorted.{answers_always, All-permutation}
+use Rattle.schema_json.specs.Facts.{IsValid}
+use Rattle.claim_model.specs.Facts.{Entry}
 use Rattle.std.specs.Cmp.Lexicographic.{nat_list_cmp_total}
 use Rattle.plain_index.proofs.Order.{sorted_in_order, same_map_in_any_order, still_distinct}
 use Rattle.plain_index.proofs.Tables.{same_ref, refs_distinct}
@@ -12,10 +14,13 @@ returns-clause-ascending c =
     let fs = c.sort_by_key.new.self.items in
     sorted_in_order nat_list_cmp_total same_ref fs
     (c.in_ok-sort_by_key.ensures.sorted (λ e. e.0) (answers_always _ _ _ (λ f a r g called. search rules)))
-    (still_distinct nat_list_cmp_total same_ref _ fs moved (refs_distinct _ (rw c.self.view_is c.requires)))
+    (still_distinct nat_list_cmp_total same_ref _ fs moved (refs_distinct _ (rw c.self.view_is c.requires.distinct)))
 
 pub returns-clause-same : goal.returns-clause-same
 returns-clause-same c =
     let moved = c.sort_by_key.ensures.permutation in
-    same_map_in_any_order nat_list_cmp_total same_ref _ c.sort_by_key.new.self.items moved (refs_distinct _ (rw c.self.view_is c.requires))
+    same_map_in_any_order nat_list_cmp_total same_ref _ c.sort_by_key.new.self.items moved (refs_distinct _ (rw c.self.view_is c.requires.distinct))
     ∙ ap from_entries c.self.view_is
+
+pub returns-clause-valid : goal.returns-clause-valid
+returns-clause-valid c = All-permutation (λ (e : Entry). IsValid e.1) _ _ c.sort_by_key.ensures.permutation (rw c.self.view_is c.requires.valid)

@@ -1,0 +1,117 @@
+//! The lines that commands write (`docs/commands.md`).
+ghost use Rattle.std.specs.Prelude.{◌≡◌, ◌++◌, decimal, flat_map, IfOk, OnOk};
+ghost use Rattle.perkeep_top.specs.Outputs.{ref_line, size_line, five_digits, pack_name, found_line, clean_line, report_of};
+
+use blobref::{Listing, NoMemory, Octets, Ref};
+use itoa::Buffer;
+use salvage_scan::{Clean, Found};
+use std::alloc::Global;
+
+/// A ref, and a line feed.
+pub(crate) fn ref_line(alloc: Global, r: &Ref) -> Result<Octets, NoMemory>
+    ensures { IfOk result (λ line. line ≡ ref_line r.now) }
+{
+    let mut line = Vec::new(alloc);
+    line.extend_from_slice(r.spell().as_slice())?;
+    line.push(b'\n')?;
+    Ok(Octets::from_vec(line))
+}
+
+/// A line for each ref with its size.
+pub(crate) fn size_lines(alloc: Global, listing: &Listing) -> Result<Octets, NoMemory>
+    ensures { IfOk result (λ lines. lines ≡ flat_map size_line listing.now) }
+{
+    let mut text = Vec::new(alloc);
+    for (r, size) in listing.as_slice() {
+        push_size_line(&mut text, r, *size)?;
+    }
+    Ok(Octets::from_vec(text))
+}
+
+/// A line for each blob that was found in a pack, and a line for the pack.
+pub(crate) fn report_of(
+    alloc: Global,
+    pack: u32,
+    found: &[Found],
+    clean: Clean,
+) -> Result<Octets, NoMemory>
+    ensures { IfOk result (λ text. text ≡ report_of pack found.now clean) }
+{
+    let mut text = Vec::new(alloc);
+    for place in found {
+        push_found_line(&mut text, pack, place)?;
+    }
+    push_clean_line(&mut text, pack, clean)?;
+    Ok(Octets::from_vec(text))
+}
+
+/// A ref and the size of its blob.
+pub(crate) fn size_line(alloc: Global, r: &Ref, size: u64) -> Result<Octets, NoMemory>
+    ensures { IfOk result (λ line. line ≡ size_line (r.now, size)) }
+{
+    let mut line = Vec::new(alloc);
+    push_size_line(&mut line, r, size)?;
+    Ok(Octets::from_vec(line))
+}
+
+fn push_size_line(text: &mut Vec<u8>, r: &Ref, size: u64) -> Result<(), NoMemory>
+    ensures { OnOk result (text.new.items ≡ text.old.items ++ size_line (r.now, size)) }
+{
+    text.extend_from_slice(r.spell().as_slice())?;
+    text.push(b' ')?;
+    push_decimal(text, size)?;
+    text.push(b'\n')?;
+    Ok(())
+}
+
+fn push_found_line(text: &mut Vec<u8>, pack: u32, place: &Found) -> Result<(), NoMemory>
+    ensures { OnOk result (text.new.items ≡ text.old.items ++ found_line pack place.now) }
+{
+    push_pack_name(text, pack)?;
+    text.push(b' ')?;
+    push_decimal(text, place.at)?;
+    text.push(b' ')?;
+    push_size_line(text, &place.r, place.size)
+}
+
+fn push_clean_line(text: &mut Vec<u8>, pack: u32, clean: Clean) -> Result<(), NoMemory>
+    ensures { OnOk result (text.new.items ≡ text.old.items ++ clean_line pack clean) }
+{
+    push_pack_name(text, pack)?;
+    match clean {
+        Clean::Yes => text.extend_from_slice(b" clean\n")?,
+        Clean::No { at } => {
+            text.extend_from_slice(b" broken ")?;
+            push_decimal(text, at)?;
+            text.push(b'\n')?;
+        }
+    }
+    Ok(())
+}
+
+fn push_pack_name(text: &mut Vec<u8>, pack: u32) -> Result<(), NoMemory>
+    ensures { OnOk result (text.new.items ≡ text.old.items ++ pack_name pack) }
+{
+    text.extend_from_slice(b"pack-")?;
+    push_five_digits(text, pack)?;
+    text.extend_from_slice(b".blobs")?;
+    Ok(())
+}
+
+fn push_five_digits(text: &mut Vec<u8>, number: u32) -> Result<(), NoMemory>
+    ensures { OnOk result (text.new.items ≡ text.old.items ++ five_digits number) }
+{
+    let mut digits = Buffer::new();
+    let digits = digits.format(number).as_bytes();
+    text.extend_from_slice(&b"00000"[..5usize.saturating_sub(digits.len())])?;
+    text.extend_from_slice(digits)?;
+    Ok(())
+}
+
+fn push_decimal(text: &mut Vec<u8>, number: u64) -> Result<(), NoMemory>
+    ensures { OnOk result (text.new.items ≡ text.old.items ++ decimal number) }
+{
+    let mut digits = Buffer::new();
+    text.extend_from_slice(digits.format(number).as_bytes())?;
+    Ok(())
+}

@@ -1,0 +1,63 @@
+//! Where the words name the folder of the store, and the address of a peer.
+ghost use Rattle.std.specs.Prelude.{◌≡◌, None};
+ghost use Rattle.perkeep_words.specs.Parts.{start};
+ghost use Rattle.perkeep_words.specs.Places.{IsDirPlace, has_dir, first_position, is_position, dir_place};
+
+use crate::forms::CommandName;
+use crate::parts::{Part, State};
+use crate::place::Places;
+use blobref::Text;
+
+/// The places of DIR and ADDR in the words. Each is None exactly where the words are no line that has it, whatever the line's
+/// texts say (docs/commands.md). It takes no memory.
+pub fn places(words: &[Text]) -> Places
+    ensures dir { IsDirPlace words.now result.dir }
+    ensures addr { result.addr ≡ None }
+{
+    Places {
+        dir: dir_place(words),
+        addr: None,
+    }
+}
+
+// The place of DIR.
+fn dir_place(words: &[Text]) -> Option<usize>
+    ensures { result ≡ dir_place words.now }
+{
+    let (word, behind) = words.split_first()?;
+    let name = CommandName::of(word.as_str())?;
+    if !name.has_line(behind) || !has_dir(name) {
+        return None;
+    }
+    first_position(behind)
+}
+
+fn has_dir(name: CommandName) -> bool
+    ensures { result ≡ has_dir name }
+{
+    name != CommandName::SearchPack
+}
+
+// The place of the first position, of the words behind the command's name.
+fn first_position(behind: &[Text]) -> Option<usize>
+    ensures { result ≡ first_position start 1 behind.now }
+{
+    let mut state = State::start();
+    for (i, word) in behind.iter().enumerate() {
+        let (next, part) = state.step(word)?;
+        if is_position(&part) {
+            return Some(i + 1);
+        }
+        state = next;
+    }
+    None
+}
+
+fn is_position(part: &Option<Part>) -> bool
+    ensures { result ≡ is_position part.now }
+{
+    match part {
+        Some(part) => part.name.is_none(),
+        None => false,
+    }
+}
