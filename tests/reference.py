@@ -1,7 +1,7 @@
-"""What `perkeep search-pack A V` answers, worked out a second time.
+"""What the program's commands answer and store, worked out a second time.
 
-Everything here is written from the pages of docs/ alone, to be read beside them: claims.md, and of formats/ packs.md, blobrefs.md, schema.md,
-dates.md, keyring.md and answers.md. It is slow and plain on purpose. The tests compare the program with it.
+Everything here is written from the pages of docs/ alone, to be read beside them: claims.md, commands.md, and of formats/ packs.md,
+blobrefs.md, schema.md, dates.md, keyring.md and answers.md. It is slow and plain on purpose. The tests compare the program with it.
 
 Bytes are `bytes`, refs and texts are `str`. A moment is a number of nanoseconds, and ALWAYS stands for no moment at all.
 """
@@ -100,6 +100,80 @@ def body_end(pack, header, size_group):
 def content(found):
     """The blobs by their refs."""
     return {one.ref: one.blob for one in found}
+
+
+# Stores: packs by their numbers (packs.md, commands.md)
+
+PACK_NAME = re.compile(r"pack-([0-9]{5})\.blobs")
+BYTES_OF_A_FULL_PACK = 536_870_912
+LAST_PACK = 99_999
+ENTRIES_OF_A_LISTING = 1_000
+
+
+class Full(Exception):
+    """The store takes no new blob."""
+
+
+def pack_name(number):
+    return f"pack-{number:05}.blobs"
+
+
+def packs_of(files):
+    """The packs among files by their names."""
+    names = {name: PACK_NAME.fullmatch(name) for name in files}
+    return {int(match[1]): files[name] for name, match in sorted(names.items()) if match}
+
+
+def arrivals(packs):
+    """The blobs of a store by their refs, in the order in which they arrived."""
+    blobs = {}
+    for _, pack in sorted(packs.items()):
+        for found in salvage(pack)[0]:
+            blobs.setdefault(found.ref, found.blob)
+    return blobs
+
+
+def pack_for_the_next_record(packs):
+    """The number of the pack to which the next record goes; Full where there is none."""
+    if not packs:
+        return 0
+    greatest = max(packs)
+    _, broken = salvage(packs[greatest])
+    if broken is None and len(packs[greatest]) < BYTES_OF_A_FULL_PACK:
+        return greatest
+    if greatest == LAST_PACK:
+        raise Full
+    return greatest + 1
+
+
+def put(packs, blob):
+    """The packs of a store once a blob has been put into it."""
+    ref = ref_of(blob)
+    if ref in arrivals(packs):
+        return packs
+    number = pack_for_the_next_record(packs)
+    record = f"[{ref} {len(blob)}]".encode() + blob
+    return {**packs, number: packs.get(number, b"") + record}
+
+
+def entry(ref, blob):
+    """The line of a blob in a listing."""
+    return f"{ref} {len(blob)}\n".encode()
+
+
+def listing(blobs, after="", limit=ENTRIES_OF_A_LISTING):
+    refs = sorted(ref for ref in blobs if ref > after)
+    return b"".join(entry(ref, blobs[ref]) for ref in refs[:limit])
+
+
+def salvage_text(packs):
+    """What `salvage` prints for the packs of a store."""
+    lines = []
+    for number, pack in sorted(packs.items()):
+        found, broken = salvage(pack)
+        lines += [f"{pack_name(number)} {one.at} {one.ref} {len(one.blob)}\n" for one in found]
+        lines.append(f"{pack_name(number)} clean\n" if broken is None else f"{pack_name(number)} broken {broken}\n")
+    return "".join(lines).encode()
 
 
 # Dates (dates.md)
@@ -396,12 +470,12 @@ class Archive:
                 values = [value for value in values if value != fact.value]
         return values
 
-    def holders(self, attribute, value):
-        """The permanodes that have the value, in the order of their refs."""
+    def holders(self, attribute, value, when=ALWAYS):
+        """The permanodes that have the value at a moment, in the order of their refs."""
         return [
             ref
             for ref in sorted(filter(self.is_permanode, self.genuine))
-            if not self.deleted(ref, ALWAYS) and value in self.values(ref, attribute, ALWAYS)
+            if not self.deleted(ref, when) and value in self.values(ref, attribute, when)
         ][:MOST_ANSWERS]
 
 
@@ -419,3 +493,8 @@ def archive_of(pack, keyring):
 def search_pack(pack, keyring, attribute, value):
     """What the command prints for a pack."""
     return search_text(archive_of(pack, keyring).holders(attribute, value)) + b"\n"
+
+
+def archive_of_store(packs, keyring):
+    """The archive of a store under the text of its keyring."""
+    return Archive(arrivals(packs), read_keyring(keyring))

@@ -21,7 +21,7 @@ import inputs
 import reference
 from writing import keyring_line, pack, record
 
-WORDS = {2: b"words", 4: b"input", 5: b"read", 6: b"write"}
+WORDS = {1: b"memory", 2: b"words", 3: b"absent", 4: b"input", 5: b"read", 6: b"write", 7: b"disk", 9: b"full", 10: b"damaged"}
 SECONDS = 100
 AT_ONCE = 4
 EXAMPLES = pathlib.Path(__file__).resolve().parent.parent / "examples"

@@ -1,0 +1,314 @@
+"""Packs on the disk: which one a put goes to, packs that are torn or damaged, files that can't grow, and the order of syncs.
+
+Each group is a function of the program, and answers its checks.
+"""
+
+import collections
+import itertools
+import os
+import pathlib
+import random
+import re
+import resource
+import shutil
+import signal
+import subprocess
+
+import inputs
+import reference
+from reference import pack_name, ref_of
+from search_pack import Difference, compare, compare_ending
+from stores import ABC, CLEAN, TORN, Store, check_search, lines_of
+from writing import deleted_record, header, pack, record
+
+
+# Numbers and lengths of packs
+
+def numbers(program):
+    """Into which pack a put goes."""
+    cases = [
+        ({}, 0),
+        ({0: b""}, 0),
+        ({0: CLEAN}, 0),
+        ({0: TORN}, 1),
+        ({0: b"junk"}, 1),
+        ({0: deleted_record(3)}, 0),
+        ({0: deleted_record(3)[:-1]}, 1),
+        ({3: CLEAN}, 3),
+        ({3: TORN}, 4),
+        ({0: TORN, 1: CLEAN}, 1),
+        ({0: CLEAN, 1: TORN}, 2),
+        ({0: CLEAN, 1: b""}, 1),
+        ({0: CLEAN, 5: CLEAN}, 5),
+        ({0: CLEAN, 5: TORN}, 6),
+        ({1: CLEAN, 9: CLEAN, 10: TORN}, 11),
+        ({99_998: TORN}, 99_999),
+        ({99_999: CLEAN}, 99_999),
+    ]
+    checks = [lambda packs=packs, number=number: goes_to(program, packs, number) for packs, number in cases]
+    return checks + [lambda: no_number_left(program)] + [
+        lambda length=length, number=number: full_pack(program, length, number)
+        for length, number in [(reference.BYTES_OF_A_FULL_PACK - 1, 0), (reference.BYTES_OF_A_FULL_PACK, 1)]
+    ]
+
+
+def goes_to(program, packs, number):
+    what = f"a put beside {sorted(packs)}"
+    store = Store(program, packs)
+    store.lists(what)
+    if packs:
+        store.put(f"{what}, of a blob that stands or not", b"a blob")
+    store.put(what, b"new")
+    compare(what, "the pack with the blob", [number], [n for n, one in store.packs.items() if one.endswith(record(b"new"))])
+    store.put(f"{what}, the next", b"newer")
+    store.lists(f"{what}, then")
+
+
+def no_number_left(program):
+    """A store that needs a pack behind the last number is full; a blob that stands can be put all the same."""
+    store = Store(program, {0: pack(b"abc"), 99_999: pack(b"last") + b"x"})
+    store.keeps("no number left", store.words("put"), status=9, source=b"new")
+    store.put("a blob that stands, no number left", b"abc")
+    store.put("a blob that stands, no number left", b"last")
+    store.lists("no number left")
+
+
+def full_pack(program, length, number):
+    """A pack of a length near the limit, made of deleted records, which cost nobody a digest."""
+    store = Store(program, {})
+    path, what = store.path / pack_name(0), f"a pack of {length} bytes"
+    write_deleted_records(path, length)
+    program.check(what, store.words("put"), ABC.encode() + b"\n", source=b"abc")
+    expected = {pack_name(0): length, pack_name(number): (length if number == 0 else 0) + len(record(b"abc"))}
+    compare(what, "lengths", expected, {entry.name: entry.stat().st_size for entry in store.path.iterdir()})
+    with open(store.path / pack_name(number), "rb") as file:
+        file.seek(expected[pack_name(number)] - len(record(b"abc")))
+        compare(what, "the record", record(b"abc"), file.read())
+    program.check(f"{what}: salvage", store.words("salvage"), salvage_of_full_pack(length, number))
+    path.unlink()
+
+
+def write_deleted_records(path, length):
+    with open(path, "wb") as file:
+        while length > 0:
+            size = min(reference.LARGEST_BLOB, length - len(b"[x-0 16777216]"))
+            file.write(f"[x-0 {size}]".encode())
+            file.seek(size, os.SEEK_CUR)
+            length -= len(f"[x-0 {size}]") + size
+        file.truncate()
+    compare("deleted records", "what is left", 0, length)
+
+
+def salvage_of_full_pack(length, number):
+    at = (length if number == 0 else 0) + len(header(b"abc"))
+    between = "" if number == 0 else f"{pack_name(0)} clean\n"
+    return f"{between}{pack_name(number)} {at} {ABC} 3\n{pack_name(number)} clean\n".encode()
+
+
+# Files that can't grow
+
+def file_limits(program):
+    """Puts under a limit of the length of files, as on a disk that is full: with the signal of the limit ignored, and not."""
+    endings = collections.Counter()
+    checks = []
+    for handler in (signal.SIG_IGN, signal.SIG_DFL):
+        for packs in (None, {0: CLEAN}, {0: TORN}, {0: CLEAN, 1: b""}):
+            for room in (0, 1, 68, 69, 70, 300, 468, 469, 470):
+                checks.append(lambda handler=handler, packs=packs, room=room: within(program, packs, room, handler, endings))
+    return checks + [lambda: print(f"file_limits: how puts ended under a limit: {dict(sorted(endings.items()))}", flush=True)]
+
+
+def within(program, packs, room, handler, endings):
+    """A put of 400 bytes, whose record has 469, where so many bytes may be written: it fails, or all are."""
+    store, blob = Store(program, packs), bytes(400)
+    what = f"room for {room} bytes beside {packs and sorted(packs)}"
+    into = reference.pack_for_the_next_record(store.packs)
+    limit = len(store.packs.get(into, b"")) + room
+
+    def limited():
+        signal.signal(signal.SIGXFSZ, handler)
+        resource.setrlimit(resource.RLIMIT_FSIZE, (limit, limit))
+
+    status, out, err = program.run(what, store.words("put"), blob, preexec_fn=limited)
+    if room < len(record(blob)):
+        killed = handler == signal.SIG_DFL and status == -signal.SIGXFSZ
+        if not killed:
+            compare_ending(what, 7, status, err)
+        compare(what, "standard output", b"", out)
+    else:
+        compare_ending(what, 0, status, err)
+    endings[f"status {status}" if status >= 0 else f"signal {-status}"] += 1
+    after_a_fault(store, what, into)
+    store.gets(what, [ref_of(b"a blob"), ref_of(blob)])
+    store.put(f"{what}, the put after it", blob)
+    store.lists(f"{what}, the put after it")
+
+
+def after_a_fault(store, what, into):
+    """What stands after a put that may have failed: all that stood, and in one pack a front of a record behind it."""
+    packs = reference.packs_of(store.files())
+    for number, content in store.packs.items():
+        front = packs.get(number, b"")[: len(content)] if number == into else packs.get(number)
+        compare(what, f"pack {number}", content, front)
+    compare(what, "new packs", set(), set(packs) - set(store.packs) - {into})
+    store.packs = packs
+
+
+# Torn and damaged packs
+
+def torn(program):
+    """A pack cut behind each byte, and stores of schema blobs cut here and there."""
+    whole = pack(b"abc", b"")
+    mixed = pack(b"one") + deleted_record(9) + pack(b"two")
+    cases = [({0: whole[:cut]}, (b"abc", b""), cut) for cut in range(len(whole) + 1)]
+    cases += [({0: CLEAN, 4: mixed[:cut]}, (b"one", b"two"), cut) for cut in range(len(pack(b"one")), len(mixed), 3)]
+    checks = [lambda case=case: survives(program, f"cut at {case[2]}", *case) for case in cases]
+    schema = inputs.EXAMPLE + record(inputs.DELETE)
+    cuts = random.Random(5).sample(range(len(inputs.BEFORE_CLAIM), len(schema) + 1), 24)
+    return checks + [lambda cut=cut: searched_when_torn(program, schema, cut) for cut in [len(inputs.EXAMPLE), *cuts]]
+
+
+def survives(program, what, packs, blobs, seed):
+    """All that salvage finds is answered, the next put goes where it must, and a torn pack stays as it is."""
+    store = Store(program, packs)
+    store.lists(what)
+    store.gets(what, [ref_of(blobs[seed % 2])])
+    store.put(f"{what}, then a put", blobs[-1] if seed % 3 else b"new")
+    if seed % 4 == 0:
+        store.put(f"{what}, then another", b"newer")
+        store.gets(f"{what}, then puts", [ref_of(b"newer"), ref_of(b"new")])
+    store.lists(f"{what}, then puts")
+
+
+def searched_when_torn(program, schema, cut):
+    store = Store(program, {0: schema[:cut]}, {"keyring": inputs.KEYRING})
+    for what, at in [("torn schema blobs", None), ("torn schema blobs at their first day", "2020-01-01T12:00:00Z")]:
+        archive = reference.archive_of_store(store.packs, inputs.KEYRING)
+        check_search(store, archive, "tag", "a", at)
+    store.put("a put behind torn schema blobs", inputs.CLAIM)
+    check_search(store, reference.archive_of_store(store.packs, inputs.KEYRING), "tag", "a", None)
+
+
+def flipped(program):
+    """One bit of a pack turned over, in each of its bytes."""
+    whole = pack(b"abc", b"")
+    checks = []
+    for at in range(len(whole)):
+        damaged = bytearray(whole)
+        damaged[at] ^= 1 << at % 8
+        case = {0: bytes(damaged)}, (b"abc", b""), at
+        checks.append(lambda case=case: survives(program, f"a flipped bit at {case[2]}", *case))
+    return checks
+
+
+def damaged(program):
+    """The damaged packs of the search tests, by turns as the last pack of a store and as one before it."""
+    turns = zip(inputs.damaged_packs(), itertools.cycle(({}, {1: CLEAN})))
+    cases = [(what, {0: source, **behind}) for (what, source, _), behind in turns]
+    return [lambda case=case: put_beside(program, *case) for case in cases]
+
+
+def put_beside(program, what, packs):
+    store = Store(program, packs)
+    store.lists(what)
+    store.put(f"{what}, then a put", inputs.CLAIM)
+    store.reads(f"{what}, then a put", "list", out=reference.listing(store.blobs()))
+
+
+# Syncs
+
+READS, WRITES = ("read", "readv", "pread64", "preadv"), ("write", "writev", "pwrite64", "pwritev")
+SYNCS, OPENS, MAKES = ("fsync", "fdatasync"), ("openat", "open", "creat"), ("mkdir", "mkdirat")
+TRACED = ",".join(READS + WRITES + SYNCS + OPENS + MAKES)
+CALL = re.compile(r"^(?:\d+ +)?([a-z0-9_]+)\((?:AT_FDCWD(?:<[^>]*>)?, )?(?:(\d+)<([^>]*)>|\"([^\"]*)\")(.*)$")
+
+
+def syncs(program):
+    """In which order the program writes, syncs and prints, by strace. A killed program can't show it: the kernel still writes."""
+    if not can_trace(program):
+        print("syncs: not tried, as strace isn't there or can't trace", flush=True)
+        return []
+    return [lambda check=check: check(program) for check in (put_is_synced, readers_sync, salvage_syncs_nothing)]
+
+
+def can_trace(program):
+    if not shutil.which("strace"):
+        return False
+    return subprocess.run(["strace", "-o", str(program.new_path()), "true"], stderr=subprocess.DEVNULL).returncode == 0
+
+
+def without_launcher(program):
+    """The built program behind the launcher, whose own calls would stand among those of a run."""
+    built = pathlib.Path(program.path).parent / "crates/perkeep_cli/out/perkeep_cli"
+    return str(built) if built.exists() else program.path
+
+
+def traced(program, what, words, source=b""):
+    """The calls of a run in order, each with its name, the number of its file (or None), a path, and the rest of its line."""
+    log = program.new_path()
+    program.starts[words[0]] += 1
+    command = ["strace", "-f", "-y", "-o", str(log), "-e", f"trace={TRACED}", without_launcher(program), *words]
+    status = subprocess.run(command, cwd=program.working, input=source, stdout=subprocess.PIPE).returncode
+    compare(what, "exit status", 0, status)
+    calls = filter(None, map(CALL.match, log.read_text(errors="replace").splitlines()))
+    return [(call[1], call[2] and int(call[2]), call[3] or call[4], call[5]) for call in calls]
+
+
+def places(calls, names, path=None, file=None):
+    """The places in a list of calls of those by name, on a path or a file's number."""
+    return [
+        place
+        for place, (name, number, where, _) in enumerate(calls)
+        if name in names and (path is None or where == str(path)) and (file is None or number == file)
+    ]
+
+
+def put_is_synced(program):
+    """The record is synced behind its last write and before the ref is printed; a new pack's and folder's names too."""
+    cases = {"a new folder": None, "a new pack": {}, "a pack that stands": {0: CLEAN}, "a torn pack": {0: TORN}}
+    for what, packs in cases.items():
+        store = Store(program, packs)
+        before, number = store.packs, reference.pack_for_the_next_record(store.packs)
+        store.packs = reference.put(store.packs, b"new")
+        calls = traced(program, what, store.words("put"), b"new")
+        store.check_files(what)
+        folder = store.path.resolve()
+        printed = places(calls, WRITES, file=1)[0]
+        written = places(calls, WRITES, folder / pack_name(number))[-1]
+        in_order(what, "the record's sync", written, places(calls, SYNCS, folder / pack_name(number)), printed)
+        if number not in before:
+            made = made_at(what, calls, OPENS, pack_name(number), "O_CREAT")
+            in_order(what, "the sync of the folder", made, places(calls, SYNCS, folder), printed)
+        if packs is None:
+            made = made_at(what, calls, MAKES, folder.name)
+            in_order(what, "the sync of the folder above", made, places(calls, SYNCS, folder.parent), printed)
+
+
+def made_at(what, calls, names, made, flag=""):
+    """The place at which a pack or a folder is made, which happens once."""
+    told = {place: "".join(calls[place][2:]) for place in places(calls, names)}
+    found = [place for place, words in told.items() if made in words and flag in words]
+    compare(what, f"times that {made} is made", 1, len(found))
+    return found[0]
+
+
+def in_order(what, side, first, between, last):
+    if not any(first < place < last for place in between):
+        raise Difference(f"{what}: {side} isn't where it must be: {between} between {first} and {last}")
+
+
+def readers_sync(program):
+    """Opening syncs every pack, also torn ones, before it is read, and writes to none."""
+    store = Store(program, {0: pack(b"abc"), 3: TORN, 4: b""})
+    for command in ("put", "get", "stat", "list", "search"):
+        calls = traced(program, command, lines_of(store.path)[command], b"abc")
+        for path in (store.path.resolve() / pack_name(number) for number in store.packs):
+            first_read = min(places(calls, READS, path) + places(calls, WRITES, file=1))
+            in_order(command, f"the sync of {path.name}", -1, places(calls, SYNCS, path), first_read)
+            compare(command, f"writes to {path.name}", [], places(calls, WRITES, path))
+
+
+def salvage_syncs_nothing(program):
+    store = Store(program, {0: pack(b"abc"), 3: TORN})
+    calls = traced(program, "salvage", store.words("salvage"))
+    compare("salvage", "syncs", [], places(calls, SYNCS))

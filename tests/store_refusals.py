@@ -1,0 +1,349 @@
+"""What the commands refuse, and what then stands: words, texts, keyrings, streams and folders that can't be used.
+
+Each group is a function of the program, and answers its checks.
+"""
+
+import itertools
+import os
+import pathlib
+import subprocess
+
+import inputs
+import reference
+from reference import pack_name, ref_of
+from search_pack import compare, compare_ending, with_streams
+from stores import ABC, NOTHING_FOUND, READING, Store, lines_of, look
+from writing import pack, record
+
+DATE = inputs.day(1)
+
+
+# Words, and texts in them
+
+def words(program):
+    """Lines that aren't lines: status 2, whatever the keyring is, and nothing is made."""
+    store = Store(program, {0: pack(b"abc")}, {"keyring": b"a bad keyring"})
+    missing = Store(program)
+    checks = []
+    no_utf8 = [("put", b"\xff"), ("get", str(store.path), b"\xff"), (b"put\xff", str(store.path))]
+    for line in bad_lines(str(store.path), ABC) + no_utf8:
+        checks.append(lambda line=line: store.keeps(f"words {line}", list(line), status=2, source=b"new"))
+    for line in bad_lines(str(missing.path), ABC):
+        checks.append(lambda line=line: missing.keeps(f"words {line}", list(line), status=2, source=b"new"))
+    return checks + [lambda: good_lines(program)]
+
+
+def bad_lines(folder, ref):
+    query = ("--attr", "tag", "--value", "a")
+    return [
+        ("put",),
+        ("put", folder, folder),
+        ("put", folder, ref),
+        ("put", "--x=1", folder),
+        ("put", folder, "--limit", "1"),
+        ("put", folder, "-"),
+        ("put", "--", folder, "--"),
+        ("put", "--help"),
+        ("Put", folder),
+        ("puts", folder),
+        ("put ", folder),
+        ("--", "put", folder),
+        ("get", folder),
+        ("get", folder, ref, ref),
+        ("get", folder, "-x"),
+        ("get", folder, ref, "--limit=1"),
+        ("get", folder, "--after", ref),
+        ("stat", folder),
+        ("stat", folder, ref, ""),
+        ("stat", folder, "--", ref, "--"),
+        ("list",),
+        ("list", folder, folder),
+        ("list", folder, "--after"),
+        ("list", folder, "--limit"),
+        ("list", folder, "--limit", "1", "--limit", "1"),
+        ("list", folder, "--limit=1", "--limit", "2"),
+        ("list", folder, "--after", ref, "--after", ref),
+        ("list", folder, "--limit", "-1"),
+        ("list", folder, "--limit", "--", "1"),
+        ("list", folder, "--after", "--limit", "1"),
+        ("list", folder, "--at", DATE),
+        ("list", folder, "--Limit=1"),
+        ("list", folder, "--limits=1"),
+        ("list", folder, "-limit=1"),
+        ("list", folder, "--=1"),
+        ("list", folder, "--", "--limit", "1"),
+        ("list", "--limit", folder),
+        ("search", folder),
+        ("search", *query),
+        ("search", folder, "tag", "a"),
+        ("search", folder, "--attr", "tag"),
+        ("search", folder, "--value", "a"),
+        ("search", folder, "--attr", "--value", "a"),
+        ("search", folder, "--attr", "tag", "--value", "-a"),
+        ("search", folder, *query, "b"),
+        ("search", folder, *query, "--attr", "tag"),
+        ("search", folder, *query, "--value=a"),
+        ("search", folder, *query, "--at"),
+        ("search", folder, *query, "--at", DATE, "--at", DATE),
+        ("search", folder, *query, "--limit", "1"),
+        ("search", folder, "--", *query),
+        ("salvage",),
+        ("salvage", folder, folder),
+        ("salvage", folder, "--x", "1"),
+        ("salvage", "--after", ref, folder),
+    ]
+
+
+def good_lines(program):
+    """Positions before and behind `--`, and a folder whose name begins with a hyphen."""
+    inside = program.new_path()
+    inside.mkdir()
+    for number, form in enumerate((("put", "--", "-s"), ("put", "--", "./-s"), ("put", "-s/../-s", "--")[:1] + ("./-s", "--"))):
+        blob = b"blob %d" % number
+        program.check(f"words {form}", list(form), ref_of(blob).encode() + b"\n", source=blob, folder=inside)
+    ref = ref_of(b"blob 1")
+    for form in (("get", "--", "-s", ref), ("get", "./-s", "--", ref), ("get", "./-s", ref, "--")):
+        program.check(f"words {form}", list(form), b"blob 1", folder=inside)
+    program.check("the working folder itself", ["stat", ".", ref], f"{ref} 6\n".encode(), folder=inside / "-s")
+    packs = reference.packs_of({entry.name: entry.read_bytes() for entry in (inside / "-s").iterdir()})
+    compare("a folder with a hyphen", "packs", {0: pack(b"blob 0", b"blob 1", b"blob 2")}, packs)
+
+
+BAD_REFS = ["", "sha224-", "x" * 63, ABC[:-1], ABC + "0", ABC.upper(), ABC[:-1] + "G", ABC[:-1] + "A"]
+BAD_REFS += [" " + ABC, ABC + " ", ABC + "\n", "sha1" + ABC[6:], "sha256" + ABC[6:]]
+BAD_NUMBERS = ["", "0", "0" * 30, "4194305", "04194305", "4294967297", "18446744073709551617", "9" * 40]
+BAD_NUMBERS += ["-1", "+1", "1 ", " 1", "1x", "0x1", "1.0", "1e3", "1_000", "\u0661"]
+
+
+def texts(program):
+    """Texts that can't be used: status 4, whatever the disk and the source hold."""
+    store = Store(program, {0: pack(b"abc", b"")}, {"keyring": inputs.KEYRING})
+    file = program.new_path()
+    file.write_bytes(b"")
+    lines = list(itertools.product(("get", "stat"), (store.path, file), BAD_REFS))
+    lines += [("list", store.path, f"--after={ref}") for ref in BAD_REFS]
+    lines += [("list", store.path, f"--limit={text}") for text in BAD_NUMBERS]
+    lines += [("list", store.path, "--limit", text) for text in BAD_NUMBERS if not text.startswith("-")]
+    lines += [("list", store.path, "--limit=0", "--after=x"), ("list", "--after=x", "--limit=0", file)]
+    lines += [("list", file, "--limit=1", "--after=x"), ("list", "--after=x", store.path, "--limit=1")]
+    query = ("--attr=tag", "--value=a")
+    lines += [("search", store.path, *query, f"--at={text}") for text, is_date in inputs.DATES if not is_date]
+    lines += [("search", store.path, "--attr=", "--value=a"), ("search", file, "--value=", "--attr", "")]
+    lines += [("search", "--at=x", "--attr=", "--value=a", store.path), ("search", "--attr=", "--value=a", store.path, "--at=x")]
+    lines = [tuple(map(str, line)) for line in lines]
+    return [lambda line=line: store.keeps(f"texts {line}", list(line), status=4) for line in lines] + [
+        lambda text=text: store.reads(f"the date {text}", "search", *query, f"--at={text}", out=NOTHING_FOUND)
+        for text, is_date in inputs.DATES
+        if is_date
+    ]
+
+
+def keyrings(program):
+    """Every command fails with a keyring that can't be used, and only with that of its folder."""
+    checks = []
+    bad = [text for _, text in inputs.bad_keyrings()]
+    for text in bad[:3] + bad[-4:]:
+        store = Store(program, {0: pack(b"abc")}, {"keyring": text})
+        checks += [
+            lambda store=store, line=line: store.keeps(f"a bad keyring: {line}", line, status=4, source=b"new")
+            for line in lines_of(store.path).values()
+        ]
+    for text in bad[3:-4]:
+        store = Store(program, {0: pack(b"abc")}, {"keyring": text})
+        checks.append(lambda store=store: store.reads("a bad keyring", "list", status=4))
+    folder = Store(program, {0: pack(b"abc")})
+    (folder.path / "keyring").mkdir()
+    lines = [*lines_of(folder.path).values(), folder.words("get", "no ref"), folder.words("list", "--limit=0")]
+    checks += [lambda line=line: folder.keeps(f"a keyring that is a folder: {line}", line, status=5) for line in lines]
+    longest = Store(program, {0: inputs.EXAMPLE}, {"keyring": inputs.KEYRING})
+    out = reference.search_text(inputs.FOUND) + b"\n"
+    return checks + [lambda: longest.reads("a good keyring", "search", "--attr=tag", "--value=a", out=out)]
+
+
+# Standard input, standard output and standard error
+
+def streams(program):
+    """Streams that are closed, full, or can't be read; what then stands."""
+    checks = (failing_sources, failing_sinks, kept_though_unsaid, closed_errors, which_is_first)
+    return [lambda check=check: check(program) for check in checks]
+
+
+def failing_sources(program):
+    for packs in (None, {}, {0: pack(b"abc")}, {0: b"[torn"}):
+        store = Store(program, packs)
+        before = look(store.path)
+        for what, stream in [("closed", {"closed": 0}), ("a folder", {"source": program.folder})]:
+            with_streams(program, f"put, standard input is {what}", store.words("put"), 5, folder=program.working, **stream)
+        compare("put without a source", "the folder", before, look(store.path))
+
+
+def failing_sinks(program):
+    store = Store(program, {0: inputs.EXAMPLE + pack(b"abc")}, {"keyring": inputs.KEYRING})
+    before = look(store.path)
+    for command in READING:
+        line = lines_of(store.path)[command]
+        with_streams(program, f"{command}, standard output is full", line, 6, sink="/dev/full", folder=program.working)
+        with_streams(program, f"{command}, standard output is closed", line, 6, closed=1, folder=program.working)
+    compare("standard output that takes nothing", "the folder", before, look(store.path))
+
+
+def kept_though_unsaid(program):
+    """A blob whose ref can't be printed is kept, and no text strays into a pack."""
+    for packs in (None, {0: pack(b"abc")}, {0: pack(b"abc") + b"["}):
+        for what, stream in [("full", {"sink": "/dev/full"}), ("closed", {"closed": 1})]:
+            store = Store(program, packs)
+            source = program.new_path()
+            source.write_bytes(b"kept")
+            what = f"put, standard output is {what}"
+            with_streams(program, what, store.words("put"), 6, source=source, folder=program.working, **stream)
+            store.packs = reference.put(store.packs, b"kept")
+            store.check_files(what)
+            store.lists(what)
+
+
+def closed_errors(program):
+    """Standard error that is closed takes nothing to a pack either."""
+    store = Store(program, {0: pack(b"abc")})
+    source = program.new_path()
+    source.write_bytes(b"kept")
+    with open(source, "rb") as stdin, open("/dev/full", "wb") as stdout:
+        words = [program.path, *store.words("put")]
+        status = subprocess.run(words, cwd=program.working, stdin=stdin, stdout=stdout, preexec_fn=lambda: os.close(2)).returncode
+    compare("standard error is closed", "exit status", 6, status)
+    store.packs = reference.put(store.packs, b"kept")
+    store.check_files("standard error is closed")
+
+
+def which_is_first(program):
+    """Where several things are wrong, the first one is told."""
+    file = program.new_path()
+    file.write_bytes(b"")
+    too_long = program.new_path()
+    too_long.write_bytes(bytes(reference.LARGEST_BLOB + 1))
+    store = Store(program, {0: pack(b"")})
+    for what, line, status, stream in [
+        ("the source before the disk", ["put", str(file)], 5, {"closed": 0}),
+        ("a long source before the disk", ["put", str(file)], 4, {"source": too_long}),
+        ("the disk before the sink", ["put", str(file)], 7, {"sink": "/dev/full"}),
+        ("the disk before the sink of a listing", ["list", str(file)], 7, {"sink": "/dev/full"}),
+        ("an absent blob before the sink", store.words("get", ABC), 3, {"sink": "/dev/full"}),
+        ("a bad text before the source", ["list", str(file), "--limit=0"], 4, {"closed": 0}),
+        ("bad words before the source", ["put"], 2, {"closed": 0}),
+    ]:
+        with_streams(program, what, line, status, folder=program.working, **stream)
+
+
+# Folders
+
+def folders(program):
+    checks = (no_folder, made_folder, other_names, a_file, the_empty_text, no_parent, unwritable)
+    return [lambda check=check: check(program) for check in checks] + [
+        lambda number=number: pack_that_is_a_folder(program, number) for number in (0, 3)
+    ]
+
+
+def no_folder(program):
+    """A folder that isn't there is a store without packs, and no command that reads makes it."""
+    endings = {"get": (b"", 3), "stat": (b"", 3), "list": (b"", 0), "salvage": (b"", 0), "search": (NOTHING_FOUND, 0)}
+    for what, store in [("without a folder", Store(program)), ("in an empty folder", Store(program, {}))]:
+        for command, (out, status) in endings.items():
+            store.keeps(f"{command} {what}", lines_of(store.path)[command], out, status)
+        store.keeps(f"a long source {what}", store.words("put"), status=4, source=bytes(reference.LARGEST_BLOB + 1))
+
+
+def made_folder(program):
+    """The first put makes the folder, whatever its name, but no folder above it."""
+    parent = program.new_path()
+    parent.mkdir()
+    for name in ("plain", "with a space", "\u00e4\u20ac", "slash/", "./point", "a.blobs", "pack-00000.blobs", "n" * 200):
+        path = os.path.join(str(parent), name)
+        program.check(f"put into {name}", ["put", path], ABC.encode() + b"\n", source=b"abc")
+        files = {entry.name: entry.read_bytes() for entry in pathlib.Path(path).iterdir()}
+        compare(f"put into {name}", "files", {"pack-00000.blobs": record(b"abc")}, files)
+    link = program.new_path()
+    link.symlink_to(parent / "plain")
+    program.check("a link to a folder", ["get", str(link), ABC], b"abc")
+
+
+IGNORED = ["pack-1.blobs", "pack-000001.blobs", "pack-00000.blobs.bak", "PACK-00000.blobs", "pack-00000.blob", "pack-00000"]
+IGNORED += ["xpack-00000.blobs", ".pack-00000.blobs", "pack-00000.blobs~", "pack-0000a.blobs", "pack--0001.blobs"]
+IGNORED += ["pack-+0001.blobs", f"pack-{5 * chr(0x661)}.blobs"]
+
+
+def other_names(program):
+    """Files and folders of other names are left alone."""
+    others = {name: pack(b"of no pack") for name in IGNORED}
+    for packs in ({}, {2: pack(b"abc")}):
+        store = Store(program, packs, others)
+        store.lists("other names")
+        store.gets("other names", [ref_of(b"of no pack"), ABC])
+        store.put("a put beside other names", b"new")
+        store.lists("other names after a put")
+    within = Store(program, {0: pack(b"abc")})
+    (within.path / "pack-1.blobs").mkdir()
+    (within.path / "sub").mkdir()
+    (within.path / "sub" / "pack-00001.blobs").write_bytes(pack(b"of no pack"))
+    within.lists("folders within")
+
+
+def a_file(program):
+    path = program.new_path()
+    path.write_bytes(pack(b"abc"))
+    no_store(program, "a file", str(path), path)
+
+
+def the_empty_text(program):
+    no_store(program, "the empty text", "", program.working_folder(None))
+
+
+def no_parent(program):
+    """A folder without a parent isn't there either, so it reads as a store without packs; put can't make it."""
+    above = program.new_path()
+    what = "a folder without a parent"
+    endings = {"put": (b"", 7), "get": (b"", 3), "stat": (b"", 3), "list": (b"", 0), "salvage": (b"", 0), "search": (NOTHING_FOUND, 0)}
+    for command, line in lines_of(str(above / "store")).items():
+        out, expected = endings[command]
+        status, got, err = program.run(f"{command}, {what}", line, b"abc", program.working_folder(None))
+        compare_ending(f"{command}, {what}", expected, status, err)
+        compare(f"{command}, {what}", "standard output", out, got)
+    compare(what, "what stands there", False, above.exists())
+
+
+def no_store(program, what, path, watched):
+    """A path that can't be a store: the disk's fault for every command, and nothing is made."""
+    before = look(watched)
+    for command, line in lines_of(path).items():
+        status, out, err = program.run(f"{command}, {what}", line, b"abc", program.working_folder(None))
+        compare_ending(f"{command}, {what}", 7, status, err)
+        compare(f"{command}, {what}", "standard output", b"", out)
+    compare(what, "what stands there", before, look(watched))
+
+
+TOLD_OF_ABC = b"pack-00001.blobs 67 " + ABC.encode() + b" 3\npack-00001.blobs clean\n"
+
+
+def pack_that_is_a_folder(program, number):
+    store = Store(program, {1: pack(b"abc")})
+    (store.path / pack_name(number)).mkdir()
+    for command, line in lines_of(store.path).items():
+        # What stands before it is told by then.
+        told = TOLD_OF_ABC if command == "salvage" and number > 1 else b""
+        store.keeps(f"{command}, pack {number} is a folder", line, told, 7, source=b"new")
+
+
+def unwritable(program):
+    """Folders in which no file can be made."""
+    if pathlib.Path("/proc/self").exists():
+        program.check("put into /proc", ["put", "/proc"], status=7, source=b"abc")
+        program.check("put into a new folder of /proc", ["put", "/proc/perkeep-store"], status=7, source=b"abc")
+        program.check("list of /proc", ["list", "/proc"])
+    if os.geteuid() == 0:
+        print("folders: a folder without the right to write isn't tried, as the script is root", flush=True)
+        return
+    store = Store(program, {0: pack(b"abc") + b"["})
+    store.path.chmod(0o555)
+    store.keeps("a new pack in a folder that can't be written", store.words("put"), status=7, source=b"new")
+    store.path.chmod(0o755)
+    (store.path / pack_name(0)).chmod(0)
+    for command, line in lines_of(store.path).items():
+        store.keeps(f"{command}, a pack that can't be read", line, status=7, source=b"new")
