@@ -17,7 +17,7 @@ import inputs
 import reference
 from reference import ref_of
 from search_pack import Difference, compare, compare_ending, finish
-from store_packs import damaged, file_limits, flipped, numbers, syncs, torn
+from store_packs import damaged, file_limits, flipped, numbers, removed, syncs, torn
 from store_refusals import folders, keyrings, streams, texts, words
 from stores import ABC, EMPTY, NOWHERE, NOTHING_FOUND, READING, Program, Store, check_search, ref_by_tool
 from writing import deleted_record, header, pack, record
@@ -324,8 +324,8 @@ def random_searches(program, seed):
 # Running
 
 GROUPS = [rows, words, texts, keyrings, folders, listings, torn, flipped, damaged, numbers, puts, large_blobs, searches]
-# These run code between fork and exec, or print, so nothing else runs beside them.
-ONE_AT_A_TIME = [streams, file_limits, syncs]
+# These run code between fork and exec, stop the program, or print, so nothing else runs beside them.
+ONE_AT_A_TIME = [streams, file_limits, removed, syncs]
 
 
 def run_group(program, group):

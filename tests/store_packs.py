@@ -13,11 +13,12 @@ import resource
 import shutil
 import signal
 import subprocess
+import time
 
 import inputs
 import reference
 from reference import pack_name, ref_of
-from search_pack import Difference, compare, compare_ending
+from search_pack import Difference, compare, compare_ending, finish
 from stores import ABC, CLEAN, TORN, Store, check_search, lines_of
 from writing import deleted_record, header, pack, record
 
@@ -142,6 +143,36 @@ def within(program, packs, room, handler, endings):
     store.gets(what, [ref_of(b"a blob"), ref_of(blob)])
     store.put(f"{what}, the put after it", blob)
     store.lists(f"{what}, the put after it")
+
+
+def removed(program):
+    """Puts whose folder is removed while they run."""
+    endings = collections.Counter()
+    moments = random.Random(20202)
+    return [lambda: removed_after(program, moments.uniform(0, 0.2), endings) for _ in range(16)] + [
+        lambda: print(f"removed: how puts ended whose folder was removed: {dict(sorted(endings.items()))}", flush=True)
+    ]
+
+
+def removed_after(program, moment, endings):
+    """The folder goes while a put opens its packs or writes: the disk's fault, or a ref whose blob stands if a folder does."""
+    store = Store(program, {number: pack(bytes([number]) * 1_048_576) for number in range(16)})
+    what = f"the folder is removed after {moment:.3f} seconds"
+    source = program.new_path()
+    source.write_bytes(b"new")
+    with source.open("rb") as stdin:
+        process = program.start(store.words("put"), program.working, stdin=stdin, stdout=subprocess.PIPE)
+    time.sleep(moment)
+    process.send_signal(signal.SIGSTOP)
+    shutil.rmtree(store.path)
+    process.send_signal(signal.SIGCONT)
+    out, err = finish(what, process)
+    status = process.returncode
+    compare_ending(what, 7 if status == 7 else 0, status, err)
+    compare(what, "standard output", b"" if status == 7 else ref_of(b"new").encode() + b"\n", out)
+    if status == 0 and store.path.exists():
+        program.check(what, store.words("get", ref_of(b"new")), b"new")
+    endings[f"status {status}"] += 1
 
 
 def after_a_fault(store, what, into):
