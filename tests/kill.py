@@ -24,8 +24,9 @@ import tempfile
 import time
 
 import reference
+from groups import Difference
 from reference import pack_name, ref_of
-from search_pack import Difference, compare, compare_ending, finish
+from search_pack import compare, compare_ending, finish
 
 LARGEST, LARGEST_WATCHED = 300_000, 1_048_576
 PUTS_A_ROUND = 5

@@ -6,7 +6,6 @@ Most inputs have an expected answer that is written down here, and the reference
 packs are compared with the reference alone.
 """
 
-import concurrent.futures
 import hashlib
 import itertools
 import os
@@ -19,11 +18,11 @@ from typing import NamedTuple, Optional
 
 import inputs
 import reference
+from groups import Difference, run_groups
 from writing import keyring_line, pack, record
 
 WORDS = {1: b"memory", 2: b"words", 3: b"absent", 4: b"input", 5: b"read", 6: b"write", 7: b"disk", 9: b"full", 10: b"damaged"}
 SECONDS = 100
-AT_ONCE = 4
 EXAMPLES = pathlib.Path(__file__).resolve().parent.parent / "examples"
 
 
@@ -37,10 +36,6 @@ class Case(NamedTuple):
     status: int = 0
     out: bytes = b""
     found: Optional[list] = None
-
-
-class Difference(Exception):
-    """What differs, and both sides."""
 
 
 def answer(what, source, found, attribute="tag", value="a", keyring=inputs.KEYRING):
@@ -346,32 +341,10 @@ def checks_of(program, group):
     return [lambda case=case: program.check(case) for case in group()]
 
 
-def run_group(program, group):
-    """Runs the checks of a group, some at once; answers how many there were."""
-    checks = checks_of(program, group)
-    at_once = 1 if group in GROUPS_OF_CHECKS else AT_ONCE
-    with concurrent.futures.ThreadPoolExecutor(at_once) as pool:
-        try:
-            for _ in pool.map(lambda check: check(), checks):
-                pass
-        except Difference:
-            pool.shutdown(cancel_futures=True)
-            raise
-    return len(checks)
-
-
 def main(path, *names):
-    groups = [group for group in GROUPS + GROUPS_OF_CHECKS if not names or group.__name__ in names]
-    total = 0
     with tempfile.TemporaryDirectory() as folder:
         program = Program(path, folder)
-        for group in groups:
-            try:
-                count = run_group(program, group)
-            except Difference as difference:
-                sys.exit(f"{group.__name__}: {difference}")
-            total += count
-            print(f"{group.__name__}: {count}", flush=True)
+        total = run_groups(GROUPS, GROUPS_OF_CHECKS, lambda group: checks_of(program, group), names)
     print(f"search-pack: {total} checks, no difference")
 
 

@@ -6,7 +6,6 @@ Here are the worked rows, puts of many blobs, listings and searches; store_refus
 what packs may look like. What is compared, and with what, is said in stores.py.
 """
 
-import concurrent.futures
 import itertools
 import random
 import subprocess
@@ -15,14 +14,13 @@ import tempfile
 
 import inputs
 import reference
+from groups import Difference, run_groups
 from reference import ref_of
-from search_pack import Difference, compare, compare_ending, finish
+from search_pack import compare, compare_ending, finish
 from store_packs import damaged, file_limits, flipped, numbers, removed, syncs, torn
 from store_refusals import folders, keyrings, streams, texts, words
 from stores import ABC, EMPTY, NOWHERE, NOTHING_FOUND, READING, Program, Store, check_search, ref_by_tool
 from writing import deleted_record, header, pack, record
-
-AT_ONCE = 4
 
 
 # The worked rows
@@ -328,29 +326,10 @@ GROUPS = [rows, words, texts, keyrings, folders, listings, torn, flipped, damage
 ONE_AT_A_TIME = [streams, file_limits, removed, syncs]
 
 
-def run_group(program, group):
-    """Runs the checks of a group, some at once; answers how many there were."""
-    checks = group(program)
-    with concurrent.futures.ThreadPoolExecutor(1 if group in ONE_AT_A_TIME else AT_ONCE) as pool:
-        try:
-            for _ in pool.map(lambda check: check(), checks):
-                pass
-        except Difference:
-            pool.shutdown(cancel_futures=True)
-            raise
-    return len(checks)
-
-
 def main(path, *names):
-    groups = [group for group in GROUPS + ONE_AT_A_TIME if not names or group.__name__ in names]
     with tempfile.TemporaryDirectory() as scratch:
         program = Program(path, scratch)
-        for group in groups:
-            try:
-                count = run_group(program, group)
-            except Difference as difference:
-                sys.exit(f"{group.__name__}: {difference}")
-            print(f"{group.__name__}: {count}", flush=True)
+        run_groups(GROUPS, ONE_AT_A_TIME, lambda group: group(program), names)
     starts = ", ".join(f"{program.starts[name]} of {name}" for name in ("put", *READING))
     print(f"store: no difference in {sum(program.starts.values())} starts ({starts})")
 

@@ -17,8 +17,9 @@ import time
 
 import inputs
 import reference
+from groups import Difference
 from reference import pack_name, ref_of
-from search_pack import Difference, compare, compare_ending, finish
+from search_pack import compare, compare_ending, finish
 from stores import ABC, CLEAN, TORN, Store, check_search, lines_of
 from writing import deleted_record, header, pack, record
 
