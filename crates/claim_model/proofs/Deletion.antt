@@ -11,12 +11,12 @@ use Rattle.std.specs.FinMap.Entries.{below_all}
 use Rattle.std.proofs.lemmas.Cmp.{tied_itself}
 use Rattle.blobref.specs.Blobref.{ref_cmp}
 use Rattle.claim_verify.specs.Verifier.{Accepts}
-use Rattle.schema_json.specs.declared.date.When.{When}
-use Rattle.schema_json.specs.declared.kinds.What.{What}
-use Rattle.schema_json.specs.declared.kinds.What.TheVariants.{Set, Add, Del, Delete}
-use Rattle.schema_json.specs.declared.kinds.Kind.{Kind}
-use Rattle.schema_json.specs.declared.kinds.Kind.TheVariants.{Plain, Key, File, Bytes, Directory, StaticSet, Permanode, Claim, Unread}
-use Rattle.schema_json.specs.Dependencies.{dependencies, kind_dependencies, target_of}
+use Rattle.schema_date.specs.declared.date.When.{When}
+use Rattle.schema_fact.specs.declared.kinds.What.{What}
+use Rattle.schema_fact.specs.declared.kinds.What.TheVariants.{Set, Add, Del, Delete}
+use Rattle.schema_fact.specs.declared.kinds.Kind.{Kind}
+use Rattle.schema_fact.specs.declared.kinds.Kind.TheVariants.{Plain, Key, File, Bytes, Directory, StaticSet, Permanode, Claim, Unread}
+use Rattle.schema_fact.specs.Dependencies.{dependencies, kind_dependencies, target_of}
 use Rattle.claim_model.specs.Facts.{Facts, Entry, passes}
 use Rattle.claim_model.specs.Ready.{round, is_ready}
 use Rattle.claim_model.specs.Genuine.{is_genuine, is_signed}

@@ -1,6 +1,6 @@
 use crate::{Command, Line, TextFault, places};
 use blobref::{NoMemory, Text};
-use schema_json::When;
+use schema_date::When;
 use std::alloc::Global;
 use std::str::Split;
 
