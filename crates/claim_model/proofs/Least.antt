@@ -5,8 +5,8 @@ use Rattle.std.proofs.lemmas.Slice.Eq.{bytes_eq-Decides}
 use Rattle.std.specs.List.{list_all, list_any}
 use Rattle.std.specs.Str.{bytes_eq}
 use Rattle.std.specs.FinMap.{get, len}
-use Rattle.schema_json.specs.declared.kinds.Fact.{Fact}
-use Rattle.schema_json.specs.Dependencies.{dependencies}
+use Rattle.schema_fact.specs.declared.kinds.Fact.{Fact}
+use Rattle.schema_fact.specs.Dependencies.{dependencies}
 use Rattle.claim_model.specs.Facts.{Facts, passes}
 use Rattle.claim_model.specs.Ready.{round, is_ready}
 use Rattle.claim_model.specs.Least.{has_all, IsClosed, IsWithin, passes_or_in, AreReached, ReadyIsLeast, ReadyGrows, ReadyAfter}

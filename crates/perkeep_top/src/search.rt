@@ -21,7 +21,7 @@ use claim_verify::Verifier;
 use edge_base::Steps;
 use pack_disk::Disk;
 use plain_index::{FactList, Look, PlainIndex};
-use schema_json::When;
+use schema_date::When;
 use search_eval::answer;
 use search_query::Query;
 use std::alloc::Global;

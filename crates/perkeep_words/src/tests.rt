@@ -1,6 +1,6 @@
 use crate::{Command, Line, Places, TextFault, places};
 use blobref::{NoMemory, Text};
-use schema_json::When;
+use schema_date::When;
 use std::str::Split;
 
 // What a line asks for: a word, up to three texts, and a number, which is 1 in a search at a date; or what is wrong.

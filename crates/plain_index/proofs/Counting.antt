@@ -13,11 +13,11 @@ use Rattle.std.proofs.lemmas.Map.Keys.{sorted_head, sorted_tail, IsDistinct-cons
 use Rattle.std.proofs.lemmas.Option.{same_Some}
 use Rattle.blobref.specs.Blobref.{ref_cmp}
 use Rattle.claim_verify.specs.Verifier.{Accepts}
-use Rattle.schema_json.specs.declared.date.When.{When}
-use Rattle.schema_json.specs.declared.kinds.What.{What}
-use Rattle.schema_json.specs.declared.kinds.What.TheVariants.{Set, Add, Del, Delete}
-use Rattle.schema_json.specs.declared.kinds.Kind.{Kind}
-use Rattle.schema_json.specs.declared.kinds.Kind.TheVariants.{Plain, Key, File, Bytes, Directory, StaticSet, Permanode, Claim, Unread}
+use Rattle.schema_date.specs.declared.date.When.{When}
+use Rattle.schema_fact.specs.declared.kinds.What.{What}
+use Rattle.schema_fact.specs.declared.kinds.What.TheVariants.{Set, Add, Del, Delete}
+use Rattle.schema_fact.specs.declared.kinds.Kind.{Kind}
+use Rattle.schema_fact.specs.declared.kinds.Kind.TheVariants.{Plain, Key, File, Bytes, Directory, StaticSet, Permanode, Claim, Unread}
 use Rattle.claim_model.specs.Facts.{Facts, Entry, passes}
 use Rattle.claim_model.specs.Genuine.{is_genuine, is_genuine_permanode}
 use Rattle.claim_model.specs.Deleted.{is_deleted, counts_at}

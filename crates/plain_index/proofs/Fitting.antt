@@ -6,8 +6,8 @@ use Rattle.std.proofs.lemmas.List.{get_or-map}
 use Rattle.std.specs.Prelude.{option_and_then}
 use Rattle.blobref.specs.Blobref.{ref_cmp}
 use Rattle.std.specs.Ordering.{eq_by_cmp}
-use Rattle.schema_json.specs.Facts.{IsValid}
-use Rattle.schema_json.specs.declared.kinds.Fact.{Fact}
+use Rattle.schema_fact.specs.Validity.{IsValid}
+use Rattle.schema_fact.specs.declared.kinds.Fact.{Fact}
 use Rattle.claim_model.specs.Facts.{Entry, Facts, AreValid}
 use Rattle.claim_model.specs.Ready.{is_ready}
 use Rattle.claim_model.specs.Trees.{own_size, parts_fit, sound_within, is_sound_tree, tree_size}

@@ -9,9 +9,9 @@ use Rattle.std.specs.FinMap.Entries.{by_order}
 use Rattle.std.specs.FinMap.{from_entries, entries}
 use Rattle.std.proofs.lemmas.Bool.{cond-true, cond-false}
 use Rattle.std.proofs.lemmas.Map.Keys.{sorted_head, sorted_tail}
-use Rattle.schema_json.specs.declared.kinds.What.{What}
+use Rattle.schema_fact.specs.declared.kinds.What.{What}
 use Rattle.claim_verify.specs.Verifier.{Accepts}
-use Rattle.schema_json.specs.declared.date.When.{When}
+use Rattle.schema_date.specs.declared.date.When.{When}
 use Rattle.claim_model.specs.Facts.{Facts}
 use Rattle.claim_model.specs.Genuine.{is_genuine_permanode}
 use Rattle.claim_model.specs.Claims.{moment_cmp, last_date, last_change}

@@ -7,8 +7,8 @@ use Rattle.std.specs.Ordering.{is_lt}
 use Rattle.std.specs.FinMap.{entries, keys}
 use Rattle.std.proofs.lemmas.Bool.{cases_Bool, cond-true, cond-false}
 use Rattle.claim_verify.specs.Verifier.{Accepts}
-use Rattle.schema_json.specs.declared.date.When.{When}
-use Rattle.schema_json.specs.declared.kinds.What.{What}
+use Rattle.schema_date.specs.declared.date.When.{When}
+use Rattle.schema_fact.specs.declared.kinds.What.{What}
 use Rattle.claim_model.specs.Facts.{Facts, Entry}
 use Rattle.claim_model.specs.Claims.{moment_cmp, claim_on, stands_at, has_value}
 use Rattle.claim_model.specs.Deleted.{is_deleted, live_permanodes}

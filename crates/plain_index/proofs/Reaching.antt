@@ -8,8 +8,8 @@ use Rattle.std.proofs.lemmas.List.Folds.{list_all-append}
 use Rattle.std.specs.List.{list_all, list_any, cons_option}
 use Rattle.std.specs.Str.{bytes_eq}
 use Rattle.std.specs.Prelude.{option_and_then}
-use Rattle.schema_json.specs.declared.parts.Part.{Part}
-use Rattle.schema_json.specs.Dependencies.{origin_ref, part_refs}
+use Rattle.schema_fact.specs.declared.parts.Part.{Part}
+use Rattle.schema_fact.specs.Dependencies.{origin_ref, part_refs}
 use Rattle.claim_model.specs.Facts.{passes}
 use Rattle.plain_index.specs.Parts.{is_from, new_ref}
 use Rattle.plain_index.proofs.Texts.{take_one}

@@ -6,7 +6,7 @@ use Rattle.std.specs.FinMap.{get, find, get-from_entries, len}
 use Rattle.std.specs.Cmp.Lexicographic.{nat_list_cmp_total}
 use Rattle.std.proofs.Common.{None}
 use Rattle.blobref.specs.Blobref.{ref_cmp}
-use Rattle.schema_json.specs.Dependencies.{dependencies}
+use Rattle.schema_fact.specs.Dependencies.{dependencies}
 use Rattle.claim_model.specs.Facts.{Entry, Facts, passes, is_permanode}
 use Rattle.claim_model.specs.Ready.{round, is_ready}
 use Rattle.claim_model.specs.Genuine.{is_genuine, is_signed, permanodes}

@@ -18,7 +18,7 @@ use Rattle.std.proofs.lemmas.Map.Keys.{sorted_head, sorted_tail, IsDistinct-from
 use Rattle.std.proofs.lemmas.Map.Entries.{lookup_from_place, length-keys_of}
 use Rattle.std.proofs.lemmas.Option.{get_or_from_slice_get, slice_get-get_or}
 use Rattle.blobref.specs.Blobref.{ref_cmp}
-use Rattle.schema_json.specs.declared.kinds.Fact.{Fact}
+use Rattle.schema_fact.specs.declared.kinds.Fact.{Fact}
 use Rattle.claim_model.specs.Facts.{Entry, Facts, passes, AreDistinct}
 use Rattle.plain_index.specs.Tables.{IsAscending, IsPlaceOf, beside}
 use Rattle.plain_index.proofs.Order.{found_at, absent_at, find-lookup, entries_in_order, ascending_entries}

@@ -12,7 +12,7 @@ use Rattle.std.specs.Cmp.Lexicographic.{nat_list_cmp_total}
 use Rattle.std.proofs.lemmas.Cmp.{tied_itself}
 use Rattle.std.specs.FinMap.{get, entries, len, len-entries}
 use Rattle.blobref.specs.Blobref.{ref_cmp}
-use Rattle.schema_json.specs.declared.kinds.Fact.{Fact}
+use Rattle.schema_fact.specs.declared.kinds.Fact.{Fact}
 use Rattle.claim_model.specs.Facts.{Facts, Entry}
 use Rattle.plain_index.specs.Look.{is_after}
 use Rattle.plain_index.specs.Walk.{ref_after, entries_after, number_after}

@@ -2,8 +2,8 @@
 use Rattle.std.specs.Prelude.{ℕ, Bool, List, Option, None, Some, option_and_then, if◌then◌else◌}
 use Rattle.std.specs.List.{list_any}
 use Rattle.std.specs.Str.{bytes_eq}
-use Rattle.schema_json.specs.declared.parts.Part.{Part}
-use Rattle.schema_json.specs.Dependencies.{origin_ref}
+use Rattle.schema_fact.specs.declared.parts.Part.{Part}
+use Rattle.schema_fact.specs.Dependencies.{origin_ref}
 use Rattle.claim_model.specs.Facts.{passes}
 
 -- whether the part takes its bytes from r

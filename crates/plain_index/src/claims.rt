@@ -10,7 +10,8 @@ ghost use Rattle.plain_index.specs.Claims.{subject, claim_under, what_subject};
 
 use crate::lookup::beside;
 use blobref::{NoMemory, Ref};
-use schema_json::{Date, Fact, Kind, What, When};
+use schema_date::{Date, When};
+use schema_fact::{Fact, Kind, What};
 use std::alloc::Global;
 
 // The refs of the genuine claims, each behind the ref that it is about, in the order of these and then their own.

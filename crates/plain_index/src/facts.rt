@@ -6,7 +6,7 @@ ghost use Rattle.claim_model.specs.Facts.{AreDistinct, AreValid};
 ghost use Rattle.plain_index.specs.Tables.{IsAscending};
 
 use blobref::{NoMemory, Ref};
-use schema_json::Fact;
+use schema_fact::Fact;
 use std::alloc::Global;
 use std::marker::Model;
 
@@ -19,7 +19,7 @@ pub struct FactList {
 impl Model for FactList {
     ghost use Rattle.std.specs.Prelude.{List};
     ghost use Rattle.std.specs.Coded.{coded_ℕ, coded_list, coded×};
-    ghost use Rattle.schema_json.specs.contracts.kinds.Fact as fact;
+    ghost use Rattle.schema_fact.specs.contracts.kinds.Fact as fact;
     ghost use Rattle.claim_model.specs.Facts.{Entry};
 
     ghost Value = { List Entry };

@@ -9,7 +9,7 @@ ghost use Rattle.plain_index.specs.Tables.{beside, IsAscending};
 use crate::lookup::{beside, fact_at};
 use blobref::{NoMemory, Ref};
 use claim_verify::Verifier;
-use schema_json::{Fact, Kind, Signed};
+use schema_fact::{Fact, Kind, Signed};
 use std::alloc::Global;
 
 // Which of the facts are genuine, given which are ready.

@@ -3,7 +3,7 @@ ghost use Rattle.std.specs.Prelude.{◌≡◌, ◌&&◌, ◌++◌, [], IfOk, IfS
 ghost use Rattle.std.specs.FinMap as finite;
 ghost use Rattle.std.specs.List.{filter_map};
 ghost use Rattle.blobref.specs.Blobref.{ref_cmp};
-ghost use Rattle.schema_json.specs.Facts.{IsValid};
+ghost use Rattle.schema_fact.specs.Validity.{IsValid};
 ghost use Rattle.claim_model.specs.Claims.{counted, has_value};
 ghost use Rattle.claim_model.specs.Deleted.{can_be_deleted, deletes, deleted_within, is_deleted, live_permanodes};
 ghost use Rattle.claim_model.specs.Facts.{AreDistinct, AreValid, passes};
@@ -26,7 +26,8 @@ use crate::values::{apply, claim_says, copied, is_among, later, moment_on};
 use blobref::{NoMemory, Ref, RefList, Text, TextList};
 use claim_verify::Verifier;
 use edge_base::Steps;
-use schema_json::{Date, Fact, What, When};
+use schema_date::{Date, When};
+use schema_fact::{Fact, What};
 use std::alloc::Global;
 use std::marker::Model;
 use std::sync::ledger::Ledger;
@@ -51,7 +52,7 @@ pub struct PlainIndex<V: Verifier> {
 impl<V: Verifier> Model for PlainIndex<V> {
     ghost use Rattle.std.specs.FinMap as finite;
     ghost use Rattle.std.specs.Coded.{coded_ℕ, coded_list, coded×};
-    ghost use Rattle.schema_json.specs.contracts.kinds.Fact as fact;
+    ghost use Rattle.schema_fact.specs.contracts.kinds.Fact as fact;
     ghost use Rattle.claim_model.specs.Facts.{Facts};
     ghost use Rattle.plain_index.specs.Computed.{IsComputed};
 

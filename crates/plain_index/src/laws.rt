@@ -4,7 +4,7 @@ ghost use Rattle.claim_model.specs.Ready.{ready_fact};
 ghost use Rattle.claim_model.specs.Claims.{holders, last_change, parents, values};
 ghost use Rattle.claim_model.specs.Trees.{file_size};
 ghost use Rattle.claim_model.specs.Deleted.{is_deleted};
-ghost use Rattle.schema_json.specs.declared.date.When.{When};
+ghost use Rattle.schema_date.specs.declared.date.When.{When};
 ghost use Rattle.plain_index.specs.Look.{permanode_after};
 
 use crate::look::Look;

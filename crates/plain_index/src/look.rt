@@ -10,7 +10,8 @@ ghost use Rattle.plain_index.specs.Look.{permanode_after};
 
 use blobref::{NoMemory, Ref, RefList, TextList};
 use edge_base::Steps;
-use schema_json::{Date, Fact, When};
+use schema_date::{Date, When};
+use schema_fact::Fact;
 use std::sync::ledger::Ledger;
 
 /// An index over facts under their refs, and what its keys accept. Whatever way it is kept, its answers are those of the

@@ -9,7 +9,7 @@ ghost use Rattle.plain_index.specs.Look.{is_after};
 ghost use Rattle.plain_index.specs.Tables.{IsAscending, IsPlaceOf, beside};
 
 use blobref::Ref;
-use schema_json::Fact;
+use schema_fact::Fact;
 
 // The place of a ref's entry.
 pub(crate) fn place_of(facts: &[(Ref, Fact)], r: &Ref) -> Option<usize>

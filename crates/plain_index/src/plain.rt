@@ -28,7 +28,8 @@ use crate::table::FactTable;
 use blobref::{NoMemory, Ref, RefList, TextList};
 use claim_verify::Verifier;
 use edge_base::Steps;
-use schema_json::{Date, Fact, When};
+use schema_date::{Date, When};
+use schema_fact::Fact;
 use std::alloc::Global;
 use std::sync::ledger::Ledger;
 

@@ -2,13 +2,13 @@
 ghost use Rattle.std.specs.Prelude.{◌≡◌, IfOk, length, map};
 ghost use Rattle.std.specs.List.{list_all};
 ghost use Rattle.std.specs.FinMap as finite;
-ghost use Rattle.schema_json.specs.Dependencies.{dependencies, origin_ref, part_refs, target_of};
+ghost use Rattle.schema_fact.specs.Dependencies.{dependencies, origin_ref, part_refs, target_of};
 ghost use Rattle.claim_model.specs.Ready.{is_ready};
 ghost use Rattle.plain_index.specs.Tables.{beside, IsAscending};
 
 use crate::lookup::beside;
 use blobref::{NoMemory, Ref};
-use schema_json::{Fact, Kind, Origin, Part, What};
+use schema_fact::{Fact, Kind, Origin, Part, What};
 use std::alloc::Global;
 
 // Which of the facts are ready. There are as many rounds as the longest chain of dependencies has links, and one more; each looks

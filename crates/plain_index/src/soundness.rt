@@ -3,8 +3,8 @@ ghost use Rattle.std.specs.Prelude.{◌≡◌, ◌+◌, ◌&&◌, IfOk, IfSome, 
 ghost use Rattle.std.specs.List.{list_all};
 ghost use Rattle.std.specs.FinMap as finite;
 ghost use Rattle.blobref.specs.Blobref.{ref_cmp};
-ghost use Rattle.schema_json.specs.Facts.{IsValid, HasValidParts};
-ghost use Rattle.schema_json.specs.Parts.{total_size, IsShortPart, MeetsLimits};
+ghost use Rattle.schema_fact.specs.Validity.{IsValid, HasValidParts};
+ghost use Rattle.schema_fact.specs.Limits.{total_size, IsShortPart, MeetsLimits};
 ghost use Rattle.claim_model.specs.Facts.{AreValid, passes};
 ghost use Rattle.claim_model.specs.Ready.{is_ready};
 ghost use Rattle.claim_model.specs.Trees.{is_file, is_sound_tree, origin_holds, own_size, part_fits, parts_fit, tree_parts, tree_size};
@@ -12,7 +12,7 @@ ghost use Rattle.plain_index.specs.Tables.{beside, IsAscending};
 
 use crate::lookup::{beside, fact_at, place_of};
 use blobref::{NoMemory, Ref};
-use schema_json::{Fact, Kind, Origin, Part, PartList};
+use schema_fact::{Fact, Kind, Origin, Part, PartList};
 use std::alloc::Global;
 
 // The size of each fact that is a file or bytes blob.

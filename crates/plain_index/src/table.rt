@@ -1,13 +1,13 @@
 //! Tables of facts.
 ghost use Rattle.std.specs.Prelude.{◌≡◌, IfSome, option_copied};
 ghost use Rattle.std.specs.FinMap.{get};
-ghost use Rattle.schema_json.specs.Facts.{IsValid};
+ghost use Rattle.schema_fact.specs.Validity.{IsValid};
 ghost use Rattle.claim_model.specs.Facts.{Facts};
 ghost use Rattle.plain_index.specs.Walk.{ref_after};
 
 use blobref::Ref;
 use edge_base::Steps;
-use schema_json::Fact;
+use schema_fact::Fact;
 use std::sync::ledger::Ledger;
 
 /// Facts under their refs, in the order of these. `steps` counts the look-ups, and the steps from one ref to the next.

@@ -8,7 +8,8 @@ ghost use Rattle.plain_index.specs.Latest.{later_of};
 
 use crate::claims::counts_at;
 use blobref::{NoMemory, Ref, Text, TextList};
-use schema_json::{Date, Kind, What, When};
+use schema_date::{Date, When};
+use schema_fact::{Kind, What};
 use std::alloc::Global;
 
 // The moment of an attribute claim on the permanode, where it counts at that time.

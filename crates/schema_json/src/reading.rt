@@ -1,15 +1,16 @@
 //! What blobs say.
 ghost use Rattle.std.specs.Prelude.{◌≡◌, IfOk};
 ghost use Rattle.serde_json.specs.View.{view};
-ghost use Rattle.schema_json.specs.Facts.{fact_of, kind_of, schema_kind, object_kind, known_kind, signed_kind, file_kind, bytes_kind, directory_kind, set_kind, permanode_kind, key_in, IsValid};
+ghost use Rattle.schema_json.specs.Facts.{fact_of, kind_of, schema_kind, object_kind, known_kind, signed_kind, file_kind, bytes_kind, directory_kind, set_kind, permanode_kind, key_in};
+ghost use Rattle.schema_fact.specs.Validity.{IsValid};
 
 use crate::claims::claim_kind;
 use crate::fields::{has_type, json_in, ref_at, refs_at, text_or_empty, type_of};
-use crate::kinds::{Fact, Kind};
 use crate::part_list::part_list_of;
 use crate::signing::signed_in;
 use blobref::{NoMemory, Text};
 use claim_verify::KeyName;
+use schema_fact::{Fact, Kind};
 use serde_json::Value;
 use std::alloc::Global;
 

@@ -1,7 +1,7 @@
 -- A walk over the genuine permanodes.
 use Rattle.std.specs.Prelude.{ℕ, ◌&&◌, Bool, true, not, List, Option, Some, None}
 use Rattle.claim_verify.specs.Verifier.{Accepts}
-use Rattle.schema_json.specs.declared.date.When.{When}
+use Rattle.schema_date.specs.declared.date.When.{When}
 use Rattle.claim_model.specs.Facts.{Facts}
 use Rattle.claim_model.specs.Deleted.{is_deleted}
 use Rattle.search_query.specs.declared.query.PermanodeTest.{PermanodeTest}

@@ -14,7 +14,8 @@ use crate::values::{apply, claim_says, copied, is_among, later, moment_on};
 use blobref::{NoMemory, Ref, Text, TextList};
 use claim_verify::Verifier;
 use edge_base::Steps;
-use schema_json::{Date, Fact, What, When};
+use schema_date::{Date, When};
+use schema_fact::{Fact, What};
 use std::alloc::Global;
 use std::sync::ledger::Ledger;
 

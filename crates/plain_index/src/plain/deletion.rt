@@ -12,7 +12,7 @@ use crate::table::FactTable;
 use blobref::Ref;
 use claim_verify::Verifier;
 use edge_base::Steps;
-use schema_json::When;
+use schema_date::When;
 use std::sync::ledger::Ledger;
 
 pub(crate) fn is_deleted<T: FactTable, V: Verifier, L: Ledger>(

@@ -2,7 +2,7 @@
 ghost use Rattle.std.specs.Prelude.{◌≡◌, Some, option_copied};
 ghost use Rattle.std.specs.List.{list_all, list_any};
 ghost use Rattle.std.specs.FinMap.{get};
-ghost use Rattle.schema_json.specs.Dependencies.{dependencies, part_refs, target_of};
+ghost use Rattle.schema_fact.specs.Dependencies.{dependencies, part_refs, target_of};
 ghost use Rattle.claim_model.specs.Facts.{is_permanode, passes};
 ghost use Rattle.claim_model.specs.Ready.{is_ready, round};
 ghost use Rattle.claim_model.specs.Genuine.{is_genuine, is_genuine_permanode, is_signed};
@@ -15,7 +15,7 @@ use crate::table::FactTable;
 use blobref::Ref;
 use claim_verify::Verifier;
 use edge_base::Steps;
-use schema_json::{Fact, Kind, Part, What};
+use schema_fact::{Fact, Kind, Part, What};
 use std::sync::ledger::Ledger;
 
 // Whether r is ready. It comes to each dependency as often as there are paths to it.

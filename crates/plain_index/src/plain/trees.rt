@@ -1,8 +1,8 @@
 //! Which facts of a table are sound file trees.
 ghost use Rattle.std.specs.Prelude.{◌≡◌, ◌&&◌, Some, true, All, nat_le, option_copied};
 ghost use Rattle.std.specs.List.{list_all};
-ghost use Rattle.schema_json.specs.Facts.{IsValid};
-ghost use Rattle.schema_json.specs.Parts.{IsShortPart};
+ghost use Rattle.schema_fact.specs.Validity.{IsValid};
+ghost use Rattle.schema_fact.specs.Limits.{IsShortPart};
 ghost use Rattle.claim_model.specs.Facts.{passes};
 ghost use Rattle.claim_model.specs.Trees.{is_sound_tree, part_fits, parts_fit, sound_within, tree_size};
 ghost use Rattle.plain_index.specs.Walk.{number_after};
@@ -13,7 +13,7 @@ use crate::soundness::{blob_holds, own_size, part_end, tree_holds, tree_parts};
 use crate::table::FactTable;
 use blobref::Ref;
 use edge_base::Steps;
-use schema_json::{Fact, Origin, Part};
+use schema_fact::{Fact, Origin, Part};
 use std::sync::ledger::Ledger;
 
 // Whether r is a sound tree. It comes to each tree within as often as there are paths to it.

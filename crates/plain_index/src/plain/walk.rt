@@ -5,7 +5,7 @@ ghost use Rattle.plain_index.specs.Walk.{entries_after};
 use crate::table::FactTable;
 use blobref::Ref;
 use edge_base::Steps;
-use schema_json::Fact;
+use schema_fact::Fact;
 use std::sync::ledger::Ledger;
 
 // The least ref greater than `after`, with its fact.

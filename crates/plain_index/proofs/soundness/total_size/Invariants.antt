@@ -1,5 +1,5 @@
 use Rattle.std.proofs.Common.{◌≡◌, take}
-use Rattle.schema_json.specs.Parts.{total_size}
+use Rattle.schema_fact.specs.Limits.{total_size}
 use Rattle.plain_index.proofs.soundness.total_size.Given as goal
 
 abbrev pub invariant-loop-part : goal.invariant-loop-part

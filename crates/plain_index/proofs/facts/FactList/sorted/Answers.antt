@@ -1,7 +1,7 @@
 use Rattle.std.proofs.Common.{rules, ap, ◌∙◌}
 use Rattle.std.specs.FinMap.{from_entries}
 use Rattle.std.proofs.lemmas.List.Sorted.{answers_always, All-permutation}
-use Rattle.schema_json.specs.Facts.{IsValid}
+use Rattle.schema_fact.specs.Validity.{IsValid}
 use Rattle.claim_model.specs.Facts.{Entry}
 use Rattle.std.specs.Cmp.Lexicographic.{nat_list_cmp_total}
 use Rattle.plain_index.proofs.Order.{sorted_in_order, same_map_in_any_order, still_distinct}

@@ -1,6 +1,6 @@
 use Rattle.std.proofs.Common.{◌≡◌, ◌<◌, ◌+◌, ◌*◌, ◌∙◌, Some, sym, ap, arith, take, option_copied}
 use Rattle.std.specs.List.{list_all}
-use Rattle.schema_json.specs.Dependencies.{dependencies}
+use Rattle.schema_fact.specs.Dependencies.{dependencies}
 use Rattle.claim_model.specs.Facts.{passes}
 use Rattle.claim_model.specs.Ready.{round}
 use Rattle.plain_index.specs.Walk.{number_after}

@@ -1,6 +1,6 @@
 use Rattle.std.proofs.Common.{◌≡◌, ◌+◌, ◌*◌, true, Some, option_copied, take}
 use Rattle.std.specs.List.{list_all}
-use Rattle.schema_json.specs.Dependencies.{part_refs}
+use Rattle.schema_fact.specs.Dependencies.{part_refs}
 use Rattle.claim_model.specs.Ready.{round}
 use Rattle.plain_index.specs.Walk.{number_after}
 use Rattle.plain_index.proofs.plain.readiness.+ready.Given as goal
