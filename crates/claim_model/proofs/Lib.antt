@@ -1,5 +1,10 @@
 pub mod Held
 pub mod Iterated
 pub mod Rounds
+pub mod Least
+pub mod Entries
+pub mod DeletedBy
 pub mod Deletion
 pub mod Soundness
+pub mod Changes
+pub mod Stays

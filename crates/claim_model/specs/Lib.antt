@@ -5,3 +5,7 @@ pub mod Deleted
 pub mod Claims
 pub mod Trees
 pub mod Laws
+pub mod Least
+pub mod DeletedBy
+pub mod Changes
+pub mod Stays
