@@ -9,6 +9,7 @@ mod loss;
 mod memory;
 mod pack;
 mod plan;
+mod remains;
 
 pub use disk::Disk;
 pub use laws::disk_model;

@@ -1,12 +1,13 @@
 //! A disk in memory, whose calls fail by a list, and what a crash may leave of it.
 ghost use Rattle.std.specs.Prelude.{◌≡◌, ◌≤◌, ◌-◌, ◌^◌, ℕ, [], List, length, Some, None, IsSome, IfSome, IfOk, OnOk, OnErr, IsOk, IsErr, ◌++◌};
 ghost use Rattle.std.specs.FinMap.{get, insert};
-ghost use Rattle.std.specs.Option.{ForSome, option_and_then};
+ghost use Rattle.std.specs.Option.{ForSome, option_map, option_and_then};
 ghost use Rattle.edge_base.specs.Edge.{HasCause};
 ghost use Rattle.pack_disk.specs.declared.history.Call.TheVariants.{Make, Append, Sync};
 ghost use Rattle.pack_disk.specs.Packs.{Packs, least_from};
 ghost use Rattle.pack_disk.specs.Disk.{last_number, SameOthers, Extends, Makes, Follows, NoNew, Tells, ReadAt};
 ghost use Rattle.pack_disk.specs.Plan.{no_calls, after_fault, IsCounted, IsPlanned};
+ghost use Rattle.pack_disk.specs.PackState.{all_bytes, begun};
 ghost use Rattle.pack_disk.specs.Left.{left};
 ghost use Rattle.pack_disk.specs.Past.{no_past, told, state, IsImage, Passes, Does};
 
@@ -52,12 +53,15 @@ impl MemDisk {
     /// - 6: as many bytes, others, by the choice.
     /// - 7: as many bytes, the first of them, as far as there is room, a header of a blob of 16,777,216 bytes.
     ///
-    /// All that is on the new disk is durable. Its calls are counted from 0, and none is to fail before the number 18,446,744,073,709,551,615.
+    /// Of the new disk is durable what was durable before: what stays of a tail may be lost in the next crash, and so may a pack that was
+    /// never synced, until they are synced. So each image of it is one of this disk. Its calls are counted from 0, and none is to fail
+    /// before the number 18,446,744,073,709,551,615.
     /// `NoMemory` may come in place of any answer.
     pub fn crash(self, choice: u64) -> Result<MemDisk, NoMemory>
         ensures image { IfOk result (λ disk. IsImage (state self.history) (told disk.history)) }
-        ensures durable { IfOk result (λ disk. (image : Packs) → IsImage (state disk.history) image → image ≡ told disk.history) }
-        ensures left { IfOk result (λ disk. (n : ℕ) → get (told disk.history) n ≡ option_and_then (left choice) (state self.history n)) }
+        ensures crash { IfOk result (λ disk. NoNew (IsImage (state self.history)) (IsImage (state disk.history))) }
+        ensures left { IfOk result (λ disk. (n : ℕ) → get (told disk.history) n ≡ option_map all_bytes (option_and_then (left choice) (state self.history n))) }
+        ensures durable { IfOk result (λ disk. (n : ℕ) → state disk.history n ≡ option_map begun (option_and_then (left choice) (state self.history n))) }
         ensures past { IfOk result (λ disk. disk.history.done ≡ []) }
         ensures plan { IfOk result (λ disk. disk.plan ≡ no_calls [] (2 ^ 64 - 1)) }
     {

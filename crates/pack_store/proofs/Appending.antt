@@ -10,6 +10,7 @@ use Rattle.pack_format.specs.Header.{max_size, record_of}
 use Rattle.salvage_scan.specs.Salvage.{IsClean}
 use Rattle.salvage_scan.proofs.Cuts.{IsClean-append_record}
 use Rattle.pack_disk.specs.Packs.{Packs}
+use Rattle.pack_disk.specs.declared.disk.Disk.{Ghosts}
 use Rattle.pack_disk.specs.Disk.{Extends, Makes, Follows, NoNew, SameOthers, Tells}
 use Rattle.pack_store.specs.Packs.{CleanIn}
 use Rattle.pack_store.specs.Rows.{found_in, bytes_in, arrival_of, IsKept}
@@ -106,63 +107,63 @@ row_in n size had bytes o small clean long at =
       ap (λ k. bytes_in (row_at n k bytes) o) (sym long) ∙ ap (bytes_in (row_at n (length had) bytes)) at ∙ added.1,
     )
 
-module _ {D : Type 0} (packs : D → Option Packs) (images : D → Packs → Type 0)
-    (reads : (d : D) (held : Packs) → packs d ≡ Some held → images d held)
-    (tells : (d : D) (image : Packs) → images d image → (held : Packs) × (packs d ≡ Some held)) where
-  pub stands_row : (new : D) (n size : ℕ) (bytes : List ℕ) → length bytes ≤ max_size → Stands (images new) n size bytes → HasRow packs images new (row_at n size bytes) bytes
+module _ {D : Type 0} (g : Ghosts D)
+    (reads : (d : D) (held : Packs) → g.packs d ≡ Some held → g.images d held)
+    (tells : (d : D) (image : Packs) → g.images d image → (held : Packs) × (g.packs d ≡ Some held)) where
+  pub stands_row : (new : D) (n size : ℕ) (bytes : List ℕ) → length bytes ≤ max_size → Stands (g.images new) n size bytes → HasRow g new (row_at n size bytes) bytes
   stands_row new n size bytes small stands held told =
-      let one : (image : Packs) → images new image → (found_in (row_at n size bytes) (get image n) ≡ true) × (bytes_in (row_at n size bytes) (get image n) ≡ bytes) = λ image is.
+      let one : (image : Packs) → g.images new image → (found_in (row_at n size bytes) (get image n) ≡ true) × (bytes_in (row_at n size bytes) (get image n) ≡ bytes) = λ image is.
       let w = stands image is in row_in n size w.0 bytes (get image n) small w.1 w.2 w.3 in
       let here = (one held (reads new held told)).1 in
       (record { found = λ image is. (one image is).0; same = λ image is. (one image is).1 ∙ sym here }, ap (λ b. (ref_of bytes, b)) here)
 
   -- a record that was appended to a clean pack and synced
-  pub synced : (old mid new : D) (n size : ℕ) (bytes : List ℕ) → CleanIn (images old) n → IsLong packs old n size
-      → Tells (packs old) (packs mid) (λ before now. (had : List ℕ) → get before n ≡ Some had → get now n ≡ Some (had ++ record_of bytes))
-      → packs new ≡ packs mid
-      → ForSome (packs mid) (λ held. (image : Packs) → images new image → get image n ≡ get held n)
-      → Stands (images new) n size bytes
+  pub synced : (old mid new : D) (n size : ℕ) (bytes : List ℕ) → CleanIn (g.images old) n → IsLong g old n size
+      → Tells (g.packs old) (g.packs mid) (λ before now. (had : List ℕ) → get before n ≡ Some had → get now n ≡ Some (had ++ record_of bytes))
+      → g.packs new ≡ g.packs mid
+      → ForSome (g.packs mid) (λ held. (image : Packs) → g.images new image → get image n ≡ get held n)
+      → Stands (g.images new) n size bytes
   synced old mid new n size bytes clean long appended same durable image is =
       let now = tells new image is in
-      let told : packs mid ≡ Some now.0 = sym same ∙ now.1 in
+      let told : g.packs mid ≡ Some now.0 = sym same ∙ now.1 in
       let was = tells_before _ _ _ now.0 appended told in
       let had = of_length (get was.0 n) size (long was.0 was.1) in
       (had.0, clean was.0 (reads old was.0 was.1) had.0 had.1, had.2, durable now.0 told image is ∙ was.2 had.0 had.1)
 
-  pub told_added : (old mid new : D) (n size : ℕ) (bytes : List ℕ) → IsLong packs old n size
-      → Tells (packs old) (packs mid) (λ before now. SameOthers n before now × (is_some (get now n) ≡ true))
-      → Tells (packs old) (packs mid) (λ before now. (had : List ℕ) → get before n ≡ Some had → get now n ≡ Some (had ++ record_of bytes))
-      → packs new ≡ packs mid
-      → Tells (packs old) (packs new) (AddsRecord n bytes)
+  pub told_added : (old mid new : D) (n size : ℕ) (bytes : List ℕ) → IsLong g old n size
+      → Tells (g.packs old) (g.packs mid) (λ before now. SameOthers n before now × (is_some (get now n) ≡ true))
+      → Tells (g.packs old) (g.packs mid) (λ before now. (had : List ℕ) → get before n ≡ Some had → get now n ≡ Some (had ++ record_of bytes))
+      → g.packs new ≡ g.packs mid
+      → Tells (g.packs old) (g.packs new) (AddsRecord n bytes)
   told_added old mid new n size bytes long told appended same =
-      subst (λ o. Tells (packs old) o (AddsRecord n bytes)) (sym same)
+      subst (λ o. Tells (g.packs old) o (AddsRecord n bytes)) (sym same)
       (tells_map _ _ _ (AddsRecord n bytes)
       (λ before now was is both. let had = of_length (get before n) size (long before was) in adds_record n bytes had.0 before now both.0.0 had.1 (both.1 had.0 had.1))
       (tells_both _ _ _ _ told appended))
 
   -- ---- rows
 
-  pub rows_itself : (d : D) → KeepsRows packs images d d
+  pub rows_itself : (d : D) → KeepsRows g d d
   rows_itself d row before now was is kept =
       let same : before ≡ now = cc (was, is) in
-      (subst (λ m. IsKept m (images d) row) same kept, ap (λ m. arrival_of m row) (sym same))
+      (subst (λ m. IsKept m (g.images d) row) same kept, ap (λ m. arrival_of m row) (sym same))
 
-  pub rows_then : (a b c : D) (P : Packs → Packs → Type 0) → Tells (packs a) (packs b) P → KeepsRows packs images a b → KeepsRows packs images b c → KeepsRows packs images a c
+  pub rows_then : (a b c : D) (P : Packs → Packs → Type 0) → Tells (g.packs a) (g.packs b) P → KeepsRows g a b → KeepsRows g b c → KeepsRows g a c
   rows_then a b c P told first second row before now was is kept =
       let mid = tells_after _ _ P before told was in
       let one = first row before mid.0 was mid.1 kept in
       let two = second row mid.0 now mid.1 is one.0 in
       (two.0, two.1 ∙ one.1)
 
-  pub rows_make : (old new : D) (n : ℕ) → Follows (Makes n) (images old) (images new) → KeepsRows packs images old new
+  pub rows_make : (old new : D) (n : ℕ) → Follows (Makes n) (g.images old) (g.images new) → KeepsRows g old new
   rows_make old new n crash row before now was is kept =
-      kept_step row before now (images old) (images new) (Makes n) crash (λ d c stood made found. row_makes row n d c made found) (reads new now is) kept
+      kept_step row before now (g.images old) (g.images new) (Makes n) crash (λ d c stood made found. row_makes row n d c made found) (reads new now is) kept
 
-  pub rows_append : (old new : D) (n : ℕ) → Follows (Extends n) (images old) (images new) → CleanIn (images old) n → KeepsRows packs images old new
+  pub rows_append : (old new : D) (n : ℕ) → Follows (Extends n) (g.images old) (g.images new) → CleanIn (g.images old) n → KeepsRows g old new
   rows_append old new n crash clean row before now was is kept =
-      kept_step row before now (images old) (images new) (Extends n) crash (λ d c stood more found. row_extends row n d c more (clean d stood) found) (reads new now is) kept
+      kept_step row before now (g.images old) (g.images new) (Extends n) crash (λ d c stood more found. row_extends row n d c more (clean d stood) found) (reads new now is) kept
 
-  pub rows_no_new : (old new : D) → NoNew (images old) (images new) → KeepsRows packs images old new
+  pub rows_no_new : (old new : D) → NoNew (g.images old) (g.images new) → KeepsRows g old new
   rows_no_new old new crash row before now was is kept =
-      kept_step row before now (images old) (images new) (λ d c. c ≡ d) (λ image at. (image, crash image at, refl))
+      kept_step row before now (g.images old) (g.images new) (λ d c. c ≡ d) (λ image at. (image, crash image at, refl))
       (λ d c stood same found. (ap (λ m. found_in row (get m row.pack)) same ∙ found, ap (λ m. bytes_in row (get m row.pack)) same)) (reads new now is) kept

@@ -13,6 +13,7 @@ use Rattle.salvage_scan.specs.Salvage.{Finding, salvage}
 use Rattle.salvage_scan.specs.Arrivals.{blob_of, findings, arrivals}
 use Rattle.salvage_scan.proofs.Arriving.{arrivals_are_firsts}
 use Rattle.pack_disk.specs.Packs.{Packs}
+use Rattle.pack_disk.specs.declared.disk.Disk.{Ghosts}
 use Rattle.pack_store.specs.declared.rows.Row.{Row}
 use Rattle.pack_store.specs.Packs.{finds, holds, HeldByAll}
 use Rattle.pack_store.specs.Rows.{arrival_of, arrivals_in, sizes_in, bytes_in, number_of, IsKept}
@@ -40,14 +41,14 @@ some_row : (rows : List Row) (n : ℕ) → n < length rows → Row
 some_row [] n lt = absurd (omega arith)
 some_row (row ∷ rows) n lt = row
 
-module _ {D : Type 0} (packs : D → Option Packs) (images : D → Packs → Type 0)
-    (reads : (d : D) (held : Packs) → packs d ≡ Some held → images d held)
-    (tells : (d : D) (image : Packs) → images d image → (held : Packs) × (packs d ≡ Some held)) where
-  pub are_held : (places : FinMap ref_cmp ℕ) (s : Archive D) → IsSound packs images places s → AreHeld packs images s
+module _ {D : Type 0} (g : Ghosts D)
+    (reads : (d : D) (held : Packs) → g.packs d ≡ Some held → g.images d held)
+    (tells : (d : D) (image : Packs) → g.images d image → (held : Packs) × (g.packs d ≡ Some held)) where
+  pub are_held : (places : FinMap ref_cmp ℕ) (s : Archive D) → IsSound g places s → AreHeld g s
   are_held places s sound = record {
     held = λ image is k d lt. let now = tells s.disk image is in row_held _ image ((sound.kept now.0 now.1 k d lt).found image is);
-    named = λ told is. All-map (λ (a : List ℕ × List ℕ). ref_of a.1 ≡ a.0) (arrival_of told) s.rows (λ k d lt. never_damaged _ told (images s.disk) (reads s.disk told is) (sound.kept told is k d lt));
-    sized = λ told is. sizes_told told (images s.disk) s.rows (reads s.disk told is) (sound.kept told is);
+    named = λ told is. All-map (λ (a : List ℕ × List ℕ). ref_of a.1 ≡ a.0) (arrival_of told) s.rows (λ k d lt. never_damaged _ told (g.images s.disk) (reads s.disk told is) (sound.kept told is k d lt));
+    sized = λ told is. sizes_told told (g.images s.disk) s.rows (reads s.disk told is) (sound.kept told is);
     unused = sound.unused;
     last = sound.last;
     long = sound.long;
@@ -55,7 +56,7 @@ module _ {D : Type 0} (packs : D → Option Packs) (images : D → Packs → Typ
   }
 
   -- a ref that has arrived is held
-  pub arrived_held : (disk : D) (rows : List Row) (r : List ℕ) (n : ℕ) → ForSome (packs disk) (λ held. All (IsKept held (images disk)) rows) → number_of r rows ≡ Some n → HeldByAll (images disk) r
+  pub arrived_held : (disk : D) (rows : List Row) (r : List ℕ) (n : ℕ) → ForSome (g.packs disk) (λ held. All (IsKept held (g.images disk)) rows) → number_of r rows ≡ Some n → HeldByAll (g.images disk) r
   arrived_held disk rows r n kept number image is =
       let now = tells disk image is in
       let at = row_of (λ (row : Row). row.size) r rows n number in
@@ -101,19 +102,19 @@ held_arrives r held is = ap is_some (arrivals_are_firsts.first (entries held) r)
 
 -- ---- puts and stops
 
-module _ {D : Type 0} (packs : D → Option Packs) (images : D → Packs → Type 0) (moment : D → ℕ) (images_since : D → ℕ → Packs → Type 0)
-    (reads : (d : D) (held : Packs) → packs d ≡ Some held → images d held)
-    (counts_now : (d : D) (t : ℕ) (image : Packs) → t ≤ moment d → images d image → images_since d t image)
-    (only_now : (d : D) (image : Packs) → images_since d (moment d) image → images d image) where
-  lives_held : (old new : D) (r : List ℕ) → Lives images moment images_since old new → HeldByAll (images old) r → HeldByAll (images new) r
+module _ {D : Type 0} (g : Ghosts D)
+    (reads : (d : D) (held : Packs) → g.packs d ≡ Some held → g.images d held)
+    (counts_now : (d : D) (t : ℕ) (image : Packs) → t ≤ g.moment d → g.images d image → g.images_since d t image)
+    (only_now : (d : D) (image : Packs) → g.images_since d (g.moment d) image → g.images d image) where
+  lives_held : (old new : D) (r : List ℕ) → Lives g old new → HeldByAll (g.images old) r → HeldByAll (g.images new) r
   lives_held old new r begins held image is = held image is
-  lives_held old new r (runs mid last lives keeps) held image is = keeps.each image (counts_now new (moment mid) image keeps.later is) r (lives_held old mid r lives held)
+  lives_held old new r (runs mid last lives keeps) held image is = keeps.each image (counts_now new (g.moment mid) image keeps.later is) r (lives_held old mid r lives held)
   lives_held old new r (stops mid last left lives keeps only) held image is = keeps.each image (only image is) r (lives_held old mid r lives held)
 
-  pub lives_keep : LivesKeep packs images moment images_since
+  pub lives_keep : LivesKeep g
   lives_keep = record {
-    still = stays_keeps packs images moment images_since counts_now only_now;
-    joined = keeps_then images moment images_since counts_now only_now;
+    still = stays_keeps g counts_now only_now;
+    joined = keeps_then g counts_now only_now;
     held = lives_held;
     found = λ old new r told lives held is. held_arrives r told (lives_held old new r lives held told (reads new told is));
   }

@@ -3,21 +3,22 @@ use Rattle.std.proofs.Common.{ℕ, ◌≤◌, List, Option, sym, ◌∙◌}
 use Rattle.std.specs.FinMap.{FinMap}
 use Rattle.blobref.specs.Blobref.{ref_cmp}
 use Rattle.pack_disk.specs.Packs.{Packs}
-use Rattle.pack_disk.specs.Disk.{Stays}
+use Rattle.pack_disk.specs.declared.disk.Disk.{Ghosts}
+use Rattle.pack_disk.specs.Runs.{Stays}
 use Rattle.pack_store.specs.declared.limits.Limits.{Limits}
 use Rattle.pack_store.specs.declared.rows.Row.{Row}
 use Rattle.pack_store.specs.declared.rows.Current.{Current}
 use Rattle.pack_store.specs.Archive.{IsSound}
 use Rattle.pack_store.proofs.Moments.{stays_images}
 
-module _ {D : Type 0} (packs : D → Option Packs) (images : D → Packs → Type 0) (moment : D → ℕ) (images_since : D → ℕ → Packs → Type 0)
-    (counts_now : (d : D) (t : ℕ) (image : Packs) → t ≤ moment d → images d image → images_since d t image)
-    (only_now : (d : D) (image : Packs) → images_since d (moment d) image → images d image) where
+module _ {D : Type 0} (g : Ghosts D)
+    (counts_now : (d : D) (t : ℕ) (image : Packs) → t ≤ g.moment d → g.images d image → g.images_since d t image)
+    (only_now : (d : D) (image : Packs) → g.images_since d (g.moment d) image → g.images d image) where
   pub still_sound : (places : FinMap ref_cmp ℕ) (rows : List Row) (limits : Limits) (next : ℕ) (current : Option Current) (old new : D)
-      → IsSound packs images places (record { rows = rows; limits = limits; next = next; current = current; disk = old }) → Stays packs images moment images_since old new
-      → IsSound packs images places (record { rows = rows; limits = limits; next = next; current = current; disk = new })
+      → IsSound g places (record { rows = rows; limits = limits; next = next; current = current; disk = old }) → Stays g old new
+      → IsSound g places (record { rows = rows; limits = limits; next = next; current = current; disk = new })
   still_sound places rows limits next current old new sound still =
-      let fewer = stays_images packs images moment images_since counts_now only_now old new still in
+      let fewer = stays_images g counts_now only_now old new still in
       record {
         limited = sound.limited;
         placed = sound.placed;

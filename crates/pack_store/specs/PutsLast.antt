@@ -1,5 +1,5 @@
 -- What a store that was opened on some packs makes of them (docs/store.md).
-use Rattle.std.specs.Prelude.{◌≡◌, ℕ, ◌≤◌, List, [], ◌∷◌, ◌++◌, length, nat_eq, Option, None, Some}
+use Rattle.std.specs.Prelude.{◌≡◌, ℕ, ◌≤◌, List, [], ◌∷◌, ◌++◌, length, nat_eq, None, Some}
 use Rattle.std.specs.Cmp.Lexicographic.{pointwise}
 use Rattle.std.specs.FinMap.{entries}
 use Rattle.std.specs.Map.{lookup}
@@ -7,6 +7,7 @@ use Rattle.blobref.specs.Blobref.{ref_of}
 use Rattle.pack_format.specs.Header.{max_size}
 use Rattle.salvage_scan.specs.Arrivals.{arrivals}
 use Rattle.pack_disk.specs.Packs.{Packs}
+use Rattle.pack_disk.specs.declared.disk.Disk.{Ghosts}
 use Rattle.pack_store.specs.Adding.{AddsRecord}
 use Rattle.pack_store.specs.Archive.{Archive}
 use Rattle.pack_store.specs.Opening.{next_of, current_of}
@@ -17,11 +18,11 @@ pub record GoesOn {D : Type 0} (held : Packs) (s : Archive D) : Type 0 where
   pub next : s.next ≡ next_of (entries held)
   pub current : s.current ≡ current_of (entries held)
 
-pub record PutsLast {D : Type 0} (packs : D → Option Packs) : Type 0 where
+pub record PutsLast {D : Type 0} (g : Ghosts D) : Type 0 where
   -- where its record was added, a blob whose ref hadn't arrived is the last arrival, and the others are as they were
   pub arrived : (s : Archive D) (held now : Packs) (bytes : List ℕ) → GoesOn held s → length bytes ≤ max_size
       → lookup (pointwise nat_eq (ref_of bytes)) (arrivals (entries held)) ≡ None → AddsRecord (target s) bytes held now
       → arrivals (entries now) ≡ arrivals (entries held) ++ (ref_of bytes, bytes) ∷ []
   -- and a store that put it goes on behind it
   pub goes_on : (old new : Archive D) (held now : Packs) (bytes : List ℕ) → GoesOn held old → length bytes ≤ max_size
-      → packs old.disk ≡ Some held → packs new.disk ≡ Some now → Stores packs old new bytes → GoesOn now new
+      → g.packs old.disk ≡ Some held → g.packs new.disk ≡ Some now → Stores g old new bytes → GoesOn now new

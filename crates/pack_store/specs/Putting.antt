@@ -8,8 +8,8 @@ use Rattle.edge_base.specs.declared.answers.Put.TheVariants as put
 use Rattle.edge_base.specs.declared.answers.PutFault.{PutFault}
 use Rattle.edge_base.specs.declared.answers.PutFault.TheVariants as fault
 use Rattle.pack_format.specs.Header.{max_size, record_of}
-use Rattle.pack_disk.specs.Packs.{Packs}
 use Rattle.pack_disk.specs.Disk.{Tells, SameOthers}
+use Rattle.pack_disk.specs.declared.disk.Disk.{Ghosts}
 use Rattle.pack_store.specs.declared.rows.Row.{Row}
 use Rattle.pack_store.specs.declared.rows.Current.{Current}
 use Rattle.pack_store.specs.Rows.{number_of, arrivals_in}
@@ -77,19 +77,19 @@ current_after s bytes = record { pack = target s; size = fill s + length (record
 -- ---- what stands after a call
 
 -- the blob arrived: it stands in the next record, nothing else was made or added, and every other arrival is as it was
-pub record Stores {D : Type 0} (packs : D → Option Packs) (old new : Archive D) (bytes : List ℕ) : Type 0 where
+pub record Stores {D : Type 0} (g : Ghosts D) (old new : Archive D) (bytes : List ℕ) : Type 0 where
   pub value : new ≡ record { rows = old.rows ++ row_after old bytes ∷ []; limits = old.limits; next = next_after old; current = Some (current_after old bytes); disk = new.disk }
-  pub added : Tells (packs old.disk) (packs new.disk) (AddsRecord (target old) bytes)
-  pub arrived : Tells (packs old.disk) (packs new.disk) (λ before now. arrivals_in now new.rows ≡ arrivals_in before old.rows ++ (ref_of bytes, bytes) ∷ [])
+  pub added : Tells (g.packs old.disk) (g.packs new.disk) (AddsRecord (target old) bytes)
+  pub arrived : Tells (g.packs old.disk) (g.packs new.disk) (λ before now. arrivals_in now new.rows ≡ arrivals_in before old.rows ++ (ref_of bytes, bytes) ∷ [])
 
 -- the disk failed: the arrivals are as they were, no other pack than the one that was asked for has changed, and it isn't current
-pub record Fails {D : Type 0} (packs : D → Option Packs) (old new : Archive D) : Type 0 where
+pub record Fails {D : Type 0} (g : Ghosts D) (old new : Archive D) : Type 0 where
   pub value : new ≡ record { rows = old.rows; limits = old.limits; next = next_after old; current = None; disk = new.disk }
-  pub others : Tells (packs old.disk) (packs new.disk) (SameOthers (target old))
-  pub arrived : Tells (packs old.disk) (packs new.disk) (λ before now. arrivals_in now new.rows ≡ arrivals_in before old.rows)
+  pub others : Tells (g.packs old.disk) (g.packs new.disk) (SameOthers (target old))
+  pub arrived : Tells (g.packs old.disk) (g.packs new.disk) (λ before now. arrivals_in now new.rows ≡ arrivals_in before old.rows)
 
 -- what stands after an answer
-abbrev pub Leaves : {D : Type 0} → (D → Option Packs) → Archive D → Archive D → List ℕ → Result Put PutFault → Type 0
-Leaves packs old new bytes (Ok (put.Stored n)) = Stores packs old new bytes
-Leaves packs old new bytes (Err fault.Disk) = Fails packs old new
-Leaves packs old new bytes _ = new ≡ old
+abbrev pub Leaves : {D : Type 0} → Ghosts D → Archive D → Archive D → List ℕ → Result Put PutFault → Type 0
+Leaves g old new bytes (Ok (put.Stored n)) = Stores g old new bytes
+Leaves g old new bytes (Err fault.Disk) = Fails g old new
+Leaves g old new bytes _ = new ≡ old

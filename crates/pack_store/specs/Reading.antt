@@ -12,7 +12,8 @@ use Rattle.blobref.specs.Blobref.{ref_of, ref_cmp}
 use Rattle.edge_base.specs.declared.answers.GetFault.{GetFault}
 use Rattle.edge_base.specs.declared.answers.GetFault.TheVariants as fault
 use Rattle.pack_disk.specs.Packs.{Packs}
-use Rattle.pack_disk.specs.Disk.{Stays}
+use Rattle.pack_disk.specs.Runs.{Stays}
+use Rattle.pack_disk.specs.declared.disk.Disk.{Ghosts}
 use Rattle.pack_store.specs.declared.rows.Row.{Row}
 use Rattle.pack_store.specs.declared.rows.Current.{Current}
 use Rattle.pack_store.specs.Packs.{holds, CleanIn}
@@ -21,9 +22,9 @@ use Rattle.pack_store.specs.Adding.{IsLong}
 use Rattle.pack_store.specs.Archive.{Archive}
 
 -- everything is as before but for the disk, and nothing was changed there
-pub record StaysStill {D : Type 0} (packs : D → Option Packs) (images : D → Packs → Type 0) (moment : D → ℕ) (images_since : D → ℕ → Packs → Type 0) (old new : Archive D) : Type 0 where
+pub record StaysStill {D : Type 0} (g : Ghosts D) (old new : Archive D) : Type 0 where
   pub value : new ≡ record { rows = old.rows; limits = old.limits; next = old.next; current = old.current; disk = new.disk }
-  pub stays : Stays packs images moment images_since old.disk new.disk
+  pub stays : Stays g old.disk new.disk
 
 -- the bytes of a blob were changed: it was asked for under its own ref, they have another one, and the disk doesn't tell its packs
 abbrev pub IsDamage : {T : Type 0} → Option (List ℕ) → Option Packs → Result T GetFault → Type 0
@@ -52,18 +53,18 @@ abbrev pub page : Option (List ℕ) → ℕ → List Row → List (List ℕ × �
 page after limit rows = take limit (filter (λ (e : List ℕ × ℕ). is_after after e.0) (entries (from_entries {R = ref_cmp} (sizes_in rows))))
 
 -- What holds of a store as long as it stands.
-pub record AreHeld {D : Type 0} (packs : D → Option Packs) (images : D → Packs → Type 0) (s : Archive D) : Type 0 where
+pub record AreHeld {D : Type 0} (g : Ghosts D) (s : Archive D) : Type 0 where
   -- every image holds each of them
-  pub held : (image : Packs) → images s.disk image → All (λ (row : Row). holds row.r image ≡ true) s.rows
+  pub held : (image : Packs) → g.images s.disk image → All (λ (row : Row). holds row.r image ≡ true) s.rows
   -- where the disk tells, each has its own ref and its size
-  pub named : (told : Packs) → packs s.disk ≡ Some told → All (λ (a : List ℕ × List ℕ). ref_of a.1 ≡ a.0) (arrivals_in told s.rows)
-  pub sized : (told : Packs) → packs s.disk ≡ Some told → map (λ (a : List ℕ × List ℕ). (a.0, length a.1)) (arrivals_in told s.rows) ≡ sizes_in s.rows
+  pub named : (told : Packs) → g.packs s.disk ≡ Some told → All (λ (a : List ℕ × List ℕ). ref_of a.1 ≡ a.0) (arrivals_in told s.rows)
+  pub sized : (told : Packs) → g.packs s.disk ≡ Some told → map (λ (a : List ℕ × List ℕ). (a.0, length a.1)) (arrivals_in told s.rows) ≡ sizes_in s.rows
   -- where the disk tells, no pack has the next number or a greater one
-  pub unused : (told : Packs) → packs s.disk ≡ Some told → (n : ℕ) → s.next ≤ n → get told n ≡ None
+  pub unused : (told : Packs) → g.packs s.disk ≡ Some told → (n : ℕ) → s.next ≤ n → get told n ≡ None
   -- the current pack is the last one, as long as it is said to be, and clean in every image
   pub last : (current : Current) → s.current ≡ Some current → suc current.pack ≡ s.next
-  pub long : (current : Current) → s.current ≡ Some current → IsLong packs s.disk current.pack current.size
-  pub clean : (current : Current) → s.current ≡ Some current → CleanIn (images s.disk) current.pack
+  pub long : (current : Current) → s.current ≡ Some current → IsLong g s.disk current.pack current.size
+  pub clean : (current : Current) → s.current ≡ Some current → CleanIn (g.images s.disk) current.pack
 
 -- ---- as a list is made
 

@@ -29,15 +29,15 @@ pub(crate) fn write_blob<D: Disk>(
     bytes: &[u8],
     text: &[u8],
 ) -> Result<(), Failed>
-    requires ready { IsReady D.packs D.images disk.old end.pack end.size end.is_new }
+    requires ready { IsReady D.Disk disk.old end.pack end.size end.is_new }
     requires small { length bytes.now ≤ max_size }
     requires text { text.now ≡ record_of bytes.now }
     ensures told { Tells (D.packs disk.old) (D.packs disk.new) (SameOthers end.pack) }
     ensures added { OnOk result (Tells (D.packs disk.old) (D.packs disk.new) (AddsRecord end.pack bytes.now)) }
     ensures clean { OnOk result (CleanIn (D.images disk.new) end.pack) }
-    ensures row { OnOk result (HasRow D.packs D.images disk.new (row_at end.pack end.size bytes.now) bytes.now) }
-    ensures rows { KeepsRows D.packs D.images disk.old disk.new }
-    ensures any_moment { KeepsAll D.images D.moment D.images_since disk.old disk.new }
+    ensures row { OnOk result (HasRow D.Disk disk.new (row_at end.pack end.size bytes.now) bytes.now) }
+    ensures rows { KeepsRows D.Disk disk.old disk.new }
+    ensures any_moment { KeepsAll D.Disk disk.old disk.new }
     ensures cause { HasCause (D.faults disk.old) (D.faults disk.new) result }
 {
     ready_pack(disk, end)?;
@@ -46,13 +46,13 @@ pub(crate) fn write_blob<D: Disk>(
 
 // Makes the pack where it has to be. At Ok it is there, as long as it is said to be, and clean in each image that has it.
 fn ready_pack<D: Disk>(disk: &mut D, end: End) -> Result<(), Failed>
-    requires ready { IsReady D.packs D.images disk.old end.pack end.size end.is_new }
+    requires ready { IsReady D.Disk disk.old end.pack end.size end.is_new }
     ensures told { Tells (D.packs disk.old) (D.packs disk.new) (SameOthers end.pack) }
     ensures same { OnOk result (Tells (D.packs disk.old) (D.packs disk.new) (SameBytes end.pack)) }
-    ensures long { OnOk result (IsLong D.packs disk.new end.pack end.size) }
+    ensures long { OnOk result (IsLong D.Disk disk.new end.pack end.size) }
     ensures clean { OnOk result (CleanIn (D.images disk.new) end.pack) }
-    ensures rows { KeepsRows D.packs D.images disk.old disk.new }
-    ensures any_moment { KeepsAll D.images D.moment D.images_since disk.old disk.new }
+    ensures rows { KeepsRows D.Disk disk.old disk.new }
+    ensures any_moment { KeepsAll D.Disk disk.old disk.new }
     ensures cause { HasCause (D.faults disk.old) (D.faults disk.new) result }
 {
     if end.is_new {
@@ -65,13 +65,13 @@ fn ready_pack<D: Disk>(disk: &mut D, end: End) -> Result<(), Failed>
 // Makes a pack. At Ok it is there and empty, and in each image that has it it is clean.
 fn make_pack<D: Disk>(disk: &mut D, pack: u32) -> Result<(), Failed>
     requires number { pack ≤ last_number }
-    requires absent { IsAbsent D.packs disk.old pack }
+    requires absent { IsAbsent D.Disk disk.old pack }
     ensures told { Tells (D.packs disk.old) (D.packs disk.new) (SameOthers pack) }
     ensures same { OnOk result (Tells (D.packs disk.old) (D.packs disk.new) (SameBytes pack)) }
-    ensures long { OnOk result (IsLong D.packs disk.new pack 0) }
+    ensures long { OnOk result (IsLong D.Disk disk.new pack 0) }
     ensures clean { CleanIn (D.images disk.new) pack }
-    ensures rows { KeepsRows D.packs D.images disk.old disk.new }
-    ensures any_moment { KeepsAll D.images D.moment D.images_since disk.old disk.new }
+    ensures rows { KeepsRows D.Disk disk.old disk.new }
+    ensures any_moment { KeepsAll D.Disk disk.old disk.new }
     ensures cause { HasCause (D.faults disk.old) (D.faults disk.new) result }
 {
     disk.make(pack)
@@ -86,16 +86,16 @@ fn add_record<D: Disk>(
     bytes: &[u8],
     text: &[u8],
 ) -> Result<(), Failed>
-    requires long { IsLong D.packs disk.old pack size }
+    requires long { IsLong D.Disk disk.old pack size }
     requires clean { CleanIn (D.images disk.old) pack }
     requires small { length bytes.now ≤ max_size }
     requires text { text.now ≡ record_of bytes.now }
     ensures told { Tells (D.packs disk.old) (D.packs disk.new) (SameOthers pack) }
     ensures added { OnOk result (Tells (D.packs disk.old) (D.packs disk.new) (AddsRecord pack bytes.now)) }
     ensures clean { OnOk result (CleanIn (D.images disk.new) pack) }
-    ensures row { OnOk result (HasRow D.packs D.images disk.new (row_at pack size bytes.now) bytes.now) }
-    ensures rows { KeepsRows D.packs D.images disk.old disk.new }
-    ensures any_moment { KeepsAll D.images D.moment D.images_since disk.old disk.new }
+    ensures row { OnOk result (HasRow D.Disk disk.new (row_at pack size bytes.now) bytes.now) }
+    ensures rows { KeepsRows D.Disk disk.old disk.new }
+    ensures any_moment { KeepsAll D.Disk disk.old disk.new }
     ensures cause { HasCause (D.faults disk.old) (D.faults disk.new) result }
 {
     disk.append(pack, text)?;

@@ -6,5 +6,5 @@ use pack_disk::Disk;
 /// What every image of a disk holds, every image goes on holding after any list of runs and stops, and opening finds it
 /// (`docs/store.md`). Each call of a store is such a run, and so is opening one.
 pub fn lives_keep<D: Disk>()
-    ensures { LivesKeep D.packs D.images D.moment D.images_since }
+    ensures { LivesKeep D.Disk }
 {}

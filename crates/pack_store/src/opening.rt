@@ -5,7 +5,8 @@ ghost use Rattle.std.specs.FinMap.{get};
 ghost use Rattle.edge_base.specs.Edge.{Rose};
 ghost use Rattle.salvage_scan.specs.Scan.{clean_of};
 ghost use Rattle.pack_disk.specs.Packs.{Packs};
-ghost use Rattle.pack_disk.specs.Disk.{Stays, last_number};
+ghost use Rattle.pack_disk.specs.Disk.{last_number};
+ghost use Rattle.pack_disk.specs.Runs.{Stays};
 ghost use Rattle.pack_store.specs.declared.limits.Limits.{Limits};
 ghost use Rattle.pack_store.specs.Archive.{Archive, AreLimits, IsSound};
 ghost use Rattle.pack_store.specs.Opening.{IsOpened, IsPlaced, current_if_clean, current_by, row_of_found, take_row, take_rows, take_pack};
@@ -63,9 +64,9 @@ impl<D: Disk> Store<D> {
     pub fn open_on(alloc: Global, disk: D, limits: Limits) -> Result<Store<D>, (D, OpenFault)>
         requires last_pack { limits.last_pack ≤ last_number }
         requires pack_bytes { limits.pack_bytes ≤ 2 ^ 63 }
-        ensures opened { IfOk result (IsOpened D.packs disk limits) }
-        ensures stays { IfOk result (λ s. Stays D.packs D.images D.moment D.images_since disk s.disk) }
-        ensures stays_err { IfErr result (λ e. Stays D.packs D.images D.moment D.images_since disk e.0) }
+        ensures opened { IfOk result (IsOpened D.Disk disk limits) }
+        ensures stays { IfOk result (λ s. Stays D.Disk disk s.disk) }
+        ensures stays_err { IfErr result (λ e. Stays D.Disk disk e.0) }
         ensures failed { IfErr result (λ e. e.1 ≡ OpenFault.Disk → Rose (D.faults disk) (D.faults e.0)) }
         ensures later { IfOk result (λ s. D.faults disk ≤ D.faults s.disk) }
         ensures later_err { IfErr result (λ e. D.faults disk ≤ D.faults e.0) }
@@ -105,9 +106,9 @@ struct Loaded {
 
 // Takes in each pack in order.
 fn load<D: Disk>(alloc: Global, disk: &mut D) -> Result<Loaded, OpenFault>
-    ensures opened { IfOk result (λ l. (limits : Limits) → IsOpened D.packs disk.old limits (record { rows = l.rows.items; limits = limits; next = l.next; current = l.current; disk = disk.new })) }
-    ensures sound { IfOk result (λ l. (limits : Limits) → AreLimits limits → IsSound D.packs D.images l.places (record { rows = l.rows.items; limits = limits; next = l.next; current = l.current; disk = disk.new })) }
-    ensures stays { Stays D.packs D.images D.moment D.images_since disk.old disk.new }
+    ensures opened { IfOk result (λ l. (limits : Limits) → IsOpened D.Disk disk.old limits (record { rows = l.rows.items; limits = limits; next = l.next; current = l.current; disk = disk.new })) }
+    ensures sound { IfOk result (λ l. (limits : Limits) → AreLimits limits → IsSound D.Disk l.places (record { rows = l.rows.items; limits = limits; next = l.next; current = l.current; disk = disk.new })) }
+    ensures stays { Stays D.Disk disk.old disk.new }
     ensures failed { result ≡ Err OpenFault.Disk → Rose (D.faults disk.old) (D.faults disk.new) }
     ensures later { D.faults disk.old ≤ D.faults disk.new }
 {
@@ -147,7 +148,7 @@ fn take_pack<D: Disk>(
     ensures clean { IfOk result (λ current. ForSome (D.packs disk.old) (λ held. (bytes : List ℕ) → get held pack ≡ Some bytes → current ≡ current_if_clean (pack, bytes))) }
     ensures number { IfOk result (λ current. IfSome current (λ c. c.pack ≡ pack)) }
     ensures stands { OnOk result (ForSome (D.packs disk.old) (λ held. (image : Packs) → D.images disk.new image → get image pack ≡ get held pack)) }
-    ensures stays { Stays D.packs D.images D.moment D.images_since disk.old disk.new }
+    ensures stays { Stays D.Disk disk.old disk.new }
     ensures failed { result ≡ Err OpenFault.Disk → Rose (D.faults disk.old) (D.faults disk.new) }
     ensures later { D.faults disk.old ≤ D.faults disk.new }
 {

@@ -33,9 +33,9 @@ impl<D: Disk> Store<D> {
     /// image held before.
     pub fn put(&mut self, said: &Ref, bytes: &[u8]) -> Result<Put, PutFault>
         ensures answer { Answers (settled self.old said.now bytes.now) (count self.old) result }
-        ensures leaves { Leaves D.packs self.old self.new bytes.now result }
+        ensures leaves { Leaves D.Disk self.old self.new bytes.now result }
         ensures acknowledged { OnOk result (HeldByAll (D.images self.new.disk) said.now) }
-        ensures any_moment { KeepsAll D.images D.moment D.images_since self.old.disk self.new.disk }
+        ensures any_moment { KeepsAll D.Disk self.old.disk self.new.disk }
         ensures failed { result ≡ Err PutFault.Disk → Rose (D.faults self.old.disk) (D.faults self.new.disk) }
         ensures later { D.faults self.old.disk ≤ D.faults self.new.disk }
     {
@@ -54,9 +54,9 @@ impl<D: Disk> Store<D> {
     pub fn put_own(&mut self, r: &Ref, bytes: &[u8]) -> Result<Put, PutFault>
         requires own { r.now ≡ ref_of bytes.now }
         ensures answer { Answers (settled_own self.old r.now (length bytes.now)) (count self.old) result }
-        ensures leaves { Leaves D.packs self.old self.new bytes.now result }
+        ensures leaves { Leaves D.Disk self.old self.new bytes.now result }
         ensures acknowledged { OnOk result (HeldByAll (D.images self.new.disk) r.now) }
-        ensures any_moment { KeepsAll D.images D.moment D.images_since self.old.disk self.new.disk }
+        ensures any_moment { KeepsAll D.Disk self.old.disk self.new.disk }
         ensures failed { result ≡ Err PutFault.Disk → Rose (D.faults self.old.disk) (D.faults self.new.disk) }
         ensures later { D.faults self.old.disk ≤ D.faults self.new.disk }
     {
@@ -91,9 +91,9 @@ impl<D: Disk> Store<D> {
         requires own { r.now ≡ ref_of bytes.now }
         requires open { settled_own self.old r.now (length bytes.now) ≡ None }
         ensures answer { Answers None (count self.old) result }
-        ensures leaves { Leaves D.packs self.old self.new bytes.now result }
+        ensures leaves { Leaves D.Disk self.old self.new bytes.now result }
         ensures acknowledged { OnOk result (HeldByAll (D.images self.new.disk) r.now) }
-        ensures any_moment { KeepsAll D.images D.moment D.images_since self.old.disk self.new.disk }
+        ensures any_moment { KeepsAll D.Disk self.old.disk self.new.disk }
         ensures failed { result ≡ Err PutFault.Disk → Rose (D.faults self.old.disk) (D.faults self.new.disk) }
         ensures later { D.faults self.old.disk ≤ D.faults self.new.disk }
     {
@@ -131,7 +131,7 @@ impl<D: Disk> Store<D> {
     // Where the next record goes.
     fn end(&self) -> End
         requires { is_full self.now ≡ false }
-        ensures ready { IsReady D.packs D.images self.now.disk result.pack result.size result.is_new }
+        ensures ready { IsReady D.Disk self.now.disk result.pack result.size result.is_new }
         ensures pack { result.pack ≡ target self.now }
         ensures size { result.size ≡ fill self.now }
         ensures is_new { result.is_new ≡ needs_pack self.now }

@@ -3,7 +3,7 @@ ghost use Rattle.std.specs.Prelude.{◌≡◌, ◌↔◌, ◌≤◌, ◌<◌, If
 ghost use Rattle.std.specs.Option.{ForSome, option_map};
 ghost use Rattle.blobref.specs.Blobref.{ref_of};
 ghost use Rattle.edge_base.specs.Edge.{Rose};
-ghost use Rattle.pack_disk.specs.Disk.{Stays};
+ghost use Rattle.pack_disk.specs.Runs.{Stays};
 ghost use Rattle.pack_store.specs.Rows.{number_of, arrival_of, arrivals_in, IsKept};
 ghost use Rattle.pack_store.specs.Archive.{count};
 ghost use Rattle.pack_store.specs.Reading.{StaysStill, IsDamage, ref_at, bytes_of};
@@ -25,7 +25,7 @@ impl<D: Disk> Store<D> {
         ensures named { IfOk result (λ found. IfSome found (λ bytes. ref_of bytes ≡ r.now)) }
         ensures bytes { IfOk result (λ found. ForSome (D.packs self.old.disk) (λ held. found ≡ bytes_of r.now held self.old.rows)) }
         ensures damaged { IsDamage (Some r.now) (D.packs self.old.disk) result }
-        ensures stays { StaysStill D.packs D.images D.moment D.images_since self.old self.new }
+        ensures stays { StaysStill D.Disk self.old self.new }
         ensures failed { result ≡ Err GetFault.Disk → Rose (D.faults self.old.disk) (D.faults self.new.disk) }
         ensures later { D.faults self.old.disk ≤ D.faults self.new.disk }
     {
@@ -43,7 +43,7 @@ impl<D: Disk> Store<D> {
         ensures named { IfOk result (λ found. IfSome found (λ a. (ref_at number self.old.rows ≡ Some a.0) × (ref_of a.1 ≡ a.0))) }
         ensures bytes { IfOk result (λ found. ForSome (D.packs self.old.disk) (λ held. found ≡ slice_get (arrivals_in held self.old.rows) number)) }
         ensures damaged { IsDamage (ref_at number self.old.rows) (D.packs self.old.disk) result }
-        ensures stays { StaysStill D.packs D.images D.moment D.images_since self.old self.new }
+        ensures stays { StaysStill D.Disk self.old self.new }
         ensures failed { result ≡ Err GetFault.Disk → Rose (D.faults self.old.disk) (D.faults self.new.disk) }
         ensures later { D.faults self.old.disk ≤ D.faults self.new.disk }
     {
@@ -67,7 +67,7 @@ impl<D: Disk> Store<D> {
         ensures named { IfOk result (λ a. (ref_at number self.old.rows ≡ Some a.0) × (ref_of a.1 ≡ a.0)) }
         ensures bytes { IfOk result (λ a. ForSome (D.packs self.old.disk) (λ held. Some a ≡ slice_get (arrivals_in held self.old.rows) number)) }
         ensures damaged { IsDamage (ref_at number self.old.rows) (D.packs self.old.disk) result }
-        ensures stays { StaysStill D.packs D.images D.moment D.images_since self.old self.new }
+        ensures stays { StaysStill D.Disk self.old self.new }
         ensures failed { result ≡ Err GetFault.Disk → Rose (D.faults self.old.disk) (D.faults self.new.disk) }
         ensures later { D.faults self.old.disk ≤ D.faults self.new.disk }
     {
@@ -83,7 +83,7 @@ fn read_row<D: Disk>(alloc: Global, disk: &mut D, row: &Row) -> Result<Octets, G
     ensures named { IfOk result (λ bytes. ref_of bytes ≡ row.now.r) }
     ensures bytes { IfOk result (λ bytes. ForSome (D.packs disk.old) (λ held. (row.now.r, bytes) ≡ arrival_of held row.now)) }
     ensures damaged { IsDamage (Some row.now.r) (D.packs disk.old) result }
-    ensures stays { Stays D.packs D.images D.moment D.images_since disk.old disk.new }
+    ensures stays { Stays D.Disk disk.old disk.new }
     ensures failed { result ≡ Err GetFault.Disk → Rose (D.faults disk.old) (D.faults disk.new) }
     ensures later { D.faults disk.old ≤ D.faults disk.new }
 {
@@ -100,7 +100,7 @@ fn read_place<D: Disk>(alloc: Global, disk: &mut D, row: &Row) -> Result<Vec<u8>
     requires kept { ForSome (D.packs disk.old) (λ held. IsKept held (D.images disk.old) row.now) }
     ensures bytes { IfOk result (λ bytes. ForSome (D.packs disk.old) (λ held. (row.now.r, bytes.items) ≡ arrival_of held row.now)) }
     ensures damaged { IsDamage None (D.packs disk.old) result }
-    ensures stays { Stays D.packs D.images D.moment D.images_since disk.old disk.new }
+    ensures stays { Stays D.Disk disk.old disk.new }
     ensures failed { result ≡ Err GetFault.Disk → Rose (D.faults disk.old) (D.faults disk.new) }
     ensures later { D.faults disk.old ≤ D.faults disk.new }
 {

@@ -3,7 +3,7 @@ ghost use Rattle.std.specs.Prelude.{◌≡◌, ◌≤◌, IfOk, IsSome, Some, Er
 ghost use Rattle.std.specs.Option.{ForSome};
 ghost use Rattle.std.specs.FinMap.{get};
 ghost use Rattle.edge_base.specs.Edge.{Rose};
-ghost use Rattle.pack_disk.specs.Disk.{Stays};
+ghost use Rattle.pack_disk.specs.Runs.{Stays};
 
 use pack_disk::Disk;
 use std::alloc::Global;
@@ -25,7 +25,7 @@ pub enum PackFault {
 pub fn read_pack<D: Disk>(alloc: Global, disk: &mut D, pack: u32) -> Result<Vec<u8>, PackFault>
     requires there { ForSome (D.packs disk.old) (λ held. IsSome (get held pack)) }
     ensures bytes { IfOk result (λ bytes. ForSome (D.packs disk.old) (λ held. get held pack ≡ Some bytes.items)) }
-    ensures stays { Stays D.packs D.images D.moment D.images_since disk.old disk.new }
+    ensures stays { Stays D.Disk disk.old disk.new }
     ensures failed { result ≡ Err PackFault.Disk → Rose (D.faults disk.old) (D.faults disk.new) }
     ensures later { D.faults disk.old ≤ D.faults disk.new }
 {

@@ -11,9 +11,9 @@ returns-clause-added g c = on_ok c.add_record.result
 pub returns-clause-rows : goal.returns-clause-rows
 returns-clause-rows g c =
     let disk = g.D.Disk in
-    rows_then disk.packs disk.images g.met.D.Disk.reads g.met.D.Disk.tells _ _ _ _ c.ready_pack.ensures.told c.ready_pack.ensures.rows c.add_record.ensures.rows
+    rows_then disk g.met.D.Disk.reads g.met.D.Disk.tells _ _ _ _ c.ready_pack.ensures.told c.ready_pack.ensures.rows c.add_record.ensures.rows
 
 pub returns-clause-any_moment : goal.returns-clause-any_moment
 returns-clause-any_moment g c =
     let disk = g.D.Disk in
-    keeps_then disk.images disk.moment disk.images_since g.met.D.Disk.counts_now g.met.D.Disk.only_now _ _ _ c.ready_pack.ensures.any_moment c.add_record.ensures.any_moment
+    keeps_then disk g.met.D.Disk.counts_now g.met.D.Disk.only_now _ _ _ c.ready_pack.ensures.any_moment c.add_record.ensures.any_moment

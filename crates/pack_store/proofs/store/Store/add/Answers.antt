@@ -21,7 +21,7 @@ invariant_of-self-then-is_err-2 g c =
     let places_is : c.take_room.new.places ≡ insert c.self.inside.places c.args.r.now (length s.rows) = ok_told c.take_room.result (sym c.is_err.ensures.value ∙ c.if-is_err.false) c.take_room.ensures.ok in
     let pack_is : c.end-end.result.pack ≡ target s = c.end-end.ensures.pack ∙ ap (λ (t : Archive _). target t) (sym c.self.view_is) in
     let next_is : c.end-end.result.next ≡ next_after s = c.end-end.ensures.next ∙ ap (λ (t : Archive _). next_after t) (sym c.self.view_is) in
-    (ends_failed disk.packs disk.images g.met.D.Disk.reads g.met.D.Disk.tells c.self.inside.places c.take_room.new.places c.remove.new.self s c.write_blob.new.disk c.args.r.now
+    (ends_failed disk g.met.D.Disk.reads g.met.D.Disk.tells c.self.inside.places c.take_room.new.places c.remove.new.self s c.write_blob.new.disk c.args.r.now
     c.take_room.new.rows.items c.end-end.result.pack c.end-end.result.next c.self.invariant room.1 room.2 c.take_room.ensures.rows places_is c.remove.ensures pack_is next_is c.write_blob.ensures.told c.write_blob.ensures.rows).0
 
 pub returns-then-is_err-2-clause-leaves : goal.returns-then-is_err-2-clause-leaves
@@ -34,7 +34,7 @@ returns-then-is_err-2-clause-leaves g c =
     let pack_is : c.end-end.result.pack ≡ target s = c.end-end.ensures.pack ∙ ap (λ (t : Archive _). target t) (sym c.self.view_is) in
     let next_is : c.end-end.result.next ≡ next_after s = c.end-end.ensures.next ∙ ap (λ (t : Archive _). next_after t) (sym c.self.view_is) in
     let new : Archive _ = record { rows = c.take_room.new.rows.items; limits = c.self.inside.limits; next = c.end-end.result.next; current = None; disk = c.write_blob.new.disk } in
-    subst (λ (t : Archive _). Fails disk.packs t new) c.self.view_is (ends_failed disk.packs disk.images g.met.D.Disk.reads g.met.D.Disk.tells c.self.inside.places c.take_room.new.places c.remove.new.self s c.write_blob.new.disk c.args.r.now
+    subst (λ (t : Archive _). Fails disk t new) c.self.view_is (ends_failed disk g.met.D.Disk.reads g.met.D.Disk.tells c.self.inside.places c.take_room.new.places c.remove.new.self s c.write_blob.new.disk c.args.r.now
     c.take_room.new.rows.items c.end-end.result.pack c.end-end.result.next c.self.invariant room.1 room.2 c.take_room.ensures.rows places_is c.remove.ensures pack_is next_is c.write_blob.ensures.told c.write_blob.ensures.rows).1
 
 pub overflow_sub-header : goal.overflow_sub-header
@@ -64,7 +64,7 @@ invariant_of-self-2 g c =
     let current : Current = record { pack = c.end-end.result.pack; size = c.end-end.result.size + c.len-2.result } in
     let current_is : current ≡ current_after s bytes = λ i. record { pack = pack_is i; size = grown i } in
     let rows_is : c.push_row.new.rows.items ≡ s.rows ++ row ∷ [] = c.push_row.ensures ∙ ap (λ rows. rows ++ row ∷ []) c.take_room.ensures.rows in
-    (ends_stored disk.packs disk.images g.met.D.Disk.reads g.met.D.Disk.tells c.self.inside.places c.take_room.new.places s c.write_blob.new.disk c.args.r.now bytes
+    (ends_stored disk g.met.D.Disk.reads g.met.D.Disk.tells c.self.inside.places c.take_room.new.places s c.write_blob.new.disk c.args.r.now bytes
     c.push_row.new.rows.items row current c.end-end.result.pack c.end-end.result.size c.end-end.result.next c.self.invariant room.1 room.2 c.requires.own rows_is row_is current_is places_is pack_is size_is next_is
     c.write_blob.ensures.told (ok_told c.write_blob.result fine c.write_blob.ensures.added) (ok_told c.write_blob.result fine c.write_blob.ensures.clean) (ok_told c.write_blob.result fine c.write_blob.ensures.row) c.write_blob.ensures.rows).0
 
@@ -89,7 +89,7 @@ returns-clause-leaves g c =
     let current_is : current ≡ current_after s bytes = λ i. record { pack = pack_is i; size = grown i } in
     let rows_is : c.push_row.new.rows.items ≡ s.rows ++ row ∷ [] = c.push_row.ensures ∙ ap (λ rows. rows ++ row ∷ []) c.take_room.ensures.rows in
     let new : Archive _ = record { rows = c.push_row.new.rows.items; limits = c.self.inside.limits; next = c.end-end.result.next; current = Some current; disk = c.write_blob.new.disk } in
-    subst (λ (t : Archive _). Stores disk.packs t new bytes) c.self.view_is (ends_stored disk.packs disk.images g.met.D.Disk.reads g.met.D.Disk.tells c.self.inside.places c.take_room.new.places s c.write_blob.new.disk c.args.r.now bytes
+    subst (λ (t : Archive _). Stores disk t new bytes) c.self.view_is (ends_stored disk g.met.D.Disk.reads g.met.D.Disk.tells c.self.inside.places c.take_room.new.places s c.write_blob.new.disk c.args.r.now bytes
     c.push_row.new.rows.items row current c.end-end.result.pack c.end-end.result.size c.end-end.result.next c.self.invariant room.1 room.2 c.requires.own rows_is row_is current_is places_is pack_is size_is next_is
     c.write_blob.ensures.told (ok_told c.write_blob.result fine c.write_blob.ensures.added) (ok_told c.write_blob.result fine c.write_blob.ensures.clean) (ok_told c.write_blob.result fine c.write_blob.ensures.row) c.write_blob.ensures.rows).1
 
@@ -99,4 +99,4 @@ returns-clause-acknowledged g c =
     let bytes = c.args.bytes.now in
     let fine : is_err c.write_blob.result ≡ false = sym c.is_err-2.ensures.value ∙ c.if-is_err-2.false in
     subst (λ r. HeldByAll (disk.images c.write_blob.new.disk) r) (sym c.requires.own)
-    (row_acknowledged disk.packs disk.images g.met.D.Disk.reads g.met.D.Disk.tells c.write_blob.new.disk _ bytes (ok_told c.write_blob.result fine c.write_blob.ensures.row))
+    (row_acknowledged disk g.met.D.Disk.reads g.met.D.Disk.tells c.write_blob.new.disk _ bytes (ok_told c.write_blob.result fine c.write_blob.ensures.row))

@@ -12,7 +12,7 @@ pub invariant_of-self : goal.invariant_of-self
 invariant_of-self g c =
     let disk = g.D.Disk in
     let inside = c.self.inside in
-    still_sound disk.packs disk.images disk.moment disk.images_since g.met.D.Disk.counts_now g.met.D.Disk.only_now inside.places inside.rows.items inside.limits inside.next inside.current inside.disk c.read_row.new.disk c.self.invariant c.read_row.ensures.stays
+    still_sound disk g.met.D.Disk.counts_now g.met.D.Disk.only_now inside.places inside.rows.items inside.limits inside.next inside.current inside.disk c.read_row.new.disk c.self.invariant c.read_row.ensures.stays
 
 pub returns-in_err-bytes-clause-damaged : goal.returns-in_err-bytes-clause-damaged
 returns-in_err-bytes-clause-damaged g c =
@@ -26,7 +26,7 @@ pub invariant_of-self-2 : goal.invariant_of-self-2
 invariant_of-self-2 g c =
     let disk = g.D.Disk in
     let inside = c.self.inside in
-    still_sound disk.packs disk.images disk.moment disk.images_since g.met.D.Disk.counts_now g.met.D.Disk.only_now inside.places inside.rows.items inside.limits inside.next inside.current inside.disk c.read_row.new.disk c.self.invariant c.read_row.ensures.stays
+    still_sound disk g.met.D.Disk.counts_now g.met.D.Disk.only_now inside.places inside.rows.items inside.limits inside.next inside.current inside.disk c.read_row.new.disk c.self.invariant c.read_row.ensures.stays
 
 pub returns-clause-named : goal.returns-clause-named
 returns-clause-named g c =
