@@ -8,11 +8,11 @@ use Rattle.std.proofs.lemmas.Bool.{false≢true}
 use Rattle.std.proofs.lemmas.List.{length-take}
 use Rattle.std.proofs.lemmas.List.Elements.{All-take, All-from_recursion}
 use Rattle.std.specs.FinMap.{keys}
-use Rattle.plain_index.proofs.Keys.{key_put, keys_put, keys-from_entries}
+use Rattle.index_look.proofs.Keys.{key_put, keys_put, keys-from_entries}
 use Rattle.std.specs.List.Sorted.{IsStrictlySortedBy}
 use Rattle.std.specs.FinMap.{from_entries}
 use Rattle.blobref.specs.Blobref.{ref_cmp}
-use Rattle.plain_index.proofs.Order.{ascending_entries}
+use Rattle.index_look.proofs.Order.{ascending_entries}
 use Rattle.search_eval.proofs.Walk.{filter_ascends, permanodes_ascend}
 use Rattle.claim_verify.specs.Verifier.{Accepts}
 use Rattle.claim_model.specs.Facts.{Facts}
