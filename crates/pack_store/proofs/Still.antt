@@ -22,6 +22,7 @@ module _ {D : Type 0} (g : Ghosts D)
       record {
         limited = sound.limited;
         placed = sound.placed;
+        blobs = sound.blobs;
         kept = λ held told k d lt. let row = sound.kept held (sym still.told ∙ told) k d lt in record { found = λ image is. row.found image (fewer image is); same = λ image is. row.same image (fewer image is) };
         last = sound.last;
         long = λ c is held told. sound.long c is held (sym still.told ∙ told);

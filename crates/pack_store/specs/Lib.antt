@@ -4,6 +4,7 @@ pub mod Adding
 pub mod Archive
 pub mod Putting
 pub mod Walk
+pub mod Scan
 pub mod Opening
 pub mod PutsLast
 pub mod Reading

@@ -21,7 +21,7 @@ pub use opened_laws::puts_last;
 pub use opening::OpenFault;
 pub use rows::{Current, Row};
 pub use store::Store;
-pub use whole::{PackFault, read_pack};
+pub use whole::{PackFault, PackScan, scan_pack};
 
 #[cfg(test)]
 mod tests;
