@@ -6,6 +6,7 @@ pub mod Putting
 pub mod Walk
 pub mod Scan
 pub mod Opening
-pub mod PutsLast
 pub mod Reading
+pub mod PutsLast
+pub mod Content
 pub mod Lives

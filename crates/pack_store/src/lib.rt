@@ -15,7 +15,7 @@ mod rows;
 mod store;
 mod whole;
 
-pub use laws::lives_keep;
+pub use laws::{holds_content, lives_keep};
 pub use limits::Limits;
 pub use opened_laws::puts_last;
 pub use opening::OpenFault;
