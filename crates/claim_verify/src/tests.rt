@@ -1,4 +1,5 @@
-use crate::{KeyName, Keyring, KeyringFault, NoMemory, Verifier, hmac_sha256, split_signed};
+use crate::{KeyName, Keyring, KeyringFault, Verifier, hmac_sha256, split_signed};
+use blobref::NoMemory;
 
 // RFC 4231, case 2.
 const JEFE: [u8; 32] = [

@@ -3,4 +3,3 @@ pub mod Numbers
 pub mod Blobs
 pub mod Deleted
 pub mod Headers
-pub mod Digests

@@ -6,6 +6,7 @@ ghost use Rattle.pack_format.specs.Reading.{number_after, size_at};
 use itoa::Buffer;
 use std::marker::Model;
 
+/// The most bytes that a blob with a record has, and that a header announces: see docs/formats/packs.md.
 pub const MAX_SIZE: u64 = 16_777_216;
 
 // The text of a size field, in the first `len` bytes.

@@ -12,11 +12,14 @@ pub fn write_header(r: &Ref, size: u64) -> HeaderBytes
     requires { size ≤ max_size }
     ensures { result ≡ header r.now size }
 {
+    let text = r.spell();
+    let text = text.as_slice();
     let field = SizeText::of(size);
     let field = field.as_slice();
-    let len = 64 + field.len();
+    let start = 1 + text.len();
+    let len = start + field.len();
     let mut bytes = [b'['; 74];
-    bytes[1..64].copy_from_slice(&r.text());
-    bytes[64..len].copy_from_slice(field);
+    bytes[1..start].copy_from_slice(text);
+    bytes[start..len].copy_from_slice(field);
     HeaderBytes { bytes, len }
 }
