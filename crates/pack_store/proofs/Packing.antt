@@ -13,7 +13,7 @@ use Rattle.pack_disk.specs.Disk.{NoNew, last_number}
 use Rattle.pack_store.specs.declared.limits.Limits.{Limits}
 use Rattle.pack_store.specs.declared.rows.Row.{Row}
 use Rattle.pack_store.specs.declared.rows.Current.{Current}
-use Rattle.pack_store.specs.Rows.{arrivals_in, IsKept}
+use Rattle.pack_store.specs.Rows.{arrivals_in, IsKept, IsOfBlob}
 use Rattle.pack_store.specs.Archive.{AreLimits, IsSound}
 use Rattle.pack_store.specs.Walk.{below}
 use Rattle.pack_store.specs.Opening.{next_of, current_if_clean, current_of, IsOpened, take_pack, IsPlaced, IsTaken}
@@ -57,6 +57,7 @@ module _ {D : Type 0} (g : Ghosts D) where
     arrived = λ held told. ap arrivals (sym (walk_begins held).so_far);
     counted = λ held told. ap next_of (sym (walk_begins held).so_far);
     current_is = λ held told. ap current_of (sym (walk_begins held).so_far);
+    blobs = All-nil IsOfBlob;
     kept = λ held told. All-nil (IsKept held (g.images d));
     last = λ c is. no_current c is;
     long = λ c is. no_current c is;
@@ -74,9 +75,10 @@ module _ {D : Type 0} (g : Ghosts D) where
       → ForSome (g.packs mid) (λ held. (bytes : List ℕ) → get held pack ≡ Some bytes → more ≡ take_pack rows pack bytes)
       → ForSome (g.packs mid) (λ held. (bytes : List ℕ) → get held pack ≡ Some bytes → found ≡ current_if_clean (pack, bytes))
       → IfSome found (λ c. c.pack ≡ pack)
+      → (All IsOfBlob rows → All IsOfBlob more)
       → ForSome (g.packs mid) (λ held. (image : Packs) → g.images new image → get image pack ≡ get held pack)
       → IsTaken g new more (pack + 1) found
-  taken_more tells old mid new rows more from pack current found taken told_mid told_new fewer least ge takes is_found number stands =
+  taken_more tells old mid new rows more from pack current found taken told_mid told_new fewer least ge takes is_found number blobs stands =
       let at_mid : (held : Packs) → g.packs new ≡ Some held → g.packs mid ≡ Some held = λ held told. sym told_new ∙ told in
       let at_old : (held : Packs) → g.packs new ≡ Some held → g.packs old ≡ Some held = λ held told. sym told_mid ∙ at_mid held told in
       let step = λ (held : Packs) (told : g.packs new ≡ Some held). walk_step from pack held (sym (least held (at_old held told))) in
@@ -92,6 +94,7 @@ module _ {D : Type 0} (g : Ghosts D) where
             let sum : pack + 1 ≡ suc pack = omega arith in
             sum ∙ sym (next_after (below from held) pack (step held told).bytes before) ∙ ap next_of (sym (step held told).so_far);
         current_is = λ held told. is_found held (at_mid held told) (step held told).bytes (step held told).found ∙ sym (current_after (below from held) pack (step held told).bytes) ∙ ap current_of (sym (step held told).so_far);
+        blobs = blobs taken.blobs;
         kept = λ held told. subst (All (IsKept held (g.images new))) (sym (rows_are held told))
             (All-take_pack held (g.images new) pack (step held told).bytes rows (step held told).found (stands held (at_mid held told)) (kept_on old new held rows fewer (taken.kept held (at_old held told))));
         last = λ c is. omega (arith, number_in found pack c number is);
@@ -122,6 +125,7 @@ module _ {D : Type 0} (g : Ghosts D) where
   taken_sound old new rows next current limits places taken placed told fewer least small limited = record {
     limited = limited;
     placed = placed;
+    blobs = taken.blobs;
     kept = λ held is. kept_on old new held rows fewer (taken.kept held (sym told ∙ is));
     last = taken.last;
     long = λ c is held now. taken.long c is held (sym told ∙ now);

@@ -17,7 +17,7 @@ use Rattle.pack_disk.specs.Disk.{Tells, SameOthers, last_number}
 use Rattle.pack_store.specs.declared.rows.Row.{Row}
 use Rattle.pack_store.specs.declared.rows.Current.{Current}
 use Rattle.pack_store.specs.Packs.{CleanIn, HeldByAll}
-use Rattle.pack_store.specs.Rows.{number_of, arrival_of, arrivals_in, IsKept}
+use Rattle.pack_store.specs.Rows.{number_of, arrival_of, arrivals_in, IsKept, IsOfBlob}
 use Rattle.pack_store.specs.Adding.{AddsRecord, row_at, IsLong, KeepsRows, HasRow}
 use Rattle.pack_store.specs.Archive.{Archive, IsSound, is_filled, needs_pack, is_full}
 use Rattle.pack_store.specs.Putting.{settled_own, pack_of, fill_of, target, fill, next_after, row_after, current_after, Stores, Fails}
@@ -123,6 +123,7 @@ module _ {D : Type 0} (g : Ghosts D)
   sound_failed places s disk r n sound absent room told rows = record {
     limited = sound.limited;
     placed = placed_taken places s.rows r n sound.placed absent;
+    blobs = sound.blobs;
     kept = rows_kept s disk _ sound.kept told rows;
     last = λ c is. no_current c is;
     long = λ c is. no_current c is;
@@ -142,13 +143,14 @@ module _ {D : Type 0} (g : Ghosts D)
       ap (option_map (λ (x : List ℕ). length x)) there ∙ ap Some (length-append had (record_of bytes) ∙ ap (λ k. k + length (record_of bytes)) long)
 
   -- the blob was stored
-  pub sound_stored : (places : FinMap ref_cmp ℕ) (s : Archive D) (disk : D) (bytes : List ℕ) → IsSound g places s → number_of (ref_of bytes) s.rows ≡ None → is_full s ≡ false
+  pub sound_stored : (places : FinMap ref_cmp ℕ) (s : Archive D) (disk : D) (bytes : List ℕ) → length bytes ≤ max_size → IsSound g places s → number_of (ref_of bytes) s.rows ≡ None → is_full s ≡ false
       → Tells (g.packs s.disk) (g.packs disk) (SameOthers (target s)) → Tells (g.packs s.disk) (g.packs disk) (AddsRecord (target s) bytes)
       → CleanIn (g.images disk) (target s) → HasRow g disk (row_after s bytes) bytes → KeepsRows g s.disk disk
       → IsSound g (insert places (ref_of bytes) (length s.rows)) (record { rows = s.rows ++ row_after s bytes ∷ []; limits = s.limits; next = next_after s; current = Some (current_after s bytes); disk = disk })
-  sound_stored places s disk bytes sound absent room told added clean row rows = record {
+  sound_stored places s disk bytes small sound absent room told added clean row rows = record {
     limited = sound.limited;
     placed = placed_push places s.rows (row_after s bytes) sound.placed absent;
+    blobs = All-append IsOfBlob s.rows (row_after s bytes ∷ []) sound.blobs (All-one IsOfBlob (row_after s bytes) (record { bytes = bytes; own = refl; small = small; long = refl }));
     kept = λ held is. All-append (IsKept held (g.images disk)) s.rows (row_after s bytes ∷ []) (rows_kept s disk _ sound.kept told rows held is) (All-one (IsKept held (g.images disk)) (row_after s bytes) (row held is).0);
     last = λ c is. ap (λ (d : Current). suc d.pack) (sym (same_current (current_after s bytes) c is)) ∙ target_next places s sound;
     long = λ c is. subst (λ (d : Current). IsLong g disk d.pack d.size) (same_current (current_after s bytes) c is) (long_after places s disk bytes sound added);
@@ -184,18 +186,18 @@ module _ {D : Type 0} (g : Ghosts D)
         record { value = refl; others = others; arrived = arrivals_kept s disk _ sound.kept others kept },
       )
 
-  pub ends_stored : (places after : FinMap ref_cmp ℕ) (s : Archive D) (disk : D) (r bytes : List ℕ) (rows : List Row) (row : Row) (current : Current) (pack size next : ℕ)
+  pub ends_stored : (places after : FinMap ref_cmp ℕ) (s : Archive D) (disk : D) (r bytes : List ℕ) (rows : List Row) (row : Row) (current : Current) (pack size next : ℕ) → length bytes ≤ max_size
       → IsSound g places s → number_of r s.rows ≡ None → is_full s ≡ false → r ≡ ref_of bytes
       → rows ≡ s.rows ++ row ∷ [] → row ≡ row_after s bytes → current ≡ current_after s bytes → after ≡ insert places r (length s.rows) → pack ≡ target s → size ≡ fill s → next ≡ next_after s
       → Tells (g.packs s.disk) (g.packs disk) (SameOthers pack) → Tells (g.packs s.disk) (g.packs disk) (AddsRecord pack bytes) → CleanIn (g.images disk) pack → HasRow g disk (row_at pack size bytes) bytes
       → KeepsRows g s.disk disk
       → IsSound g after (record { rows = rows; limits = s.limits; next = next; current = Some current; disk = disk })
       × Stores g s (record { rows = rows; limits = s.limits; next = next; current = Some current; disk = disk }) bytes
-  ends_stored places after s disk r bytes rows row current pack size next sound absent room own rows_is row_is current_is after_is pack_is size_is next_is told added clean has kept =
+  ends_stored places after s disk r bytes rows row current pack size next small sound absent room own rows_is row_is current_is after_is pack_is size_is next_is told added clean has kept =
       let others = subst (λ n. Tells (g.packs s.disk) (g.packs disk) (SameOthers n)) pack_is told in
       let more = subst (λ n. Tells (g.packs s.disk) (g.packs disk) (AddsRecord n bytes)) pack_is added in
       let stands : HasRow g disk (row_after s bytes) bytes = subst (λ (x : Row). HasRow g disk x bytes) (λ i. row_at (pack_is i) (size_is i) bytes) has in
       rw (rows_is, row_is, current_is, after_is, own, next_is) (
-        sound_stored places s disk bytes sound (ap (λ q. number_of q s.rows) (sym own) ∙ absent) room others more (subst (CleanIn (g.images disk)) pack_is clean) stands kept,
+        sound_stored places s disk bytes small sound (ap (λ q. number_of q s.rows) (sym own) ∙ absent) room others more (subst (CleanIn (g.images disk)) pack_is clean) stands kept,
         record { value = refl; added = more; arrived = arrivals_added s disk _ bytes sound.kept others kept stands },
       )

@@ -10,7 +10,9 @@ use Rattle.pack_disk.specs.Packs.{Packs}
 use Rattle.pack_disk.specs.declared.disk.Disk.{Ghosts}
 use Rattle.pack_store.specs.Adding.{AddsRecord}
 use Rattle.pack_store.specs.Archive.{Archive}
-use Rattle.pack_store.specs.Opening.{next_of, current_of}
+use Rattle.pack_store.specs.declared.limits.Limits.{Limits}
+use Rattle.pack_store.specs.Opening.{IsOpened, next_of, current_of}
+use Rattle.pack_store.specs.Reading.{StaysStill}
 use Rattle.pack_store.specs.Putting.{target, Stores}
 
 -- the store goes on behind the last of these packs, where that is clean
@@ -23,6 +25,11 @@ pub record PutsLast {D : Type 0} (g : Ghosts D) : Type 0 where
   pub arrived : (s : Archive D) (held now : Packs) (bytes : List ℕ) → GoesOn held s → length bytes ≤ max_size
       → lookup (pointwise nat_eq (ref_of bytes)) (arrivals (entries held)) ≡ None → AddsRecord (target s) bytes held now
       → arrivals (entries now) ≡ arrivals (entries held) ++ (ref_of bytes, bytes) ∷ []
-  -- and a store that put it goes on behind it
+  -- and a store that put it goes on behind it; so does one that was opened, and one that only read
   pub goes_on : (old new : Archive D) (held now : Packs) (bytes : List ℕ) → GoesOn held old → length bytes ≤ max_size
       → g.packs old.disk ≡ Some held → g.packs new.disk ≡ Some now → Stores g old new bytes → GoesOn now new
+  pub opened : (disk : D) (limits : Limits) (s : Archive D) (held : Packs) → IsOpened g disk limits s → g.packs disk ≡ Some held → GoesOn held s
+  pub still : (old new : Archive D) (held : Packs) → StaysStill g old new → GoesOn held old → GoesOn held new
+  -- reading may be done again and again
+  pub still_itself : (s : Archive D) → StaysStill g s s
+  pub still_joined : (old middle new : Archive D) → StaysStill g old middle → StaysStill g middle new → StaysStill g old new

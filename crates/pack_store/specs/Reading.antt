@@ -17,7 +17,7 @@ use Rattle.pack_disk.specs.declared.disk.Disk.{Ghosts}
 use Rattle.pack_store.specs.declared.rows.Row.{Row}
 use Rattle.pack_store.specs.declared.rows.Current.{Current}
 use Rattle.pack_store.specs.Packs.{holds, CleanIn}
-use Rattle.pack_store.specs.Rows.{arrivals_in, sizes_in}
+use Rattle.pack_store.specs.Rows.{arrivals_in, sizes_in, IsOfBlob}
 use Rattle.pack_store.specs.Adding.{IsLong}
 use Rattle.pack_store.specs.Archive.{Archive}
 
@@ -54,6 +54,8 @@ page after limit rows = take limit (filter (λ (e : List ℕ × ℕ). is_after a
 
 -- What holds of a store as long as it stands.
 pub record AreHeld {D : Type 0} (g : Ghosts D) (s : Archive D) : Type 0 where
+  -- each is a blob under its own ref, with its size, whether the disk tells or not
+  pub blobs : All IsOfBlob s.rows
   -- every image holds each of them
   pub held : (image : Packs) → g.images s.disk image → All (λ (row : Row). holds row.r image ≡ true) s.rows
   -- where the disk tells, each has its own ref and its size

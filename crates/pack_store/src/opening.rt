@@ -1,13 +1,13 @@
 //! A store is opened: each pack in order is synced and then read.
-ghost use Rattle.std.specs.Prelude.{◌≡◌, ◌≤◌, ◌^◌, ℕ, List, map, IfOk, IfErr, IfSome, OnOk, IsSome, Some, Err};
+ghost use Rattle.std.specs.Prelude.{◌≡◌, ◌≤◌, ◌^◌, ℕ, List, All, map, IfOk, IfErr, IfSome, OnOk, IsSome, Some, Err};
 ghost use Rattle.std.specs.Option.{ForSome};
 ghost use Rattle.std.specs.FinMap.{get};
 ghost use Rattle.edge_base.specs.Edge.{Rose};
-ghost use Rattle.salvage_scan.specs.Scan.{clean_of};
 ghost use Rattle.pack_disk.specs.Packs.{Packs};
 ghost use Rattle.pack_disk.specs.Disk.{last_number};
 ghost use Rattle.pack_disk.specs.Runs.{Stays};
 ghost use Rattle.pack_store.specs.declared.limits.Limits.{Limits};
+ghost use Rattle.pack_store.specs.Rows.{IsOfBlob};
 ghost use Rattle.pack_store.specs.Archive.{Archive, AreLimits, IsSound};
 ghost use Rattle.pack_store.specs.Opening.{IsOpened, IsPlaced, current_if_clean, current_by, row_of_found, take_row, take_rows, take_pack};
 
@@ -15,10 +15,10 @@ use crate::limits::Limits;
 use crate::places::Places;
 use crate::rows::{Current, Row};
 use crate::store::Store;
-use crate::whole::{PackFault, read_pack};
+use crate::whole::{PackFault, scan_pack};
 use blobref::NoMemory;
 use pack_disk::Disk;
-use salvage_scan::{Clean, Found, scan};
+use salvage_scan::{Clean, Found};
 use std::alloc::Global;
 use thiserror::Error;
 
@@ -145,6 +145,7 @@ fn take_pack<D: Disk>(
     requires placed { IsPlaced places.old rows.old.items }
     ensures rows { OnOk result (ForSome (D.packs disk.old) (λ held. (bytes : List ℕ) → get held pack ≡ Some bytes → rows.new.items ≡ take_pack rows.old.items pack bytes)) }
     ensures placed { OnOk result (IsPlaced places.new rows.new.items) }
+    ensures blobs { OnOk result (All IsOfBlob rows.old.items → All IsOfBlob rows.new.items) }
     ensures clean { IfOk result (λ current. ForSome (D.packs disk.old) (λ held. (bytes : List ℕ) → get held pack ≡ Some bytes → current ≡ current_if_clean (pack, bytes))) }
     ensures number { IfOk result (λ current. IfSome current (λ c. c.pack ≡ pack)) }
     ensures stands { OnOk result (ForSome (D.packs disk.old) (λ held. (image : Packs) → D.images disk.new image → get image pack ≡ get held pack)) }
@@ -155,10 +156,9 @@ fn take_pack<D: Disk>(
     if disk.sync(pack).is_err() {
         return Err(OpenFault::Disk);
     }
-    let bytes = read_pack(alloc, disk, pack)?;
-    let (found, clean) = scan(alloc, &bytes)?;
-    take_findings(pack, found.as_slice(), rows, places)?;
-    Ok(current_by(clean, pack, bytes.len() as u64))
+    let scan = scan_pack(alloc, disk, pack)?;
+    take_findings(pack, scan.found.as_slice(), rows, places)?;
+    Ok(current_by(scan.clean, pack, scan.size))
 }
 
 // Takes up the findings of a pack in turn.

@@ -71,8 +71,16 @@ impl<D: Disk> Store<D> {
         disk
     }
 
-    /// Every image of the disk holds each arrival. Where the disk tells its packs, each has its own ref and its size, and no pack has
-    /// the next number or a greater one. The current pack is the last one, and clean in every image.
+    /// How often a call on the disk has failed, as the disk counts it.
+    pub fn faults(&self) -> u64
+        ensures { result ≡ D.faults self.now.disk }
+    {
+        self.disk.faults()
+    }
+
+    /// Each arrival is of some bytes, at most 16,777,216 of them, under their own ref and with their number as its size. Every image of
+    /// the disk holds each. Where the disk tells its packs, the bytes are those that it has there, and no pack has the next number or a
+    /// greater one. The current pack is the last one, and clean in every image.
     pub fn arrivals_are_held(&self)
         ensures { AreHeld D.Disk self.now }
     {

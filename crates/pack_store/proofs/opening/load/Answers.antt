@@ -49,5 +49,5 @@ loop-found-preserved g c =
           c.loop-found.invariant.taken c.packs.ensures.told c.take_pack.ensures.stays.told
           (stays_images disk g.met.D.Disk.counts_now g.met.D.Disk.only_now c.loop-found.disk c.take_pack.new.disk more)
           (λ held told. sym c.in-Some.is ∙ c.in-Ok.ensures.least held told) range.0
-          c.in_ok-current.ensures.rows c.in_ok-current.ensures.clean c.in_ok-current.ensures.number c.in_ok-current.ensures.stands;
+          c.in_ok-current.ensures.rows c.in_ok-current.ensures.clean c.in_ok-current.ensures.number c.in_ok-current.ensures.blobs c.in_ok-current.ensures.stands;
     }

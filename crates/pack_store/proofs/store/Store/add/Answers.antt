@@ -65,7 +65,7 @@ invariant_of-self-2 g c =
     let current_is : current ≡ current_after s bytes = λ i. record { pack = pack_is i; size = grown i } in
     let rows_is : c.push_row.new.rows.items ≡ s.rows ++ row ∷ [] = c.push_row.ensures ∙ ap (λ rows. rows ++ row ∷ []) c.take_room.ensures.rows in
     (ends_stored disk g.met.D.Disk.reads g.met.D.Disk.tells c.self.inside.places c.take_room.new.places s c.write_blob.new.disk c.args.r.now bytes
-    c.push_row.new.rows.items row current c.end-end.result.pack c.end-end.result.size c.end-end.result.next c.self.invariant room.1 room.2 c.requires.own rows_is row_is current_is places_is pack_is size_is next_is
+    c.push_row.new.rows.items row current c.end-end.result.pack c.end-end.result.size c.end-end.result.next room.0 c.self.invariant room.1 room.2 c.requires.own rows_is row_is current_is places_is pack_is size_is next_is
     c.write_blob.ensures.told (ok_told c.write_blob.result fine c.write_blob.ensures.added) (ok_told c.write_blob.result fine c.write_blob.ensures.clean) (ok_told c.write_blob.result fine c.write_blob.ensures.row) c.write_blob.ensures.rows).0
 
 pub returns-clause-leaves : goal.returns-clause-leaves
@@ -90,7 +90,7 @@ returns-clause-leaves g c =
     let rows_is : c.push_row.new.rows.items ≡ s.rows ++ row ∷ [] = c.push_row.ensures ∙ ap (λ rows. rows ++ row ∷ []) c.take_room.ensures.rows in
     let new : Archive _ = record { rows = c.push_row.new.rows.items; limits = c.self.inside.limits; next = c.end-end.result.next; current = Some current; disk = c.write_blob.new.disk } in
     subst (λ (t : Archive _). Stores disk t new bytes) c.self.view_is (ends_stored disk g.met.D.Disk.reads g.met.D.Disk.tells c.self.inside.places c.take_room.new.places s c.write_blob.new.disk c.args.r.now bytes
-    c.push_row.new.rows.items row current c.end-end.result.pack c.end-end.result.size c.end-end.result.next c.self.invariant room.1 room.2 c.requires.own rows_is row_is current_is places_is pack_is size_is next_is
+    c.push_row.new.rows.items row current c.end-end.result.pack c.end-end.result.size c.end-end.result.next room.0 c.self.invariant room.1 room.2 c.requires.own rows_is row_is current_is places_is pack_is size_is next_is
     c.write_blob.ensures.told (ok_told c.write_blob.result fine c.write_blob.ensures.added) (ok_told c.write_blob.result fine c.write_blob.ensures.clean) (ok_told c.write_blob.result fine c.write_blob.ensures.row) c.write_blob.ensures.rows).1
 
 pub returns-clause-acknowledged : goal.returns-clause-acknowledged
