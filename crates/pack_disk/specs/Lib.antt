@@ -1,7 +1,6 @@
 pub mod Packs
 pub mod Disk
 pub mod Runs
-pub mod Plan
 pub mod PackState
 pub mod Past
 pub mod Told

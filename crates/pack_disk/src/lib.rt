@@ -8,7 +8,6 @@ mod laws;
 mod loss;
 mod memory;
 mod pack;
-mod plan;
 mod remains;
 
 pub use disk::Disk;

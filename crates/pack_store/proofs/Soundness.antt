@@ -8,8 +8,8 @@ use Rattle.std.specs.Cmp.{nat_cmp_total}
 use Rattle.std.proofs.lemmas.Bool.Decides.{nat_tests}
 use Rattle.std.proofs.lemmas.List.{map-append}
 use Rattle.std.proofs.lemmas.List.Elements.{All-append}
-use Rattle.blobref.specs.Blobref.{ref_of, ref_cmp}
-use Rattle.pack_format.specs.Header.{max_size, record_of}
+use Rattle.blobref.specs.Blobref.{IsOwnRef, ref_cmp}
+use Rattle.pack_format.specs.Header.{max_size, record_under}
 use Rattle.salvage_scan.proofs.Slices.{All-one}
 use Rattle.pack_disk.specs.Packs.{Packs}
 use Rattle.pack_disk.specs.declared.disk.Disk.{Ghosts}
@@ -132,38 +132,38 @@ module _ {D : Type 0} (g : Ghosts D)
     numbered = next_fits places s sound room;
   }
 
-  long_after : (places : FinMap ref_cmp ℕ) (s : Archive D) (disk : D) (bytes : List ℕ) → IsSound g places s → Tells (g.packs s.disk) (g.packs disk) (AddsRecord (target s) bytes)
-      → IsLong g disk (target s) (fill s + length (record_of bytes))
-  long_after places s disk bytes sound added now is =
+  long_after : (places : FinMap ref_cmp ℕ) (s : Archive D) (disk : D) (r bytes : List ℕ) → IsSound g places s → Tells (g.packs s.disk) (g.packs disk) (AddsRecord (target s) r bytes)
+      → IsLong g disk (target s) (fill s + length (record_under r bytes))
+  long_after places s disk r bytes sound added now is =
       let was = tells_before _ _ _ now added is in
       let had = unwrap_or (get was.0 (target s)) [] in
       let long = fill_length s.limits.pack_bytes s.next s.current was.0 (sound.unused was.0 was.1 s.next (omega arith)) (λ c at. sound.long c at was.0 was.1) in
-      let there : get now (target s) ≡ Some (had ++ record_of bytes) =
-      ap (λ m. get m (target s)) was.2 ∙ get-insert nat_cmp_total was.0 (target s) _ (target s) ∙ ap (λ b. cond b (Some (had ++ record_of bytes)) (get was.0 (target s))) (tied (target s) (target s) refl) in
-      ap (option_map (λ (x : List ℕ). length x)) there ∙ ap Some (length-append had (record_of bytes) ∙ ap (λ k. k + length (record_of bytes)) long)
+      let there : get now (target s) ≡ Some (had ++ record_under r bytes) =
+      ap (λ m. get m (target s)) was.2 ∙ get-insert nat_cmp_total was.0 (target s) _ (target s) ∙ ap (λ b. cond b (Some (had ++ record_under r bytes)) (get was.0 (target s))) (tied (target s) (target s) refl) in
+      ap (option_map (λ (x : List ℕ). length x)) there ∙ ap Some (length-append had (record_under r bytes) ∙ ap (λ k. k + length (record_under r bytes)) long)
 
   -- the blob was stored
-  pub sound_stored : (places : FinMap ref_cmp ℕ) (s : Archive D) (disk : D) (bytes : List ℕ) → length bytes ≤ max_size → IsSound g places s → number_of (ref_of bytes) s.rows ≡ None → is_full s ≡ false
-      → Tells (g.packs s.disk) (g.packs disk) (SameOthers (target s)) → Tells (g.packs s.disk) (g.packs disk) (AddsRecord (target s) bytes)
-      → CleanIn (g.images disk) (target s) → HasRow g disk (row_after s bytes) bytes → KeepsRows g s.disk disk
-      → IsSound g (insert places (ref_of bytes) (length s.rows)) (record { rows = s.rows ++ row_after s bytes ∷ []; limits = s.limits; next = next_after s; current = Some (current_after s bytes); disk = disk })
-  sound_stored places s disk bytes small sound absent room told added clean row rows = record {
+  pub sound_stored : (places : FinMap ref_cmp ℕ) (s : Archive D) (disk : D) (r bytes : List ℕ) → IsOwnRef r bytes → length bytes ≤ max_size → IsSound g places s → number_of (r) s.rows ≡ None → is_full s ≡ false
+      → Tells (g.packs s.disk) (g.packs disk) (SameOthers (target s)) → Tells (g.packs s.disk) (g.packs disk) (AddsRecord (target s) r bytes)
+      → CleanIn (g.images disk) (target s) → HasRow g disk (row_after s r bytes) bytes → KeepsRows g s.disk disk
+      → IsSound g (insert places (r) (length s.rows)) (record { rows = s.rows ++ row_after s r bytes ∷ []; limits = s.limits; next = next_after s; current = Some (current_after s r bytes); disk = disk })
+  sound_stored places s disk r bytes own small sound absent room told added clean row rows = record {
     limited = sound.limited;
-    placed = placed_push places s.rows (row_after s bytes) sound.placed absent;
-    blobs = All-append IsOfBlob s.rows (row_after s bytes ∷ []) sound.blobs (All-one IsOfBlob (row_after s bytes) (record { bytes = bytes; own = refl; small = small; long = refl }));
-    kept = λ held is. All-append (IsKept held (g.images disk)) s.rows (row_after s bytes ∷ []) (rows_kept s disk _ sound.kept told rows held is) (All-one (IsKept held (g.images disk)) (row_after s bytes) (row held is).0);
-    last = λ c is. ap (λ (d : Current). suc d.pack) (sym (same_current (current_after s bytes) c is)) ∙ target_next places s sound;
-    long = λ c is. subst (λ (d : Current). IsLong g disk d.pack d.size) (same_current (current_after s bytes) c is) (long_after places s disk bytes sound added);
-    clean = λ c is. subst (λ (d : Current). CleanIn (g.images disk) d.pack) (same_current (current_after s bytes) c is) clean;
+    placed = placed_push places s.rows (row_after s r bytes) sound.placed absent;
+    blobs = All-append IsOfBlob s.rows (row_after s r bytes ∷ []) sound.blobs (All-one IsOfBlob (row_after s r bytes) (record { bytes = bytes; own = own; small = small; long = refl }));
+    kept = λ held is. All-append (IsKept held (g.images disk)) s.rows (row_after s r bytes ∷ []) (rows_kept s disk _ sound.kept told rows held is) (All-one (IsKept held (g.images disk)) (row_after s r bytes) (row held is).0);
+    last = λ c is. ap (λ (d : Current). suc d.pack) (sym (same_current (current_after s r bytes) c is)) ∙ target_next places s sound;
+    long = λ c is. subst (λ (d : Current). IsLong g disk d.pack d.size) (same_current (current_after s r bytes) c is) (long_after places s disk r bytes sound added);
+    clean = λ c is. subst (λ (d : Current). CleanIn (g.images disk) d.pack) (same_current (current_after s r bytes) c is) clean;
     unused = none_beyond places s disk sound told;
     numbered = next_fits places s sound room;
   }
 
-  pub arrivals_added : (s : Archive D) (disk : D) (P : Packs → Packs → Type 0) (bytes : List ℕ) → ForSome (g.packs s.disk) (λ held. All (IsKept held (g.images s.disk)) s.rows)
-      → Tells (g.packs s.disk) (g.packs disk) P → KeepsRows g s.disk disk → HasRow g disk (row_after s bytes) bytes
-      → Tells (g.packs s.disk) (g.packs disk) (λ before now. arrivals_in now (s.rows ++ row_after s bytes ∷ []) ≡ arrivals_in before s.rows ++ (ref_of bytes, bytes) ∷ [])
-  arrivals_added s disk P bytes kept told rows row = tells_map _ _ (λ before now. arrivals_in now s.rows ≡ arrivals_in before s.rows) _
-      (λ before now was is same. map-append (arrival_of now) s.rows (row_after s bytes ∷ []) ∙ (λ i. same i ++ (row now is).1 i ∷ []))
+  pub arrivals_added : (s : Archive D) (disk : D) (P : Packs → Packs → Type 0) (r bytes : List ℕ) → ForSome (g.packs s.disk) (λ held. All (IsKept held (g.images s.disk)) s.rows)
+      → Tells (g.packs s.disk) (g.packs disk) P → KeepsRows g s.disk disk → HasRow g disk (row_after s r bytes) bytes
+      → Tells (g.packs s.disk) (g.packs disk) (λ before now. arrivals_in now (s.rows ++ row_after s r bytes ∷ []) ≡ arrivals_in before s.rows ++ (r, bytes) ∷ [])
+  arrivals_added s disk P r bytes kept told rows row = tells_map _ _ (λ before now. arrivals_in now s.rows ≡ arrivals_in before s.rows) _
+      (λ before now was is same. map-append (arrival_of now) s.rows (row_after s r bytes ∷ []) ∙ (λ i. same i ++ (row now is).1 i ∷ []))
       (arrivals_kept s disk P kept told rows)
 
   pub row_acknowledged : (disk : D) (row : Row) (bytes : List ℕ) → HasRow g disk row bytes → HeldByAll (g.images disk) row.r
@@ -186,18 +186,18 @@ module _ {D : Type 0} (g : Ghosts D)
         record { value = refl; others = others; arrived = arrivals_kept s disk _ sound.kept others kept },
       )
 
-  pub ends_stored : (places after : FinMap ref_cmp ℕ) (s : Archive D) (disk : D) (r bytes : List ℕ) (rows : List Row) (row : Row) (current : Current) (pack size next : ℕ) → length bytes ≤ max_size
-      → IsSound g places s → number_of r s.rows ≡ None → is_full s ≡ false → r ≡ ref_of bytes
-      → rows ≡ s.rows ++ row ∷ [] → row ≡ row_after s bytes → current ≡ current_after s bytes → after ≡ insert places r (length s.rows) → pack ≡ target s → size ≡ fill s → next ≡ next_after s
-      → Tells (g.packs s.disk) (g.packs disk) (SameOthers pack) → Tells (g.packs s.disk) (g.packs disk) (AddsRecord pack bytes) → CleanIn (g.images disk) pack → HasRow g disk (row_at pack size bytes) bytes
+  pub ends_stored : (places after : FinMap ref_cmp ℕ) (s : Archive D) (disk : D) (r bytes : List ℕ) (rows : List Row) (row : Row) (current : Current) (pack size next : ℕ) → IsOwnRef r bytes → length bytes ≤ max_size
+      → IsSound g places s → number_of r s.rows ≡ None → is_full s ≡ false
+      → rows ≡ s.rows ++ row ∷ [] → row ≡ row_after s r bytes → current ≡ current_after s r bytes → after ≡ insert places r (length s.rows) → pack ≡ target s → size ≡ fill s → next ≡ next_after s
+      → Tells (g.packs s.disk) (g.packs disk) (SameOthers pack) → Tells (g.packs s.disk) (g.packs disk) (AddsRecord pack r bytes) → CleanIn (g.images disk) pack → HasRow g disk (row_at pack size r bytes) bytes
       → KeepsRows g s.disk disk
       → IsSound g after (record { rows = rows; limits = s.limits; next = next; current = Some current; disk = disk })
-      × Stores g s (record { rows = rows; limits = s.limits; next = next; current = Some current; disk = disk }) bytes
-  ends_stored places after s disk r bytes rows row current pack size next small sound absent room own rows_is row_is current_is after_is pack_is size_is next_is told added clean has kept =
+      × Stores g s (record { rows = rows; limits = s.limits; next = next; current = Some current; disk = disk }) r bytes
+  ends_stored places after s disk r bytes rows row current pack size next own small sound absent room rows_is row_is current_is after_is pack_is size_is next_is told added clean has kept =
       let others = subst (λ n. Tells (g.packs s.disk) (g.packs disk) (SameOthers n)) pack_is told in
-      let more = subst (λ n. Tells (g.packs s.disk) (g.packs disk) (AddsRecord n bytes)) pack_is added in
-      let stands : HasRow g disk (row_after s bytes) bytes = subst (λ (x : Row). HasRow g disk x bytes) (λ i. row_at (pack_is i) (size_is i) bytes) has in
-      rw (rows_is, row_is, current_is, after_is, own, next_is) (
-        sound_stored places s disk bytes small sound (ap (λ q. number_of q s.rows) (sym own) ∙ absent) room others more (subst (CleanIn (g.images disk)) pack_is clean) stands kept,
-        record { value = refl; added = more; arrived = arrivals_added s disk _ bytes sound.kept others kept stands },
+      let more = subst (λ n. Tells (g.packs s.disk) (g.packs disk) (AddsRecord n r bytes)) pack_is added in
+      let stands : HasRow g disk (row_after s r bytes) bytes = subst (λ (x : Row). HasRow g disk x bytes) (λ i. row_at (pack_is i) (size_is i) r bytes) has in
+      rw (rows_is, row_is, current_is, after_is, next_is) (
+        sound_stored places s disk r bytes own small sound absent room others more (subst (CleanIn (g.images disk)) pack_is clean) stands kept,
+        record { value = refl; added = more; arrived = arrivals_added s disk _ r bytes sound.kept others kept stands },
       )

@@ -1,5 +1,5 @@
 -- What holds of the arrivals of a store as long as it stands, and of puts and stops on its disk.
-use Rattle.std.proofs.Common.{◌≡◌, ℕ, suc, ◌≤◌, ◌<◌, ◌||◌, cond, Bool, true, false, List, [], ◌∷◌, ◌++◌, length, drop, map, Some, refl, sym, ap, ◌∙◌, arith, length-drop, nat_eq, slice_index_or}
+use Rattle.std.proofs.Common.{◌≡◌, ℕ, suc, ◌≤◌, ◌<◌, ◌||◌, cond, Bool, true, false, List, [], ◌∷◌, ◌++◌, length, drop, map, Some, refl, sym, ap, subst, ◌∙◌, arith, length-drop, nat_eq, slice_index_or}
 use Rattle.std.specs.List.{list_any, All}
 use Rattle.std.specs.Map.{lookup}
 use Rattle.std.specs.Option.{is_some, ForSome}
@@ -7,7 +7,7 @@ use Rattle.std.specs.FinMap.{FinMap, entries}
 use Rattle.std.specs.Cmp.Lexicographic.{pointwise, same_text}
 use Rattle.std.proofs.lemmas.List.{length-take}
 use Rattle.std.proofs.lemmas.List.Elements.{All-map}
-use Rattle.blobref.specs.Blobref.{ref_of, ref_cmp}
+use Rattle.blobref.specs.Blobref.{IsOwnRef, ref_cmp}
 use Rattle.salvage_scan.specs.Salvage.{Finding, salvage}
 use Rattle.salvage_scan.specs.Arrivals.{blob_of, findings, arrivals}
 use Rattle.salvage_scan.proofs.Arriving.{arrivals_are_firsts}
@@ -49,7 +49,7 @@ module _ {D : Type 0} (g : Ghosts D)
   are_held places s sound = record {
     blobs = sound.blobs;
     held = λ image is k d lt. let now = tells s.disk image is in row_held _ image ((sound.kept now.0 now.1 k d lt).found image is);
-    named = λ told is. All-map (λ (a : List ℕ × List ℕ). ref_of a.1 ≡ a.0) (arrival_of told) s.rows (λ k d lt. never_damaged _ told (g.images s.disk) (reads s.disk told is) (sound.kept told is k d lt));
+    named = λ told is. All-map (λ (a : List ℕ × List ℕ). IsOwnRef a.0 a.1) (arrival_of told) s.rows (λ k d lt. never_damaged _ told (g.images s.disk) (reads s.disk told is) (sound.kept told is k d lt));
     sized = λ told is. sizes_told told (g.images s.disk) s.rows (reads s.disk told is) (sound.kept told is);
     unused = sound.unused;
     last = sound.last;
@@ -94,13 +94,13 @@ pub holds_arrived : (r : List ℕ) (held : Packs) → holds r held ≡ is_some (
 holds_arrived r held = found_in_packs r (entries held) ∙ ap is_some (sym (arrivals_are_firsts.first (entries held) r))
 
 -- what is found under a ref in such a list has it
-named_in : (r found : List ℕ) (blobs : List (List ℕ × List ℕ)) → All (λ (a : List ℕ × List ℕ). ref_of a.1 ≡ a.0) blobs → lookup (pointwise nat_eq r) blobs ≡ Some found → ref_of found ≡ r
+named_in : (r found : List ℕ) (blobs : List (List ℕ × List ℕ)) → All (λ (a : List ℕ × List ℕ). IsOwnRef a.0 a.1) blobs → lookup (pointwise nat_eq r) blobs ≡ Some found → IsOwnRef r found
 named_in r found [] named is = absurd (cc is)
 named_in r found (a ∷ blobs) named is = go (pointwise nat_eq r a.0) refl is (named_in r found blobs (λ k d lt. named (suc k) d (omega (arith, lt))))
   where
     go : (b : Bool) → pointwise nat_eq r a.0 ≡ b → cond b (Some a.1) (lookup (pointwise nat_eq r) blobs) ≡ Some found
-        → (lookup (pointwise nat_eq r) blobs ≡ Some found → ref_of found ≡ r) → ref_of found ≡ r
-    go true e here more = ap ref_of (sym (some_same a.1 found here)) ∙ named 0 a (omega arith) ∙ sym (same_text r a.0 (sym e))
+        → (lookup (pointwise nat_eq r) blobs ≡ Some found → IsOwnRef r found) → IsOwnRef r found
+    go true e here more = subst (IsOwnRef r) (some_same a.1 found here) (subst (λ q. IsOwnRef q a.1) (sym (same_text r a.0 (sym e))) (named 0 a (omega arith)))
     go false e later more = more later
 
 pub holds_content : HoldsContent

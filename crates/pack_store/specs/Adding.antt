@@ -2,8 +2,7 @@
 use Rattle.std.specs.Prelude.{◌≡◌, ℕ, ◌+◌, ◌≤◌, List, [], ◌++◌, length, Bool, true, false, None, Some, unwrap_or}
 use Rattle.std.specs.Option.{ForSome, option_map}
 use Rattle.std.specs.FinMap.{get, insert}
-use Rattle.blobref.specs.Blobref.{ref_of}
-use Rattle.pack_format.specs.Header.{header, record_of}
+use Rattle.pack_format.specs.Header.{header, record_under}
 use Rattle.pack_disk.specs.Packs.{Packs}
 use Rattle.pack_disk.specs.Disk.{last_number}
 use Rattle.pack_disk.specs.declared.disk.Disk.{Ghosts}
@@ -11,17 +10,17 @@ use Rattle.pack_store.specs.declared.rows.Row.{Row}
 use Rattle.pack_store.specs.Packs.{CleanIn}
 use Rattle.pack_store.specs.Rows.{arrival_of, IsKept}
 
--- the record was added behind the bytes of a pack, which was made where it wasn't there
-abbrev pub AddsRecord : ℕ → List ℕ → Packs → Packs → Type 0
-AddsRecord n bytes before now = now ≡ insert before n (unwrap_or (get before n) [] ++ record_of bytes)
+-- the record of a blob under a ref was added behind the bytes of a pack, which was made where it wasn't there
+abbrev pub AddsRecord : ℕ → (r bytes : List ℕ) → Packs → Packs → Type 0
+AddsRecord n r bytes before now = now ≡ insert before n (unwrap_or (get before n) [] ++ record_under r bytes)
 
 -- the pack has the same bytes, none where it wasn't there
 abbrev pub SameBytes : ℕ → Packs → Packs → Type 0
 SameBytes n before now = unwrap_or (get now n) [] ≡ unwrap_or (get before n) []
 
--- where a blob stands whose record begins at a place in a pack
-abbrev pub row_at : (pack start : ℕ) → List ℕ → Row
-row_at pack start bytes = record { r = ref_of bytes; pack = pack; at = start + length (header (ref_of bytes) (length bytes)); size = length bytes }
+-- where a blob stands whose record under a ref begins at a place in a pack
+abbrev pub row_at : (pack start : ℕ) (r bytes : List ℕ) → Row
+row_at pack start r bytes = record { r = r; pack = pack; at = start + length (header r (length bytes)); size = length bytes }
 
 -- where the disk tells, the pack has this length
 abbrev pub IsLong : {D : Type 0} → Ghosts D → D → ℕ → ℕ → Type 0

@@ -4,7 +4,7 @@ use Rattle.std.specs.Option.{is_some}
 use Rattle.std.specs.Cmp.Lexicographic.{pointwise}
 use Rattle.std.specs.FinMap.{entries}
 use Rattle.std.specs.Map.{lookup}
-use Rattle.blobref.specs.Blobref.{ref_like}
+use Rattle.blobref.specs.Blobref.{IsOwnRef, ref_like}
 use Rattle.salvage_scan.specs.Arrivals.{arrivals}
 use Rattle.pack_disk.specs.Packs.{Packs}
 use Rattle.pack_disk.specs.Runs.{Stays}
@@ -34,5 +34,5 @@ pub record LivesKeep {D : Type 0} (g : Ghosts D) : Type 0 where
       → is_some (lookup (pointwise nat_eq r) (arrivals (entries told))) ≡ true
   -- the bytes that arrive are those of a blob of that ref, if these two don't share it
   pub same : (old new : D) (r bytes found : List ℕ) (told : Packs) → Lives g old new → HeldByAll (g.images old) r → g.packs new ≡ Some told
-      → ref_like r bytes ≡ r → (ref_like r found ≡ ref_like r bytes → found ≡ bytes)
+      → IsOwnRef r bytes → (ref_like r found ≡ ref_like r bytes → found ≡ bytes)
       → lookup (pointwise nat_eq r) (arrivals (entries told)) ≡ Some found → lookup (pointwise nat_eq r) (arrivals (entries told)) ≡ Some bytes

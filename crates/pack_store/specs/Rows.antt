@@ -3,7 +3,7 @@ use Rattle.std.specs.Prelude.{◌≡◌, ℕ, ◌≤◌, List, [], length, take,
 use Rattle.std.specs.List.{list_any, position_from}
 use Rattle.std.specs.Cmp.Lexicographic.{pointwise}
 use Rattle.std.specs.FinMap.{get}
-use Rattle.blobref.specs.Blobref.{ref_like}
+use Rattle.blobref.specs.Blobref.{IsOwnRef}
 use Rattle.pack_format.specs.Header.{max_size}
 use Rattle.salvage_scan.specs.Salvage.{Finding, salvage}
 use Rattle.pack_disk.specs.Packs.{Packs}
@@ -16,7 +16,7 @@ is_found_as row f = pointwise nat_eq f.r row.r && (f.at == row.at) && (length f.
 -- there are bytes of a blob whose own ref is the row's, and the row's size is their length
 pub record IsOfBlob (row : Row) : Type 0 where
   pub bytes : List ℕ
-  pub own : ref_like row.r bytes ≡ row.r
+  pub own : IsOwnRef row.r bytes
   pub small : length bytes ≤ max_size
   pub long : row.size ≡ length bytes
 

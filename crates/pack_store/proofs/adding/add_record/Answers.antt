@@ -29,22 +29,22 @@ returns-clause-rows g c =
 pub returns-clause-added : goal.returns-clause-added
 returns-clause-added g c =
     let disk = g.D.Disk in
-    on_ok c.sync.result (λ durable. told_added disk g.met.D.Disk.reads g.met.D.Disk.tells c.args.disk.now c.append.new.self c.sync.new.self c.args.pack c.args.size c.args.bytes.now c.requires.long
+    on_ok c.sync.result (λ durable. told_added disk g.met.D.Disk.reads g.met.D.Disk.tells c.args.disk.now c.append.new.self c.sync.new.self c.args.pack c.args.size c.args.r.now c.args.bytes.now c.requires.long
     c.append.ensures.told (rw (← c.requires.text) c.in_ok-append.ensures.appended) c.sync.ensures.told)
     c.sync.ensures.durable
 
 pub returns-clause-clean : goal.returns-clause-clean
 returns-clause-clean g c =
     let disk = g.D.Disk in
-    on_ok c.sync.result (λ durable. stands_clean (disk.images c.sync.new.self) c.args.pack c.args.size c.args.bytes.now c.requires.small
-    (synced disk g.met.D.Disk.reads g.met.D.Disk.tells c.args.disk.now c.append.new.self c.sync.new.self c.args.pack c.args.size c.args.bytes.now c.requires.clean c.requires.long
+    on_ok c.sync.result (λ durable. stands_clean (disk.images c.sync.new.self) c.args.pack c.args.size c.args.r.now c.args.bytes.now c.requires.own c.requires.small
+    (synced disk g.met.D.Disk.reads g.met.D.Disk.tells c.args.disk.now c.append.new.self c.sync.new.self c.args.pack c.args.size c.args.r.now c.args.bytes.now c.requires.clean c.requires.long
     (rw (← c.requires.text) c.in_ok-append.ensures.appended) c.sync.ensures.told durable))
     c.sync.ensures.durable
 
 pub returns-clause-row : goal.returns-clause-row
 returns-clause-row g c =
     let disk = g.D.Disk in
-    on_ok c.sync.result (λ durable. stands_row disk g.met.D.Disk.reads g.met.D.Disk.tells c.sync.new.self c.args.pack c.args.size c.args.bytes.now c.requires.small
-    (synced disk g.met.D.Disk.reads g.met.D.Disk.tells c.args.disk.now c.append.new.self c.sync.new.self c.args.pack c.args.size c.args.bytes.now c.requires.clean c.requires.long
+    on_ok c.sync.result (λ durable. stands_row disk g.met.D.Disk.reads g.met.D.Disk.tells c.sync.new.self c.args.pack c.args.size c.args.r.now c.args.bytes.now c.requires.own c.requires.small
+    (synced disk g.met.D.Disk.reads g.met.D.Disk.tells c.args.disk.now c.append.new.self c.sync.new.self c.args.pack c.args.size c.args.r.now c.args.bytes.now c.requires.clean c.requires.long
     (rw (← c.requires.text) c.in_ok-append.ensures.appended) c.sync.ensures.told durable))
     c.sync.ensures.durable

@@ -4,7 +4,7 @@ use Rattle.pack_store.proofs.adding.write_blob.Goals as goal
 
 pub returns-clause-added : goal.returns-clause-added
 returns-clause-added g c = on_ok c.add_record.result
-    (λ added. tells_then _ _ _ _ _ _ (λ first before now ready more. adds_then c.args.end.pack c.args.bytes.now first before now ready.0 ready.1 more)
+    (λ added. tells_then _ _ _ _ _ _ (λ first before now ready more. adds_then c.args.end.pack c.args.r.now c.args.bytes.now first before now ready.0 ready.1 more)
     (tells_both _ _ _ _ c.ready_pack.ensures.told c.in_ok-ready_pack.ensures.same) added)
     c.add_record.ensures.added
 

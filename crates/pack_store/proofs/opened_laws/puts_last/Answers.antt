@@ -8,14 +8,14 @@ use Rattle.pack_store.proofs.opened_laws.puts_last.Goals as goal
 
 pub returns : goal.returns
 returns g c = record {
-  arrived = λ s held now bytes on small none added.
-      arrives_last held now (target s) (fill s) bytes (goes_behind held s.next s.current (needs_pack s) on.next on.current (ap (is_filled s.limits.pack_bytes))) small none added;
-  goes_on = λ old new held now bytes on small before after stores.
-      let added = told_both _ _ (AddsRecord (target old) bytes) held now before after stores.added in
+  arrived = λ s held now r bytes on own small none added.
+      arrives_last held now (target s) (fill s) r bytes (goes_behind held s.next s.current (needs_pack s) on.next on.current (ap (is_filled s.limits.pack_bytes))) own small none added;
+  goes_on = λ old new held now r bytes on own small before after stores.
+      let added = told_both _ _ (AddsRecord (target old) r bytes) held now before after stores.added in
       let behind = goes_behind held old.next old.current (needs_pack old) on.next on.current (ap (is_filled old.limits.pack_bytes)) in
       record {
-        next = ap (λ s. s.next) stores.value ∙ next_behind held old.next old.current (needs_pack old) on.next on.current (ap (is_filled old.limits.pack_bytes)) ∙ ends_next held now (target old) (fill old) bytes behind added;
-        current = ap (λ s. s.current) stores.value ∙ ends_current held now (target old) (fill old) bytes behind small added;
+        next = ap (λ s. s.next) stores.value ∙ next_behind held old.next old.current (needs_pack old) on.next on.current (ap (is_filled old.limits.pack_bytes)) ∙ ends_next held now (target old) (fill old) r bytes behind added;
+        current = ap (λ s. s.current) stores.value ∙ ends_current held now (target old) (fill old) r bytes behind own small added;
       };
   opened = λ disk limits s held opened is. record { next = opened.next held is; current = opened.current held is };
   still = λ old new held stays on. record { next = ap (λ s. s.next) stays.value ∙ on.next; current = ap (λ s. s.current) stays.value ∙ on.current };
