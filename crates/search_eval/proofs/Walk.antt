@@ -118,7 +118,7 @@ kept_same : (facts : Facts) (accepts : Accepts) (when : When) (test : Option Per
 kept_same facts accepts when None r genuine = refl
 kept_same facts accepts when (Some test) r genuine = by (is_genuine_permanode facts accepts r) (is_deleted facts accepts when r) genuine
   where
-    by : (g d : Bool) → g ≡ true → (not d && ((g && not d) && values_meet facts accepts when test.attr test.value r)) ≡ (not d && values_meet facts accepts when test.attr test.value r)
+    by : (g d : Bool) → g ≡ true → (not d && ((g && not d) && values_meet facts accepts when test r)) ≡ (not d && values_meet facts accepts when test r)
     by true true h = refl
     by true false h = refl
     by false d h = absurd (false≢true h)

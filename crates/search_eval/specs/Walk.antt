@@ -11,7 +11,7 @@ use Rattle.search_eval.specs.Meaning.{values_meet}
 -- whether the values of a permanode meet the test, where there is one
 abbrev pub test_met : Facts → Accepts → When → Option PermanodeTest → List ℕ → Bool
 test_met facts accepts when None r = true
-test_met facts accepts when (Some test) r = values_meet facts accepts when test.attr test.value r
+test_met facts accepts when (Some test) r = values_meet facts accepts when test r
 
 -- whether a genuine permanode is among what the query asks for
 abbrev pub is_found : Facts → Accepts → Query → List ℕ → Bool

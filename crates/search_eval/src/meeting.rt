@@ -35,7 +35,7 @@ pub(crate) fn values_meet<K: Look, L: Ledger>(
     when: &When,
     steps: &mut Steps<L>,
 ) -> Result<bool, NoMemory>
-    ensures { IfOk result (λ met. met ≡ values_meet (K.facts look.now) (K.accepts look.now) when.now test.now.attr test.now.value p.now) }
+    ensures { IfOk result (λ met. met ≡ values_meet (K.facts look.now) (K.accepts look.now) when.now test.now p.now) }
 {
     match &test.attr {
         None => Ok(true),
