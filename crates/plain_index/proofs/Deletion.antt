@@ -14,8 +14,8 @@ use Rattle.schema_fact.specs.declared.kinds.Kind.TheVariants.{Plain, Key, File, 
 use Rattle.claim_model.specs.Facts.{Facts, Entry, passes}
 use Rattle.claim_model.specs.Genuine.{is_genuine}
 use Rattle.claim_model.specs.Deleted.{deletes, what_deletes, counts_at, can_be_deleted, deleted_within}
-use Rattle.plain_index.specs.Claims.{subject, claim_under, claims_about}
-use Rattle.plain_index.proofs.Tables.{entries_had}
+use Rattle.index_look.specs.Claims.{subject, claim_under, claims_about}
+use Rattle.index_look.proofs.Entries.{entries_had}
 
 abbrev Pair : Type 0
 Pair = List ℕ × List ℕ

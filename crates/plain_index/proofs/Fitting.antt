@@ -14,7 +14,8 @@ use Rattle.claim_model.specs.Trees.{own_size, parts_fit, sound_within, is_sound_
 use Rattle.claim_model.proofs.Iterated.{no_fact, settled_on}
 use Rattle.claim_model.proofs.Soundness.{deeper, deeper_is, depths_are}
 use Rattle.plain_index.specs.Tables.{IsAscending, IsPlaceOf, beside}
-use Rattle.plain_index.proofs.Tables.{map_of, beside-map, get_found, map-both_had, len-ascending}
+use Rattle.index_look.proofs.Entries.{map_of}
+use Rattle.plain_index.proofs.Tables.{beside-map, get_found, map-both_had, len-ascending}
 use Rattle.plain_index.proofs.Settling.{beside-ready}
 
 -- each fact of a valid list is valid

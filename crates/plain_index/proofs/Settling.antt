@@ -11,10 +11,11 @@ use Rattle.claim_model.specs.Facts.{Entry, Facts, passes, is_permanode}
 use Rattle.claim_model.specs.Ready.{round, is_ready}
 use Rattle.claim_model.specs.Genuine.{is_genuine, is_signed, permanodes}
 use Rattle.claim_verify.specs.Verifier.{Accepts}
-use Rattle.plain_index.specs.Claims.{claim_under, claims_about}
-use Rattle.plain_index.proofs.Order.{entries_in_order}
+use Rattle.index_look.specs.Claims.{claim_under, claims_about}
+use Rattle.index_look.proofs.Order.{entries_in_order}
 use Rattle.plain_index.specs.Tables.{IsAscending, beside}
-use Rattle.plain_index.proofs.Tables.{map_of, same_ref, beside-map, all_had, map-had, len-ascending, keys_kept}
+use Rattle.index_look.proofs.Entries.{map_of, same_ref, all_had}
+use Rattle.plain_index.proofs.Tables.{beside-map, map-had, len-ascending, keys_kept}
 
 -- the table of a round
 abbrev pub round_table : List Entry → ℕ → List Bool

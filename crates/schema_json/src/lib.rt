@@ -8,6 +8,3 @@ mod reading;
 mod signing;
 
 pub use reading::fact;
-
-#[cfg(test)]
-mod tests;

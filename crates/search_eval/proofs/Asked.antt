@@ -11,12 +11,11 @@ use Rattle.std.specs.FinMap.{keys, get, contains_key-keys, IsAntisymmetric}
 use Rattle.std.specs.Str.{bytes_eq}
 use Rattle.std.proofs.lemmas.Map.Text.{is_eq-slice_cmp}
 use Rattle.std.proofs.lemmas.Slice.Eq.{bytes_eq-Decides}
-use Rattle.schema_fact.specs.declared.kinds.Fact.{Fact}
-use Rattle.plain_index.proofs.Keys.{key_put, keys_put, keys-from_entries}
+use Rattle.index_look.proofs.Keys.{key_put, keys_put, keys-from_entries}
 use Rattle.std.specs.List.Sorted.{IsStrictlySortedBy}
 use Rattle.std.specs.FinMap.{from_entries}
 use Rattle.blobref.specs.Blobref.{ref_cmp}
-use Rattle.plain_index.proofs.Order.{ascending_entries}
+use Rattle.index_look.proofs.Order.{ascending_entries}
 use Rattle.search_eval.proofs.Walk.{filter_ascends, permanodes_ascend}
 use Rattle.claim_verify.specs.Verifier.{Accepts}
 use Rattle.claim_model.specs.Facts.{Facts, passes, is_permanode}
@@ -137,6 +136,11 @@ or_second : (a b : Bool) → a ≡ false → (a || b) ≡ true → b ≡ true
 or_second true b h t = absurd (false≢true (sym h))
 or_second false b h t = t
 
+-- what passes is there
+some_passes : {A : Type 0} (test : A → Bool) (o : Option A) → passes test o ≡ true → is_some o ≡ true
+some_passes test None t = t
+some_passes test (Some x) t = refl
+
 module _ (r : List ℕ) where
   abbrev stands_in : List (List ℕ) → Bool
   stands_in rs = list_any (bytes_eq r) rs
@@ -221,12 +225,8 @@ module _ (r : List ℕ) where
   in_each_order ModDown changed rs found = by_date falling_cmp falling_total falling_same changed rs found
 
   -- what has a fact is among the refs of the facts
-  has_fact : (facts : Facts) (test : Fact → Bool) → passes test (get facts r) ≡ true → stands_in (keys facts) ≡ true
-  has_fact facts test h = (λ i. list_any (λ x. sym (is_eq-slice_cmp r x) i) (keys facts)) ∙ sym (contains_key-keys facts r) ∙ by (get facts r) h
-    where
-      by : (o : Option Fact) → passes test o ≡ true → is_some o ≡ true
-      by None t = t
-      by (Some fact) t = refl
+  has_fact : (facts : Facts) → is_some (get facts r) ≡ true → stands_in (keys facts) ≡ true
+  has_fact facts some = (λ i. list_any (λ x. sym (is_eq-slice_cmp r x) i) (keys facts)) ∙ sym (contains_key-keys facts r) ∙ some
 
 not_true : (b : Bool) → not b ≡ true → b ≡ false
 not_true true h = absurd (false≢true h)
@@ -284,7 +284,7 @@ module _ (facts : Facts) (accepts : Accepts) (query : Query) where
       let parts = and_parts (is_genuine facts accepts r) (passes (λ fact. is_permanode fact.kind) (get facts r)) is.genuine in
       kept r (meets facts accepts query.at query.constraint) (live_permanodes facts accepts query.at) is.met
       (kept r (λ q. not (is_deleted facts accepts query.at q)) (permanodes facts accepts) (ap not is.live)
-      (kept r (is_genuine_permanode facts accepts) (keys facts) is.genuine (has_fact r facts (λ fact. is_permanode fact.kind) parts.1)))
+      (kept r (is_genuine_permanode facts accepts) (keys facts) is.genuine (has_fact r facts (some_passes (λ fact. is_permanode fact.kind) (get facts r) parts.1))))
 
   answer_left_out : (r : List ℕ) → IsAsked facts accepts query r → list_any (bytes_eq r) (answer facts accepts query) ≡ false → IsBeyond facts accepts query r
   answer_left_out r is out =

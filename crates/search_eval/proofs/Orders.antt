@@ -11,8 +11,8 @@ use Rattle.std.specs.Map.{keys_of}
 use Rattle.std.specs.FinMap.{IsAntisymmetric, int_cmp-IsAntisymmetric}
 use Rattle.std.proofs.lemmas.Map.Keys.{sorted_head, sorted_tail, IsDistinct-cons}
 use Rattle.blobref.specs.Blobref.{ref_cmp}
-use Rattle.plain_index.proofs.Tables.{same_ref}
-use Rattle.plain_index.proofs.Keys.{keys_sorted}
+use Rattle.index_look.proofs.Entries.{same_ref}
+use Rattle.index_look.proofs.Keys.{keys_sorted}
 use Rattle.search_eval.specs.Answer.{Dated, rising_cmp, falling_cmp, refs_by, dated}
 
 dates_total : IsTotalOrder (option_cmp int_cmp)

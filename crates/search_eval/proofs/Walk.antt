@@ -16,8 +16,8 @@ use Rattle.schema_date.specs.declared.date.When.{When}
 use Rattle.claim_model.specs.Facts.{Facts}
 use Rattle.claim_model.specs.Genuine.{permanodes, is_genuine_permanode}
 use Rattle.claim_model.specs.Deleted.{is_deleted}
-use Rattle.plain_index.specs.Look.{is_after}
-use Rattle.plain_index.proofs.Tables.{keys_ascend}
+use Rattle.index_look.specs.Look.{is_after}
+use Rattle.index_look.proofs.Entries.{keys_ascend}
 use Rattle.search_query.specs.declared.query.PermanodeTest.{PermanodeTest}
 use Rattle.search_query.specs.declared.query.Query.{Query}
 use Rattle.search_eval.specs.Meaning.{meets, meets_permanode, values_meet}

@@ -10,7 +10,7 @@ use crate::meeting::values_meet;
 use crate::ordering::in_order;
 use blobref::{NoMemory, Ref, RefList};
 use edge_base::Steps;
-use plain_index::Look;
+use index_look::Look;
 use search_query::Query;
 use std::alloc::Global;
 use std::sync::ledger::Ledger;

@@ -4,7 +4,7 @@ ghost use Rattle.search_query.specs.declared.query.Query.{Query};
 ghost use Rattle.search_eval.specs.Answer.{answer, answer_bytes};
 ghost use Rattle.search_eval.specs.Laws.{AnswersAreAsked};
 
-use plain_index::Look;
+use index_look::Look;
 
 /// Two indexes over the same facts, whose keys accept the same, answer every query alike, and with the same text, whichever way
 /// each is kept.

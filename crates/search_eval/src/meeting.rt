@@ -6,7 +6,7 @@ ghost use Rattle.search_eval.specs.Meaning.{values_meet, some_value};
 
 use blobref::{NoMemory, Ref, Text};
 use edge_base::Steps;
-use plain_index::Look;
+use index_look::Look;
 use schema_date::When;
 use search_query::PermanodeTest;
 use std::sync::ledger::Ledger;

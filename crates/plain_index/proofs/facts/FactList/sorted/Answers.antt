@@ -4,8 +4,9 @@ use Rattle.std.proofs.lemmas.List.Sorted.{answers_always, All-permutation}
 use Rattle.schema_fact.specs.Validity.{IsValid}
 use Rattle.claim_model.specs.Facts.{Entry}
 use Rattle.std.specs.Cmp.Lexicographic.{nat_list_cmp_total}
-use Rattle.plain_index.proofs.Order.{sorted_in_order, same_map_in_any_order, still_distinct}
-use Rattle.plain_index.proofs.Tables.{same_ref, refs_distinct}
+use Rattle.index_look.proofs.Order.{sorted_in_order, same_map_in_any_order, still_distinct}
+use Rattle.index_look.proofs.Entries.{same_ref}
+use Rattle.plain_index.proofs.Tables.{refs_distinct}
 use Rattle.plain_index.proofs.facts.FactList.sorted.Goals as goal
 
 pub returns-clause-ascending : goal.returns-clause-ascending

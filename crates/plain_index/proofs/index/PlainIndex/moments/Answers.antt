@@ -1,5 +1,5 @@
 use Rattle.std.proofs.Common.{◌∙◌}
-use Rattle.plain_index.proofs.Counting.{moments_counted, none_counted}
+use Rattle.index_look.proofs.Counting.{moments_counted, none_counted}
 use Rattle.plain_index.proofs.index.PlainIndex.moments.Goals as goal
 
 pub returns-then-not-is_genuine_permanode : goal.returns-then-not-is_genuine_permanode

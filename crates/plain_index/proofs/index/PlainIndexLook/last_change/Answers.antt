@@ -1,5 +1,5 @@
 use Rattle.std.proofs.Common.{◌≡◌, ◌∙◌, ap, option_map, ℤ, ℕ, List, rules}
-use Rattle.plain_index.proofs.Lasts.{last_change_latest, no_change}
+use Rattle.index_look.proofs.Lasts.{last_change_latest, no_change}
 use Rattle.plain_index.proofs.index.PlainIndexLook.last_change.Goals as goal
 
 pub returns-then-not-is_genuine_permanode : goal.returns-then-not-is_genuine_permanode
