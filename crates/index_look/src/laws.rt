@@ -1,5 +1,6 @@
 //! Laws of indexes.
 ghost use Rattle.std.specs.Prelude.{◌≡◌, ℕ, List, Option};
+ghost use Rattle.claim_model.specs.Genuine.{is_genuine_permanode};
 ghost use Rattle.claim_model.specs.Ready.{ready_fact};
 ghost use Rattle.claim_model.specs.Claims.{holders, last_change, parents, values};
 ghost use Rattle.claim_model.specs.Trees.{file_size};
@@ -15,6 +16,7 @@ pub fn equal_maps_give_equal_answers<A: Look, B: Look>(a: &A, b: &B)
     requires facts { A.facts a.now ≡ B.facts b.now }
     requires accepts { A.accepts a.now ≡ B.accepts b.now }
     ensures fact_of { (r : List ℕ) → ready_fact (A.facts a.now) r ≡ ready_fact (B.facts b.now) r }
+    ensures is_permanode { (r : List ℕ) → is_genuine_permanode (A.facts a.now) (A.accepts a.now) r ≡ is_genuine_permanode (B.facts b.now) (B.accepts b.now) r }
     ensures permanode_after { (after : Option (List ℕ))
         → permanode_after (A.facts a.now) (A.accepts a.now) after ≡ permanode_after (B.facts b.now) (B.accepts b.now) after }
     ensures deleted { (when : When) (r : List ℕ)

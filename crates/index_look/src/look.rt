@@ -1,6 +1,7 @@
 //! What every index answers.
 ghost use Rattle.std.specs.Prelude.{◌≡◌, ◌+◌, ◌*◌, ◌≤◌, length, IfOk, option_copied};
 ghost use Rattle.claim_model.specs.Facts.{Facts};
+ghost use Rattle.claim_model.specs.Genuine.{is_genuine_permanode};
 ghost use Rattle.claim_model.specs.Ready.{ready_fact};
 ghost use Rattle.claim_model.specs.Claims.{holders, last_change, parents, values};
 ghost use Rattle.claim_model.specs.Deleted.{is_deleted};
@@ -30,6 +31,10 @@ pub trait Look {
     fn fact_of<L: Ledger>(&self, r: &Ref, steps: &mut Steps<L>) -> Option<&Fact>
         ensures { option_copied result ≡ ready_fact (facts self.now) r.now };
 
+    /// Whether the ref is that of a genuine permanode.
+    fn is_permanode<L: Ledger>(&self, r: &Ref, steps: &mut Steps<L>) -> bool
+        ensures { result ≡ is_genuine_permanode (facts self.now) (accepts self.now) r.now };
+
     /// The least genuine permanode greater than `after`, or of all where `after` is `None`.
     fn permanode_after<L: Ledger>(&self, after: Option<&Ref>, steps: &mut Steps<L>) -> Option<Ref>
         ensures { result ≡ permanode_after (facts self.now) (accepts self.now) (option_copied after.entry) };
@@ -58,7 +63,7 @@ pub trait Look {
         ensures { result ≡ file_size (facts self.now) r.now };
 
     /// The genuine permanodes not deleted that have the value of the attribute, by claims of every date, ascending. Where the index is
-    /// quick, n of them take at most 6 (1 + n) steps. `NoMemory` comes only where no memory is left.
+    /// quick and there are n of them, it takes at most 6 (1 + n) steps, whatever it answers. `NoMemory` comes only where no memory is left.
     fn holders<L: Ledger>(
         &self,
         attr: &str,
@@ -66,7 +71,7 @@ pub trait Look {
         steps: &mut Steps<L>,
     ) -> Result<RefList, NoMemory>
         ensures value { IfOk result (λ refs. refs ≡ holders (facts self.now) (accepts self.now) attr.now value.now) }
-        ensures ticks { quick self.now → IfOk result (λ refs. steps.new ≤ steps.old + 6 * (1 + length refs)) };
+        ensures ticks { quick self.now → steps.new ≤ steps.old + 6 * (1 + length (holders (facts self.now) (accepts self.now) attr.now value.now)) };
 
     /// The genuine permanodes not deleted at that time that have the child's text among their values of `camliMember` at that
     /// time, ascending. `NoMemory` comes only where no memory is left.

@@ -7,6 +7,7 @@
 ghost use Rattle.std.specs.Prelude.{◌≡◌, ◌++◌, ◌∷◌, [], IfOk, OnOk, filter, option_copied};
 ghost use Rattle.claim_model.specs.Claims.{has_value, holders, last_change, parents, values};
 ghost use Rattle.claim_model.specs.Deleted.{is_deleted, live_permanodes};
+ghost use Rattle.claim_model.specs.Genuine.{is_genuine_permanode};
 ghost use Rattle.claim_model.specs.Ready.{ready_fact};
 ghost use Rattle.claim_model.specs.Trees.{file_size};
 ghost use Rattle.index_look.specs.Look.{permanode_after};
@@ -41,6 +42,18 @@ pub fn fact_of<'a, T: FactTable, V: Verifier, L: Ledger>(
     } else {
         None
     }
+}
+
+/// Whether the ref is that of a genuine permanode.
+pub fn is_permanode<T: FactTable, V: Verifier, L: Ledger>(
+    table: &T,
+    keys: &V,
+    r: &Ref,
+    steps: &mut Steps<L>,
+) -> bool
+    ensures { result ≡ is_genuine_permanode (T.facts table.now) (V.accepts keys.now) r.now }
+{
+    is_genuine_permanode(table, keys, r, steps)
 }
 
 /// The least genuine permanode greater than `after`, or of all where `after` is `None`. It walks over the facts up to that one, and asks

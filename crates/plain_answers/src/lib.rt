@@ -9,5 +9,6 @@ mod trees;
 mod walk;
 
 pub use answers::{
-    deleted, fact_of, file_size, holders, last_change, parents, permanode_after, values,
+    deleted, fact_of, file_size, holders, is_permanode, last_change, parents, permanode_after,
+    values,
 };

@@ -7,7 +7,7 @@ ghost use Rattle.schema_fact.specs.Validity.{IsValid};
 ghost use Rattle.claim_model.specs.Claims.{counted, has_value};
 ghost use Rattle.claim_model.specs.Deleted.{deletes, deleted_within, is_deleted, live_permanodes};
 ghost use Rattle.claim_model.specs.Facts.{AreDistinct, AreValid, passes};
-ghost use Rattle.claim_model.specs.Genuine.{is_genuine, is_genuine_permanode, permanodes};
+ghost use Rattle.claim_model.specs.Genuine.{is_genuine, permanodes};
 ghost use Rattle.claim_model.specs.Ready.{is_ready};
 ghost use Rattle.claim_model.specs.Trees.{file_size, is_file, is_sound_tree, tree_size};
 ghost use Rattle.index_look.specs.Claims.{claims_about, counted_claim};
@@ -199,12 +199,6 @@ impl<V: Verifier> PlainIndex<V> {
         false
     }
 
-    fn is_genuine_permanode<L: Ledger>(&self, r: &Ref, steps: &mut Steps<L>) -> bool
-        ensures { result ≡ is_genuine_permanode self.now.0 (V.accepts self.now.1) r.now }
-    {
-        is_permanode_at(self, r, steps) && self.is_genuine(r)
-    }
-
     // The moment of a claim on the permanode, where it counts at that time.
     fn moment<L: Ledger>(
         &self,
@@ -266,7 +260,7 @@ impl<V: Verifier> PlainIndex<V> {
     ) -> Result<Vec<(Date, Ref)>, NoMemory>
         ensures { IfOk result (λ moments. moments.items ≡ finite.keys (counted self.now.0 (V.accepts self.now.1) when.now p.now)) }
     {
-        if !self.is_genuine_permanode(p, steps) {
+        if !self.is_permanode(p, steps) {
             return Ok(Vec::new(self.alloc));
         }
         let mut moments = self.moments_of(p, when, steps)?;
@@ -339,6 +333,11 @@ impl<V: Verifier> Look for PlainIndex<V> {
         if self.is_ready(r) { Some(fact) } else { None }
     }
 
+    /// Two look-ups.
+    fn is_permanode<L: Ledger>(&self, r: &Ref, steps: &mut Steps<L>) -> bool {
+        is_permanode_at(self, r, steps) && self.is_genuine(r)
+    }
+
     /// One binary search among the genuine permanodes.
     fn permanode_after<L: Ledger>(&self, after: Option<&Ref>, steps: &mut Steps<L>) -> Option<Ref> {
         steps.tick();
@@ -365,7 +364,7 @@ impl<V: Verifier> Look for PlainIndex<V> {
 
     /// It looks at the claims about the permanode alone, and asks for each whether it is deleted.
     fn last_change<L: Ledger>(&self, p: &Ref, when: &When, steps: &mut Steps<L>) -> Option<Date> {
-        if !self.is_genuine_permanode(p, steps) {
+        if !self.is_permanode(p, steps) {
             return None;
         }
         self.latest(p, when, steps).map(|last| last.0)

@@ -70,6 +70,12 @@ module _ (by_date : Option ℤ → Option ℤ → Ordering) where
         ap (map (λ (e : Dated). e.1)) (keys_sorted total (same_dated same) (map (λ (e : Dated). (e, e.1)) all) ds
         (subst (λ (xs : List Dated). IsPermutation xs ds) (sym (keys_are all)) moved) sorted (subst (IsDistinct (eq_by_cmp by_both)) (sym (keys_are all)) (distinct rs up)))
 
+pub rising_same : IsAntisymmetric rising_cmp
+rising_same = same_dated (option_cmp int_cmp) same_date
+
+pub falling_same : IsAntisymmetric falling_cmp
+falling_same = same_dated (λ a b. option_cmp int_cmp b a) (λ a b e. sym (same_date b a e))
+
 module _ (changed : List ℕ → Option ℤ) (rs : List (List ℕ)) (ds : List Dated) where
   pub rises : IsStrictlySortedBy ref_cmp rs → IsPermutation (dated changed rs) ds → IsSorted rising_cmp ds → map (λ e. e.1) ds ≡ refs_by rising_cmp (dated changed rs)
   rises = ordered (option_cmp int_cmp) changed rising_total same_date rs ds

@@ -17,7 +17,8 @@ pub fn same_answers<A: Look, B: Look>(a: &A, b: &B)
 {}
 
 /// Each ref of an answer is a genuine permanode that isn't deleted at the query's date and meets its constraint then; there are at
-/// most `limit` of them; and they are in the query's order, none twice.
+/// most `limit` of them; and they are in the query's order, none twice. Such a permanode is left out only where there are `limit` refs,
+/// each of which comes before it in that order.
 pub fn answers_are_asked()
     ensures { AnswersAreAsked }
 {}
