@@ -1,9 +1,8 @@
 //! The parts of which a file is made.
-ghost use Rattle.std.specs.Prelude.{◌≡◌, ◌<◌, ◌∷◌, [], ◌++◌, length, OnOk, OnErr, IfOk, Some, slice_get};
+ghost use Rattle.std.specs.Prelude.{◌≡◌, length, slice_get};
+ghost use Rattle.schema_fact.specs.Dependencies.{part_refs};
 
-use blobref::{NoMemory, Ref};
-use std::alloc::Global;
-use std::marker::Model;
+use blobref::{ListOf, Ref};
 
 /// Where the bytes of a part come from.
 #[derive(Clone, Copy)]
@@ -24,104 +23,21 @@ pub struct Part {
     pub origin: Origin,
 }
 
-/// Parts, in the order of their bytes. A contract sees the list.
-#[derive(Drop)]
-pub struct PartList {
-    parts: Vec<Part>,
+/// Parts, in the order of their bytes.
+pub type PartList = ListOf<Part>;
+
+// How many of the parts have a ref.
+pub(crate) fn ref_count(parts: &[Part]) -> usize
+    ensures { result ≡ length (part_refs parts.now) }
+{
+    parts.iter().filter_map(|part| part.origin.blob()).count()
 }
 
-impl Model for PartList {
-    ghost use Rattle.std.specs.Prelude.{List};
-    ghost use Rattle.std.specs.Coded.{coded_list};
-    ghost use Rattle.schema_fact.specs.declared.parts.Part.{Part};
-    ghost use Rattle.schema_fact.specs.contracts.parts.Part as part;
-
-    ghost Value = { List Part };
-
-    ghost coded = { coded_list part.the_row.coded };
-
-    ghost view = { λ l. l.parts.items };
-}
-
-impl PartList {
-    ghost use Rattle.schema_fact.specs.Dependencies.{part_refs};
-
-    /// The list of no parts.
-    pub fn empty(alloc: Global) -> PartList
-        ensures { result ≡ [] }
-    {
-        PartList {
-            parts: Vec::new(alloc),
-        }
-    }
-
-    /// Puts a part behind the others. The list is unchanged after a refusal.
-    pub fn push(&mut self, item: Part) -> Result<(), NoMemory>
-        ensures ok { OnOk result (self.new ≡ self.old ++ item ∷ []) }
-        ensures err { OnErr result (self.new ≡ self.old) }
-    {
-        let Part {
-            size,
-            offset,
-            origin,
-        } = item;
-        self.parts.push(Part {
-            size,
-            offset,
-            origin,
-        })?;
-        Ok(())
-    }
-
-    /// How many parts there are.
-    pub fn len(&self) -> usize
-        ensures { result ≡ length self.now }
-    {
-        self.parts.len()
-    }
-
-    /// The part at a place, counted from 0.
-    pub fn at(&self, i: usize) -> &Part
-        requires { i < length self.now }
-        ensures { slice_get self.now i ≡ Some result.now }
-    {
-        &self.parts[i]
-    }
-
-    /// The parts as a slice.
-    pub fn as_slice(&self) -> &[Part]
-        ensures { result.now ≡ self.now }
-    {
-        self.parts.as_slice()
-    }
-
-    /// An equal list.
-    pub fn copy(&self, alloc: Global) -> Result<PartList, NoMemory>
-        ensures { IfOk result (λ copy. copy ≡ self.now) }
-    {
-        let parts = Vec::from_slice(alloc, &self.parts)?;
-        Ok(PartList { parts })
-    }
-
-    // How many parts have a ref.
-    pub(crate) fn ref_count(&self) -> usize
-        ensures { result ≡ length (part_refs self.now) }
-    {
-        self.parts
-            .iter()
-            .filter_map(|part| part.origin.source())
-            .count()
-    }
-
-    // The refs of the parts, by their place among them.
-    pub(crate) fn ref_at(&self, i: usize) -> Option<Ref>
-        ensures { result ≡ slice_get (part_refs self.now) i }
-    {
-        self.parts
-            .iter()
-            .filter_map(|part| part.origin.source())
-            .nth(i)
-    }
+// The refs of the parts, by their place among them.
+pub(crate) fn ref_at(parts: &[Part], i: usize) -> Option<Ref>
+    ensures { result ≡ slice_get (part_refs parts.now) i }
+{
+    parts.iter().filter_map(|part| part.origin.blob()).nth(i)
 }
 
 impl Origin {
