@@ -1,5 +1,5 @@
 //! Part lists of schema objects.
-ghost use Rattle.std.specs.Prelude.{◌≡◌, IfOk};
+ghost use Rattle.std.specs.Prelude.{◌≡◌, ◌++◌, ◌∷◌, [], IfOk, OnOk};
 ghost use Rattle.serde_json.specs.View.{view, items_view};
 ghost use Rattle.schema_json.specs.Parts.{length_in, origin_in, part_in, parts_of, part_list_of};
 ghost use Rattle.schema_fact.specs.Limits.{is_length, total_size};
@@ -37,9 +37,25 @@ fn parts_of(alloc: Global, items: &[Value]) -> Result<Option<PartList>, NoMemory
         let Some(part) = part_in(value) else {
             return Ok(None);
         };
-        parts.push(part)?;
+        push(&mut parts, part)?;
     }
     Ok(Some(parts))
+}
+
+// Puts a part behind the others.
+fn push(parts: &mut PartList, part: Part) -> Result<(), NoMemory>
+    ensures { OnOk result (parts.new ≡ parts.old ++ part ∷ []) }
+{
+    let Part {
+        size,
+        offset,
+        origin,
+    } = part;
+    parts.push(Part {
+        size,
+        offset,
+        origin,
+    })
 }
 
 // Whether the sum of the sizes is within the limit.
