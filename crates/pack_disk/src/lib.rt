@@ -13,6 +13,3 @@ mod remains;
 pub use disk::Disk;
 pub use laws::disk_model;
 pub use memory::MemDisk;
-
-#[cfg(test)]
-mod tests;

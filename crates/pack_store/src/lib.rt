@@ -22,6 +22,3 @@ pub use opening::OpenFault;
 pub use rows::{Current, Row};
 pub use store::Store;
 pub use whole::{PackFault, PackScan, scan_pack};
-
-#[cfg(test)]
-mod tests;

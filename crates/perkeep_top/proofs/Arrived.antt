@@ -13,11 +13,11 @@ use Rattle.edge_base.specs.declared.answers.GetFault.TheVariants as fault
 use Rattle.salvage_scan.specs.Arrivals.{arrivals}
 use Rattle.salvage_scan.proofs.Arriving.{arrivals_are_firsts}
 use Rattle.pack_disk.specs.Packs.{Packs}
+use Rattle.pack_disk.specs.declared.disk.Disk.{Ghosts}
 use Rattle.pack_store.specs.declared.rows.Row.{Row}
 use Rattle.pack_store.specs.Rows.{arrival_of, arrivals_in, number_of, sizes_in}
 use Rattle.pack_store.specs.Archive.{Archive}
-use Rattle.pack_store.specs.Reading.{bytes_of, size_of, page, is_after, IsDamage, StaysStill}
-use Rattle.pack_store.proofs.Moments.{stays_then}
+use Rattle.pack_store.specs.Reading.{bytes_of, entry_of, size_of, page, is_after, IsDamage, StaysStill}
 use Rattle.perkeep_top.specs.declared.refusal.Refusal.{Refusal}
 use Rattle.perkeep_top.specs.declared.refusal.Refusal.TheVariants as refusal
 use Rattle.perkeep_top.specs.Outputs.{blobs_of, sizes_of, listed}
@@ -101,22 +101,22 @@ got_bytes told store_told same rows arrived r (Err e) are result is = subst (λ 
 pub later_rose : (before between now : ℕ) → before ≤ between → Rose between now → Rose before now
 later_rose before between now le rose = omega (arith, le, rose)
 
-pub unread_refuses : (asked put : Option (List ℕ)) (told store_told : Option Packs) → store_told ≡ told → (r : Option (List ℕ)) (before between now : ℕ) → before ≤ between
+pub unread_refuses : (asked put : Option (List ℕ)) (told store_told : Option Packs) → store_told ≡ told → (r : Option (List ℕ × ℕ)) (before between now : ℕ) → before ≤ between
     → {T : Type 0} (found : Result T GetFault) → IsDamage r store_told found → (found ≡ Err fault.Disk → Rose between now) → IfErr found (λ e. Refuses asked put told before now (unread e))
 unread_refuses asked put told store_told same r before between now le (Ok x) damage rose = tt
 unread_refuses asked put told store_told same r before between now le (Err fault.Disk) damage rose = later_rose before between now le (rose refl)
-unread_refuses asked put told store_told same r before between now le (Err (fault.Damaged want is)) damage rose = (damage.1, sym same ∙ damage.2)
+unread_refuses asked put told store_told same r before between now le (Err (fault.Damaged want is)) damage rose = (damage.other, sym same ∙ damage.untold)
 unread_refuses asked put told store_told same r before between now le (Err fault.NoMemory) damage rose = tt
 
 pub got_refuses : (told store_told : Option Packs) → store_told ≡ told → (rows : List Row) → ForSome told (λ held. arrivals_in held rows ≡ arrivals (entries held))
     → (r : List ℕ) (before between now : ℕ) → before ≤ between → (found : Result (Option (List ℕ)) GetFault) → IfOk found (λ o. ForSome store_told (λ held. o ≡ bytes_of r held rows))
-    → IsDamage (Some r) store_told found → (found ≡ Err fault.Disk → Rose between now)
+    → IsDamage (entry_of r rows) store_told found → (found ≡ Err fault.Disk → Rose between now)
     → (result : Result (List ℕ) Refusal) → result ≡ bytes_or_refusal r found → IfErr result (Refuses (Some r) None told before now)
 got_refuses told store_told same rows arrived r before between now le (Ok (Some bytes)) are damage rose result is = subst (λ x. IfErr x (Refuses (Some r) None told before now)) (sym is) tt
 got_refuses told store_told same rows arrived r before between now le (Ok None) are damage rose result is = subst (λ x. IfErr x (Refuses (Some r) None told before now)) (sym is)
     (refl, λ held tells. get-blobs held r ∙ ap (lookup (pointwise nat_eq r)) (sym (arrived held tells)) ∙ sym (are held (same ∙ tells)))
 got_refuses told store_told same rows arrived r before between now le (Err e) are damage rose result is = subst (λ x. IfErr x (Refuses (Some r) None told before now)) (sym is)
-    (unread_refuses (Some r) None told store_told same (Some r) before between now le {T = Option (List ℕ)} (Err e) damage rose)
+    (unread_refuses (Some r) None told store_told same (entry_of r rows) before between now le {T = Option (List ℕ)} (Err e) damage rose)
 
 -- the size of a blob
 pub sized_as : (r : List ℕ) (held : Packs) (rows : List Row) → arrivals_in held rows ≡ arrivals (entries held) → map sized (arrivals_in held rows) ≡ sizes_in rows
@@ -135,17 +135,7 @@ listed_as after limit held rows arrived sizes =
 
 -- ---- a store that stays as it was
 
-module _ {D : Type 0} (packs : D → Option Packs) (images : D → Packs → Type 0) (moment : D → ℕ) (images_since : D → ℕ → Packs → Type 0)
-    (counts_now : (d : D) (t : ℕ) (image : Packs) → t ≤ moment d → images d image → images_since d t image)
-    (only_now : (d : D) (image : Packs) → images_since d (moment d) image → images d image) where
-  pub still_then : (a b c : Archive D) → StaysStill packs images moment images_since a b → StaysStill packs images moment images_since b c → StaysStill packs images moment images_since a c
-  still_then a b c first second = record {
-    value = second.value ∙ (λ i. record { rows = (first.value i).rows; limits = (first.value i).limits; next = (first.value i).next; current = (first.value i).current; disk = c.disk });
-    stays = stays_then packs images moment images_since counts_now only_now a.disk b.disk c.disk first.stays second.stays;
-  }
-
-pub rows_still : {D : Type 0} {packs : D → Option Packs} {images : D → Packs → Type 0} {moment : D → ℕ} {images_since : D → ℕ → Packs → Type 0} {old new : Archive D}
-    → StaysStill packs images moment images_since old new → (P : List Row → Type 0) → P new.rows → P old.rows
+pub rows_still : {D : Type 0} {g : Ghosts D} {old new : Archive D} → StaysStill g old new → (P : List Row → Type 0) → P new.rows → P old.rows
 rows_still still P h = subst P (ap (λ s. s.rows) still.value) h
 
 -- a refusal has its cause since an earlier moment too

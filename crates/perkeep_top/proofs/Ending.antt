@@ -8,7 +8,9 @@ use Rattle.edge_base.specs.Edge.{GaveAll, Rose}
 use Rattle.pack_format.specs.Header.{max_size}
 use Rattle.schema_date.specs.declared.date.When.{When}
 use Rattle.pack_disk.specs.Packs.{Packs}
-use Rattle.pack_disk.specs.Disk.{Tells, Stays}
+use Rattle.pack_disk.specs.declared.disk.Disk.{Ghosts}
+use Rattle.pack_disk.specs.Disk.{Tells}
+use Rattle.pack_disk.specs.Runs.{Stays}
 use Rattle.pack_store.specs.Packs.{HeldByAll, KeepsAll}
 use Rattle.perkeep_words.specs.Reading.{CommandLine, PutLine, GetLine, StatLine, ListLine, SearchLine, SalvageLine, line_of, line_in}
 use Rattle.perkeep_words.specs.declared.reading.TextFault.{TextFault}
@@ -51,16 +53,16 @@ refusal_comes line left left_now put told source sink before now input (refusal.
 refusal_comes line left left_now put told source sink before now input refusal.Disk why = why
 refusal_comes line left left_now put told source sink before now input refusal.NoMemory why = tt
 
-module _ {D : Type 0} (packs : D → Option Packs) (images : D → Packs → Type 0) (moment : D → ℕ) (images_since : D → ℕ → Packs → Type 0)
+module _ {D : Type 0} (g : Ghosts D)
     (line : CommandLine) (accepts : Accepts) (left left_now written written_now : Option (List ℕ)) (source sink silent : Type 0) (before now : ℕ) (old new : D) where
   abbrev End : Status → Type 0
-  End answer = Ends packs images moment images_since line accepts left left_now written written_now source sink (Rose before now) silent old new answer
+  End answer = Ends g line accepts left left_now written written_now source sink (Rose before now) silent old new answer
 
   -- an answer that was written, or a refusal
-  pub ends_written : (Salvages line → ⊥) → KeepsAll images moment images_since old new → Puts line ⊎ Stays packs images moment images_since old new
+  pub ends_written : (Salvages line → ⊥) → KeepsAll g old new → Puts line ⊎ Stays g old new
       → (put : Option (List ℕ)) → IsInput line left left_now put
-      → (answer : Result (List ℕ) Refusal) → IfErr answer (Refuses (asked_ref line) put (packs old) before now) → IfErr answer (λ r. r ≢ refusal.Disk → packs new ≡ packs old)
-      → IfOk answer (λ bytes. Ran line accepts left left_now (packs old) (packs new) (images new) bytes)
+      → (answer : Result (List ℕ) Refusal) → IfErr answer (Refuses (asked_ref line) put (g.packs old) before now) → IfErr answer (λ r. r ≢ refusal.Disk → g.packs new ≡ g.packs old)
+      → IfOk answer (λ bytes. Ran line accepts left left_now (g.packs old) (g.packs new) (g.images new) bytes)
       → (end : Status) → IsWritten answer written written_now sink silent end → End end
   ends_written quiet keeps stays put input (Ok bytes) why same ran end is = ⊎_elim
       (λ all. subst End (sym all.0) (record {
@@ -87,7 +89,7 @@ module _ {D : Type 0} (packs : D → Option Packs) (images : D → Packs → Typ
   ends_written quiet keeps stays put input (Err r) why same ran end is = subst End (sym is.0) (record {
     done = λ e. absurd (not_done r e);
     part = λ e. absurd (not_part r e);
-    comes = refusal_comes line left left_now put (packs old) source sink before now input r why;
+    comes = refusal_comes line left left_now put (g.packs old) source sink before now input r why;
     any_moment = keeps;
     stays = stays;
     unchanged = λ a b c. same (λ e. c (ap status_of e));
@@ -96,7 +98,7 @@ module _ {D : Type 0} (packs : D → Option Packs) (images : D → Packs → Typ
   })
 
   -- an input that wasn't read
-  pub ends_unread : (Salvages line → ⊥) → KeepsAll images moment images_since old new → Puts line ⊎ Stays packs images moment images_since old new → packs new ≡ packs old → silent
+  pub ends_unread : (Salvages line → ⊥) → KeepsAll g old new → Puts line ⊎ Stays g old new → g.packs new ≡ g.packs old → silent
       → (most : ℕ) → most_read line ≡ Some most → (end : Status) → ComesReading most left left_now source end → End end
   ends_unread quiet keeps stays same still most reads end why = record {
     done = λ e. absurd (never_done (subst (ComesReading most left left_now source) e why));
@@ -115,7 +117,7 @@ module _ {D : Type 0} (packs : D → Option Packs) (images : D → Packs → Typ
       never_part : ComesReading most left left_now source status.WriteFault → ⊥
       never_part h = h
 
-      comes : (end : Status) → ComesReading most left left_now source end → ComesAt line left left_now (packs old) source sink (Rose before now) end
+      comes : (end : Status) → ComesReading most left left_now source end → ComesAt line left left_now (g.packs old) source sink (Rose before now) end
       comes status.Done h = absurd h
       comes status.NoMemory h = tt
       comes status.BadWords h = absurd h
@@ -133,11 +135,11 @@ module _ {D : Type 0} (packs : D → Option Packs) (images : D → Packs → Typ
       comes status.NotBuilt h = absurd h
 
 -- what packs hold was told
-module _ {D : Type 0} (packs : D → Option Packs) (images : D → Packs → Type 0) (moment : D → ℕ) (images_since : D → ℕ → Packs → Type 0)
+module _ {D : Type 0} (g : Ghosts D)
     (dir : List ℕ) (accepts : Accepts) (left written written_now : Option (List ℕ)) (source sink silent : Type 0) (before now : ℕ) (old new : D) where
-  pub ends_told : KeepsAll images moment images_since old new → Stays packs images moment images_since old new
-      → (end : Status) → (end ≡ status.Done → Writes (IsReport (packs old)) written written_now) → WritesFront (IsReport (packs old)) written written_now → ComesWhileTelling sink (Rose before now) end
-      → Ends packs images moment images_since (SalvageLine dir) accepts left left written written_now source sink (Rose before now) silent old new end
+  pub ends_told : KeepsAll g old new → Stays g old new
+      → (end : Status) → (end ≡ status.Done → Writes (IsReport (g.packs old)) written written_now) → WritesFront (IsReport (g.packs old)) written written_now → ComesWhileTelling sink (Rose before now) end
+      → Ends g (SalvageLine dir) accepts left left written written_now source sink (Rose before now) silent old new end
   ends_told keeps stays end done part why = record {
     done = λ e. let w = done e in (w.0, record { input = []; reads = (refl, refl); output = w.1; leaves = stays.told }, w.2);
     part = λ e. (part.0, record { input = []; reads = (refl, refl); output = part.1; leaves = stays.told }, part.2);
@@ -149,7 +151,7 @@ module _ {D : Type 0} (packs : D → Option Packs) (images : D → Packs → Typ
     report = λ s. part;
   }
     where
-      comes : (end : Status) → ComesWhileTelling sink (Rose before now) end → ComesAt (SalvageLine dir) left left (packs old) source sink (Rose before now) end
+      comes : (end : Status) → ComesWhileTelling sink (Rose before now) end → ComesAt (SalvageLine dir) left left (g.packs old) source sink (Rose before now) end
       comes status.Done h = tt
       comes status.NoMemory h = tt
       comes status.BadWords h = absurd h

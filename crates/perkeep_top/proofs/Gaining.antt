@@ -14,6 +14,7 @@ use Rattle.edge_base.specs.declared.answers.PutFault.TheVariants as fault
 use Rattle.pack_format.specs.Header.{max_size}
 use Rattle.salvage_scan.specs.Arrivals.{arrivals}
 use Rattle.pack_disk.specs.Packs.{Packs}
+use Rattle.pack_disk.specs.declared.disk.Disk.{Ghosts}
 use Rattle.pack_disk.specs.Disk.{Tells}
 use Rattle.pack_store.specs.Rows.{arrival_of, number_of}
 use Rattle.pack_store.specs.Archive.{Archive, count, greatest, needs_pack, is_full}
@@ -95,28 +96,28 @@ tells_itself : (a : Option Packs) (P : Packs → Packs → Type 0) → ((x : Pac
 tells_itself None P f = tt
 tells_itself (Some x) P f = f x refl
 
-module _ {D : Type 0} (packs : D → Option Packs) (disk : D) (s new : Archive D) (bytes : List ℕ) (opened : IsOpened packs disk limits s)
-    (told : packs s.disk ≡ packs disk) (small : length bytes ≤ max_size) (puts_last : PutsLast packs) where
+module _ {D : Type 0} (g : Ghosts D) (disk : D) (s new : Archive D) (bytes : List ℕ) (opened : IsOpened g disk limits s)
+    (told : g.packs s.disk ≡ g.packs disk) (small : length bytes ≤ max_size) (puts_last : PutsLast g) where
   abbrev r : List ℕ
   r = ref_of bytes
 
   abbrev Settled : Option PutAnswer
   Settled = settled_own s r (length bytes)
 
-  pub gained_put : (answer : PutAnswer) → Answers Settled (count s) answer → Leaves packs s new bytes answer → (line : List ℕ) (result : Result (List ℕ) Refusal)
-      → result ≡ line_or_refusal answer line → OnOk result (Tells (packs disk) (packs new.disk) (Gains bytes))
-  gained_put (Ok (put.Stored n)) a l line result is = subst (λ x. OnOk x (Tells (packs disk) (packs new.disk) (Gains bytes))) (sym is)
-      (subst (λ o. Tells o (packs new.disk) (Gains bytes)) told (tells_more (packs s.disk) (packs new.disk) (AddsRecord (target s) bytes) (Gains bytes) l.added (λ held now is_held adds.
+  pub gained_put : (answer : PutAnswer) → Answers Settled (count s) answer → Leaves g s new r bytes answer → (line : List ℕ) (result : Result (List ℕ) Refusal)
+      → result ≡ line_or_refusal answer line → OnOk result (Tells (g.packs disk) (g.packs new.disk) (Gains bytes))
+  gained_put (Ok (put.Stored n)) a l line result is = subst (λ x. OnOk x (Tells (g.packs disk) (g.packs new.disk) (Gains bytes))) (sym is)
+      (subst (λ o. Tells o (g.packs new.disk) (Gains bytes)) told (tells_more (g.packs s.disk) (g.packs new.disk) (AddsRecord (target s) r bytes) (Gains bytes) l.added (λ held now is_held adds.
       let tells = sym told ∙ is_held in
       let lacking = has_blob r held s.rows (opened.arrived held tells) ∙ stored_none (nat_lt max_size (length bytes)) (number_of r s.rows) (is_full s) (length bytes) (count s) (greatest s) (count s) n a in
-      one_more held now bytes lacking (puts_last.arrived s held now bytes (record { next = opened.next held tells; current = opened.current held tells }) small
+      one_more held now bytes lacking (puts_last.arrived s held now r bytes (puts_last.opened disk limits s held opened tells) refl small
       (sym (get-blobs held r) ∙ none_of_some (get (blobs_of held) r) lacking) adds))))
-  gained_put (Ok (put.Already n)) a l line result is = subst (λ x. OnOk x (Tells (packs disk) (packs new.disk) (Gains bytes))) (sym is)
-      (subst (λ o. Tells (packs disk) o (Gains bytes)) (sym (ap (λ (t : Archive D). packs t.disk) l ∙ told)) (tells_itself (packs disk) (Gains bytes) (λ held tells.
+  gained_put (Ok (put.Already n)) a l line result is = subst (λ x. OnOk x (Tells (g.packs disk) (g.packs new.disk) (Gains bytes))) (sym is)
+      (subst (λ o. Tells (g.packs disk) o (Gains bytes)) (sym (ap (λ (t : Archive D). g.packs t.disk) l ∙ told)) (tells_itself (g.packs disk) (Gains bytes) (λ held tells.
       no_more held bytes (has_blob r held s.rows (opened.arrived held tells) ∙ already_some (nat_lt max_size (length bytes)) (number_of r s.rows) (is_full s) (length bytes) (count s) (greatest s) (count s) n a))))
-  gained_put (Err e) a l line result is = subst (λ x. OnOk x (Tells (packs disk) (packs new.disk) (Gains bytes))) (sym is) (refused_line e line)
+  gained_put (Err e) a l line result is = subst (λ x. OnOk x (Tells (g.packs disk) (g.packs new.disk) (Gains bytes))) (sym is) (refused_line e line)
     where
-      refused_line : (e : PutFault) (line : List ℕ) → OnOk (line_or_refusal (Err e) line) (Tells (packs disk) (packs new.disk) (Gains bytes))
+      refused_line : (e : PutFault) (line : List ℕ) → OnOk (line_or_refusal (Err e) line) (Tells (g.packs disk) (g.packs new.disk) (Gains bytes))
       refused_line (fault.TooBig size) line = tt
       refused_line (fault.BadDigest said is) line = tt
       refused_line (fault.Full blobs pack) line = tt
@@ -124,11 +125,11 @@ module _ {D : Type 0} (packs : D → Option Packs) (disk : D) (s new : Archive D
       refused_line fault.NoMemory line = tt
 
   pub refused_put : (before between now : ℕ) → before ≤ between → (answer : PutAnswer) → Answers Settled (count s) answer → (answer ≡ Err fault.Disk → Rose between now) → (line : List ℕ) (result : Result (List ℕ) Refusal)
-      → result ≡ line_or_refusal answer line → IfErr result (Refuses None (Some r) (packs disk) before now)
-  refused_put before between now le (Ok x) a rose line result is = subst (λ x. IfErr x (Refuses None (Some r) (packs disk) before now)) (sym is) tt
-  refused_put before between now le (Err (fault.TooBig size)) a rose line result is = subst (λ x. IfErr x (Refuses None (Some r) (packs disk) before now)) (sym is) tt
-  refused_put before between now le (Err (fault.BadDigest said other)) a rose line result is = subst (λ x. IfErr x (Refuses None (Some r) (packs disk) before now)) (sym is) tt
-  refused_put before between now le (Err (fault.Full blobs pack)) a rose line result is = subst (λ x. IfErr x (Refuses None (Some r) (packs disk) before now)) (sym is)
+      → result ≡ line_or_refusal answer line → IfErr result (Refuses None (Some r) (g.packs disk) before now)
+  refused_put before between now le (Ok x) a rose line result is = subst (λ x. IfErr x (Refuses None (Some r) (g.packs disk) before now)) (sym is) tt
+  refused_put before between now le (Err (fault.TooBig size)) a rose line result is = subst (λ x. IfErr x (Refuses None (Some r) (g.packs disk) before now)) (sym is) tt
+  refused_put before between now le (Err (fault.BadDigest said other)) a rose line result is = subst (λ x. IfErr x (Refuses None (Some r) (g.packs disk) before now)) (sym is) tt
+  refused_put before between now le (Err (fault.Full blobs pack)) a rose line result is = subst (λ x. IfErr x (Refuses None (Some r) (g.packs disk) before now)) (sym is)
       (let f = was_full (nat_lt max_size (length bytes)) (number_of r s.rows) (is_full s) (length bytes) (count s) (greatest s) (count s) blobs pack a in
       let same = ap (λ l. nat_le l.blobs (count s) || (needs_pack s && nat_lt l.last_pack s.next)) opened.limited in
       let limit = at_limit (count s) (greatest s) s.next limits.last_pack limits.blobs (needs_pack s) (sym same ∙ f.is_full_then) refl in (
@@ -141,5 +142,5 @@ module _ {D : Type 0} (packs : D → Option Packs) (disk : D) (s new : Archive D
           pack_is = f.pack_is ∙ ap (λ n. n - 1) (opened.next held tells);
         },
       ))
-  refused_put before between now le (Err fault.Disk) a rose line result is = subst (λ x. IfErr x (Refuses None (Some r) (packs disk) before now)) (sym is) (later_rose before between now le (rose refl))
-  refused_put before between now le (Err fault.NoMemory) a rose line result is = subst (λ x. IfErr x (Refuses None (Some r) (packs disk) before now)) (sym is) tt
+  refused_put before between now le (Err fault.Disk) a rose line result is = subst (λ x. IfErr x (Refuses None (Some r) (g.packs disk) before now)) (sym is) (later_rose before between now le (rose refl))
+  refused_put before between now le (Err fault.NoMemory) a rose line result is = subst (λ x. IfErr x (Refuses None (Some r) (g.packs disk) before now)) (sym is) tt

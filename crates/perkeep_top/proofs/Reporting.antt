@@ -8,8 +8,10 @@ use Rattle.edge_base.specs.Edge.{Took}
 use Rattle.edge_base.proofs.Moves.{Took-chain}
 use Rattle.pack_disk.specs.Packs.{Packs, least_from}
 use Rattle.pack_store.specs.Walk.{below, from_on}
+use Rattle.pack_store.specs.declared.whole.PackScan.{PackScan}
+use Rattle.pack_store.specs.Scan.{IsScan}
 use Rattle.pack_store.proofs.Walking.{walk_begins, walk_step, walk_ends}
-use Rattle.perkeep_top.specs.Outputs.{pack_report, report}
+use Rattle.perkeep_top.specs.Outputs.{pack_report, report, report_of}
 use Rattle.perkeep_top.specs.Salvaged.{IsReport, IsPackReport, IsReportBelow, IsCutAt, Writes, WritesFront}
 
 abbrev Told : Type 0
@@ -40,6 +42,10 @@ not_begun n told w = let some = some_report n told in (some.0, some.1, ([], some
 
 pub pack_told : (n : ℕ) (told : Told) (bytes text : List ℕ) → ForSome told (λ held. get held n ≡ Some bytes) → text ≡ pack_report (n, bytes) → IsPackReport n told text
 pack_told n told bytes text there is = λ held tells pack at. is ∙ ap (λ b. pack_report (n, b)) (same_bytes bytes pack (sym (there held tells) ∙ at))
+
+-- the report of a scan
+pub scan_told : (n : ℕ) (told : Told) (scan : PackScan) (text : List ℕ) → IsScan told n scan → text ≡ report_of n scan.found scan.clean → IsPackReport n told text
+scan_told n told scan text scanned is = pack_told n told scanned.bytes text scanned.there (is ∙ ap (λ (s : PackScan). report_of n s.found s.clean) scanned.is)
 
 -- ---- all of them
 

@@ -8,7 +8,9 @@ use Rattle.claim_verify.specs.Verifier.{Accepts}
 use Rattle.schema_date.specs.declared.date.When.TheVariants.{Always}
 use Rattle.pack_format.specs.Header.{max_size}
 use Rattle.pack_disk.specs.Packs.{Packs}
-use Rattle.pack_disk.specs.Disk.{Tells, Stays}
+use Rattle.pack_disk.specs.declared.disk.Disk.{Ghosts}
+use Rattle.pack_disk.specs.Disk.{Tells}
+use Rattle.pack_disk.specs.Runs.{Stays}
 use Rattle.pack_store.specs.Packs.{HeldByAll, KeepsAll}
 use Rattle.perkeep_words.specs.Reading.{CommandLine, PutLine, GetLine, StatLine, ListLine, SearchLine, SalvageLine, SearchPackLine, command_of}
 use Rattle.perkeep_words.specs.declared.reading.TextFault.{TextFault}
@@ -169,20 +171,20 @@ Comes (Some (Ok line)) left left_now told source sink disk answer = ComesAt line
 -- ---- how a run ends at a line in which nothing is wrong
 
 -- How it ends. `source`, `sink` and `disk` say that the count of faults of that object rose, and `silent` that the sink is as it was.
-pub record Ends {D : Type 0} (packs : D → Option Packs) (images : D → Packs → Type 0) (moment : D → ℕ) (images_since : D → ℕ → Packs → Type 0)
+pub record Ends {D : Type 0} (g : Ghosts D)
     (line : CommandLine) (accepts : Accepts) (left left_now written written_now : Option (List ℕ)) (source sink disk silent : Type 0) (old new : D) (answer : Status) : Type 0 where
   -- where all is done the sink took what the command writes and nothing else, and where a write failed a front of it
-  pub done : answer ≡ status.Done → IsAnswered line accepts left left_now (packs old) (packs new) (images new) written written_now
-  pub part : answer ≡ status.WriteFault → IsAnsweredInPart line accepts left left_now (packs old) (packs new) (images new) written written_now
+  pub done : answer ≡ status.Done → IsAnswered line accepts left left_now (g.packs old) (g.packs new) (g.images new) written written_now
+  pub part : answer ≡ status.WriteFault → IsAnsweredInPart line accepts left left_now (g.packs old) (g.packs new) (g.images new) written written_now
   -- each status has its cause
-  pub comes : ComesAt line left left_now (packs old) source sink disk answer
+  pub comes : ComesAt line left left_now (g.packs old) source sink disk answer
   -- a crash at any moment leaves what holds every ref that each image held before, and, but for a put, what was an image before
-  pub any_moment : KeepsAll images moment images_since old new
-  pub stays : Puts line ⊎ Stays packs images moment images_since old new
+  pub any_moment : KeepsAll g old new
+  pub stays : Puts line ⊎ Stays g old new
   -- a refusal leaves the packs as they were, unless the disk failed, and the sink, unless the command told of packs so far
-  pub unchanged : answer ≢ status.Done → answer ≢ status.WriteFault → answer ≢ status.Disk → packs new ≡ packs old
+  pub unchanged : answer ≢ status.Done → answer ≢ status.WriteFault → answer ≢ status.Disk → g.packs new ≡ g.packs old
   pub unwritten : answer ≢ status.Done → answer ≢ status.WriteFault → silent ⊎ Salvages line
-  pub report : Salvages line → WritesFront (IsReport (packs old)) written written_now
+  pub report : Salvages line → WritesFront (IsReport (g.packs old)) written written_now
 
 -- ---- its steps
 

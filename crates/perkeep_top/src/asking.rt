@@ -3,7 +3,7 @@ ghost use Rattle.std.specs.Prelude.{◌≡◌, ◌≤◌, ◌⊎◌, length, fla
 ghost use Rattle.std.specs.Option.{ForSome, option_map};
 ghost use Rattle.std.specs.FinMap.{get};
 ghost use Rattle.blobref.specs.Blobref.{ref_of};
-ghost use Rattle.pack_disk.specs.Disk.{Stays};
+ghost use Rattle.pack_disk.specs.Runs.{Stays};
 ghost use Rattle.perkeep_top.specs.Outputs.{blobs_of, listed, size_line};
 ghost use Rattle.perkeep_top.specs.Stored.{Refuses, bytes_or_refusal, unread};
 
@@ -20,7 +20,7 @@ pub(crate) fn get<D: Disk>(alloc: Global, disk: D, r: &Ref) -> (D, Result<Octets
     ensures named { IfOk result.1 (λ bytes. ref_of bytes ≡ r.now) }
     ensures bytes { IfOk result.1 (λ bytes. ForSome (D.packs disk) (λ held. get (blobs_of held) r.now ≡ Some bytes)) }
     ensures refused { IfErr result.1 (Refuses (Some r.now) None (D.packs disk) (D.faults disk) (D.faults result.0)) }
-    ensures stays { Stays D.packs D.images D.moment D.images_since disk result.0 }
+    ensures stays { Stays D.Disk disk result.0 }
     ensures later { D.faults disk ≤ D.faults result.0 }
 {
     let mut store = match opened(alloc, disk) {
@@ -55,7 +55,7 @@ pub(crate) fn unread(fault: GetFault) -> Refusal
 pub(crate) fn stat<D: Disk>(alloc: Global, disk: D, r: &Ref) -> (D, Result<Octets, Refusal>)
     ensures line { IfOk result.1 (λ line. ForSome (D.packs disk) (λ held. option_map (λ bytes. size_line (r.now, length bytes)) (get (blobs_of held) r.now) ≡ Some line)) }
     ensures refused { IfErr result.1 (Refuses (Some r.now) None (D.packs disk) (D.faults disk) (D.faults result.0)) }
-    ensures stays { Stays D.packs D.images D.moment D.images_since disk result.0 }
+    ensures stays { Stays D.Disk disk result.0 }
     ensures later { D.faults disk ≤ D.faults result.0 }
 {
     let store = match opened(alloc, disk) {
@@ -86,7 +86,7 @@ pub(crate) fn list<D: Disk>(
 ) -> (D, Result<Octets, Refusal>)
     ensures lines { IfOk result.1 (λ lines. ForSome (D.packs disk) (λ held. lines ≡ flat_map size_line (listed (option_copied after.entry) limit (blobs_of held)))) }
     ensures refused { IfErr result.1 (Refuses None None (D.packs disk) (D.faults disk) (D.faults result.0)) }
-    ensures stays { Stays D.packs D.images D.moment D.images_since disk result.0 }
+    ensures stays { Stays D.Disk disk result.0 }
     ensures later { D.faults disk ≤ D.faults result.0 }
 {
     let store = match opened(alloc, disk) {

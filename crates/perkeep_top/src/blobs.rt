@@ -52,7 +52,7 @@ pub(crate) fn store_facts<D: Disk>(alloc: Global, store: &mut Store<D>) -> Resul
     ensures distinct { IfOk result AreDistinct }
     ensures valid { IfOk result AreValid }
     ensures refused { IfErr result (Refuses None None (D.packs store.old.disk) (D.faults store.old.disk) (D.faults store.new.disk)) }
-    ensures stays { StaysStill D.packs D.images D.moment D.images_since store.old store.new }
+    ensures stays { StaysStill D.Disk store.old store.new }
     ensures later { D.faults store.old.disk ≤ D.faults store.new.disk }
 {
     let mut seen = BTreeSet::new(alloc);
@@ -69,7 +69,7 @@ fn arrival_at<D: Disk>(store: &mut Store<D>, number: u64) -> Result<(Ref, Octets
     requires { number < count store.old }
     ensures bytes { IfOk result (λ arrival. ForSome (D.packs store.old.disk) (λ held. slice_get (arrivals_in held store.old.rows) number ≡ Some arrival)) }
     ensures refused { IfErr result (Refuses None None (D.packs store.old.disk) (D.faults store.old.disk) (D.faults store.new.disk)) }
-    ensures stays { StaysStill D.packs D.images D.moment D.images_since store.old store.new }
+    ensures stays { StaysStill D.Disk store.old store.new }
     ensures later { D.faults store.old.disk ≤ D.faults store.new.disk }
 {
     match store.arrival(number) {

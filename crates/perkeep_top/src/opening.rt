@@ -1,6 +1,6 @@
 //! The store of a disk is opened.
 ghost use Rattle.std.specs.Prelude.{◌≤◌, IfOk, IfErr, None};
-ghost use Rattle.pack_disk.specs.Disk.{Stays};
+ghost use Rattle.pack_disk.specs.Runs.{Stays};
 ghost use Rattle.pack_store.specs.Opening.{IsOpened};
 ghost use Rattle.perkeep_top.specs.Stored.{limits, Refuses};
 
@@ -18,10 +18,10 @@ const LIMITS: Limits = Limits {
 
 /// The store that a disk holds. Nothing is made and nothing added.
 pub(crate) fn opened<D: Disk>(alloc: Global, disk: D) -> Result<Store<D>, (D, Refusal)>
-    ensures opened { IfOk result (IsOpened D.packs disk limits) }
-    ensures stays { IfOk result (λ store. Stays D.packs D.images D.moment D.images_since disk store.disk) }
+    ensures opened { IfOk result (IsOpened D.Disk disk limits) }
+    ensures stays { IfOk result (λ store. Stays D.Disk disk store.disk) }
     ensures later { IfOk result (λ store. D.faults disk ≤ D.faults store.disk) }
-    ensures stays_err { IfErr result (λ e. Stays D.packs D.images D.moment D.images_since disk e.0) }
+    ensures stays_err { IfErr result (λ e. Stays D.Disk disk e.0) }
     ensures later_err { IfErr result (λ e. D.faults disk ≤ D.faults e.0) }
     ensures refused { IfErr result (λ e. Refuses None None (D.packs disk) (D.faults disk) (D.faults e.0) e.1) }
 {

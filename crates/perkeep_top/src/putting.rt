@@ -24,7 +24,7 @@ pub(crate) fn put<D: Disk>(alloc: Global, disk: D, bytes: &[u8]) -> (D, Result<O
     ensures held { OnOk result.1 (HeldByAll (D.images result.0) (ref_of bytes.now)) }
     ensures refused { IfErr result.1 (Refuses None (Some (ref_of bytes.now)) (D.packs disk) (D.faults disk) (D.faults result.0)) }
     ensures unchanged { IfErr result.1 (λ refusal. refusal ≢ Refusal.Disk → D.packs result.0 ≡ D.packs disk) }
-    ensures any_moment { KeepsAll D.images D.moment D.images_since disk result.0 }
+    ensures any_moment { KeepsAll D.Disk disk result.0 }
     ensures later { D.faults disk ≤ D.faults result.0 }
 {
     let r = Ref::of(bytes);

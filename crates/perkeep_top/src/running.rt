@@ -41,7 +41,7 @@ pub fn run<D: Disk, V: Verifier, S: Source, K: Sink>(
     sink: &mut K,
 ) -> (D, Status)
     // How it ends at a line in which nothing is wrong, and at other words.
-    ensures ends { (line : CommandLine) → command_of words.now ≡ Some (Ok line) → Ends D.packs D.images D.moment D.images_since line (V.accepts keys.now) (S.left source.old) (S.left source.new) (K.written sink.old) (K.written sink.new)
+    ensures ends { (line : CommandLine) → command_of words.now ≡ Some (Ok line) → Ends D.Disk line (V.accepts keys.now) (S.left source.old) (S.left source.new) (K.written sink.old) (K.written sink.new)
         (Rose (S.faults source.old) (S.faults source.new)) (Rose (K.faults sink.old) (K.faults sink.new)) (Rose (D.faults disk) (D.faults result.0)) (sink.new ≡ sink.old) disk result.0 result.1 }
     ensures bad { ((line : CommandLine) → command_of words.now ≢ Some (Ok line)) → (source.new ≡ source.old) × (sink.new ≡ sink.old) × (result.0 ≡ disk) }
 
@@ -50,7 +50,7 @@ pub fn run<D: Disk, V: Verifier, S: Source, K: Sink>(
         (Rose (S.faults source.old) (S.faults source.new)) (Rose (K.faults sink.old) (K.faults sink.new)) (Rose (D.faults disk) (D.faults result.0)) result.1 }
 
     // What stands whatever it answers.
-    ensures any_moment { KeepsAll D.images D.moment D.images_since disk result.0 }
+    ensures any_moment { KeepsAll D.Disk disk result.0 }
     ensures source_later { S.faults source.old ≤ S.faults source.new }
     ensures sink_later { K.faults sink.old ≤ K.faults sink.new }
     ensures disk_later { D.faults disk ≤ D.faults result.0 }
@@ -74,7 +74,7 @@ fn run_command<D: Disk, V: Verifier, S: Source, K: Sink>(
     sink: &mut K,
 ) -> (D, Status)
     requires named { IsNamed (seen command.now) }
-    ensures ends { Ends D.packs D.images D.moment D.images_since (seen command.now) (V.accepts keys.now) (S.left source.old) (S.left source.new) (K.written sink.old) (K.written sink.new)
+    ensures ends { Ends D.Disk (seen command.now) (V.accepts keys.now) (S.left source.old) (S.left source.new) (K.written sink.old) (K.written sink.new)
         (Rose (S.faults source.old) (S.faults source.new)) (Rose (K.faults sink.old) (K.faults sink.new)) (Rose (D.faults disk) (D.faults result.0)) (sink.new ≡ sink.old) disk result.0 result.1 }
     ensures source_later { S.faults source.old ≤ S.faults source.new }
     ensures sink_later { K.faults sink.old ≤ K.faults sink.new }
@@ -125,7 +125,7 @@ fn put_input<D: Disk, S: Source, K: Sink>(
     source: &mut S,
     sink: &mut K,
 ) -> (D, Status)
-    ensures ends { (dir : List ℕ) (accepts : Accepts) → Ends D.packs D.images D.moment D.images_since (PutLine dir) accepts (S.left source.old) (S.left source.new) (K.written sink.old) (K.written sink.new)
+    ensures ends { (dir : List ℕ) (accepts : Accepts) → Ends D.Disk (PutLine dir) accepts (S.left source.old) (S.left source.new) (K.written sink.old) (K.written sink.new)
         (Rose (S.faults source.old) (S.faults source.new)) (Rose (K.faults sink.old) (K.faults sink.new)) (Rose (D.faults disk) (D.faults result.0)) (sink.new ≡ sink.old) disk result.0 result.1 }
     ensures source_later { S.faults source.old ≤ S.faults source.new }
     ensures sink_later { K.faults sink.old ≤ K.faults sink.new }

@@ -6,7 +6,7 @@ ghost use Rattle.answer_text.specs.Search.{search_text};
 ghost use Rattle.claim_model.specs.Facts.{AreDistinct, AreValid};
 ghost use Rattle.search_query.specs.Queries.{value_query};
 ghost use Rattle.search_eval.specs.Answer.{answer};
-ghost use Rattle.pack_disk.specs.Disk.{Stays};
+ghost use Rattle.pack_disk.specs.Runs.{Stays};
 ghost use Rattle.perkeep_top.specs.Blobs.{facts_of_content};
 ghost use Rattle.perkeep_top.specs.Outputs.{blobs_of};
 ghost use Rattle.perkeep_top.specs.Run.{pack_answer};
@@ -57,7 +57,7 @@ pub(crate) fn search<D: Disk, V: Verifier>(
     requires { attr.now ≢ [] }
     ensures line { IfOk result.1 (λ line. ForSome (D.packs disk) (λ held. line ≡ search_line (facts_of_content (blobs_of held)) (V.accepts keys.now) attr.now value.now at)) }
     ensures refused { IfErr result.1 (Refuses None None (D.packs disk) (D.faults disk) (D.faults result.0)) }
-    ensures stays { Stays D.packs D.images D.moment D.images_since disk result.0 }
+    ensures stays { Stays D.Disk disk result.0 }
     ensures later { D.faults disk ≤ D.faults result.0 }
 {
     let mut store = match opened(alloc, disk) {

@@ -1,7 +1,8 @@
 use Rattle.std.proofs.Common.{◌∙◌, sym, subst, arith, ℕ, List, Some, slice_get, ◌≡◌}
 use Rattle.pack_store.specs.Rows.{arrivals_in}
 use Rattle.perkeep_top.proofs.Gathering.{gathered_more, distinct_more, valid_more}
-use Rattle.perkeep_top.proofs.Arrived.{still_then, rows_still}
+use Rattle.pack_store.proofs.Still.{still_then}
+use Rattle.perkeep_top.proofs.Arrived.{rows_still}
 use Rattle.perkeep_top.proofs.blobs.store_facts.Goals as goal
 
 pub loop-number-preserved : goal.loop-number-preserved
@@ -16,6 +17,6 @@ loop-number-preserved g c =
       distinct = distinct_more c.loop-number.facts c.add_blob.new.facts (c.in_ok-r.r, c.as_slice.result.now) c.in_ok-add_blob.ensures.facts c.loop-number.invariant.distinct;
       valid = valid_more c.loop-number.facts c.add_blob.new.facts (c.in_ok-r.r, c.as_slice.result.now) c.in_ok-add_blob.ensures.facts c.loop-number.invariant.valid;
       seen = c.in_ok-add_blob.ensures.seen;
-      stays = still_then disk.packs disk.images disk.moment disk.images_since g.met.D.Disk.counts_now g.met.D.Disk.only_now c.args.store.now c.loop-number.store c.arrival_at.new.store still c.arrival_at.ensures.stays;
+      stays = still_then disk g.met.D.Disk.counts_now g.met.D.Disk.only_now c.args.store.now c.loop-number.store c.arrival_at.new.store still c.arrival_at.ensures.stays;
       later = omega (arith, c.loop-number.invariant.later, c.arrival_at.ensures.later);
     }

@@ -15,6 +15,6 @@ invariant-loop-number g l =
       distinct : AreDistinct l.facts;
       valid : AreValid l.facts;
       seen : HasRefsOf l.seen l.facts;
-      stays : StaysStill disk.packs disk.images disk.moment disk.images_since l.fn.store l.store;
+      stays : StaysStill disk l.fn.store l.store;
       later : disk.faults l.fn.store.disk ≤ disk.faults l.store.disk;
     }

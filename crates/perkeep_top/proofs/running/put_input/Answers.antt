@@ -11,7 +11,7 @@ returns-in-Ok-clause-ends g c = λ dir accepts.
     let input : List ℕ = c.deref.result.now in
     let read : (length input ≤ max_size) × GaveAll (g.S.Source.left c.args.source.now) (g.S.Source.left c.read_input.new.source) input =
     subst (λ (b : List ℕ). (length b ≤ max_size) × GaveAll (g.S.Source.left c.args.source.now) (g.S.Source.left c.read_input.new.source) b) (sym c.deref.ensures.value) c.in-Ok.ensures.read in
-    ends_written g.D.Disk.packs g.D.Disk.images g.D.Disk.moment g.D.Disk.images_since
+    ends_written g.D.Disk
     (PutLine dir) accepts (g.S.Source.left c.args.source.now) (g.S.Source.left c.read_input.new.source) (g.K.Sink.written c.args.sink.now) (g.K.Sink.written c.written.new.sink)
     (Rose (g.S.Source.faults c.args.source.now) (g.S.Source.faults c.read_input.new.source)) (Rose (g.K.Sink.faults c.args.sink.now) (g.K.Sink.faults c.written.new.sink)) (c.written.new.sink ≡ c.args.sink.now)
     (g.D.Disk.faults c.args.disk) (g.D.Disk.faults c.put-disk.result.0) c.args.disk c.put-disk.result.0

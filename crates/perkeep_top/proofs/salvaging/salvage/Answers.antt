@@ -14,7 +14,7 @@ packs-init g c =
       small = omega arith;
       wrote = first_below (disk.packs c.args.disk.now) (g.K.Sink.written c.args.sink.now);
       cut = first_cut (disk.packs c.args.disk.now);
-      stays = stays_itself disk.packs disk.images disk.moment disk.images_since g.met.D.Disk.counts_now g.met.D.Disk.only_now c.args.disk.now;
+      stays = stays_itself disk g.met.D.Disk.counts_now g.met.D.Disk.only_now c.args.disk.now;
       disk_later = omega arith;
       sink_later = omega arith;
     }
@@ -46,14 +46,14 @@ packs-preserved g c =
     let told = disk.packs c.args.disk.now in
     let least : ForSome told (λ held. least_from c.packs.next held ≡ Some c.in-Some.pack) = λ held tells. sym (c.in-Ok.ensures.least held (c.packs.invariant.stays.told ∙ tells)) ∙ c.in-Some.is in
     let range = rw c.in-Some.is at c.in-Ok.ensures.range in
-    let asked = stays_by_call disk.packs disk.images disk.moment disk.images_since g.met.D.Disk.counts_now g.met.D.Disk.only_now c.packs.disk c.packs-in-packs.new.self c.packs-in-packs.ensures.told c.packs-in-packs.ensures.time c.packs-in-packs.ensures.crash in
-    let more = stays_then disk.packs disk.images disk.moment disk.images_since g.met.D.Disk.counts_now g.met.D.Disk.only_now c.packs.disk c.packs-in-packs.new.self c.tell_pack.new.disk asked c.tell_pack.ensures.stays in
+    let asked = stays_by_call disk g.met.D.Disk.counts_now g.met.D.Disk.only_now c.packs.disk c.packs-in-packs.new.self c.packs-in-packs.ensures.told c.packs-in-packs.ensures.time c.packs-in-packs.ensures.crash in
+    let more = stays_then disk g.met.D.Disk.counts_now g.met.D.Disk.only_now c.packs.disk c.packs-in-packs.new.self c.tell_pack.new.disk asked c.tell_pack.ensures.stays in
     record {
       small = omega (arith, range.1);
       wrote = writes_more told c.packs.next c.in-Some.pack (g.K.Sink.written c.args.sink.now) (g.K.Sink.written c.packs.sink) (g.K.Sink.written c.tell_pack.new.sink) least c.packs.invariant.wrote
           (subst (λ o. Writes (IsPackReport c.in-Some.pack o) (g.K.Sink.written c.packs.sink) (g.K.Sink.written c.tell_pack.new.sink)) (c.packs-in-packs.ensures.told ∙ c.packs.invariant.stays.told) c.in_default-tell_pack.ensures.done);
       cut = cut_more told c.packs.next c.in-Some.pack least c.packs.invariant.cut;
-      stays = stays_then disk.packs disk.images disk.moment disk.images_since g.met.D.Disk.counts_now g.met.D.Disk.only_now c.args.disk.now c.packs.disk c.tell_pack.new.disk c.packs.invariant.stays more;
+      stays = stays_then disk g.met.D.Disk.counts_now g.met.D.Disk.only_now c.args.disk.now c.packs.disk c.tell_pack.new.disk c.packs.invariant.stays more;
       disk_later = omega (arith, c.packs.invariant.disk_later, c.packs-in-packs.ensures.cause.later, c.tell_pack.ensures.disk_later);
       sink_later = omega (arith, c.packs.invariant.sink_later, c.tell_pack.ensures.sink_later);
     }

@@ -1,5 +1,5 @@
 use Rattle.std.proofs.Common.{◌-◌, ◌≤◌}
-use Rattle.pack_disk.specs.Disk.{Stays}
+use Rattle.pack_disk.specs.Runs.{Stays}
 use Rattle.perkeep_top.specs.Salvaged.{IsReportBelow, IsCutAt, Writes}
 use Rattle.perkeep_top.proofs.salvaging.salvage.Given as goal
 
@@ -11,7 +11,7 @@ invariant-packs g l =
       small : l.next ≤ 100000;
       wrote : Writes (IsReportBelow l.next (disk.packs l.fn.disk)) (g.K.Sink.written l.fn.sink) (g.K.Sink.written l.sink);
       cut : IsCutAt l.next (disk.packs l.fn.disk);
-      stays : Stays disk.packs disk.images disk.moment disk.images_since l.fn.disk l.disk;
+      stays : Stays disk l.fn.disk l.disk;
       disk_later : disk.faults l.fn.disk ≤ disk.faults l.disk;
       sink_later : g.K.Sink.faults l.fn.sink ≤ g.K.Sink.faults l.sink;
     }

@@ -1,5 +1,5 @@
 use Rattle.pack_disk.proofs.Least.{number_there}
-use Rattle.pack_store.proofs.tests.next_number.Goals as goal
+use Rattle.store_tests.proofs.disks.next_number.Goals as goal
 
 pub returns : goal.returns
 returns c = number_there c.packs.result c.args.from _ _ c.packs.ensures.least c.packs.ensures.told

@@ -1,12 +1,14 @@
+//! Stores on a disk in memory: what is put and read, and what outlives crashes.
 ghost use Rattle.std.specs.Prelude.{IfOk, IfSome, IsSome};
 ghost use Rattle.std.specs.FinMap.{get};
 ghost use Rattle.pack_disk.specs.Past.{told};
 ghost use Rattle.pack_store.specs.Archive.{AreLimits};
 
-use crate::{Limits, OpenFault, Store, lives_keep, puts_last, read_pack};
 use blobref::{NoMemory, Ref, RefList};
 use edge_base::{CallList, Failed, Put, PutFault};
 use pack_disk::{Disk, MemDisk};
+use pack_store::{Limits, OpenFault, Store, holds_content, lives_keep, puts_last, scan_pack};
+use salvage_scan::{Clean, Found};
 use std::alloc::Global;
 use std::test::Fail;
 
@@ -34,6 +36,14 @@ sha224-192f56eb9bd894a72b30c303247b107be2c4591f310dd69a67927f48 9";
 
 // The record of `abc`.
 const ABC_RECORD: &[u8] = b"[sha224-23097d223405d8228642a477bda255b32aadbce4bda0b3f7e36c9da7 3]abc";
+
+// The record of `abc`, and one byte.
+const ABC_AND_MORE: &[u8] =
+    b"[sha224-23097d223405d8228642a477bda255b32aadbce4bda0b3f7e36c9da7 3]abcx";
+
+// Both records, that of `abc` first.
+const BOTH_RECORDS: &[u8] =
+    b"[sha224-23097d223405d8228642a477bda255b32aadbce4bda0b3f7e36c9da7 3]abc[sha224-d14a028c2a3a2bc9476102bb288234c415a2b01f828ea62ac5b3e42f 0]";
 
 // The record of no bytes.
 const EMPTY_RECORD: &[u8] = b"[sha224-d14a028c2a3a2bc9476102bb288234c415a2b01f828ea62ac5b3e42f 0]";
@@ -142,12 +152,15 @@ fn next_number(disk: &mut MemDisk, from: u32) -> Result<Option<u32>, Failed>
 }
 
 // Whether there is a pack of this number with these bytes.
-fn holds(alloc: Global, disk: &mut MemDisk, pack: u32, want: &[u8]) -> Result<bool, Fail> {
-    let Some(number) = next_number(disk, pack)? else {
-        return Ok(false);
+fn holds(disk: &mut MemDisk, pack: u32, want: &[u8]) -> bool {
+    let Ok(Some(number)) = next_number(disk, pack) else {
+        return false;
     };
-    let bytes = read_pack(alloc, disk, number)?;
-    Ok(number == pack && bytes.as_slice() == want)
+    let mut buf = [0; 256];
+    match disk.read(number, 0, &mut buf) {
+        Ok(n) => number == pack && &buf[..n] == want,
+        Err(_) => false,
+    }
 }
 
 #[test]
@@ -165,29 +178,45 @@ fn false_refs_are_refused(rt: HostRuntime) -> Result<(), Fail> {
     Ok(())
 }
 
+// Whether `abc` is stored once, and read back.
+fn abc_is_stored(store: &mut Store<MemDisk>) -> bool {
+    let (empty, abc) = (named(EMPTY), named(ABC));
+    let first = store.put(&abc, b"abc");
+    let again = store.put(&abc, b"abc");
+    first == Ok(Put::Stored { number: 0 })
+        && again == Ok(Put::Already { number: 0 })
+        && store.count() == 1
+        && arrives(store, 0, &abc, b"abc")
+        && reads(store, &abc, b"abc")
+        && lacks(store, &empty, 1)
+        && store.stat(&abc) == Some(3)
+        && store.stat(&empty) == None
+}
+
+// Whether both are listed. The ref of `abc` is the lesser one.
+fn both_are_listed(store: &Store<MemDisk>) -> Result<bool, NoMemory> {
+    let (empty, abc) = (named(EMPTY), named(ABC));
+    let all = lists(store, None, 9, &[(abc, 3), (empty, 0)])?;
+    let first = lists(store, None, 1, &[(abc, 3)])?;
+    let rest = lists(store, Some(&abc), 9, &[(empty, 0)])?;
+    Ok(all && first && rest)
+}
+
+// Whether both records stand in the first pack.
+fn both_are_held(disk: &mut MemDisk) -> bool {
+    holds(disk, 0, BOTH_RECORDS)
+}
+
 #[test]
 fn blobs_are_put_and_read(rt: HostRuntime) -> Result<(), Fail> {
-    let (empty, abc) = (named(EMPTY), named(ABC));
     let alloc = rt.alloc();
     let mut store = opened(alloc, failing(alloc, None)?, WIDE)?;
-    assert!(rt; store.put(&abc, b"abc") == Ok(Put::Stored { number: 0 }));
-    assert!(rt; store.put(&abc, b"abc") == Ok(Put::Already { number: 0 }));
-    assert_eq!(rt; store.count(), 1);
-    assert!(rt; arrives(&mut store, 0, &abc, b"abc"));
-    assert!(rt; reads(&mut store, &abc, b"abc"));
-    assert!(rt; lacks(&mut store, &empty, 1));
-    assert_eq!(rt; store.stat(&abc), Some(3));
-    assert_eq!(rt; store.stat(&empty), None);
+    assert!(rt; abc_is_stored(&mut store));
     assert!(rt; store.put_own(&Ref::of(b""), b"") == Ok(Put::Stored { number: 1 }));
-    // The ref of `abc` is the lesser one.
-    assert!(rt; lists(&store, None, 9, &[(abc, 3), (empty, 0)])?);
-    assert!(rt; lists(&store, None, 1, &[(abc, 3)])?);
-    assert!(rt; lists(&store, Some(&abc), 9, &[(empty, 0)])?);
+    assert!(rt; both_are_listed(&store)?);
     store.arrivals_are_held();
     let mut disk = store.give_back();
-    let mut records = Vec::from_slice(alloc, ABC_RECORD)?;
-    records.extend_from_slice(EMPTY_RECORD)?;
-    assert!(rt; holds(alloc, &mut disk, 0, &records)?);
+    assert!(rt; both_are_held(&mut disk));
     Ok(())
 }
 
@@ -220,8 +249,8 @@ fn leaves(alloc: Global, torn: &[u8]) -> Result<bool, Fail> {
     let alone = store.count() == 1 && arrives(&mut store, 0, &named(ABC), b"abc");
     let stored = store.put(&empty, b"") == Ok(Put::Stored { number: 1 });
     let mut disk = store.give_back();
-    let left = holds(alloc, &mut disk, 0, torn)?;
-    let added = holds(alloc, &mut disk, 1, EMPTY_RECORD)?;
+    let left = holds(&mut disk, 0, torn);
+    let added = holds(&mut disk, 1, EMPTY_RECORD);
     Ok(alone && stored && left && added)
 }
 
@@ -241,18 +270,49 @@ fn torn_packs_are_left(rt: HostRuntime) -> Result<(), Fail> {
     Ok(())
 }
 
+// Whether the next blob isn't stored for a fault, and then is.
+fn is_stored_late(store: &mut Store<MemDisk>) -> bool {
+    let empty = named(EMPTY);
+    let first = store.put(&empty, b"");
+    let none = store.count() == 0 && store.faults() == 1;
+    let second = store.put(&empty, b"");
+    first == Err(PutFault::Disk) && none && second == Ok(Put::Stored { number: 0 })
+}
+
 // The calls are `packs`, `make`, `append` and `sync`, and the last of them fails.
 #[test]
 fn packs_are_left_after_a_fault(rt: HostRuntime) -> Result<(), Fail> {
-    let empty = named(EMPTY);
     let alloc = rt.alloc();
     let mut store = opened(alloc, failing(alloc, Some(3))?, WIDE)?;
-    assert!(rt; store.put(&empty, b"") == Err(PutFault::Disk));
-    assert_eq!(rt; store.count(), 0);
-    assert!(rt; store.put(&empty, b"") == Ok(Put::Stored { number: 0 }));
+    assert!(rt; is_stored_late(&mut store));
     let mut disk = store.give_back();
-    assert!(rt; holds(alloc, &mut disk, 1, EMPTY_RECORD)?);
-    assert_eq!(rt; disk.faults(), 1);
+    assert!(rt; holds(&mut disk, 1, EMPTY_RECORD));
+    Ok(())
+}
+
+// Whether a scan of the first pack finds `abc`, and one byte behind it that belongs to nothing.
+fn is_scanned(alloc: Global, disk: &mut MemDisk) -> Result<bool, Fail> {
+    let Some(pack) = next_number(disk, 0)? else {
+        return Ok(false);
+    };
+    let scan = scan_pack(alloc, disk, pack)?;
+    let found = Found {
+        r: named(ABC),
+        at: 67,
+        size: 3,
+    };
+    Ok(
+        scan.found.as_slice() == [found].as_slice()
+            && scan.clean == Clean::No { at: 70 }
+            && scan.size == 71,
+    )
+}
+
+#[test]
+fn packs_are_scanned(rt: HostRuntime) -> Result<(), Fail> {
+    let alloc = rt.alloc();
+    let mut disk = written(alloc, ABC_AND_MORE)?;
+    assert!(rt; is_scanned(alloc, &mut disk)?);
     Ok(())
 }
 
@@ -280,7 +340,7 @@ fn stores_are_full(rt: HostRuntime) -> Result<(), Fail> {
     Ok(())
 }
 
-// Opens a store on a disk, puts each digit, lists those that were acknowledged, and gives the disk back.
+// Opens a store on a disk, puts each digit, lists those that were acknowledged, also as there before, and gives the disk back.
 fn put_digits(
     alloc: Global,
     disk: MemDisk,
@@ -293,7 +353,7 @@ fn put_digits(
     for line in DIGITS.lines() {
         let (name, digit) = line.split_once(' ').unwrap_or(("", ""));
         let r = named(name);
-        if let Ok(Put::Stored { .. }) = store.put(&r, digit.as_bytes()) {
+        if store.put(&r, digit.as_bytes()).is_ok() {
             acknowledged.push(r)?;
         }
     }
@@ -338,7 +398,37 @@ fn acknowledged_blobs_outlive_crashes(rt: HostRuntime) -> Result<(), Fail> {
             );
         }
     }
+    Ok(())
+}
+
+// Whether all digits are acknowledged after a disk stopped at a call and a crash, and are there after a second crash that takes all that
+// isn't durable.
+fn outlives_twice(alloc: Global, stop: u64, choice: u64) -> Result<bool, Fail> {
+    let mut acknowledged = RefList::empty(alloc);
+    let disk = MemDisk::empty(alloc, CallList::empty(alloc), stop);
+    let disk = put_digits(alloc, disk, &mut acknowledged)?.crash(choice)?;
+    let mut again = RefList::empty(alloc);
+    let disk = put_digits(alloc, disk, &mut again)?.crash(1)?;
+    let mut store = opened(alloc, disk, NARROW)?;
+    Ok(again.len() == 10 && goes_on(&mut store, again.as_slice()))
+}
+
+#[test]
+fn acknowledged_blobs_outlive_second_crashes(rt: HostRuntime) -> Result<(), Fail> {
+    for stop in 0..26 {
+        for choice in 0..8 {
+            assert!(rt;
+                outlives_twice(rt.alloc(), stop, choice)?,
+                "call {stop}, choice {choice}"
+            );
+        }
+    }
+    Ok(())
+}
+
+#[test]
+fn laws_hold_of_disks_in_memory(_rt: HostRuntime) {
+    holds_content();
     lives_keep::<MemDisk>();
     puts_last::<MemDisk>();
-    Ok(())
 }
