@@ -12,7 +12,8 @@ use Rattle.schema_fact.specs.declared.kinds.Kind.TheVariants.{Plain, Key, File, 
 use Rattle.claim_model.specs.Facts.{Entry, Facts}
 use Rattle.claim_model.specs.Genuine.{is_genuine, is_genuine_permanode}
 use Rattle.claim_model.specs.Deleted.{is_deleted}
-use Rattle.claim_model.specs.Claims.{claim_on, apply, stands_at, has_value}
+use Rattle.claim_model.specs.Claims.{stands_at, has_value}
+use Rattle.claim_model.specs.ByClaim.{claim_on, apply}
 
 -- the permanode whose attribute it changes, or the target that it deletes
 abbrev pub what_subject : What → List ℕ

@@ -2,7 +2,7 @@
 ghost use Rattle.std.specs.Prelude.{◌≡◌, [], IfOk, OnOk, fold, map, filter, not, option_copied, length, ◌==◌, if◌then◌else◌};
 ghost use Rattle.std.specs.List.{list_any};
 ghost use Rattle.std.specs.Str.{bytes_eq};
-ghost use Rattle.claim_model.specs.Claims.{apply};
+ghost use Rattle.claim_model.specs.ByClaim.{apply};
 ghost use Rattle.index_look.specs.Claims.{apply_said, said};
 ghost use Rattle.index_look.specs.Latest.{later_of};
 
