@@ -22,7 +22,7 @@ use Rattle.claim_model.specs.Changes.{Change, sets, adds, removes, changes_of, c
 use Rattle.claim_model.specs.Claims.{Moment, moment_cmp, changes_on, stands_at, counted, values, last_date, last_change}
 use Rattle.claim_model.specs.ByClaim.{ClaimMoment, claim_moment_cmp, claim_on, counted_claims, apply, ValuesByClaim, LastChangeByClaim}
 
-claim_moment_total : IsTotalOrder claim_moment_cmp
+pub claim_moment_total : IsTotalOrder claim_moment_cmp
 claim_moment_total = then_total (on_total (λ (a : ClaimMoment). a.0) int_cmp_total) (on_total (λ (a : ClaimMoment). a.1) nat_list_cmp_total)
 
 moment_total : IsTotalOrder moment_cmp

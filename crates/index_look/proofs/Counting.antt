@@ -4,8 +4,6 @@ use Rattle.std.specs.declared.cmp.Ordering.TheVariants.{Less, Equal, Greater}
 use Rattle.std.specs.List.{filter_map, cons_option, AllByRecursion, IsDistinct}
 use Rattle.std.specs.List.Sorted.{IsStrictlySortedBy, IsPermutation, IsSorted}
 use Rattle.std.specs.Ordering.{is_eq, eq_by_cmp, int_cmp, ordering_then}
-use Rattle.std.specs.Cmp.{IsTotalOrder, int_cmp_total, on_total, then_total}
-use Rattle.std.specs.Cmp.Lexicographic.{nat_list_cmp_total}
 use Rattle.std.specs.Str.{bytes_eq}
 use Rattle.std.specs.Map.{keys_of}
 use Rattle.std.specs.FinMap.{IsAntisymmetric, get, entries, keys, from_entries, int_cmp-IsAntisymmetric}
@@ -23,7 +21,7 @@ use Rattle.claim_model.specs.Genuine.{is_genuine, is_genuine_permanode}
 use Rattle.claim_model.specs.Deleted.{is_deleted, counts_at}
 use Rattle.claim_model.specs.Claims.{stands_at, values}
 use Rattle.claim_model.specs.ByClaim.{claim_moment_cmp, claim_on, is_attribute_claim_on, counted_claims, apply}
-use Rattle.claim_model.proofs.ByClaim.{values_by_claim}
+use Rattle.claim_model.proofs.ByClaim.{claim_moment_total, values_by_claim}
 use Rattle.index_look.specs.Claims.{subject, claim_under, claims_about, counted_claim, claim_says, said, apply_said}
 use Rattle.index_look.proofs.Entries.{same_ref, entries_had, keys_ascend}
 use Rattle.index_look.proofs.Keys.{keys_sorted, keys-empty, entries_told}
@@ -33,9 +31,6 @@ Pair = List ℕ × List ℕ
 
 abbrev pub Moment : Type 0
 Moment = ℤ × List ℕ
-
-pub moment_total : IsTotalOrder claim_moment_cmp
-moment_total = then_total (on_total (λ (a : Moment). a.0) int_cmp_total) (on_total (λ (a : Moment). a.1) nat_list_cmp_total)
 
 pub same_moment : IsAntisymmetric claim_moment_cmp
 same_moment a b e = by (int_cmp a.0 b.0) refl e
@@ -198,7 +193,7 @@ module _ (facts : Facts) (accepts : Accepts) (when : When) (p : List ℕ) where
   moments_counted ms ks genuine is moved up =
       let all = listed (entries facts) in
       let own : ms ≡ keys_of all = is ∙ sym (moments_listed (entries facts) (entries_had facts)) in
-      keys_sorted moment_total same_moment all ks (subst (λ (xs : List Moment). IsPermutation xs ks) own moved) up (distinct_listed (entries facts) (keys_ascend facts))
+      keys_sorted claim_moment_total same_moment all ks (subst (λ (xs : List Moment). IsPermutation xs ks) own moved) up (distinct_listed (entries facts) (keys_ascend facts))
       ∙ ap (λ b. keys (from_entries {R = claim_moment_cmp} (cond b all []))) genuine
 
   pub none_counted : false ≡ is_genuine_permanode facts accepts p → [] ≡ keys (counted_claims facts accepts when p)
@@ -217,7 +212,7 @@ module _ (facts : Facts) (accepts : Accepts) (when : When) (p : List ℕ) where
 
   pub values_folded : (name : List ℕ) → fold (λ found m. apply_said name found (said facts m.1)) [] (keys (counted_claims facts accepts when p)) ≡ values facts accepts when p name
   values_folded name = refold name (entries (counted_claims facts accepts when p)) []
-      (entries_told moment_total same_moment (λ (m : Moment). said facts m.1) _ (said_cond (is_genuine_permanode facts accepts p)))
+      (entries_told claim_moment_total same_moment (λ (m : Moment). said facts m.1) _ (said_cond (is_genuine_permanode facts accepts p)))
       ∙ sym (values_by_claim facts accepts when p name)
 
   -- the counted list, where p is a genuine permanode, and where it is none

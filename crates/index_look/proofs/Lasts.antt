@@ -16,12 +16,12 @@ use Rattle.claim_model.specs.Facts.{Facts}
 use Rattle.claim_model.specs.Genuine.{is_genuine_permanode}
 use Rattle.claim_model.specs.Claims.{last_date, last_change}
 use Rattle.claim_model.specs.ByClaim.{claim_moment_cmp}
-use Rattle.claim_model.proofs.ByClaim.{last_change_by_claim}
+use Rattle.claim_model.proofs.ByClaim.{claim_moment_total, last_change_by_claim}
 use Rattle.index_look.specs.Claims.{claims_about}
 use Rattle.index_look.specs.Latest.{later, latest}
 use Rattle.index_look.proofs.Order.{ascending_entries}
 use Rattle.index_look.proofs.Keys.{key_put, keys_put, keys-from_entries, bare, keys_of-bare}
-use Rattle.index_look.proofs.Counting.{moment_total, listed, moment, moments_are, counted_is}
+use Rattle.index_look.proofs.Counting.{listed, moment, moments_are, counted_is}
 
 abbrev Moment : Type 0
 Moment = ℤ × List ℕ
@@ -40,15 +40,15 @@ all_last P x (y ∷ ys) p h = all_last P y ys h.0 h.1
 
 -- what is not greater than the first is not greater than the last
 not_past : (k x : Moment) (xs : List Moment) → AllByRecursion (λ y. claim_moment_cmp x y ≡ Less) xs → (r : Ordering) → claim_moment_cmp k x ≡ r → is_lt (ordering_reverse r) ≡ false → is_lt (claim_moment_cmp (last_or x xs) k) ≡ false
-not_past k x [] h r is low = ap is_lt (moment_total.antisymm x k ∙ ap ordering_reverse is) ∙ low
+not_past k x [] h r is low = ap is_lt (claim_moment_total.antisymm x k ∙ ap ordering_reverse is) ∙ low
 not_past k x (y ∷ ys) h r is low =
     let l = last_or y ys in
     let beyond : claim_moment_cmp x l ≡ Less = all_last (λ z. claim_moment_cmp x z ≡ Less) y ys h.0 h.1 in
-    ap is_lt (moment_total.antisymm l k ∙ ap ordering_reverse (by r is low beyond))
+    ap is_lt (claim_moment_total.antisymm l k ∙ ap ordering_reverse (by r is low beyond))
   where
     by : (r : Ordering) → claim_moment_cmp k x ≡ r → is_lt (ordering_reverse r) ≡ false → claim_moment_cmp x (last_or y ys) ≡ Less → claim_moment_cmp k (last_or y ys) ≡ Less
-    by Less is low beyond = moment_total.trans k x (last_or y ys) is beyond
-    by Equal is low beyond = moment_total.congr k x (last_or y ys) is ∙ beyond
+    by Less is low beyond = claim_moment_total.trans k x (last_or y ys) is beyond
+    by Equal is low beyond = claim_moment_total.congr k x (last_or y ys) is ∙ beyond
     by Greater is low beyond = absurd (let p : true ≡ false = low in cc p)
 
 later_kept : (k l : Moment) → is_lt (claim_moment_cmp l k) ≡ false → Some l ≡ later k (Some l)
@@ -59,7 +59,7 @@ last-key_put d k [] h = refl
 last-key_put d k (x ∷ xs) h = by (claim_moment_cmp k x) refl (last-key_put x k xs (sorted_tail claim_moment_cmp x xs h))
   where
     past : (ys : List Moment) → claim_moment_cmp k x ≡ Greater → later k (last ys) ≡ later k (Some (last_or x ys))
-    past [] is = sym (cond-true (is_lt (claim_moment_cmp x k)) (Some k) (Some x) (ap is_lt (moment_total.antisymm x k ∙ ap ordering_reverse is)))
+    past [] is = sym (cond-true (is_lt (claim_moment_cmp x k)) (Some k) (Some x) (ap is_lt (claim_moment_total.antisymm x k ∙ ap ordering_reverse is)))
     past (y ∷ ys) is = refl
 
     by : (r : Ordering) → claim_moment_cmp k x ≡ r → Some (last_or x (key_put claim_moment_cmp k xs)) ≡ later k (last xs)
@@ -79,7 +79,7 @@ put_some d k (x ∷ xs) = by (claim_moment_cmp k x)
 
 sorted_put : (ms : List Moment) → IsStrictlySortedBy claim_moment_cmp (keys_put claim_moment_cmp ms)
 sorted_put ms =
-    subst (IsStrictlySortedBy claim_moment_cmp) (keys-from_entries claim_moment_cmp moment_total (bare ms) ∙ ap (keys_put claim_moment_cmp) (keys_of-bare ms))
+    subst (IsStrictlySortedBy claim_moment_cmp) (keys-from_entries claim_moment_cmp claim_moment_total (bare ms) ∙ ap (keys_put claim_moment_cmp) (keys_of-bare ms))
     (ascending_entries claim_moment_cmp (from_entries {R = claim_moment_cmp} (bare ms)))
 
 last-keys_put : (ms : List Moment) → last (keys_put claim_moment_cmp ms) ≡ latest ms
@@ -98,7 +98,7 @@ last_date-keys (c ∷ d ∷ cs) = last_date-keys (d ∷ cs)
 -- the date of the last entry is that of the latest key
 pub last_date_latest : (es : List (Moment × What)) → last_date (dates (entries (from_entries {R = claim_moment_cmp} es))) ≡ option_map (λ (m : Moment). m.0) (latest (keys_of es))
 last_date_latest es =
-    last_date-keys (entries (from_entries es)) ∙ ap (λ ms. option_map (λ (m : Moment). m.0) (last ms)) (keys-from_entries claim_moment_cmp moment_total es)
+    last_date-keys (entries (from_entries es)) ∙ ap (λ ms. option_map (λ (m : Moment). m.0) (last ms)) (keys-from_entries claim_moment_cmp claim_moment_total es)
     ∙ ap (option_map (λ (m : Moment). m.0)) (last-keys_put (keys_of es))
 
 module _ (facts : Facts) (accepts : Accepts) (when : When) (p : List ℕ) where

@@ -17,7 +17,8 @@ use Rattle.claim_model.specs.Genuine.{is_genuine_permanode}
 use Rattle.index_look.specs.Look.{is_after}
 use Rattle.index_look.specs.Claims.{claims_about, standing_moment, is_holder}
 use Rattle.index_look.specs.Latest.{later, later_of, latest}
-use Rattle.index_look.proofs.Counting.{Moment, moment_total, listed, moment, moments_are, filter_map-cond}
+use Rattle.index_look.proofs.Counting.{Moment, listed, moment, moments_are, filter_map-cond}
+use Rattle.claim_model.proofs.ByClaim.{claim_moment_total}
 use Rattle.index_look.proofs.Order.{less_too, is_Less}
 use Rattle.index_look.proofs.Texts.{filter-twice}
 
@@ -56,7 +57,7 @@ kept_more {X} {Y} h x xs old now all is so_far =
 
 after_both : (a b c : Moment) → is_lt (claim_moment_cmp b a) ≡ false → is_lt (claim_moment_cmp c b) ≡ false → is_lt (claim_moment_cmp c a) ≡ false
 after_both a b c h k = elim (cases_Bool (is_lt (claim_moment_cmp c a))) [
-  | inl less ↦ absurd (let f : true ≡ false = sym (ap is_lt (less_too moment_total b c a k (is_Less (claim_moment_cmp c a) less))) ∙ h in cc f)
+  | inl less ↦ absurd (let f : true ≡ false = sym (ap is_lt (less_too claim_moment_total b c a k (is_Less (claim_moment_cmp c a) less))) ∙ h in cc f)
   | inr off ↦ off
 ]
 
@@ -69,7 +70,7 @@ latter_assoc a b c = by (cases_Bool (is_lt (claim_moment_cmp b a))) (cases_Bool 
   where
     by : (is_lt (claim_moment_cmp b a) ≡ true) ⊎ (is_lt (claim_moment_cmp b a) ≡ false) → (is_lt (claim_moment_cmp c b) ≡ true) ⊎ (is_lt (claim_moment_cmp c b) ≡ false) → latter (latter a b) c ≡ latter a (latter b c)
     by (inl ba) (inl cb) =
-        let ca : is_lt (claim_moment_cmp c a) ≡ true = ap is_lt (moment_total.trans c b a (is_Less (claim_moment_cmp c b) cb) (is_Less (claim_moment_cmp b a) ba)) in
+        let ca : is_lt (claim_moment_cmp c a) ≡ true = ap is_lt (claim_moment_total.trans c b a (is_Less (claim_moment_cmp c b) cb) (is_Less (claim_moment_cmp b a) ba)) in
         ap (λ m. latter m c) (cond-true (is_lt (claim_moment_cmp b a)) a b ba) ∙ cond-true (is_lt (claim_moment_cmp c a)) a c ca
         ∙ sym (ap (latter a) (cond-true (is_lt (claim_moment_cmp c b)) b c cb) ∙ cond-true (is_lt (claim_moment_cmp b a)) a b ba)
     by (inl ba) (inr cb) =
