@@ -1,12 +1,12 @@
 -- The counted claims on a permanode, by the claims about it alone, and what they leave of the values.
-use Rattle.std.proofs.Common.{◌≡◌, ℕ, ℤ, ◌&&◌, Bool, true, false, not, cond, List, [], ◌∷◌, filter, fold, map, Option, Some, None, refl, sym, ap, ◌∙◌, Ordering, subst, option_map, option_and_then}
+use Rattle.std.proofs.Common.{◌≡◌, ℕ, ℤ, ◌&&◌, Bool, true, false, not, cond, List, [], ◌∷◌, filter, fold, map, Option, Some, None, refl, sym, ap, ◌∙◌, Ordering, subst, option_map, option_and_then, ◌||◌}
 use Rattle.std.specs.declared.cmp.Ordering.TheVariants.{Less, Equal, Greater}
 use Rattle.std.specs.List.{filter_map, cons_option, AllByRecursion, IsDistinct}
 use Rattle.std.specs.List.Sorted.{IsStrictlySortedBy, IsPermutation, IsSorted}
 use Rattle.std.specs.Ordering.{is_eq, eq_by_cmp, int_cmp, ordering_then}
 use Rattle.std.specs.Str.{bytes_eq}
 use Rattle.std.specs.Map.{keys_of}
-use Rattle.std.specs.FinMap.{IsAntisymmetric, get, entries, keys, from_entries, int_cmp-IsAntisymmetric}
+use Rattle.std.specs.FinMap.{get, entries, keys, from_entries}
 use Rattle.std.proofs.lemmas.Map.Keys.{sorted_head, sorted_tail, IsDistinct-cons}
 use Rattle.std.proofs.lemmas.Option.{same_Some}
 use Rattle.blobref.specs.Blobref.{ref_cmp}
@@ -21,9 +21,9 @@ use Rattle.claim_model.specs.Genuine.{is_genuine, is_genuine_permanode}
 use Rattle.claim_model.specs.Deleted.{is_deleted, counts_at}
 use Rattle.claim_model.specs.Claims.{stands_at, values}
 use Rattle.claim_model.specs.ByClaim.{claim_moment_cmp, claim_on, is_attribute_claim_on, counted_claims, apply}
-use Rattle.claim_model.proofs.ByClaim.{claim_moment_total, values_by_claim}
+use Rattle.claim_model.proofs.ByClaim.{claim_moment_total, same_claim_moment, values_by_claim}
 use Rattle.index_look.specs.Claims.{subject, claim_under, claims_about, counted_claim, claim_says, said, apply_said}
-use Rattle.index_look.proofs.Entries.{same_ref, entries_had, keys_ascend}
+use Rattle.index_look.proofs.Entries.{entries_had, keys_ascend}
 use Rattle.index_look.proofs.Keys.{keys_sorted, keys-empty, entries_told}
 
 abbrev pub Pair : Type 0
@@ -32,17 +32,9 @@ Pair = List ℕ × List ℕ
 abbrev pub Moment : Type 0
 Moment = ℤ × List ℕ
 
-pub same_moment : IsAntisymmetric claim_moment_cmp
-same_moment a b e = by (int_cmp a.0 b.0) refl e
-  where
-    by : (r : Ordering) → int_cmp a.0 b.0 ≡ r → ordering_then r (ref_cmp a.1 b.1) ≡ Equal → a ≡ b
-    by Less is h = absurd (let p : Less ≡ Equal = h in cc p)
-    by Equal is h = λ i. (int_cmp-IsAntisymmetric a.0 b.0 is i, same_ref a.1 b.1 h i)
-    by Greater is h = absurd (let p : Greater ≡ Equal = h in cc p)
-
 -- ---- an attribute claim is on what it is about
 
-outside : (b c : Bool) {X : Type 0} (x : X) → cond (b && c) (Some x) None ≡ cond b (cond (b && c) (Some x) None) None
+outside : (b c : Bool) {X : Type 0} (x : X) → cond ((b || false) && c) (Some x) None ≡ cond b (cond ((b || false) && c) (Some x) None) None
 outside true c x = refl
 outside false c x = refl
 
@@ -193,7 +185,7 @@ module _ (facts : Facts) (accepts : Accepts) (when : When) (p : List ℕ) where
   moments_counted ms ks genuine is moved up =
       let all = listed (entries facts) in
       let own : ms ≡ keys_of all = is ∙ sym (moments_listed (entries facts) (entries_had facts)) in
-      keys_sorted claim_moment_total same_moment all ks (subst (λ (xs : List Moment). IsPermutation xs ks) own moved) up (distinct_listed (entries facts) (keys_ascend facts))
+      keys_sorted claim_moment_total same_claim_moment all ks (subst (λ (xs : List Moment). IsPermutation xs ks) own moved) up (distinct_listed (entries facts) (keys_ascend facts))
       ∙ ap (λ b. keys (from_entries {R = claim_moment_cmp} (cond b all []))) genuine
 
   pub none_counted : false ≡ is_genuine_permanode facts accepts p → [] ≡ keys (counted_claims facts accepts when p)
@@ -205,14 +197,14 @@ module _ (facts : Facts) (accepts : Accepts) (when : When) (p : List ℕ) where
 
   -- the fold of what the claims say, taken from their facts
   refold : (name : List ℕ) (es : List (Moment × What)) (found : List (List ℕ)) → AllByRecursion (λ (x : Moment × What). said facts x.0.1 ≡ Some x.1) es
-      → fold (λ found m. apply_said name found (said facts m.1)) found (keys_of es) ≡ fold (apply name) found (map (λ x. x.1) es)
+      → fold (λ found m. apply_said p name found (said facts m.1)) found (keys_of es) ≡ fold (apply p name) found (map (λ x. x.1) es)
   refold name [] found h = refl
   refold name (x ∷ xs) found h =
-      ap (λ o. fold (λ found (m : Moment). apply_said name found (said facts m.1)) (apply_said name found o) (keys_of xs)) h.0 ∙ refold name xs (apply name found x.1) h.1
+      ap (λ o. fold (λ found (m : Moment). apply_said p name found (said facts m.1)) (apply_said p name found o) (keys_of xs)) h.0 ∙ refold name xs (apply p name found x.1) h.1
 
-  pub values_folded : (name : List ℕ) → fold (λ found m. apply_said name found (said facts m.1)) [] (keys (counted_claims facts accepts when p)) ≡ values facts accepts when p name
+  pub values_folded : (name : List ℕ) → fold (λ found m. apply_said p name found (said facts m.1)) [] (keys (counted_claims facts accepts when p)) ≡ values facts accepts when p name
   values_folded name = refold name (entries (counted_claims facts accepts when p)) []
-      (entries_told claim_moment_total same_moment (λ (m : Moment). said facts m.1) _ (said_cond (is_genuine_permanode facts accepts p)))
+      (entries_told claim_moment_total same_claim_moment (λ (m : Moment). said facts m.1) _ (said_cond (is_genuine_permanode facts accepts p)))
       ∙ sym (values_by_claim facts accepts when p name)
 
   -- the counted list, where p is a genuine permanode, and where it is none

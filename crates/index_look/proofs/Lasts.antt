@@ -1,7 +1,7 @@
 -- The last of the keys of a finite map: the greatest of those that it was made of.
 use Rattle.std.proofs.Common.{◌≡◌, ℕ, ℤ, true, false, cond, List, [], ◌∷◌, Option, Some, None, refl, sym, ap, ◌∙◌, subst, Ordering, option_map, map}
 use Rattle.std.specs.declared.cmp.Ordering.TheVariants.{Less, Equal, Greater}
-use Rattle.std.specs.List.{AllByRecursion, filter_map}
+use Rattle.std.specs.List.{AllByRecursion, filter_map, last_or as last_item}
 use Rattle.std.specs.List.Sorted.{IsStrictlySortedBy}
 use Rattle.std.specs.Ordering.{is_lt, ordering_reverse}
 use Rattle.std.specs.Map.{keys_of}
@@ -14,7 +14,7 @@ use Rattle.claim_verify.specs.Verifier.{Accepts}
 use Rattle.schema_date.specs.declared.date.When.{When}
 use Rattle.claim_model.specs.Facts.{Facts}
 use Rattle.claim_model.specs.Genuine.{is_genuine_permanode}
-use Rattle.claim_model.specs.Claims.{last_date, last_change}
+use Rattle.claim_model.specs.Claims.{last_change}
 use Rattle.claim_model.specs.ByClaim.{claim_moment_cmp}
 use Rattle.claim_model.proofs.ByClaim.{claim_moment_total, last_change_by_claim}
 use Rattle.index_look.specs.Claims.{claims_about}
@@ -90,13 +90,13 @@ last-keys_put (m ∷ ms) = put_some m m (keys_put claim_moment_cmp ms) ∙ last-
 abbrev dates : List (Moment × What) → List ℤ
 dates es = map (λ c. c.0.0) es
 
-last_date-keys : (es : List (Moment × What)) → last_date (dates es) ≡ option_map (λ (m : Moment). m.0) (last (keys_of es))
+last_date-keys : (es : List (Moment × What)) → last_item None (dates es) ≡ option_map (λ (m : Moment). m.0) (last (keys_of es))
 last_date-keys [] = refl
 last_date-keys (c ∷ []) = refl
 last_date-keys (c ∷ d ∷ cs) = last_date-keys (d ∷ cs)
 
 -- the date of the last entry is that of the latest key
-pub last_date_latest : (es : List (Moment × What)) → last_date (dates (entries (from_entries {R = claim_moment_cmp} es))) ≡ option_map (λ (m : Moment). m.0) (latest (keys_of es))
+pub last_date_latest : (es : List (Moment × What)) → last_item None (dates (entries (from_entries {R = claim_moment_cmp} es))) ≡ option_map (λ (m : Moment). m.0) (latest (keys_of es))
 last_date_latest es =
     last_date-keys (entries (from_entries es)) ∙ ap (λ ms. option_map (λ (m : Moment). m.0) (last ms)) (keys-from_entries claim_moment_cmp claim_moment_total es)
     ∙ ap (option_map (λ (m : Moment). m.0)) (last-keys_put (keys_of es))
@@ -106,10 +106,10 @@ module _ (facts : Facts) (accepts : Accepts) (when : When) (p : List ℕ) where
   last_change_latest genuine =
       ap (λ ms. option_map (λ (m : Moment). m.0) (latest ms)) (sym (moments_are facts accepts when p))
       ∙ sym (last_date_latest (listed facts accepts when p (entries facts)))
-      ∙ ap (λ m. last_date (dates (entries m))) (counted_is facts accepts when p genuine)
+      ∙ ap (λ m. last_item None (dates (entries m))) (counted_is facts accepts when p genuine)
       ∙ sym (last_change_by_claim facts accepts when p)
 
   pub no_change : false ≡ is_genuine_permanode facts accepts p → None ≡ last_change facts accepts when p
   no_change other =
-      sym (last_date_latest []) ∙ ap (λ b. last_date (dates (entries (from_entries {R = claim_moment_cmp} (cond b (listed facts accepts when p (entries facts)) []))))) other
+      sym (last_date_latest []) ∙ ap (λ b. last_item None (dates (entries (from_entries {R = claim_moment_cmp} (cond b (listed facts accepts when p (entries facts)) []))))) other
       ∙ sym (last_change_by_claim facts accepts when p)

@@ -112,7 +112,7 @@ pub(crate) fn values_of<T: FactTable, V: Verifier, L: Ledger>(
     ensures { IfOk result (λ texts. texts ≡ values (T.facts table.now) (V.accepts keys.now) when.now p.now attr.now) }
 {
     let moments = moments(alloc, table, keys, p, when, steps)?;
-    folded(alloc, table, &moments, attr, steps)
+    folded(alloc, table, p, &moments, attr, steps)
 }
 
 // Whether a permanode has the value at that time.

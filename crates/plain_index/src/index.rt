@@ -360,7 +360,7 @@ impl<V: Verifier> Look for PlainIndex<V> {
         steps: &mut Steps<L>,
     ) -> Result<TextList, NoMemory> {
         let moments = self.moments(p, when, steps)?;
-        folded(self.alloc, self, &moments, attr, steps)
+        folded(self.alloc, self, p, &moments, attr, steps)
     }
 
     /// It looks at the claims about the permanode alone, and asks for each whether it is deleted.
