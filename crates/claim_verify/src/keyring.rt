@@ -7,8 +7,8 @@ ghost use Rattle.hex.specs.declared.error.FromHexError.TheVariants.{OutOfMemory}
 
 use crate::hmac::hmac_sha256;
 use crate::key_name::KeyName;
-use crate::memory::NoMemory;
 use crate::verifier::Verifier;
+use blobref::NoMemory;
 use hex::FromHexError;
 use std::alloc::Global;
 use std::collections::BTreeMap;

@@ -4,14 +4,12 @@
 mod hmac;
 mod key_name;
 mod keyring;
-mod memory;
 mod split;
 mod verifier;
 
 pub use hmac::hmac_sha256;
 pub use key_name::KeyName;
 pub use keyring::{Keyring, KeyringFault};
-pub use memory::NoMemory;
 pub use split::split_signed;
 pub use verifier::Verifier;
 

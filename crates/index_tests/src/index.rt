@@ -68,7 +68,7 @@ fn is_one_ref(refs: &RefList, want: &Ref) -> bool {
 }
 
 // Whether the tag is the permanode's one tag, from its date on.
-fn is_tagged<L: Ledger>(index: &PlainIndex<Keyring>, blank: Blank) -> Result<bool, NoMemory>
+fn has_tag<L: Ledger>(index: &PlainIndex<Keyring>, blank: Blank) -> Result<bool, NoMemory>
     requires name { blank.name ≡ L.name }
     requires parts { blank.parts ≡ L.parts }
     requires some { 0 < blank.parts }
@@ -77,27 +77,51 @@ fn is_tagged<L: Ledger>(index: &PlainIndex<Keyring>, blank: Blank) -> Result<boo
     let p = Ref::of(PERMANODE.as_bytes());
     let now = index.values(&p, "tag", &When::Always, &mut steps)?;
     let before = index.values(&p, "tag", &time_of("2014-01-01T23:59:59Z"), &mut steps)?;
+    Ok(is_one_text(&now, "sunset") && before.len() == 0)
+}
+
+// Whether the permanode alone holds the tag, and is nobody's member.
+fn is_one_holder<L: Ledger>(index: &PlainIndex<Keyring>, blank: Blank) -> Result<bool, NoMemory>
+    requires name { blank.name ≡ L.name }
+    requires parts { blank.parts ≡ L.parts }
+    requires some { 0 < blank.parts }
+{
+    let mut steps = Steps::<L>::start(blank);
+    let p = Ref::of(PERMANODE.as_bytes());
     let holders = index.holders("tag", "sunset", &mut steps)?;
+    let parents = index.parents(&p, &When::Always, &mut steps)?;
+    Ok(is_one_ref(&holders, &p) && parents.len() == 0)
+}
+
+// Whether the permanode is the one, and changed when it was tagged.
+fn is_one_permanode<L: Ledger>(index: &PlainIndex<Keyring>, blank: Blank) -> bool
+    requires name { blank.name ≡ L.name }
+    requires parts { blank.parts ≡ L.parts }
+    requires some { 0 < blank.parts }
+{
+    let mut steps = Steps::<L>::start(blank);
+    let p = Ref::of(PERMANODE.as_bytes());
+    index.fact_of(&p, &mut steps).is_some()
+        && index.permanode_after(None, &mut steps) == Some(p)
+        && index.permanode_after(Some(&p), &mut steps).is_none()
+        && index.last_change(&p, &When::Always, &mut steps) == Date::read(b"2014-01-02T00:00:00Z")
+}
+
+fn is_tagged(alloc: Global, blobs: &[&str]) -> Result<bool, NoMemory> {
+    let index = index_of(alloc, blobs)?;
     Ok(
-        index.fact_of(&p, &mut steps).is_some()
-            && index.permanode_after(None, &mut steps) == Some(p)
-            && index.permanode_after(Some(&p), &mut steps).is_none()
-            && index.last_change(&p, &When::Always, &mut steps)
-                == Date::read(b"2014-01-02T00:00:00Z")
-            && is_one_text(&now, "sunset")
-            && before.len() == 0
-            && is_one_ref(&holders, &p),
+        is_one_permanode::<Brand>(&index, Blank::new(1))
+            && has_tag::<Brand>(&index, Blank::new(1))?
+            && is_one_holder::<Brand>(&index, Blank::new(1))?,
     )
 }
 
 #[test]
 fn a_tagged_permanode_is_seen_in_each_order(rt: HostRuntime) -> Result<(), NoMemory> {
     for order in ORDERS {
-        let index = index_of(rt.alloc(), &order)?;
-        assert!(rt; is_tagged::<Brand>(&index, Blank::new(1))?);
+        assert!(rt; is_tagged(rt.alloc(), &order)?);
     }
-    let index = index_of(rt.alloc(), &[FORGED, KEY, PERMANODE, TAG])?;
-    assert!(rt; is_tagged::<Brand>(&index, Blank::new(1))?);
+    assert!(rt; is_tagged(rt.alloc(), &[FORGED, KEY, PERMANODE, TAG])?);
     Ok(())
 }
 
@@ -119,6 +143,11 @@ fn without_its_key_nothing_is_genuine(rt: HostRuntime) -> Result<(), NoMemory> {
     assert!(rt; is_unknown::<Brand>(&index, Blank::new(1)));
     Ok(())
 }
+
+// The tag with its three deletions, and a time between the second and the third.
+const DELETIONS: [&str; 6] = [DELETE_AGAIN, UNDELETE, DELETE, TAG, PERMANODE, KEY];
+
+const UNDELETED: &str = "2014-01-04T12:00:00Z";
 
 // The tag is deleted on the 3rd, undeleted on the 4th and deleted again on the 5th.
 const GONE: [(&str, bool); 5] = [
@@ -147,8 +176,7 @@ fn is_gone_in_time<L: Ledger>(index: &PlainIndex<Keyring>, blank: Blank) -> bool
 
 #[test]
 fn deletions_of_deletions_count_at_their_dates(rt: HostRuntime) -> Result<(), NoMemory> {
-    let blobs = [DELETE_AGAIN, UNDELETE, DELETE, TAG, PERMANODE, KEY];
-    let index = index_of(rt.alloc(), &blobs)?;
+    let index = index_of(rt.alloc(), &DELETIONS)?;
     assert!(rt; is_gone_in_time::<Brand>(&index, Blank::new(1)));
     Ok(())
 }
@@ -206,8 +234,8 @@ fn sound_files_have_the_size_of_their_parts(rt: HostRuntime) -> Result<(), NoMem
     Ok(())
 }
 
-// Whether a table with the tag and its three deletions answers as the index does.
-fn is_plain<L: Ledger>(
+// Whether a table gives the value that stands at a time, and no lists of later ones.
+fn has_plain_lists<L: Ledger>(
     alloc: Global,
     table: &PlainIndex<Keyring>,
     keys: &Keyring,
@@ -219,33 +247,42 @@ fn is_plain<L: Ledger>(
 {
     let mut steps = Steps::<L>::start(blank);
     let p = Ref::of(PERMANODE.as_bytes());
-    let tag = Ref::of(TAG.as_bytes());
-    let fourth = time_of("2014-01-04T12:00:00Z");
-    let then = plain_answers::values(alloc, table, keys, &p, "tag", &fourth, &mut steps)?;
-    let now = plain_answers::values(alloc, table, keys, &p, "tag", &When::Always, &mut steps)?;
+    let then = time_of(UNDELETED);
+    let values = plain_answers::values(alloc, table, keys, &p, "tag", &then, &mut steps)?;
     let holders = plain_answers::holders(alloc, table, keys, "tag", "sunset", &mut steps)?;
-    let parents = plain_answers::parents(alloc, table, keys, &tag, &When::Always, &mut steps)?;
+    let parents = plain_answers::parents(alloc, table, keys, &p, &then, &mut steps)?;
+    Ok(is_one_text(&values, "sunset") && holders.len() == 0 && parents.len() == 0)
+}
+
+// Whether a table tells the permanode, and the deletions at their dates.
+fn is_plain<L: Ledger>(table: &PlainIndex<Keyring>, keys: &Keyring, blank: Blank) -> bool
+    requires name { blank.name ≡ L.name }
+    requires parts { blank.parts ≡ L.parts }
+    requires some { 0 < blank.parts }
+{
+    let mut steps = Steps::<L>::start(blank);
+    let p = Ref::of(PERMANODE.as_bytes());
+    let tag = Ref::of(TAG.as_bytes());
+    let then = time_of(UNDELETED);
+    plain_answers::fact_of(table, keys, &p, &mut steps).is_some()
+        && plain_answers::permanode_after(table, keys, None, &mut steps) == Some(p)
+        && !plain_answers::deleted(table, keys, &tag, &then, &mut steps)
+        && plain_answers::deleted(table, keys, &tag, &When::Always, &mut steps)
+        && plain_answers::last_change(table, keys, &p, &then, &mut steps)
+            == Date::read(b"2014-01-02T00:00:00Z")
+}
+
+fn answers_as_told(alloc: Global) -> Result<bool, NoMemory> {
+    let table = index_of(alloc, &DELETIONS)?;
+    let keys = keyring(alloc);
     Ok(
-        is_one_text(&then, "sunset")
-            && now.len() == 0
-            && holders.len() == 0
-            && parents.len() == 0
-            && plain_answers::fact_of(table, keys, &p, &mut steps).is_some()
-            && plain_answers::permanode_after(table, keys, None, &mut steps) == Some(p)
-            && plain_answers::permanode_after(table, keys, Some(&p), &mut steps).is_none()
-            && !plain_answers::deleted(table, keys, &tag, &fourth, &mut steps)
-            && plain_answers::deleted(table, keys, &tag, &When::Always, &mut steps)
-            && plain_answers::last_change(table, keys, &p, &fourth, &mut steps)
-                == Date::read(b"2014-01-02T00:00:00Z")
-            && plain_answers::last_change(table, keys, &p, &When::Always, &mut steps).is_none(),
+        is_plain::<Brand>(&table, &keys, Blank::new(1))
+            && has_plain_lists::<Brand>(alloc, &table, &keys, Blank::new(1))?,
     )
 }
 
 #[test]
 fn a_table_answers_as_the_index_does(rt: HostRuntime) -> Result<(), NoMemory> {
-    let blobs = [DELETE_AGAIN, UNDELETE, DELETE, TAG, PERMANODE, KEY];
-    let table = index_of(rt.alloc(), &blobs)?;
-    let keys = keyring(rt.alloc());
-    assert!(rt; is_plain::<Brand>(rt.alloc(), &table, &keys, Blank::new(1))?);
+    assert!(rt; answers_as_told(rt.alloc())?);
     Ok(())
 }

@@ -38,37 +38,48 @@ fn finds(alloc: Global, query: &Query, want: &[&str]) -> Result<bool, NoMemory> 
     )
 }
 
+// Whether the query for a tag at that time has this answer.
+fn finds_tag(alloc: Global, value: &str, at: When, want: &[&str]) -> Result<bool, NoMemory> {
+    let query = Query::for_value(alloc, "tag", value, at)?;
+    finds(alloc, &query, want)
+}
+
 #[test]
 fn one_tagged_permanode_is_found(rt: HostRuntime) -> Result<(), NoMemory> {
     let alloc = rt.alloc();
-    let query = Query::for_value(alloc, "tag", "sunset", When::Always)?;
-    assert!(rt; finds(alloc, &query, &[PERMANODE])?);
-    let query = Query::for_value(alloc, "tag", "sunset", time_of("2014-01-02T00:00:00Z"))?;
-    assert!(rt; finds(alloc, &query, &[PERMANODE])?);
-    let query = Query::for_value(alloc, "tag", "sunset", time_of("2014-01-01T23:59:59Z"))?;
-    assert!(rt; finds(alloc, &query, &[])?);
-    let query = Query::for_value(alloc, "tag", "sun", When::Always)?;
-    assert!(rt; finds(alloc, &query, &[])?);
+    assert!(rt; finds_tag(alloc, "sunset", When::Always, &[PERMANODE])?);
+    assert!(rt;
+        finds_tag(
+            alloc,
+            "sunset",
+            time_of("2014-01-02T00:00:00Z"),
+            &[PERMANODE]
+        )?
+    );
+    assert!(rt; finds_tag(alloc, "sunset", time_of("2014-01-01T23:59:59Z"), &[])?);
+    assert!(rt; finds_tag(alloc, "sun", When::Always, &[])?);
     Ok(())
+}
+
+// Whether all permanodes come in this order, and the first two where two are asked for.
+fn come_in_order(alloc: Global, sort: Sort, want: &[&str; 3]) -> Result<bool, NoMemory> {
+    let all = Query {
+        constraint: Constraint { permanode: None },
+        limit: 200,
+        sort,
+        at: When::Always,
+    };
+    if !finds(alloc, &all, want)? {
+        return Ok(false);
+    }
+    finds(alloc, &Query { limit: 2, ..all }, &want[..2])
 }
 
 #[test]
 fn three_orders(rt: HostRuntime) -> Result<(), NoMemory> {
-    let rows = [
-        (Sort::Ref, [LOW, PERMANODE, HIGH]),
-        (Sort::Mod, [LOW, HIGH, PERMANODE]),
-        (Sort::ModDown, [PERMANODE, LOW, HIGH]),
-    ];
-    for (sort, want) in rows {
-        let query = Query {
-            constraint: Constraint { permanode: None },
-            limit: 200,
-            sort,
-            at: When::Always,
-        };
-        assert!(rt; finds(rt.alloc(), &query, &want)?);
-        let query = Query { limit: 2, ..query };
-        assert!(rt; finds(rt.alloc(), &query, &want[..2])?);
-    }
+    let alloc = rt.alloc();
+    assert!(rt; come_in_order(alloc, Sort::Ref, &[LOW, PERMANODE, HIGH])?);
+    assert!(rt; come_in_order(alloc, Sort::Mod, &[LOW, HIGH, PERMANODE])?);
+    assert!(rt; come_in_order(alloc, Sort::ModDown, &[PERMANODE, LOW, HIGH])?);
     Ok(())
 }

@@ -5,7 +5,8 @@ use Rattle.std.specs.Ordering.{nat_cmp}
 use Rattle.std.specs.BTreeMap.{is_at}
 use Rattle.std.proofs.lemmas.Bool.{eqb-true}
 use Rattle.pack_disk.specs.Disk.{last_number}
-use Rattle.pack_disk.specs.PackState.{PackState, durable}
+use Rattle.pack_disk.specs.PackState.{PackState, begun}
+use Rattle.pack_disk.specs.declared.remains.Remains.{Remains}
 use Rattle.pack_disk.specs.Past.{at_number, state, Past}
 use Rattle.pack_disk.specs.Left.{left}
 use Rattle.pack_disk.specs.Image.{instead, Keeps, HasLeft}
@@ -46,29 +47,29 @@ pushed front k pack before n = found_after front k pack n ∙ go (n == k) refl
     go false other = instead_none (at_number front n)
 
 -- where a pack leaves nothing, nothing stood at its number
-left_at : (choice : ℕ) (pack : PackState) (o : Option PackState) (start : Option (List ℕ)) → start ≡ option_and_then (left choice) o → (o ≡ None) ⊎ (o ≡ Some pack)
+left_at : (choice : ℕ) (pack : PackState) (o : Option PackState) (start : Option Remains) → start ≡ option_and_then (left choice) o → (o ≡ None) ⊎ (o ≡ Some pack)
     → instead (left choice pack) start ≡ left choice pack
 left_at choice pack o start is (inl none) = go (left choice pack)
   where
-    go : (q : Option (List ℕ)) → instead q start ≡ q
+    go : (q : Option Remains) → instead q start ≡ q
     go None = is ∙ ap (option_and_then (left choice)) none
-    go (Some bytes) = refl
+    go (Some remains) = refl
 left_at choice pack o start is (inr some) = go (left choice pack) (is ∙ ap (option_and_then (left choice)) some)
   where
-    go : (q : Option (List ℕ)) → start ≡ q → instead q start ≡ q
+    go : (q : Option Remains) → start ≡ q → instead q start ≡ q
     go None e = e
-    go (Some bytes) e = refl
+    go (Some remains) e = refl
 
-durable_instead : (q start : Option (List ℕ)) (held : Option PackState) → held ≡ option_map durable start → instead (option_map durable q) held ≡ option_map durable (instead q start)
-durable_instead None start held is = is
-durable_instead (Some bytes) start held is = refl
+begun_instead : (q start : Option Remains) (held : Option PackState) → held ≡ option_map begun start → instead (option_map begun q) held ≡ option_map begun (instead q start)
+begun_instead None start held is = is
+begun_instead (Some remains) start held is = refl
 
-one_more_left : (choice : ℕ) (front : List (ℕ × PackState)) (k : ℕ) (pack : PackState) (start now : List (ℕ × List ℕ)) (held held_now : List (ℕ × PackState))
+one_more_left : (choice : ℕ) (front : List (ℕ × PackState)) (k : ℕ) (pack : PackState) (start now : List (ℕ × Remains)) (held held_now : List (ℕ × PackState))
     → (at_number front k ≡ None) ⊎ (at_number front k ≡ Some pack) → HasLeft choice front start held → Keeps choice k pack start now held held_now
     → HasLeft choice (front ++ (k, pack) ∷ []) now held_now
 one_more_left choice front k pack start now held held_now before so_far keeps = record {
   left = λ n. keeps.start n ∙ went n (n == k) refl ∙ ap (option_and_then (left choice)) (sym (pushed front k pack before n));
-  durable = λ n. keeps.held n ∙ made n (n == k) ∙ ap (option_map durable) (sym (keeps.start n));
+  begun = λ n. keeps.held n ∙ made n (n == k) ∙ ap (option_map begun) (sym (keeps.start n));
 }
   where
     went : (n : ℕ) (b : Bool) → (n == k) ≡ b
@@ -79,28 +80,28 @@ one_more_left choice front k pack start now held held_now before so_far keeps = 
     went n false other = so_far.left n
 
     made : (n : ℕ) (b : Bool)
-        → (if b then instead (option_map durable (left choice pack)) (at_number held n) else at_number held n) ≡ option_map durable (if b then instead (left choice pack) (at_number start n) else at_number start n)
-    made n true = durable_instead (left choice pack) (at_number start n) (at_number held n) (so_far.durable n)
-    made n false = so_far.durable n
+        → (if b then instead (option_map begun (left choice pack)) (at_number held n) else at_number held n) ≡ option_map begun (if b then instead (left choice pack) (at_number start n) else at_number start n)
+    made n true = begun_instead (left choice pack) (at_number start n) (at_number held n) (so_far.begun n)
+    made n false = so_far.begun n
 
 -- a turn over all packs that are held
-pub left_more : (choice : ℕ) (all front rest : List (ℕ × PackState)) (k : ℕ) (pack : PackState) (start now : List (ℕ × List ℕ)) (held held_now : List (ℕ × PackState))
+pub left_more : (choice : ℕ) (all front rest : List (ℕ × PackState)) (k : ℕ) (pack : PackState) (start now : List (ℕ × Remains)) (held held_now : List (ℕ × PackState))
     → all ≡ front ++ rest → at_number all k ≡ Some pack → HasLeft choice front start held → Keeps choice k pack start now held held_now
     → HasLeft choice (front ++ (k, pack) ∷ []) now held_now
 left_more choice all front rest k pack start now held held_now whole found so_far keeps =
     one_more_left choice front k pack start now held held_now (found_in_front front rest k pack (ap (λ es. at_number es k) (sym whole) ∙ found)) so_far keeps
 
 -- before the first
-pub left_none : (choice : ℕ) (start : List (ℕ × List ℕ)) (held : List (ℕ × PackState)) → start ≡ [] → held ≡ [] → HasLeft choice [] start held
-left_none choice start held none nothing = rw (none, nothing) (record { left = λ n. refl; durable = λ n. refl })
+pub left_none : (choice : ℕ) (start : List (ℕ × Remains)) (held : List (ℕ × PackState)) → start ≡ [] → held ≡ [] → HasLeft choice [] start held
+left_none choice start held none nothing = rw (none, nothing) (record { left = λ n. refl; begun = λ n. refl })
 
 -- after the last
-pub left_all : (choice : ℕ) (past : Past) (all front : List (ℕ × PackState)) (start : List (ℕ × List ℕ)) (held : List (ℕ × PackState))
+pub left_all : (choice : ℕ) (past : Past) (all front : List (ℕ × PackState)) (start : List (ℕ × Remains)) (held : List (ℕ × PackState))
     → front ≡ all → ((n : ℕ) → at_number all n ≡ state past n) → HasLeft choice front start held → (n : ℕ) → at_number start n ≡ option_and_then (left choice) (state past n)
 left_all choice past all front start held whole shown so_far n =
     so_far.left n ∙ ap (λ es. option_and_then (left choice) (at_number es n)) whole ∙ ap (option_and_then (left choice)) (shown n)
 
-pub no_number : (choice : ℕ) (all front : List (ℕ × PackState)) (start : List (ℕ × List ℕ)) (held : List (ℕ × PackState))
+pub no_number : (choice : ℕ) (all front : List (ℕ × PackState)) (start : List (ℕ × Remains)) (held : List (ℕ × PackState))
     → front ≡ all → ((n : ℕ) → last_number < n → at_number all n ≡ None) → HasLeft choice front start held → (n : ℕ) → last_number < n → at_number start n ≡ None
 no_number choice all front start held whole numbers so_far n above =
     so_far.left n ∙ ap (λ es. option_and_then (left choice) (at_number es n)) whole ∙ ap (option_and_then (left choice)) (numbers n above)

@@ -1,15 +1,13 @@
 -- The packs as they are held, and what the calls made of them.
 use Rattle.std.proofs.Common.{◌≡◌, ℕ, ◌<◌, ◌≤◌, List, [], ◌∷◌, ◌++◌, Bool, true, false, cond, ◌==◌, Option, None, Some, refl, sym, ◌∙◌, ap, arith}
 use Rattle.std.specs.Option.{option_map, is_some}
-use Rattle.std.specs.Ordering.{nat_cmp}
-use Rattle.std.specs.BTreeMap.{is_at}
-use Rattle.std.specs.Cmp.{nat_cmp_total}
-use Rattle.std.specs.FinMap.{get, find, from_entries, get-empty, get-from_entries}
+use Rattle.std.specs.FinMap.{get}
 use Rattle.std.proofs.lemmas.Bool.{eqb-true}
 use Rattle.pack_disk.specs.declared.history.Call.{Call}
 use Rattle.pack_disk.specs.declared.history.Call.TheVariants.{Make, Append, Sync}
 use Rattle.pack_disk.specs.Disk.{last_number}
-use Rattle.pack_disk.specs.PackState.{PackState, fresh, grown, settled, durable}
+use Rattle.pack_disk.specs.PackState.{PackState, begun, fresh, grown, settled}
+use Rattle.pack_disk.specs.declared.remains.Remains.{Remains}
 use Rattle.pack_disk.specs.Past.{Past, with_call, State, changed, state_after, state_from, state, at_number, IsHeld, ChangesHeld, told}
 use Rattle.pack_disk.specs.Told.{IsPackTold, is_told}
 use Rattle.pack_disk.proofs.Steps.{state-push}
@@ -46,7 +44,7 @@ none_after (Append n bytes) s le none m above = changed_none n (grown bytes) s m
 none_after (Sync n) s le none m above = changed_none n settled s m (none m above)
 
 -- what is held after a call that was done
-pub held_after : (start : List (ℕ × List ℕ)) (done now : List Call) (call : Call) (old new : List (ℕ × PackState)) → InRange call → IsHeld start done old
+pub held_after : (start : List (ℕ × Remains)) (done now : List Call) (call : Call) (old new : List (ℕ × PackState)) → InRange call → IsHeld start done old
     → now ≡ done ++ call ∷ [] → ChangesHeld call old new → IsHeld start now new
 held_after start done now call old new range held more change = rw more (record {
   shown = shows_after (record { start = start; done = done }) call old new held.shown change;
@@ -54,14 +52,14 @@ held_after start done now call old new range held more change = rw more (record 
 })
 
 -- the same, after a call that was taken back
-pub held_still : (start : List (ℕ × List ℕ)) (done now : List Call) (old new : List (ℕ × PackState)) → IsHeld start done old → now ≡ done → new ≡ old → IsHeld start now new
+pub held_still : (start : List (ℕ × Remains)) (done now : List Call) (old new : List (ℕ × PackState)) → IsHeld start done old → now ≡ done → new ≡ old → IsHeld start now new
 held_still start done now old new held same alike = rw (same, alike) held
 
 -- nothing is held before the first call on no packs
-pub held_nothing : (start : List (ℕ × List ℕ)) (done : List Call) (held : List (ℕ × PackState)) → start ≡ [] → done ≡ [] → held ≡ [] → IsHeld start done held
+pub held_nothing : (start : List (ℕ × Remains)) (done : List Call) (held : List (ℕ × PackState)) → start ≡ [] → done ≡ [] → held ≡ [] → IsHeld start done held
 unfolding state_from
 held_nothing start done held none no_call nothing = rw (none, no_call, nothing) (record {
-  shown = λ n. sym (ap (option_map durable) (get-empty nat_cmp n));
+  shown = λ n. refl;
   numbers = λ n above. refl;
 })
 
@@ -89,19 +87,11 @@ told_held past held shown n there = some_of (at_number held n) (sym (ap is_some 
 pub held_told : (past : Past) (held : List (ℕ × PackState)) → ((n : ℕ) → at_number held n ≡ state past n) → (n : ℕ) → is_some (at_number held n) ≡ true → is_some (get (told past) n) ≡ true
 held_told past held shown n there = ap is_some (told_of past held shown n) ∙ some_map (at_number held n) there
 
-find_number : (start : List (ℕ × List ℕ)) (n : ℕ) → find nat_cmp n start ≡ at_number start n
-find_number [] n = refl
-find_number (e ∷ start) n = ap (cond (is_at (nat_cmp n) e.0) (Some e.1)) (find_number start n)
-
--- what a disk began with at a number
-pub get_start : (start : List (ℕ × List ℕ)) (n : ℕ) → get (from_entries {R = nat_cmp} start) n ≡ at_number start n
-get_start start n = get-from_entries nat_cmp_total start n ∙ find_number start n
-
 -- what is held before the first call
-pub held_image : (start : List (ℕ × List ℕ)) (done : List Call) (held : List (ℕ × PackState)) → done ≡ []
-    → ((n : ℕ) → at_number held n ≡ option_map durable (at_number start n)) → ((n : ℕ) → last_number < n → at_number start n ≡ None) → IsHeld start done held
+pub held_image : (start : List (ℕ × Remains)) (done : List Call) (held : List (ℕ × PackState)) → done ≡ []
+    → ((n : ℕ) → at_number held n ≡ option_map begun (at_number start n)) → ((n : ℕ) → last_number < n → at_number start n ≡ None) → IsHeld start done held
 unfolding state_from
 held_image start done held no_call is numbers = rw no_call (record {
-  shown = λ n. is n ∙ ap (option_map durable) (sym (get_start start n));
-  numbers = λ n above. is n ∙ ap (option_map durable) (numbers n above);
+  shown = is;
+  numbers = λ n above. is n ∙ ap (option_map begun) (numbers n above);
 })

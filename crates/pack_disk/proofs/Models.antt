@@ -5,7 +5,8 @@ use Rattle.std.specs.Option.{option_map}
 use Rattle.std.proofs.lemmas.List.{append-nil}
 use Rattle.pack_disk.specs.declared.history.Call.{Call}
 use Rattle.pack_disk.specs.declared.history.Call.TheVariants.{Make, Append, Sync}
-use Rattle.pack_disk.specs.PackState.{PackState, fresh, grown, durable, settled, IsPackImage}
+use Rattle.pack_disk.specs.PackState.{PackState, begun, fresh, grown, durable, settled, IsPackImage}
+use Rattle.pack_disk.specs.declared.remains.Remains.{Remains}
 use Rattle.pack_disk.specs.Past.{Past, State, state_after, state_from, first_state, state}
 use Rattle.pack_disk.specs.Told.{IsPackTold, is_told}
 use Rattle.pack_disk.specs.Model.{settles, Unsettled, added, Stay, MeetsModel}
@@ -90,6 +91,29 @@ images_unnamed tail o = (there o, back o)
     back (Some bytes) (inl none) = absurd (not_some bytes (sym none))
     back (Some bytes) (inr s) = (s.0, some_same _ _ s.1, omega (arith, s.2, ap length (some_same _ _ s.1)))
 
+-- and of a pack as a crash left it
+images_begun : (had : Remains) (tail : List ℕ) (o : Option (List ℕ))
+    → IsPackImage (Some (with_tail (begun had) tail)) o ↔ (((had.named ≡ false) × (o ≡ None)) ⊎ Stay had.synced (had.tail ++ tail) o)
+images_begun had tail o = (there o, back o)
+  where
+    there : (o : Option (List ℕ)) → IsPackImage (Some (with_tail (begun had) tail)) o → ((had.named ≡ false) × (o ≡ None)) ⊎ Stay had.synced (had.tail ++ tail) o
+    there None i = inl (i, refl)
+    there (Some bytes) i = inr (
+      i.0,
+      ap Some i.1,
+      omega (arith, i.2, ap length i.1, length-append had.synced i.0, length-append (had.synced ++ had.tail) tail, length-append had.synced had.tail, length-append had.tail tail),
+    )
+
+    back : (o : Option (List ℕ)) → ((had.named ≡ false) × (o ≡ None)) ⊎ Stay had.synced (had.tail ++ tail) o → IsPackImage (Some (with_tail (begun had) tail)) o
+    back None (inl gone) = gone.0
+    back None (inr s) = absurd (not_some _ s.1)
+    back (Some bytes) (inl gone) = absurd (not_some bytes (sym gone.1))
+    back (Some bytes) (inr s) = (
+      s.0,
+      some_same _ _ s.1,
+      omega (arith, s.2, ap length (some_same _ _ s.1), length-append had.synced s.0, length-append (had.synced ++ had.tail) tail, length-append had.synced had.tail, length-append had.tail tail),
+    )
+
 images_none : (o : Option (List ℕ)) → IsPackImage None o ↔ (o ≡ None)
 images_none o = (there o, back o)
   where
@@ -126,7 +150,7 @@ meets_model = record {
       let now = ap (λ b. cond b (Some fresh) (s n)) (same_true n) in
       by_state _ _ o _ (split_state past n front rest (Make n) is ∙ run_some rest (state_after (Make n) s) n fresh now refl quiet) (images_unnamed (added n rest) o);
   began = λ past n had o quiet is.
-      by_state _ _ o _ (run_some past.done (first_state past) n (durable had) (ap (option_map durable) is) refl quiet) (images_named had (added n past.done) o);
+      by_state _ _ o _ (run_some past.done (first_state past) n (begun had) (ap (option_map begun) is) refl quiet) (images_begun had (added n past.done) o);
   absent = λ past n o quiet is.
-      by_state _ _ o _ (run_none past.done (first_state past) n (ap (option_map durable) is) quiet) (images_none o);
+      by_state _ _ o _ (run_none past.done (first_state past) n (ap (option_map begun) is) quiet) (images_none o);
 }

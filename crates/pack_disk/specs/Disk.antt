@@ -48,15 +48,3 @@ Tells (Some before) (Some now) P = P before now
 pub record ReadAt (pack : List ℕ) (at room : ℕ) (n : ℕ) (buf : List ℕ) : Type 0 where
   pub count : n ≡ min room (length pack - at)
   pub bytes : take n buf ≡ take n (drop at pack)
-
--- a crash at any moment since old leaves what has P
-pub record LeavesOnly {D : Type 0} (moment : D → ℕ) (images_since : D → ℕ → Packs → Type 0) (old new : D) (P : Packs → Type 0) : Type 0 where
-  pub later : moment old ≤ moment new
-  pub each : (image : Packs) → images_since new (moment old) image → P image
-  -- for what began earlier
-  pub before : (t : ℕ) (image : Packs) → t ≤ moment old → images_since new t image → images_since old t image ⊎ P image
-
--- nothing was changed: the same is told, and a crash at any moment since old leaves an image of old
-pub record Stays {D : Type 0} (packs : D → Option Packs) (images : D → Packs → Type 0) (moment : D → ℕ) (images_since : D → ℕ → Packs → Type 0) (old new : D) : Type 0 where
-  pub told : packs new ≡ packs old
-  pub since : LeavesOnly moment images_since old new (images old)

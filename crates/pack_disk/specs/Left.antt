@@ -4,6 +4,7 @@ use Rattle.std.specs.List.{range_with_len}
 use Rattle.pack_disk.specs.declared.loss.Loss.{Loss}
 use Rattle.pack_disk.specs.declared.loss.Loss.TheVariants.{Nothing, Unsynced, Half, AllButFirst, Last, Zeroed, Garbled, Claimed}
 use Rattle.pack_disk.specs.PackState.{PackState}
+use Rattle.pack_disk.specs.declared.remains.Remains.{Remains}
 
 abbrev pub loss_of : ℕ → Loss
 loss_of choice =
@@ -67,10 +68,12 @@ spoilt Claimed choice bytes = claimed bytes
 abbrev pub tail_of : PackState → List ℕ
 tail_of pack = drop (length pack.synced) pack.now
 
--- what is durable, and then what stays of the tail
-abbrev pub bytes_left : Loss → ℕ → PackState → List ℕ
-bytes_left loss choice pack = pack.synced ++ spoilt loss choice (take (kept loss (length (tail_of pack))) (tail_of pack))
+-- what stays of them
+abbrev pub tail_left : Loss → ℕ → PackState → List ℕ
+tail_left loss choice pack = spoilt loss choice (take (kept loss (length (tail_of pack))) (tail_of pack))
 
 -- what a crash leaves of a pack
-abbrev pub left : ℕ → PackState → Option (List ℕ)
-left choice pack = if takes_packs (loss_of choice) && not pack.named then None else Some (bytes_left (loss_of choice) choice pack)
+abbrev pub left : ℕ → PackState → Option Remains
+left choice pack =
+    if takes_packs (loss_of choice) && not pack.named then None
+    else Some (record { synced = pack.synced; tail = tail_left (loss_of choice) choice pack; named = pack.named })

@@ -1,6 +1,6 @@
 pub mod Packs
 pub mod Disk
-pub mod Plan
+pub mod Runs
 pub mod PackState
 pub mod Past
 pub mod Told

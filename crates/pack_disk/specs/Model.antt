@@ -2,10 +2,11 @@
 use Rattle.std.specs.Prelude.{◌≡◌, ◌⊎◌, ◌↔◌, ℕ, ◌≤◌, List, [], ◌∷◌, ◌++◌, length, Bool, false, ◌==◌, if◌then◌else◌, Option, None, Some}
 use Rattle.std.specs.List.{list_any}
 use Rattle.std.specs.FinMap.{get}
+use Rattle.pack_disk.specs.declared.remains.Remains.{Remains}
 use Rattle.pack_disk.specs.declared.history.Call.{Call}
 use Rattle.pack_disk.specs.declared.history.Call.TheVariants.{Make, Append, Sync}
 use Rattle.pack_disk.specs.PackState.{IsPackImage}
-use Rattle.pack_disk.specs.Past.{Past, began_with, told, state}
+use Rattle.pack_disk.specs.Past.{Past, told, state, at_number}
 
 -- whether a call makes or syncs this pack
 abbrev pub settles : ℕ → Call → Bool
@@ -34,6 +35,7 @@ pub record MeetsModel : Type 0 where
       → get (told (record { start = past.start; done = front })) n ≡ Some had → IsPackImage (state past n) o ↔ Stay had (added n rest) o
   pub unsynced : (past : Past) (n : ℕ) (front rest : List Call) (o : Option (List ℕ)) → past.done ≡ front ++ Make n ∷ rest → Unsettled n rest
       → IsPackImage (state past n) o ↔ (o ≡ None ⊎ Stay [] (added n rest) o)
-  pub began : (past : Past) (n : ℕ) (had : List ℕ) (o : Option (List ℕ)) → Unsettled n past.done → get (began_with past) n ≡ Some had
-      → IsPackImage (state past n) o ↔ Stay had (added n past.done) o
-  pub absent : (past : Past) (n : ℕ) (o : Option (List ℕ)) → Unsettled n past.done → get (began_with past) n ≡ None → IsPackImage (state past n) o ↔ (o ≡ None)
+  -- of a pack that the disk began with stays what was durable before the crash, and the pack where it was synced before
+  pub began : (past : Past) (n : ℕ) (had : Remains) (o : Option (List ℕ)) → Unsettled n past.done → at_number past.start n ≡ Some had
+      → IsPackImage (state past n) o ↔ (((had.named ≡ false) × (o ≡ None)) ⊎ Stay had.synced (had.tail ++ added n past.done) o)
+  pub absent : (past : Past) (n : ℕ) (o : Option (List ℕ)) → Unsettled n past.done → at_number past.start n ≡ None → IsPackImage (state past n) o ↔ (o ≡ None)

@@ -1,5 +1,6 @@
 -- What counts of one pack, and what a crash may leave of it (docs/formats/packs.md, "Disks and crashes").
 use Rattle.std.specs.Prelude.{◌≡◌, ℕ, ◌≤◌, max, List, [], ◌++◌, length, Bool, true, false, Option, None, Some}
+use Rattle.pack_disk.specs.declared.remains.Remains.{Remains}
 
 -- a pack: its bytes, those at its last sync, whether there was one, and the greatest length since then
 pub record PackState : Type 0 where
@@ -11,6 +12,14 @@ pub record PackState : Type 0 where
 -- a pack that was just made
 abbrev pub fresh : PackState
 fresh = record { now = []; synced = []; named = false; longest = 0 }
+
+-- the bytes that a crash left of a pack
+abbrev pub all_bytes : Remains → List ℕ
+all_bytes remains = remains.synced ++ remains.tail
+
+-- a pack as a crash left it: the bytes at its last sync are those from before, and so is whether there was one
+abbrev pub begun : Remains → PackState
+begun remains = record { now = all_bytes remains; synced = remains.synced; named = remains.named; longest = length (all_bytes remains) }
 
 -- a pack after bytes were added
 abbrev pub grown : List ℕ → PackState → PackState

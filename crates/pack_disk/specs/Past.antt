@@ -1,5 +1,5 @@
 -- What the calls that were done make of a disk in memory, and what a crash may leave of it (docs/formats/packs.md, "Disks and crashes").
-use Rattle.std.specs.Prelude.{◌≡◌, ℕ, ◌<◌, ◌≤◌, List, [], ◌∷◌, ◌++◌, length, take, ◌==◌, if◌then◌else◌, Option, None, Some, Result, OnOk, OnErr}
+use Rattle.std.specs.Prelude.{◌≡◌, ℕ, ◌<◌, ◌≤◌, List, [], ◌∷◌, ◌++◌, length, take, map, ◌==◌, if◌then◌else◌, Option, None, Some, Result, OnOk, OnErr}
 use Rattle.std.specs.Option.{option_map}
 use Rattle.std.specs.Ordering.{nat_cmp}
 use Rattle.std.specs.BTreeMap.{is_at}
@@ -9,11 +9,12 @@ use Rattle.pack_disk.specs.declared.history.Call.{Call}
 use Rattle.pack_disk.specs.declared.history.Call.TheVariants.{Make, Append, Sync}
 use Rattle.pack_disk.specs.Packs.{Packs}
 use Rattle.pack_disk.specs.Disk.{last_number, Elapses}
-use Rattle.pack_disk.specs.PackState.{PackState, fresh, grown, durable, settled, IsPackImage}
+use Rattle.pack_disk.specs.declared.remains.Remains.{Remains}
+use Rattle.pack_disk.specs.PackState.{PackState, all_bytes, begun, fresh, grown, settled, IsPackImage}
 
--- the packs that a disk began with, all of them durable, and the calls that were done since, in order
+-- the packs that a disk began with, as a crash left them, and the calls that were done since, in order
 pub record Past : Type 0 where
-  pub start : List (ℕ × List ℕ)
+  pub start : List (ℕ × Remains)
   pub done : List Call
 
 -- no pack and no call
@@ -33,6 +34,10 @@ pub record Does {T E : Type 0} (call : Call) (before now : Past) (result : Resul
   pub ok : OnOk result (now ≡ with_call before call)
   pub err : OnErr result (now ≡ before)
 
+-- what stands under a number
+abbrev pub at_number : {X : Type 0} → List (ℕ × X) → ℕ → Option X
+at_number entries n = lookup (is_at (nat_cmp n)) entries
+
 -- ---- what is told
 
 -- the packs after bytes were added to one that has these
@@ -50,7 +55,7 @@ told_from packs [] = packs
 told_from packs (call ∷ calls) = told_from (told_after call packs) calls
 
 abbrev pub began_with : Past → Packs
-began_with past = from_entries past.start
+began_with past = from_entries (map (λ (pack : ℕ × Remains). (pack.0, all_bytes pack.1)) past.start)
 
 -- the bytes of each pack
 abbrev pub told : Past → Packs
@@ -75,7 +80,7 @@ state_from state [] = state
 state_from state (call ∷ calls) = state_from (state_after call state) calls
 
 abbrev pub first_state : Past → State
-first_state past n = option_map durable (get (began_with past) n)
+first_state past n = option_map begun (at_number past.start n)
 
 abbrev pub state : Past → State
 state past = state_from (first_state past) past.done
@@ -94,11 +99,8 @@ Passes before now = Elapses (length before.done) (length now.done) (WasImage bef
 
 -- ---- the packs as they are held in memory
 
-abbrev pub at_number : {X : Type 0} → List (ℕ × X) → ℕ → Option X
-at_number entries n = lookup (is_at (nat_cmp n)) entries
-
 -- what is held is what counts of each pack, and none has too great a number
-pub record IsHeld (start : List (ℕ × List ℕ)) (done : List Call) (held : List (ℕ × PackState)) : Type 0 where
+pub record IsHeld (start : List (ℕ × Remains)) (done : List Call) (held : List (ℕ × PackState)) : Type 0 where
   pub shown : (n : ℕ) → at_number held n ≡ state (record { start = start; done = done }) n
   pub numbers : (n : ℕ) → last_number < n → at_number held n ≡ None
 

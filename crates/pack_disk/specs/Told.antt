@@ -1,17 +1,19 @@
 -- What a disk in memory tells is one of its images.
-use Rattle.std.proofs.Common.{◌≡◌, ℕ, ◌≤◌, List, [], ◌∷◌, ◌++◌, length, Bool, true, false, cond, ◌==◌, Option, None, Some, refl, sym, ◌∙◌, ap, subst, arith, append_assoc}
+use Rattle.std.proofs.Common.{◌≡◌, ℕ, ◌≤◌, List, [], ◌∷◌, ◌++◌, length, map, Bool, true, false, cond, ◌==◌, Option, None, Some, refl, sym, ◌∙◌, ap, subst, arith, append_assoc}
 use Rattle.std.specs.Ordering.{nat_cmp, eq_by_cmp}
+use Rattle.std.specs.BTreeMap.{is_at}
 use Rattle.std.specs.Cmp.{nat_cmp_total}
 use Rattle.std.specs.Option.{option_map}
-use Rattle.std.specs.FinMap.{get, insert, get-insert}
+use Rattle.std.specs.FinMap.{find, get, insert, get-insert, get-from_entries}
 use Rattle.std.proofs.lemmas.Bool.{eqb-true}
 use Rattle.std.proofs.lemmas.Bool.Decides.{nat_tests}
 use Rattle.std.proofs.lemmas.List.{append-nil, take_all}
 use Rattle.pack_disk.specs.declared.history.Call.{Call}
 use Rattle.pack_disk.specs.declared.history.Call.TheVariants.{Make, Append, Sync}
 use Rattle.pack_disk.specs.Packs.{Packs}
-use Rattle.pack_disk.specs.PackState.{PackState, fresh, grown, durable, settled, IsPackImage}
-use Rattle.pack_disk.specs.Past.{Past, at_call, extended, told_after, told_from, began_with, told, State, changed, state_after, state_from, first_state, state, IsImage, WasImage}
+use Rattle.pack_disk.specs.PackState.{PackState, all_bytes, begun, fresh, grown, settled, IsPackImage}
+use Rattle.pack_disk.specs.declared.remains.Remains.{Remains}
+use Rattle.pack_disk.specs.Past.{Past, at_call, extended, told_after, told_from, began_with, told, State, changed, state_after, state_from, first_state, state, at_number, IsImage, WasImage}
 
 pub ties : (m n : ℕ) → eq_by_cmp nat_cmp m n ≡ (m == n)
 ties m n = grind (arith, nat_tests)
@@ -75,12 +77,25 @@ unfolding state_from told_from
 told_steps [] s packs is = is
 told_steps (call ∷ calls) s packs is = told_steps calls (state_after call s) (told_after call packs) (told_step call s packs is)
 
-durable_told : (o : Option (List ℕ)) → IsPackTold (option_map durable o) o
-durable_told None = refl
-durable_told (Some bytes) = (refl, [], sym (append-nil bytes), omega arith)
+found_bytes : (start : List (ℕ × Remains)) (n : ℕ) → find nat_cmp n (map (λ (pack : ℕ × Remains). (pack.0, all_bytes pack.1)) start) ≡ option_map all_bytes (at_number start n)
+found_bytes [] n = refl
+found_bytes (e ∷ start) n =
+    elim (is_at (nat_cmp n) e.0) as (λ b. cond b (Some (all_bytes e.1)) (find nat_cmp n (map (λ (pack : ℕ × Remains). (pack.0, all_bytes pack.1)) start)) ≡ option_map all_bytes (cond b (Some e.1) (at_number start n))) [
+      | true ↦ refl
+      | false ↦ found_bytes start n
+    ]
+
+-- the bytes of a pack that a disk began with
+pub get-began_with : (past : Past) (n : ℕ) → get (began_with past) n ≡ option_map all_bytes (at_number past.start n)
+get-began_with past n = get-from_entries nat_cmp_total (map (λ (pack : ℕ × Remains). (pack.0, all_bytes pack.1)) past.start) n ∙ found_bytes past.start n
+
+begun_told : (o : Option Remains) → IsPackTold (option_map begun o) (option_map all_bytes o)
+begun_told None = refl
+begun_told (Some remains) = (refl, remains.tail, refl, omega arith)
 
 pub is_told : (past : Past) → IsTold (state past) (told past)
-is_told past = told_steps past.done (first_state past) (began_with past) (λ n. durable_told (get (began_with past) n))
+is_told past = told_steps past.done (first_state past) (began_with past)
+    (λ n. subst (IsPackTold (first_state past n)) (sym (get-began_with past n)) (begun_told (at_number past.start n)))
 
 image_of_told : (o : Option PackState) (q : Option (List ℕ)) → IsPackTold o q → IsPackImage o q
 image_of_told None q is = subst (IsPackImage None) (sym is) tt

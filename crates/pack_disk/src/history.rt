@@ -5,12 +5,13 @@ ghost use Rattle.std.specs.Option.{option_map, option_and_then};
 ghost use Rattle.pack_disk.specs.declared.history.Call.TheVariants.{Make, Append, Sync};
 ghost use Rattle.pack_disk.specs.Packs.{least_from};
 ghost use Rattle.pack_disk.specs.Disk.{last_number};
-ghost use Rattle.pack_disk.specs.Past.{no_past, told, began_with, state, at_number, Does, ChangesHeld};
-ghost use Rattle.pack_disk.specs.PackState.{durable};
+ghost use Rattle.pack_disk.specs.Past.{no_past, told, state, at_number, Does, ChangesHeld};
+ghost use Rattle.pack_disk.specs.PackState.{begun};
 ghost use Rattle.pack_disk.specs.Left.{left};
 
 use crate::image::Image;
 use crate::pack::Pack;
+use crate::remains::Remains;
 use blobref::{NoMemory, Octets};
 use std::alloc::Global;
 use std::collections::BTreeMap;
@@ -31,7 +32,7 @@ pub enum Call {
 #[derive(Drop)]
 pub struct History {
     alloc: Global,
-    start: BTreeMap<u32, Octets>,
+    start: BTreeMap<u32, Remains>,
     done: Vec<Call>,
     held: BTreeMap<u32, Pack>,
 }
@@ -111,10 +112,10 @@ impl History {
         Some(*number)
     }
 
-    /// One image of the packs, by a choice, as what a disk begins with.
+    /// What a crash leaves of the packs, by a choice, as what a disk begins with.
     pub fn crash(&self, choice: u64) -> Result<History, NoMemory>
         ensures fresh { IfOk result (λ image. image.done ≡ []) }
-        ensures left { IfOk result (λ image. (n : ℕ) → get (began_with image) n ≡ option_and_then (left choice) (state self.now n)) }
+        ensures left { IfOk result (λ image. (n : ℕ) → at_number image.start n ≡ option_and_then (left choice) (state self.now n)) }
     {
         let image = self.image(choice)?;
         Ok(History {
@@ -128,7 +129,7 @@ impl History {
     // What a crash leaves of each pack.
     fn image(&self, choice: u64) -> Result<Image, NoMemory>
         ensures left { IfOk result (λ image. (n : ℕ) → at_number image.start.entries n ≡ option_and_then (left choice) (state self.now n)) }
-        ensures held { IfOk result (λ image. (n : ℕ) → at_number image.held.entries n ≡ option_map durable (at_number image.start.entries n)) }
+        ensures held { IfOk result (λ image. (n : ℕ) → at_number image.held.entries n ≡ option_map begun (at_number image.start.entries n)) }
         ensures numbers { IfOk result (λ image. (n : ℕ) → last_number < n → at_number image.start.entries n ≡ None) }
     {
         let mut image = Image::empty(self.alloc);

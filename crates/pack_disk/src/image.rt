@@ -1,18 +1,19 @@
 //! The packs of an image, as they are gathered for a disk that begins with them.
 ghost use Rattle.std.specs.Prelude.{◌≡◌, ◌==◌, ℕ, [], if◌then◌else◌, Some, OnOk};
-ghost use Rattle.pack_disk.specs.PackState.{durable};
+ghost use Rattle.pack_disk.specs.PackState.{begun};
 ghost use Rattle.pack_disk.specs.Past.{at_number};
 ghost use Rattle.pack_disk.specs.Image.{Keeps};
 
 use crate::pack::Pack;
-use blobref::{NoMemory, Octets};
+use crate::remains::Remains;
+use blobref::NoMemory;
 use std::alloc::Global;
 use std::collections::BTreeMap;
 
-/// Each pack's bytes, once to be told what was there at the start and once to go on with.
+/// What is left of each pack, once to be told what was there at the start and once to go on with.
 #[derive(Drop)]
 pub struct Image {
-    pub start: BTreeMap<u32, Octets>,
+    pub start: BTreeMap<u32, Remains>,
     pub held: BTreeMap<u32, Pack>,
 }
 
@@ -39,18 +40,18 @@ impl Image {
         ensures { OnOk result (Keeps choice number pack.now self.old.start.entries self.new.start.entries self.old.held.entries self.new.held.entries) }
     {
         match pack.left(alloc, choice)? {
-            Some(bytes) => self.put(alloc, number, bytes),
+            Some(remains) => self.put(alloc, number, remains),
             None => Ok(()),
         }
     }
 
     // Puts a pack in place of the one with this number, if there is one.
-    fn put(&mut self, alloc: Global, number: u32, bytes: Octets) -> Result<(), NoMemory>
-        ensures start { OnOk result ((n : ℕ) → at_number self.new.start.entries n ≡ if n == number then Some bytes else at_number self.old.start.entries n) }
-        ensures held { OnOk result ((n : ℕ) → at_number self.new.held.entries n ≡ if n == number then Some (durable bytes) else at_number self.old.held.entries n) }
+    fn put(&mut self, alloc: Global, number: u32, remains: Remains) -> Result<(), NoMemory>
+        ensures start { OnOk result ((n : ℕ) → at_number self.new.start.entries n ≡ if n == number then Some remains else at_number self.old.start.entries n) }
+        ensures held { OnOk result ((n : ℕ) → at_number self.new.held.entries n ≡ if n == number then Some (begun remains) else at_number self.old.held.entries n) }
     {
-        let pack = Pack::durable(alloc, bytes.as_slice())?;
-        self.start.insert(number, bytes)?;
+        let pack = Pack::begin(alloc, &remains)?;
+        self.start.insert(number, remains)?;
         self.held.insert(number, pack)?;
         Ok(())
     }

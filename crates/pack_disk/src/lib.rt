@@ -8,7 +8,7 @@ mod laws;
 mod loss;
 mod memory;
 mod pack;
-mod plan;
+mod remains;
 
 pub use disk::Disk;
 pub use laws::disk_model;

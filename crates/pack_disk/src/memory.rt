@@ -1,20 +1,20 @@
 //! A disk in memory, whose calls fail by a list, and what a crash may leave of it.
 ghost use Rattle.std.specs.Prelude.{◌≡◌, ◌≤◌, ◌-◌, ◌^◌, ℕ, [], List, length, Some, None, IsSome, IfSome, IfOk, OnOk, OnErr, IsOk, IsErr, ◌++◌};
 ghost use Rattle.std.specs.FinMap.{get, insert};
-ghost use Rattle.std.specs.Option.{ForSome, option_and_then};
+ghost use Rattle.std.specs.Option.{ForSome, option_map, option_and_then};
+ghost use Rattle.edge_base.specs.Calls.{no_calls, after_fault, IsCounted, IsPlanned};
 ghost use Rattle.edge_base.specs.Edge.{HasCause};
 ghost use Rattle.pack_disk.specs.declared.history.Call.TheVariants.{Make, Append, Sync};
 ghost use Rattle.pack_disk.specs.Packs.{Packs, least_from};
 ghost use Rattle.pack_disk.specs.Disk.{last_number, SameOthers, Extends, Makes, Follows, NoNew, Tells, ReadAt};
-ghost use Rattle.pack_disk.specs.Plan.{no_calls, after_fault, IsCounted, IsPlanned};
+ghost use Rattle.pack_disk.specs.PackState.{all_bytes, begun};
 ghost use Rattle.pack_disk.specs.Left.{left};
 ghost use Rattle.pack_disk.specs.Past.{no_past, told, state, IsImage, Passes, Does};
 
 use crate::disk::Disk;
 use crate::history::History;
-use crate::plan::Plan;
 use blobref::NoMemory;
-use edge_base::{CallList, Failed};
+use edge_base::{CallList, Calls, Failed};
 use std::alloc::Global;
 
 /// A disk in memory (`docs/formats/packs.md`, "Disks and crashes"). A contract sees the calls that were done since it began, with the
@@ -23,7 +23,7 @@ use std::alloc::Global;
 pub struct MemDisk {
     alloc: Global,
     history: History,
-    plan: Plan,
+    calls: Calls,
 }
 
 impl MemDisk {
@@ -31,12 +31,12 @@ impl MemDisk {
     /// from the number `stop` on. A call that fails changes nothing.
     pub fn empty(alloc: Global, fails: CallList, stop: u64) -> MemDisk
         ensures past { result.history ≡ no_past }
-        ensures plan { result.plan ≡ no_calls fails stop }
+        ensures calls { result.calls ≡ no_calls fails (Some stop) }
     {
         MemDisk {
             alloc,
             history: History::empty(alloc),
-            plan: Plan::of(fails, stop),
+            calls: Calls::of(fails, Some(stop)),
         }
     }
 
@@ -52,33 +52,36 @@ impl MemDisk {
     /// - 6: as many bytes, others, by the choice.
     /// - 7: as many bytes, the first of them, as far as there is room, a header of a blob of 16,777,216 bytes.
     ///
-    /// All that is on the new disk is durable. Its calls are counted from 0, and none is to fail before the number 18,446,744,073,709,551,615.
+    /// Of the new disk is durable what was durable before: what stays of a tail may be lost in the next crash, and so may a pack that was
+    /// never synced, until they are synced. So each image of it is one of this disk. Its calls are counted from 0, and none is to fail
+    /// before the number 18,446,744,073,709,551,615.
     /// `NoMemory` may come in place of any answer.
     pub fn crash(self, choice: u64) -> Result<MemDisk, NoMemory>
         ensures image { IfOk result (λ disk. IsImage (state self.history) (told disk.history)) }
-        ensures durable { IfOk result (λ disk. (image : Packs) → IsImage (state disk.history) image → image ≡ told disk.history) }
-        ensures left { IfOk result (λ disk. (n : ℕ) → get (told disk.history) n ≡ option_and_then (left choice) (state self.history n)) }
+        ensures crash { IfOk result (λ disk. NoNew (IsImage (state self.history)) (IsImage (state disk.history))) }
+        ensures left { IfOk result (λ disk. (n : ℕ) → get (told disk.history) n ≡ option_map all_bytes (option_and_then (left choice) (state self.history n))) }
+        ensures durable { IfOk result (λ disk. (n : ℕ) → state disk.history n ≡ option_map begun (option_and_then (left choice) (state self.history n))) }
         ensures past { IfOk result (λ disk. disk.history.done ≡ []) }
-        ensures plan { IfOk result (λ disk. disk.plan ≡ no_calls [] (2 ^ 64 - 1)) }
+        ensures calls { IfOk result (λ disk. disk.calls ≡ no_calls [] (Some (2 ^ 64 - 1))) }
     {
         let history = self.history.crash(choice)?;
-        let plan = Plan::of(CallList::empty(self.alloc), u64::MAX);
+        let calls = Calls::of(CallList::empty(self.alloc), Some(u64::MAX));
         Ok(MemDisk {
             alloc: self.alloc,
             history,
-            plan,
+            calls,
         })
     }
 
     // Counts a call that was refused for want of memory as a failure.
     fn counted(&mut self, done: Result<(), NoMemory>) -> Result<(), Failed>
-        ensures ok { OnOk result (IsOk done × (self.new.plan ≡ self.old.plan)) }
-        ensures err { OnErr result (IsErr done × (self.new.plan ≡ after_fault self.old.plan)) }
+        ensures ok { OnOk result (IsOk done × (self.new.calls ≡ self.old.calls)) }
+        ensures err { OnErr result (IsErr done × (self.new.calls ≡ after_fault self.old.calls)) }
         ensures same { self.new.history ≡ self.old.history }
-        ensures cause { HasCause self.old.plan.faults self.new.plan.faults result }
+        ensures cause { HasCause self.old.calls.faults self.new.calls.faults result }
     {
         if done.is_err() {
-            self.plan.fail();
+            self.calls.fail();
             return Err(Failed);
         }
         Ok(())
@@ -98,7 +101,7 @@ impl Disk for MemDisk {
 
     ghost images_since = { λ d t image. WasImage d.history t image };
 
-    ghost faults = { λ d. d.plan.faults };
+    ghost faults = { λ d. d.calls.faults };
 
     ghost reads = { λ d held is. reads_image d.history held is };
 
@@ -115,12 +118,12 @@ impl Disk for MemDisk {
         ensures told { Some (told self.new.history) ≡ Some (told self.old.history) }
         ensures crash { NoNew (IsImage (state self.old.history)) (IsImage (state self.new.history)) }
         ensures time { Passes self.old.history self.new.history }
-        ensures cause { HasCause self.old.plan.faults self.new.plan.faults result }
+        ensures cause { HasCause self.old.calls.faults self.new.calls.faults result }
 
         ensures past { self.new.history ≡ self.old.history }
-        ensures plan { IsPlanned self.old.plan self.new.plan result }
+        ensures calls { IsPlanned self.old.calls self.new.calls result }
     {
-        self.plan.begin()?;
+        self.calls.begin()?;
         Ok(self.history.first_from(from))
     }
 
@@ -131,12 +134,12 @@ impl Disk for MemDisk {
         ensures told { Some (told self.new.history) ≡ Some (told self.old.history) }
         ensures crash { NoNew (IsImage (state self.old.history)) (IsImage (state self.new.history)) }
         ensures time { Passes self.old.history self.new.history }
-        ensures cause { HasCause self.old.plan.faults self.new.plan.faults result }
+        ensures cause { HasCause self.old.calls.faults self.new.calls.faults result }
 
         ensures past { self.new.history ≡ self.old.history }
-        ensures plan { IsPlanned self.old.plan self.new.plan result }
+        ensures calls { IsPlanned self.old.calls self.new.calls result }
     {
-        self.plan.begin()?;
+        self.calls.begin()?;
         Ok(self.history.bytes(pack).len() as u64)
     }
 
@@ -149,12 +152,12 @@ impl Disk for MemDisk {
         ensures told { Some (told self.new.history) ≡ Some (told self.old.history) }
         ensures crash { NoNew (IsImage (state self.old.history)) (IsImage (state self.new.history)) }
         ensures time { Passes self.old.history self.new.history }
-        ensures cause { HasCause self.old.plan.faults self.new.plan.faults result }
+        ensures cause { HasCause self.old.calls.faults self.new.calls.faults result }
 
         ensures past { self.new.history ≡ self.old.history }
-        ensures plan { IsPlanned self.old.plan self.new.plan result }
+        ensures calls { IsPlanned self.old.calls self.new.calls result }
     {
-        self.plan.begin()?;
+        self.calls.begin()?;
         Ok(copy_from(self.history.bytes(pack), at, buf))
     }
 
@@ -166,12 +169,12 @@ impl Disk for MemDisk {
         ensures made { OnOk result (Tells (Some (told self.old.history)) (Some (told self.new.history)) (λ before now. now ≡ insert before pack [])) }
         ensures crash { Follows (Makes pack) (IsImage (state self.old.history)) (IsImage (state self.new.history)) }
         ensures time { Passes self.old.history self.new.history }
-        ensures cause { HasCause self.old.plan.faults self.new.plan.faults result }
+        ensures cause { HasCause self.old.calls.faults self.new.calls.faults result }
 
         ensures past { Does (Make pack) self.old.history self.new.history result }
-        ensures plan { IsCounted self.old.plan self.new.plan result }
+        ensures calls { IsCounted self.old.calls self.new.calls result }
     {
-        self.plan.begin()?;
+        self.calls.begin()?;
         let done = self.history.make(pack);
         self.counted(done)
     }
@@ -184,12 +187,12 @@ impl Disk for MemDisk {
             (had : List ℕ) → get before pack ≡ Some had → get now pack ≡ Some (had ++ bytes.now))) }
         ensures crash { Follows (Extends pack) (IsImage (state self.old.history)) (IsImage (state self.new.history)) }
         ensures time { Passes self.old.history self.new.history }
-        ensures cause { HasCause self.old.plan.faults self.new.plan.faults result }
+        ensures cause { HasCause self.old.calls.faults self.new.calls.faults result }
 
         ensures past { Does (Append pack bytes.now) self.old.history self.new.history result }
-        ensures plan { IsCounted self.old.plan self.new.plan result }
+        ensures calls { IsCounted self.old.calls self.new.calls result }
     {
-        self.plan.begin()?;
+        self.calls.begin()?;
         let done = self.history.append(pack, bytes);
         self.counted(done)
     }
@@ -201,18 +204,18 @@ impl Disk for MemDisk {
         ensures told { Some (told self.new.history) ≡ Some (told self.old.history) }
         ensures crash { NoNew (IsImage (state self.old.history)) (IsImage (state self.new.history)) }
         ensures time { Passes self.old.history self.new.history }
-        ensures cause { HasCause self.old.plan.faults self.new.plan.faults result }
+        ensures cause { HasCause self.old.calls.faults self.new.calls.faults result }
 
         ensures past { Does (Sync pack) self.old.history self.new.history result }
-        ensures plan { IsCounted self.old.plan self.new.plan result }
+        ensures calls { IsCounted self.old.calls self.new.calls result }
     {
-        self.plan.begin()?;
+        self.calls.begin()?;
         let done = self.history.sync(pack);
         self.counted(done)
     }
 
     fn faults(&self) -> u64 {
-        self.plan.faults()
+        self.calls.faults()
     }
 }
 

@@ -1,9 +1,10 @@
 //! One pack in memory, with what of it is durable.
 ghost use Rattle.std.specs.Prelude.{◌≡◌, ◌&&◌, not, OnOk, OnErr, IfOk};
-ghost use Rattle.pack_disk.specs.PackState.{fresh, grown, durable, settled};
-ghost use Rattle.pack_disk.specs.Left.{left, takes_packs, bytes_left};
+ghost use Rattle.pack_disk.specs.PackState.{fresh, begun, grown, settled};
+ghost use Rattle.pack_disk.specs.Left.{left, takes_packs, tail_left};
 
 use crate::loss::Loss;
+use crate::remains::Remains;
 use blobref::{NoMemory, Octets};
 use std::alloc::Global;
 use std::marker::Model;
@@ -39,16 +40,17 @@ impl Pack {
         }
     }
 
-    /// A pack of these bytes, which was just synced.
-    pub fn durable(alloc: Global, bytes: &[u8]) -> Result<Pack, NoMemory>
-        ensures { IfOk result (λ pack. pack ≡ durable bytes.now) }
+    /// A pack as a crash left it.
+    pub fn begin(alloc: Global, remains: &Remains) -> Result<Pack, NoMemory>
+        ensures { IfOk result (λ pack. pack ≡ begun remains.now) }
     {
-        let bytes = Vec::from_slice(alloc, bytes)?;
+        let mut bytes = Vec::from_slice(alloc, remains.synced.as_slice())?;
         let synced = bytes.len();
+        bytes.extend_from_slice(remains.tail.as_slice())?;
         Ok(Pack {
             bytes,
             synced,
-            named: true,
+            named: remains.named,
         })
     }
 
@@ -77,15 +79,19 @@ impl Pack {
     }
 
     /// What a crash leaves of the pack, by a choice: `None` if it is missing.
-    pub fn left(&self, alloc: Global, choice: u64) -> Result<Option<Octets>, NoMemory>
-        ensures { IfOk result (λ bytes. bytes ≡ left choice self.now) }
+    pub fn left(&self, alloc: Global, choice: u64) -> Result<Option<Remains>, NoMemory>
+        ensures { IfOk result (λ remains. remains ≡ left choice self.now) }
     {
         let loss = Loss::of(choice);
         if self.is_lost(loss) {
             return Ok(None);
         }
-        let bytes = self.left_bytes(alloc, loss, choice)?;
-        Ok(Some(Octets::from_vec(bytes)))
+        let (synced, _) = self.bytes.as_slice().split_at(self.synced);
+        Ok(Some(Remains {
+            synced: Octets::copy(alloc, synced)?,
+            tail: self.tail_left(alloc, loss, choice)?,
+            named: self.named,
+        }))
     }
 
     fn is_lost(&self, loss: Loss) -> bool
@@ -94,15 +100,13 @@ impl Pack {
         loss.takes_packs() && !self.named
     }
 
-    // What is durable, and what stays of the tail.
-    fn left_bytes(&self, alloc: Global, loss: Loss, choice: u64) -> Result<Vec<u8>, NoMemory>
-        ensures { IfOk result (λ bytes. bytes.items ≡ bytes_left loss choice self.now) }
+    // What stays of the tail.
+    fn tail_left(&self, alloc: Global, loss: Loss, choice: u64) -> Result<Octets, NoMemory>
+        ensures { IfOk result (λ bytes. bytes ≡ tail_left loss choice self.now) }
     {
-        let (durable, tail) = self.bytes.as_slice().split_at(self.synced);
-        let mut bytes = Vec::from_slice(alloc, durable)?;
+        let (_, tail) = self.bytes.as_slice().split_at(self.synced);
         let mut kept = Vec::from_slice(alloc, &tail[..loss.kept(tail.len())])?;
         loss.spoil(choice, kept.as_mut_slice());
-        bytes.extend_from_slice(kept.as_slice())?;
-        Ok(bytes)
+        Ok(Octets::from_vec(kept))
     }
 }

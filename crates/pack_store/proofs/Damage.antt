@@ -14,12 +14,12 @@ none_told (Some held) never = absurd (never held refl)
 pub unequal : (is r : List ℕ) (differs : Bool) → differs ≡ not (pointwise nat_eq is r) → differs ≡ true → is ≡ r → ⊥
 unequal is r differs e set same = let bad : true ≡ false = sym set ∙ e ∙ ap not (ap (λ x. pointwise nat_eq x r) same ∙ nat_list_eq_equiv.refl r) in cc bad
 
-damage_at : (T U : Type 0) (asked : Option (List ℕ)) (told : Option Packs) (fault : GetFault) → IsDamage {T = T} asked told (Err fault) → IsDamage {T = U} asked told (Err fault)
+damage_at : (T U : Type 0) (asked : Option (List ℕ × ℕ)) (told : Option Packs) (fault : GetFault) → IsDamage {T = T} asked told (Err fault) → IsDamage {T = U} asked told (Err fault)
 damage_at T U asked told (faults.Damaged want is) damage = damage
 damage_at T U asked told faults.Disk damage = tt
 damage_at T U asked told faults.NoMemory damage = tt
 
 -- an error that is passed on
-pub damage_passed : (T U : Type 0) (asked : Option (List ℕ)) (told : Option Packs) (result : Result U GetFault) (fault : GetFault) → IsErrAnd result (λ e. e ≡ fault) → IsDamage {T = T} asked told (Err fault) → IsDamage asked told result
+pub damage_passed : (T U : Type 0) (asked : Option (List ℕ × ℕ)) (told : Option Packs) (result : Result U GetFault) (fault : GetFault) → IsErrAnd result (λ e. e ≡ fault) → IsDamage {T = T} asked told (Err fault) → IsDamage asked told result
 damage_passed T U asked told (Ok x) fault is damage = absurd is
 damage_passed T U asked told (Err e) fault is damage = subst (λ f. IsDamage {T = U} asked told (Err f)) (sym is) (damage_at T U asked told fault damage)

@@ -11,10 +11,10 @@ use Rattle.std.proofs.lemmas.Bool.{cases_eq, or_cases, or_left, or_right, and_pa
 use Rattle.std.proofs.lemmas.Bool.Decides.{nat_tests}
 use Rattle.std.proofs.lemmas.List.Folds.{list_any-append}
 use Rattle.std.proofs.lemmas.List.{append-nil}
-use Rattle.blobref.specs.Blobref.{ref_of}
-use Rattle.pack_format.specs.Header.{max_size, record_of}
+use Rattle.blobref.specs.Blobref.{IsOwnRef}
+use Rattle.pack_format.specs.Header.{max_size, record_under}
 use Rattle.salvage_scan.specs.Salvage.{salvage, broken_past, IsClean}
-use Rattle.salvage_scan.proofs.Cuts.{salvage-append, salvage-append_record}
+use Rattle.salvage_scan.proofs.Cuts.{salvage-append, salvage-append_record_under}
 use Rattle.pack_disk.specs.Packs.{Packs}
 use Rattle.pack_disk.specs.Disk.{Extends, Makes}
 use Rattle.pack_store.specs.Packs.{finds, holds}
@@ -94,11 +94,11 @@ finds-append r x y clean is =
 pub same_ref : (r : List ℕ) → pointwise nat_eq r r ≡ true
 same_ref r = nat_list_eq_equiv.refl r
 
-pub finds-record : (x bytes : List ℕ) → length bytes ≤ max_size → IsClean x → finds (ref_of bytes) (x ++ record_of bytes) ≡ true
-finds-record x bytes small clean =
-    let e : x ++ record_of bytes ≡ x ++ record_of bytes ++ [] = sym (append-nil (x ++ record_of bytes)) in
-    let s = salvage-append_record x bytes [] small clean in
-    ap (finds (ref_of bytes)) e ∙ ap (list_any (λ f. pointwise nat_eq (ref_of bytes) f.r)) s ∙ list_any-append _ (salvage x) _ ∙ or_right _ _ (or_left (pointwise nat_eq (ref_of bytes) (ref_of bytes)) _ (same_ref (ref_of bytes)))
+pub finds-record : (x r bytes : List ℕ) → IsOwnRef r bytes → length bytes ≤ max_size → IsClean x → finds r (x ++ record_under r bytes) ≡ true
+finds-record x r bytes own small clean =
+    let e : x ++ record_under r bytes ≡ x ++ record_under r bytes ++ [] = sym (append-nil (x ++ record_under r bytes)) in
+    let s = salvage-append_record_under x r bytes [] own small clean in
+    ap (finds r) e ∙ ap (list_any (λ f. pointwise nat_eq r f.r)) s ∙ list_any-append _ (salvage x) _ ∙ or_right _ _ (or_left (pointwise nat_eq r r) _ (same_ref r))
 
 -- what was held stays held where bytes are added to a pack that is clean
 pub extends_keeps : (r : List ℕ) (n : ℕ) (d c : Packs) → Extends n d c → ((x : List ℕ) → get d n ≡ Some x → IsClean x) → holds r d ≡ true → holds r c ≡ true

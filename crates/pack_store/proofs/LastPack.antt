@@ -11,10 +11,10 @@ use Rattle.std.specs.FinMap.{entries, entries_sorted, entries-insert, find, get,
 use Rattle.std.specs.FinMap.Entries.{below_all, by_order}
 use Rattle.std.proofs.lemmas.Bool.{and_parts}
 use Rattle.std.proofs.lemmas.List.{append-nil, map-append}
-use Rattle.blobref.specs.Blobref.{ref_of}
-use Rattle.pack_format.specs.Header.{max_size, record_of}
+use Rattle.blobref.specs.Blobref.{IsOwnRef}
+use Rattle.pack_format.specs.Header.{max_size, record_under}
 use Rattle.salvage_scan.specs.Salvage.{salvage, salvage_past, broken_past, IsClean}
-use Rattle.salvage_scan.specs.Rules.{finding}
+use Rattle.salvage_scan.specs.Rules.{finding_under}
 use Rattle.salvage_scan.specs.Arrivals.{blob_of, arrive, arrivals}
 use Rattle.salvage_scan.proofs.Arriving.{arrive-append, arrivals-pack}
 use Rattle.salvage_scan.proofs.Packs.{clean_packs}
@@ -151,41 +151,41 @@ absent r (a ∷ before) is = go (pointwise nat_eq r a.0) (nat_list_eq_equiv.symm
     go false other later more = ap (λ b. b || list_any (λ (x : List ℕ × List ℕ). pointwise nat_eq x.0 r) before) other ∙ more later
 
 -- a record behind what is clean is found last
-found_last : (pack bytes : List ℕ) → length bytes ≤ max_size → IsClean pack → salvage (pack ++ record_of bytes) ≡ salvage pack ++ finding (length pack) bytes ∷ []
+found_last : (pack r bytes : List ℕ) → IsOwnRef r bytes → length bytes ≤ max_size → IsClean pack → salvage (pack ++ record_under r bytes) ≡ salvage pack ++ finding_under (length pack) r bytes ∷ []
 unfolding salvage_past
-found_last pack bytes small clean = ap salvage (sym (append-nil (pack ++ record_of bytes))) ∙ clean_packs.found pack bytes [] small clean
+found_last pack r bytes own small clean = ap salvage (sym (append-nil (pack ++ record_under r bytes))) ∙ clean_packs.found pack r bytes [] own small clean
 
 -- a blob that hasn't arrived is the last arrival
-pub arrives_last : (held now : Packs) (n size : ℕ) (bytes : List ℕ) → GoesBehind held n size → length bytes ≤ max_size
-    → lookup (pointwise nat_eq (ref_of bytes)) (arrivals (entries held)) ≡ None → AddsRecord n bytes held now
-    → arrivals (entries now) ≡ arrivals (entries held) ++ (ref_of bytes, bytes) ∷ []
-arrives_last held now n size bytes g small none added =
-    let pack = g.pack ++ record_of bytes in
-    let now_is : entries now ≡ g.front ++ (n, pack) ∷ [] = ap entries added ∙ ap (λ l. entries (insert held n (l ++ record_of bytes))) g.had ∙ g.puts pack in
-    let found : map blob_of (salvage pack) ≡ map blob_of (salvage g.pack) ++ (ref_of bytes, bytes) ∷ [] = ap (map blob_of) (found_last g.pack bytes small g.clean) ∙ map-append blob_of (salvage g.pack) (finding (length g.pack) bytes ∷ []) in
+pub arrives_last : (held now : Packs) (n size : ℕ) (r bytes : List ℕ) → GoesBehind held n size → IsOwnRef r bytes → length bytes ≤ max_size
+    → lookup (pointwise nat_eq r) (arrivals (entries held)) ≡ None → AddsRecord n r bytes held now
+    → arrivals (entries now) ≡ arrivals (entries held) ++ (r, bytes) ∷ []
+arrives_last held now n size r bytes g own small none added =
+    let pack = g.pack ++ record_under r bytes in
+    let now_is : entries now ≡ g.front ++ (n, pack) ∷ [] = ap entries added ∙ ap (λ l. entries (insert held n (l ++ record_under r bytes))) g.had ∙ g.puts pack in
+    let found : map blob_of (salvage pack) ≡ map blob_of (salvage g.pack) ++ (r, bytes) ∷ [] = ap (map blob_of) (found_last g.pack r bytes own small g.clean) ∙ map-append blob_of (salvage g.pack) (finding_under (length g.pack) r bytes ∷ []) in
     let so_far : arrive (arrivals g.front) (map blob_of (salvage g.pack)) ≡ arrivals (entries held) = sym g.so_far in
     ap arrivals now_is ∙ arrivals-pack g.front n pack ∙ ap (arrive (arrivals g.front)) found
-    ∙ arrive-append (map blob_of (salvage g.pack)) ((ref_of bytes, bytes) ∷ []) (arrivals g.front)
-    ∙ ap (λ before. arrive before ((ref_of bytes, bytes) ∷ [])) so_far
-    ∙ ap (λ b. cond b (arrivals (entries held)) (arrivals (entries held) ++ (ref_of bytes, bytes) ∷ [])) (absent (ref_of bytes) (arrivals (entries held)) none)
+    ∙ arrive-append (map blob_of (salvage g.pack)) ((r, bytes) ∷ []) (arrivals g.front)
+    ∙ ap (λ before. arrive before ((r, bytes) ∷ [])) so_far
+    ∙ ap (λ b. cond b (arrivals (entries held)) (arrivals (entries held) ++ (r, bytes) ∷ [])) (absent r (arrivals (entries held)) none)
 
 -- ---- where the record after it goes
 
 clean_current : (n : ℕ) (pack : List ℕ) → IsClean pack → current_if_clean (n, pack) ≡ Some (record { pack = n; size = length pack })
 clean_current n pack clean = ap (λ o. cond (is_some o) None (Some (record { pack = n; size = length pack }))) clean
 
-pub ends_current : (held now : Packs) (n size : ℕ) (bytes : List ℕ) → GoesBehind held n size → length bytes ≤ max_size → AddsRecord n bytes held now
-    → Some (record { pack = n; size = size + length (record_of bytes) }) ≡ current_of (entries now)
-ends_current held now n size bytes g small added =
-    let pack = g.pack ++ record_of bytes in
-    let now_is : entries now ≡ g.front ++ (n, pack) ∷ [] = ap entries added ∙ ap (λ l. entries (insert held n (l ++ record_of bytes))) g.had ∙ g.puts pack in
-    let long : length pack ≡ size + length (record_of bytes) = omega (arith, length-append g.pack (record_of bytes), g.long) in
-    ap (λ k. Some (record { pack = n; size = k })) (sym long) ∙ sym (ap current_of now_is ∙ current_after g.front n pack ∙ clean_current n pack (clean_packs.again g.pack bytes small g.clean))
+pub ends_current : (held now : Packs) (n size : ℕ) (r bytes : List ℕ) → GoesBehind held n size → IsOwnRef r bytes → length bytes ≤ max_size → AddsRecord n r bytes held now
+    → Some (record { pack = n; size = size + length (record_under r bytes) }) ≡ current_of (entries now)
+ends_current held now n size r bytes g own small added =
+    let pack = g.pack ++ record_under r bytes in
+    let now_is : entries now ≡ g.front ++ (n, pack) ∷ [] = ap entries added ∙ ap (λ l. entries (insert held n (l ++ record_under r bytes))) g.had ∙ g.puts pack in
+    let long : length pack ≡ size + length (record_under r bytes) = omega (arith, length-append g.pack (record_under r bytes), g.long) in
+    ap (λ k. Some (record { pack = n; size = k })) (sym long) ∙ sym (ap current_of now_is ∙ current_after g.front n pack ∙ clean_current n pack (clean_packs.again g.pack r bytes own small g.clean))
 
-pub ends_next : (held now : Packs) (n size : ℕ) (bytes : List ℕ) → GoesBehind held n size → AddsRecord n bytes held now → suc n ≡ next_of (entries now)
-ends_next held now n size bytes g added =
-    let pack = g.pack ++ record_of bytes in
-    let now_is : entries now ≡ g.front ++ (n, pack) ∷ [] = ap entries added ∙ ap (λ l. entries (insert held n (l ++ record_of bytes))) g.had ∙ g.puts pack in
+pub ends_next : (held now : Packs) (n size : ℕ) (r bytes : List ℕ) → GoesBehind held n size → AddsRecord n r bytes held now → suc n ≡ next_of (entries now)
+ends_next held now n size r bytes g added =
+    let pack = g.pack ++ record_under r bytes in
+    let now_is : entries now ≡ g.front ++ (n, pack) ∷ [] = ap entries added ∙ ap (λ l. entries (insert held n (l ++ record_under r bytes))) g.had ∙ g.puts pack in
     sym (ap next_of now_is ∙ next_after g.front n pack g.low)
 
 -- the next number is one more than that of the record's pack

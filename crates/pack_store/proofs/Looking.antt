@@ -7,7 +7,7 @@ use Rattle.std.proofs.lemmas.Option.{slice_get_within, slice_get-map, slice_get-
 use Rattle.pack_store.specs.declared.rows.Row.{Row}
 use Rattle.pack_disk.specs.Packs.{Packs}
 use Rattle.pack_store.specs.Rows.{number_of, arrival_of, arrivals_in}
-use Rattle.pack_store.specs.Reading.{ref_at, bytes_of}
+use Rattle.pack_store.specs.Reading.{entry_at, entry_of, ref_at, bytes_of}
 use Rattle.pack_store.proofs.Held.{some_same}
 use Rattle.pack_store.proofs.Numbers.{row_of}
 
@@ -37,3 +37,10 @@ number_bytes r held rows n a is at =
     let found = row_of_number (λ row. (arrival_of held row).1) r rows n is in
     let same : a ≡ arrival_of held found.row = some_same a (arrival_of held found.row) (at ∙ slice_get-map (arrival_of held) rows n ∙ ap (option_map (arrival_of held)) found.at) in
     ap (λ (x : List ℕ × List ℕ). Some x.1) same ∙ sym found.found
+
+-- and it has the ref's entry
+pub number_entry : (r : List ℕ) (rows : List Row) (n : ℕ) → number_of r rows ≡ Some n → entry_at n rows ≡ entry_of r rows
+number_entry r rows n is =
+    let found = row_of_number (λ row. row.size) r rows n is in
+    slice_get-map (λ (row : Row). (row.r, row.size)) rows n ∙ ap (option_map (λ (row : Row). (row.r, row.size))) found.at ∙ ap (λ q. Some (q, found.row.size)) found.named
+    ∙ sym (ap (option_map (λ (size : ℕ). (r, size))) found.found)

@@ -1,58 +1,60 @@
 -- What every image since a moment holds, over a run of calls.
 use Rattle.std.proofs.Common.{◌≡◌, inl, inr, ⊎_elim, ℕ, ◌≤◌, List, true, Option, Some, None, Result, Ok, Err, OnOk, is_err, false, refl, subst, arith, ◌∙◌}
 use Rattle.pack_disk.specs.Packs.{Packs}
-use Rattle.pack_disk.specs.Disk.{Extends, Makes, Follows, NoNew, Elapses, Tells, Stays}
+use Rattle.pack_disk.specs.declared.disk.Disk.{Ghosts}
+use Rattle.pack_disk.specs.Disk.{Extends, Makes, Follows, NoNew, Elapses, Tells}
+use Rattle.pack_disk.specs.Runs.{Stays}
 use Rattle.pack_store.specs.Packs.{holds, CleanIn, HeldByAll, KeepsAll}
 use Rattle.pack_store.proofs.Held.{extends_keeps, makes_keeps}
 
 pub some_packs : (x y : Packs) → Some x ≡ Some y → x ≡ y
 some_packs x y e = cc e
 
-module _ {D : Type 0} (images : D → Packs → Type 0) (moment : D → ℕ) (images_since : D → ℕ → Packs → Type 0)
-    (counts_now : (d : D) (t : ℕ) (c : Packs) → t ≤ moment d → images d c → images_since d t c)
-    (only_now : (d : D) (c : Packs) → images_since d (moment d) c → images d c) where
+module _ {D : Type 0} (g : Ghosts D)
+    (counts_now : (d : D) (t : ℕ) (c : Packs) → t ≤ g.moment d → g.images d c → g.images_since d t c)
+    (only_now : (d : D) (c : Packs) → g.images_since d (g.moment d) c → g.images d c) where
   abbrev Keeps : D → D → Type 0
-  Keeps old new = KeepsAll images moment images_since old new
+  Keeps old new = KeepsAll g old new
 
   -- no call
   pub keeps_itself : (d : D) → Keeps d d
   keeps_itself d = record { later = omega arith; each = λ c since r held. held c (only_now d c since); before = λ t c le since. inl since }
 
   -- one call
-  pub keeps_by_call : (old new : D) → Elapses (moment old) (moment new) (images_since old) (images_since new) (images new)
-      → ((c : Packs) → images new c → (r : List ℕ) → HeldByAll (images old) r → holds r c ≡ true) → Keeps old new
+  pub keeps_by_call : (old new : D) → Elapses (g.moment old) (g.moment new) (g.images_since old) (g.images_since new) (g.images new)
+      → ((c : Packs) → g.images new c → (r : List ℕ) → HeldByAll (g.images old) r → holds r c ≡ true) → Keeps old new
   keeps_by_call old new time now = record {
     later = time.later;
-    each = λ c since r held. ⊎_elim (λ was. held c (only_now old c was)) (λ is. now c is r held) (time.nothing_else (moment old) c (omega arith) since);
+    each = λ c since r held. ⊎_elim (λ was. held c (only_now old c was)) (λ is. now c is r held) (time.nothing_else (g.moment old) c (omega arith) since);
     before = λ t c le since. ⊎_elim inl (λ is. inr (now c is)) (time.nothing_else t c le since);
   }
 
   -- one run after another
   pub keeps_then : (a b c : D) → Keeps a b → Keeps b c → Keeps a c
   keeps_then a b c first second =
-      let held_on : (r : List ℕ) → HeldByAll (images a) r → HeldByAll (images b) r = λ r held x is. first.each x (counts_now b (moment a) x first.later is) r held in
+      let held_on : (r : List ℕ) → HeldByAll (g.images a) r → HeldByAll (g.images b) r = λ r held x is. first.each x (counts_now b (g.moment a) x first.later is) r held in
       record {
         later = omega (arith, first.later, second.later);
-        each = λ x since r held. ⊎_elim (λ was. first.each x was r held) (λ kept. kept r (held_on r held)) (second.before (moment a) x first.later since);
+        each = λ x since r held. ⊎_elim (λ was. first.each x was r held) (λ kept. kept r (held_on r held)) (second.before (g.moment a) x first.later since);
         before = λ t x le since. ⊎_elim (first.before t x le) (λ kept. inr (λ r held. kept r (held_on r held))) (second.before t x (omega (arith, le, first.later)) since);
       }
 
   -- what each image held at the start, each image at the end holds
-  pub held_after : (old new : D) → Keeps old new → (r : List ℕ) → HeldByAll (images old) r → HeldByAll (images new) r
-  held_after old new keeps r held x is = keeps.each x (counts_now new (moment old) x keeps.later is) r held
+  pub held_after : (old new : D) → Keeps old new → (r : List ℕ) → HeldByAll (g.images old) r → HeldByAll (g.images new) r
+  held_after old new keeps r held x is = keeps.each x (counts_now new (g.moment old) x keeps.later is) r held
 
   -- ---- the calls
 
-  pub keeps_make : (old new : D) (n : ℕ) → Elapses (moment old) (moment new) (images_since old) (images_since new) (images new)
-      → Follows (Makes n) (images old) (images new) → Keeps old new
+  pub keeps_make : (old new : D) (n : ℕ) → Elapses (g.moment old) (g.moment new) (g.images_since old) (g.images_since new) (g.images new)
+      → Follows (Makes n) (g.images old) (g.images new) → Keeps old new
   keeps_make old new n time crash = keeps_by_call old new time (λ c is r held. let from = crash c is in makes_keeps r n from.0 c from.2 (held from.0 from.1))
 
-  pub keeps_append : (old new : D) (n : ℕ) → Elapses (moment old) (moment new) (images_since old) (images_since new) (images new)
-      → Follows (Extends n) (images old) (images new) → CleanIn (images old) n → Keeps old new
+  pub keeps_append : (old new : D) (n : ℕ) → Elapses (g.moment old) (g.moment new) (g.images_since old) (g.images_since new) (g.images new)
+      → Follows (Extends n) (g.images old) (g.images new) → CleanIn (g.images old) n → Keeps old new
   keeps_append old new n time crash clean = keeps_by_call old new time (λ c is r held. let from = crash c is in extends_keeps r n from.0 c from.2 (clean from.0 from.1) (held from.0 from.1))
 
-  pub keeps_no_new : (old new : D) → Elapses (moment old) (moment new) (images_since old) (images_since new) (images new)
-      → NoNew (images old) (images new) → Keeps old new
+  pub keeps_no_new : (old new : D) → Elapses (g.moment old) (g.moment new) (g.images_since old) (g.images_since new) (g.images new)
+      → NoNew (g.images old) (g.images new) → Keeps old new
   keeps_no_new old new time crash = keeps_by_call old new time (λ c is r held. held c (crash c is))
 
 -- ---- what a disk tells
@@ -79,41 +81,41 @@ tells_after (Some x) (Some qs) P ps t is = (qs, refl, subst (λ y. P y qs) (some
 
 -- ---- calls that change nothing
 
-module _ {D : Type 0} (packs : D → Option Packs) (images : D → Packs → Type 0) (moment : D → ℕ) (images_since : D → ℕ → Packs → Type 0)
-    (counts_now : (d : D) (t : ℕ) (c : Packs) → t ≤ moment d → images d c → images_since d t c)
-    (only_now : (d : D) (c : Packs) → images_since d (moment d) c → images d c) where
+module _ {D : Type 0} (g : Ghosts D)
+    (counts_now : (d : D) (t : ℕ) (c : Packs) → t ≤ g.moment d → g.images d c → g.images_since d t c)
+    (only_now : (d : D) (c : Packs) → g.images_since d (g.moment d) c → g.images d c) where
   abbrev Stay : D → D → Type 0
-  Stay old new = Stays packs images moment images_since old new
+  Stay old new = Stays g old new
 
   pub stays_itself : (d : D) → Stay d d
   stays_itself d = record { told = refl; since = record { later = omega arith; each = λ c since. only_now d c since; before = λ t c le since. inl since } }
 
-  pub stays_by_call : (old new : D) → packs new ≡ packs old → Elapses (moment old) (moment new) (images_since old) (images_since new) (images new)
-      → NoNew (images old) (images new) → Stay old new
+  pub stays_by_call : (old new : D) → g.packs new ≡ g.packs old → Elapses (g.moment old) (g.moment new) (g.images_since old) (g.images_since new) (g.images new)
+      → NoNew (g.images old) (g.images new) → Stay old new
   stays_by_call old new told time crash = record {
     told = told;
     since = record {
       later = time.later;
-      each = λ c since. ⊎_elim (λ was. only_now old c was) (crash c) (time.nothing_else (moment old) c (omega arith) since);
+      each = λ c since. ⊎_elim (λ was. only_now old c was) (crash c) (time.nothing_else (g.moment old) c (omega arith) since);
       before = λ t c le since. ⊎_elim inl (λ is. inr (crash c is)) (time.nothing_else t c le since);
     };
   }
 
-  pub stays_images : (old new : D) → Stay old new → (c : Packs) → images new c → images old c
-  stays_images old new stays c is = stays.since.each c (counts_now new (moment old) c stays.since.later is)
+  pub stays_images : (old new : D) → Stay old new → (c : Packs) → g.images new c → g.images old c
+  stays_images old new stays c is = stays.since.each c (counts_now new (g.moment old) c stays.since.later is)
 
   pub stays_then : (a b c : D) → Stay a b → Stay b c → Stay a c
   stays_then a b c first second = record {
     told = second.told ∙ first.told;
     since = record {
       later = omega (arith, first.since.later, second.since.later);
-      each = λ x since. ⊎_elim (first.since.each x) (stays_images a b first x) (second.since.before (moment a) x first.since.later since);
+      each = λ x since. ⊎_elim (first.since.each x) (stays_images a b first x) (second.since.before (g.moment a) x first.since.later since);
       before = λ t x le since. ⊎_elim (first.since.before t x le) (λ is. inr (stays_images a b first x is)) (second.since.before t x (omega (arith, le, first.since.later)) since);
     };
   }
 
   -- what stays keeps every ref
-  pub stays_keeps : (old new : D) → Stay old new → KeepsAll images moment images_since old new
+  pub stays_keeps : (old new : D) → Stay old new → KeepsAll g old new
   stays_keeps old new stays = record {
     later = stays.since.later;
     each = λ c since r held. held c (stays.since.each c since);

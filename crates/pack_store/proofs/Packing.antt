@@ -8,11 +8,12 @@ use Rattle.salvage_scan.specs.Salvage.{salvage, broken, IsClean}
 use Rattle.salvage_scan.specs.Arrivals.{blob_of, arrive, arrivals}
 use Rattle.salvage_scan.proofs.Arriving.{arrivals-pack}
 use Rattle.pack_disk.specs.Packs.{Packs, least_from}
+use Rattle.pack_disk.specs.declared.disk.Disk.{Ghosts}
 use Rattle.pack_disk.specs.Disk.{NoNew, last_number}
 use Rattle.pack_store.specs.declared.limits.Limits.{Limits}
 use Rattle.pack_store.specs.declared.rows.Row.{Row}
 use Rattle.pack_store.specs.declared.rows.Current.{Current}
-use Rattle.pack_store.specs.Rows.{arrivals_in, IsKept}
+use Rattle.pack_store.specs.Rows.{arrivals_in, IsKept, IsOfBlob}
 use Rattle.pack_store.specs.Archive.{AreLimits, IsSound}
 use Rattle.pack_store.specs.Walk.{below}
 use Rattle.pack_store.specs.Opening.{next_of, current_if_clean, current_of, IsOpened, take_pack, IsPlaced, IsTaken}
@@ -50,37 +51,39 @@ number_in : (o : Option Current) (pack : ℕ) (c : Current) → IfSome o (λ x. 
 number_in None pack c h is = no_current c is
 number_in (Some x) pack c h is = ap (λ (y : Current). y.pack) (sym (some_same x c is)) ∙ h
 
-module _ {D : Type 0} (packs : D → Option Packs) (images : D → Packs → Type 0) where
-  pub taken_none : (d : D) → IsTaken packs images d [] 0 None
+module _ {D : Type 0} (g : Ghosts D) where
+  pub taken_none : (d : D) → IsTaken g d [] 0 None
   taken_none d = record {
     arrived = λ held told. ap arrivals (sym (walk_begins held).so_far);
     counted = λ held told. ap next_of (sym (walk_begins held).so_far);
     current_is = λ held told. ap current_of (sym (walk_begins held).so_far);
-    kept = λ held told. All-nil (IsKept held (images d));
+    blobs = All-nil IsOfBlob;
+    kept = λ held told. All-nil (IsKept held (g.images d));
     last = λ c is. no_current c is;
     long = λ c is. no_current c is;
     clean = λ c is. no_current c is;
   }
 
-  kept_on : (old new : D) (held : Packs) (rows : List Row) → NoNew (images old) (images new) → All (IsKept held (images old)) rows → All (IsKept held (images new)) rows
+  kept_on : (old new : D) (held : Packs) (rows : List Row) → NoNew (g.images old) (g.images new) → All (IsKept held (g.images old)) rows → All (IsKept held (g.images new)) rows
   kept_on old new held rows fewer each k d lt = record { found = λ image is. (each k d lt).found image (fewer image is); same = λ image is. (each k d lt).same image (fewer image is) }
 
   -- one pack more
-  pub taken_more : ((d : D) (image : Packs) → images d image → (held : Packs) × (packs d ≡ Some held)) → (old mid new : D) (rows more : List Row) (from pack : ℕ) (current found : Option Current) → IsTaken packs images old rows from current
-      → packs mid ≡ packs old → packs new ≡ packs mid → NoNew (images old) (images new)
-      → ForSome (packs old) (λ held. Some pack ≡ least_from from held)
+  pub taken_more : ((d : D) (image : Packs) → g.images d image → (held : Packs) × (g.packs d ≡ Some held)) → (old mid new : D) (rows more : List Row) (from pack : ℕ) (current found : Option Current) → IsTaken g old rows from current
+      → g.packs mid ≡ g.packs old → g.packs new ≡ g.packs mid → NoNew (g.images old) (g.images new)
+      → ForSome (g.packs old) (λ held. Some pack ≡ least_from from held)
       → from ≤ pack
-      → ForSome (packs mid) (λ held. (bytes : List ℕ) → get held pack ≡ Some bytes → more ≡ take_pack rows pack bytes)
-      → ForSome (packs mid) (λ held. (bytes : List ℕ) → get held pack ≡ Some bytes → found ≡ current_if_clean (pack, bytes))
+      → ForSome (g.packs mid) (λ held. (bytes : List ℕ) → get held pack ≡ Some bytes → more ≡ take_pack rows pack bytes)
+      → ForSome (g.packs mid) (λ held. (bytes : List ℕ) → get held pack ≡ Some bytes → found ≡ current_if_clean (pack, bytes))
       → IfSome found (λ c. c.pack ≡ pack)
-      → ForSome (packs mid) (λ held. (image : Packs) → images new image → get image pack ≡ get held pack)
-      → IsTaken packs images new more (pack + 1) found
-  taken_more tells old mid new rows more from pack current found taken told_mid told_new fewer least ge takes is_found number stands =
-      let at_mid : (held : Packs) → packs new ≡ Some held → packs mid ≡ Some held = λ held told. sym told_new ∙ told in
-      let at_old : (held : Packs) → packs new ≡ Some held → packs old ≡ Some held = λ held told. sym told_mid ∙ at_mid held told in
-      let step = λ (held : Packs) (told : packs new ≡ Some held). walk_step from pack held (sym (least held (at_old held told))) in
-      let rows_are = λ (held : Packs) (told : packs new ≡ Some held). takes held (at_mid held told) (step held told).bytes (step held told).found in
-      let end = λ (held : Packs) (told : packs new ≡ Some held) (c : Current) (is : found ≡ Some c). end_of pack (step held told).bytes c (sym (is_found held (at_mid held told) (step held told).bytes (step held told).found) ∙ is) in
+      → (All IsOfBlob rows → All IsOfBlob more)
+      → ForSome (g.packs mid) (λ held. (image : Packs) → g.images new image → get image pack ≡ get held pack)
+      → IsTaken g new more (pack + 1) found
+  taken_more tells old mid new rows more from pack current found taken told_mid told_new fewer least ge takes is_found number blobs stands =
+      let at_mid : (held : Packs) → g.packs new ≡ Some held → g.packs mid ≡ Some held = λ held told. sym told_new ∙ told in
+      let at_old : (held : Packs) → g.packs new ≡ Some held → g.packs old ≡ Some held = λ held told. sym told_mid ∙ at_mid held told in
+      let step = λ (held : Packs) (told : g.packs new ≡ Some held). walk_step from pack held (sym (least held (at_old held told))) in
+      let rows_are = λ (held : Packs) (told : g.packs new ≡ Some held). takes held (at_mid held told) (step held told).bytes (step held told).found in
+      let end = λ (held : Packs) (told : g.packs new ≡ Some held) (c : Current) (is : found ≡ Some c). end_of pack (step held told).bytes c (sym (is_found held (at_mid held told) (step held told).bytes (step held told).found) ∙ is) in
       record {
         arrived = λ held told.
             ap (arrivals_in held) (rows_are held told) ∙ arrive_pack held pack (step held told).bytes rows (step held told).found
@@ -91,8 +94,9 @@ module _ {D : Type 0} (packs : D → Option Packs) (images : D → Packs → Typ
             let sum : pack + 1 ≡ suc pack = omega arith in
             sum ∙ sym (next_after (below from held) pack (step held told).bytes before) ∙ ap next_of (sym (step held told).so_far);
         current_is = λ held told. is_found held (at_mid held told) (step held told).bytes (step held told).found ∙ sym (current_after (below from held) pack (step held told).bytes) ∙ ap current_of (sym (step held told).so_far);
-        kept = λ held told. subst (All (IsKept held (images new))) (sym (rows_are held told))
-            (All-take_pack held (images new) pack (step held told).bytes rows (step held told).found (stands held (at_mid held told)) (kept_on old new held rows fewer (taken.kept held (at_old held told))));
+        blobs = blobs taken.blobs;
+        kept = λ held told. subst (All (IsKept held (g.images new))) (sym (rows_are held told))
+            (All-take_pack held (g.images new) pack (step held told).bytes rows (step held told).found (stands held (at_mid held told)) (kept_on old new held rows fewer (taken.kept held (at_old held told))));
         last = λ c is. omega (arith, number_in found pack c number is);
         long = λ c is held told. let e = end held told c is in
             ap (λ n. option_map (λ (bytes : List ℕ). length bytes) (get held n)) e.number ∙ ap (option_map (λ (bytes : List ℕ). length bytes)) (step held told).found ∙ ap Some (sym e.long);
@@ -103,11 +107,11 @@ module _ {D : Type 0} (packs : D → Option Packs) (images : D → Packs → Typ
       }
 
   -- all of them
-  pub taken_opened : (start old new : D) (rows : List Row) (next : ℕ) (current : Option Current) (limits : Limits) → IsTaken packs images old rows next current → packs old ≡ packs start
-      → ForSome (packs old) (λ held. None ≡ least_from next held)
-      → IsOpened packs start limits (record { rows = rows; limits = limits; next = next; current = current; disk = new })
+  pub taken_opened : (start old new : D) (rows : List Row) (next : ℕ) (current : Option Current) (limits : Limits) → IsTaken g old rows next current → g.packs old ≡ g.packs start
+      → ForSome (g.packs old) (λ held. None ≡ least_from next held)
+      → IsOpened g start limits (record { rows = rows; limits = limits; next = next; current = current; disk = new })
   taken_opened start old new rows next current limits taken told least =
-      let ends = λ (held : Packs) (is : packs start ≡ Some held). walk_ends next held (sym (least held (told ∙ is))) in
+      let ends = λ (held : Packs) (is : g.packs start ≡ Some held). walk_ends next held (sym (least held (told ∙ is))) in
       record {
         limited = refl;
         arrived = λ held is. taken.arrived held (told ∙ is) ∙ ap arrivals (ends held is).so_far;
@@ -115,12 +119,13 @@ module _ {D : Type 0} (packs : D → Option Packs) (images : D → Packs → Typ
         current = λ held is. taken.current_is held (told ∙ is) ∙ ap current_of (ends held is).so_far;
       }
 
-  pub taken_sound : (old new : D) (rows : List Row) (next : ℕ) (current : Option Current) (limits : Limits) (places : _) → IsTaken packs images old rows next current → IsPlaced places rows
-      → packs new ≡ packs old → NoNew (images old) (images new) → ForSome (packs old) (λ held. None ≡ least_from next held) → next ≤ suc last_number → AreLimits limits
-      → IsSound packs images places (record { rows = rows; limits = limits; next = next; current = current; disk = new })
+  pub taken_sound : (old new : D) (rows : List Row) (next : ℕ) (current : Option Current) (limits : Limits) (places : _) → IsTaken g old rows next current → IsPlaced places rows
+      → g.packs new ≡ g.packs old → NoNew (g.images old) (g.images new) → ForSome (g.packs old) (λ held. None ≡ least_from next held) → next ≤ suc last_number → AreLimits limits
+      → IsSound g places (record { rows = rows; limits = limits; next = next; current = current; disk = new })
   taken_sound old new rows next current limits places taken placed told fewer least small limited = record {
     limited = limited;
     placed = placed;
+    blobs = taken.blobs;
     kept = λ held is. kept_on old new held rows fewer (taken.kept held (sym told ∙ is));
     last = taken.last;
     long = λ c is held now. taken.long c is held (sym told ∙ now);

@@ -1,5 +1,5 @@
 -- Rows keep their blobs over any call.
-use Rattle.std.proofs.Common.{◌≡◌, ◌≢◌, cond, ⊎_elim, ℕ, suc, ◌+◌, ◌-◌, ◌≤◌, List, [], ◌∷◌, ◌++◌, length, take, drop, true, Option, None, Some, refl, sym, ◌∙◌, ap, arith, length-drop, length-append, append_assoc, nat_eq}
+use Rattle.std.proofs.Common.{◌≡◌, ◌≢◌, cond, ⊎_elim, ℕ, suc, ◌+◌, ◌-◌, ◌≤◌, List, [], ◌∷◌, ◌++◌, length, take, drop, true, Option, None, Some, refl, sym, subst, ◌∙◌, ap, arith, length-drop, length-append, append_assoc, nat_eq}
 use Rattle.std.specs.List.{list_any, All}
 use Rattle.std.specs.FinMap.{get, get-insert}
 use Rattle.std.specs.Cmp.{nat_cmp_total}
@@ -7,12 +7,12 @@ use Rattle.std.specs.Cmp.Lexicographic.{pointwise, same_text}
 use Rattle.std.proofs.lemmas.Bool.{cases_eq, or_cases, or_left, or_right, and_parts, eqb-true, eq-eqb}
 use Rattle.std.proofs.lemmas.List.{take-append-le, drop-append-le, take_at, drop_at, append-nil}
 use Rattle.std.proofs.lemmas.List.Folds.{list_any-append}
-use Rattle.blobref.specs.Blobref.{ref_of}
-use Rattle.pack_format.specs.Header.{max_size, header, record_of}
+use Rattle.blobref.specs.Blobref.{IsOwnRef}
+use Rattle.pack_format.specs.Header.{max_size, header, record_under}
 use Rattle.salvage_scan.specs.Salvage.{Finding, salvage, IsClean}
-use Rattle.salvage_scan.specs.Rules.{finding}
-use Rattle.salvage_scan.proofs.Cuts.{salvage-append, salvage-append_record}
-use Rattle.salvage_scan.proofs.Fronts.{record-split}
+use Rattle.salvage_scan.specs.Rules.{finding_under}
+use Rattle.salvage_scan.proofs.Cuts.{salvage-append, salvage-append_record_under}
+use Rattle.salvage_scan.proofs.Fronts.{record_under-split}
 use Rattle.salvage_scan.proofs.Slices.{LiesAt, each_lies}
 use Rattle.pack_disk.specs.Packs.{Packs}
 use Rattle.pack_disk.specs.Disk.{Extends, Makes, Follows}
@@ -25,7 +25,7 @@ use Rattle.pack_store.proofs.Held.{holds_at, same_ref, untied}
 -- a row's finding lies in the pack, and its bytes have its ref
 pub record RowLies (row : Row) (pack : List ℕ) : Type 0 where
   pub within : row.at + row.size ≤ length pack
-  pub named : ref_of (take row.size (drop row.at pack)) ≡ row.r
+  pub named : IsOwnRef row.r (take row.size (drop row.at pack))
   pub small : row.size ≤ max_size
 
 lies_of : (row : Row) (pack : List ℕ) (f : Finding) → is_found_as row f ≡ true → LiesAt 0 pack f → RowLies row pack
@@ -37,7 +37,7 @@ lies_of row pack f test lies =
     let size_is : length f.bytes ≡ row.size = eqb-true (length f.bytes) row.size two.1 in
     let start : f.at - 0 ≡ row.at = omega (arith, at_is) in
     let slice : take row.size (drop row.at pack) ≡ f.bytes = ap (λ k. take row.size (drop k pack)) (sym start) ∙ ap (λ n. take n (drop (f.at - 0) pack)) (sym size_is) ∙ lies.bytes in
-    record { within = omega (arith, lies.within, at_is, size_is); named = ap ref_of slice ∙ lies.named ∙ r_is; small = omega (arith, lies.small, size_is) }
+    record { within = omega (arith, lies.within, at_is, size_is); named = subst (λ q. IsOwnRef q (take row.size (drop row.at pack))) r_is (subst (IsOwnRef f.r) (sym slice) lies.named); small = omega (arith, lies.small, size_is) }
 
 lies_among : (row : Row) (pack : List ℕ) (fs : List Finding) → All (LiesAt 0 pack) fs → list_any (is_found_as row) fs ≡ true → RowLies row pack
 lies_among row pack [] each is = absurd (cc is)
@@ -124,25 +124,25 @@ kept_lies row held images told kept =
     let t = in_pack row (get held row.pack) (kept.found held told) in
     (t.0, t.1, row_lies row t.0 t.2)
 
-pub never_damaged : (row : Row) (held : Packs) (images : Packs → Type 0) → images held → IsKept held images row → ref_of (arrival_of held row).1 ≡ row.r
+pub never_damaged : (row : Row) (held : Packs) (images : Packs → Type 0) → images held → IsKept held images row → IsOwnRef row.r (arrival_of held row).1
 never_damaged row held images told kept =
     let t = kept_lies row held images told kept in
-    ap (λ o. ref_of (bytes_in row o)) t.1 ∙ t.2.named
+    subst (λ o. IsOwnRef row.r (bytes_in row o)) (sym t.1) t.2.named
 
 -- ---- a record that was added
 
-pub row_added : (n : ℕ) (x bytes : List ℕ) → length bytes ≤ max_size → IsClean x
-    → (list_any (is_found_as (row_at n (length x) bytes)) (salvage (x ++ record_of bytes)) ≡ true)
-    × (take (length bytes) (drop (length x + length (header (ref_of bytes) (length bytes))) (x ++ record_of bytes)) ≡ bytes)
-row_added n x bytes small clean =
-    let row = row_at n (length x) bytes in
-    let head = header (ref_of bytes) (length bytes) in
-    let s = salvage-append_record x bytes [] small clean in
-    let e : x ++ record_of bytes ≡ x ++ record_of bytes ++ [] = sym (append-nil (x ++ record_of bytes)) in
-    let own : is_found_as row (finding (length x) bytes) ≡ true = rw (same_ref (ref_of bytes), eq-eqb (length x + length head) (length x + length head) refl, eq-eqb (length bytes) (length bytes) refl) refl in
-    let split : x ++ record_of bytes ≡ (x ++ head) ++ bytes =
-    ap (λ l. x ++ l) (sym (append-nil (record_of bytes)) ∙ record-split bytes [] ∙ ap (λ l. head ++ l) (append-nil bytes)) ∙ sym (append_assoc x head bytes) in (
-      ap (λ l. list_any (is_found_as row) (salvage l)) e ∙ ap (list_any (is_found_as row)) s ∙ list_any-append _ (salvage x) _ ∙ or_right _ _ (or_left _ _ own),
+pub row_added : (n : ℕ) (x r bytes : List ℕ) → IsOwnRef r bytes → length bytes ≤ max_size → IsClean x
+    → (list_any (is_found_as (row_at n (length x) r bytes)) (salvage (x ++ record_under r bytes)) ≡ true)
+    × (take (length bytes) (drop (length x + length (header r (length bytes))) (x ++ record_under r bytes)) ≡ bytes)
+row_added n x r bytes own small clean =
+    let row = row_at n (length x) r bytes in
+    let head = header r (length bytes) in
+    let s = salvage-append_record_under x r bytes [] own small clean in
+    let e : x ++ record_under r bytes ≡ x ++ record_under r bytes ++ [] = sym (append-nil (x ++ record_under r bytes)) in
+    let here : is_found_as row (finding_under (length x) r bytes) ≡ true = rw (same_ref r, eq-eqb (length x + length head) (length x + length head) refl, eq-eqb (length bytes) (length bytes) refl) refl in
+    let split : x ++ record_under r bytes ≡ (x ++ head) ++ bytes =
+    ap (λ l. x ++ l) (sym (append-nil (record_under r bytes)) ∙ record_under-split r bytes [] ∙ ap (λ l. head ++ l) (append-nil bytes)) ∙ sym (append_assoc x head bytes) in (
+      ap (λ l. list_any (is_found_as row) (salvage l)) e ∙ ap (list_any (is_found_as row)) s ∙ list_any-append _ (salvage x) _ ∙ or_right _ _ (or_left _ _ here),
       ap (λ l. take (length bytes) (drop (length x + length head) l)) split
           ∙ ap (take (length bytes)) (drop_at (x ++ head) bytes (length x + length head) (length-append x head))
           ∙ ap (take (length bytes)) (sym (append-nil bytes)) ∙ take_at bytes [] (length bytes) refl,

@@ -6,14 +6,14 @@ use Rattle.std.specs.Cmp.Lexicographic.{pointwise, nat_list_eq_equiv}
 use Rattle.std.specs.FinMap.{get}
 use Rattle.std.proofs.lemmas.Bool.{eq-eqb, or_left, or_right}
 use Rattle.std.proofs.lemmas.List.{map-append}
-use Rattle.std.proofs.lemmas.List.Elements.{All-append, All-nil}
+use Rattle.std.proofs.lemmas.List.Elements.{All-append, All-map, All-nil}
 use Rattle.salvage_scan.specs.Salvage.{Finding, salvage, broken}
 use Rattle.salvage_scan.specs.Scan.{place_of, clean_of}
 use Rattle.salvage_scan.specs.Arrivals.{blob_of, arrive}
 use Rattle.salvage_scan.proofs.Slices.{LiesAt, each_lies, All-one}
 use Rattle.pack_disk.specs.Packs.{Packs}
 use Rattle.pack_store.specs.declared.rows.Row.{Row}
-use Rattle.pack_store.specs.Rows.{arrival_of, arrivals_in, bytes_in, found_in, is_found_as, number_of, IsKept}
+use Rattle.pack_store.specs.Rows.{arrival_of, arrivals_in, bytes_in, found_in, is_found_as, number_of, IsKept, IsOfBlob}
 use Rattle.pack_store.specs.Opening.{row_of, row_of_found, take_row, take_rows, take_pack, current_if_clean, current_by}
 
 All-first : {X : Type 0} (P : X → Type 0) (x : X) (xs : List X) → All P (x ∷ xs) → P x
@@ -120,3 +120,13 @@ pub All-take_pack : (held : Packs) (images : Packs → Type 0) (pack : ℕ) (byt
     → All (IsKept held images) rows → All (IsKept held images) (take_pack rows pack bytes)
 All-take_pack held images pack bytes rows there stands kept = All-take (IsKept held images) (map (row_of pack) (salvage bytes)) rows kept
     (λ k d lt. let here = found_rows pack (salvage bytes) k d lt in row_kept held images pack bytes _ there stands here.0 here.1)
+
+-- ---- each row taken up is of a blob
+
+of_blob : (pack : ℕ) (bytes : List ℕ) (f : Finding) → LiesAt 0 bytes f → IsOfBlob (row_of_found pack (place_of f))
+of_blob pack bytes f lies = record { bytes = f.bytes; own = lies.named; small = lies.small; long = refl }
+
+pub All-take_found : (pack : ℕ) (bytes : List ℕ) (rows : List Row) → All IsOfBlob rows → All IsOfBlob (take_rows rows (map (row_of_found pack) (map place_of (salvage bytes))))
+All-take_found pack bytes rows old = All-take IsOfBlob (map (row_of_found pack) (map place_of (salvage bytes))) rows old
+    (All-map IsOfBlob (row_of_found pack) (map place_of (salvage bytes)) (All-map (λ found. IsOfBlob (row_of_found pack found)) place_of (salvage bytes)
+    (λ k d lt. of_blob pack bytes (get_or (salvage bytes) k d) (each_lies bytes k d lt))))

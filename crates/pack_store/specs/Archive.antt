@@ -3,13 +3,13 @@ use Rattle.std.specs.Prelude.{◌≡◌, ℕ, suc, ◌-◌, ◌^◌, ◌≤◌, 
 use Rattle.std.specs.Option.{ForSome}
 use Rattle.std.specs.FinMap.{FinMap, get}
 use Rattle.blobref.specs.Blobref.{ref_cmp}
-use Rattle.pack_disk.specs.Packs.{Packs}
 use Rattle.pack_disk.specs.Disk.{last_number}
+use Rattle.pack_disk.specs.declared.disk.Disk.{Ghosts}
 use Rattle.pack_store.specs.declared.limits.Limits.{Limits}
 use Rattle.pack_store.specs.declared.rows.Row.{Row}
 use Rattle.pack_store.specs.declared.rows.Current.{Current}
 use Rattle.pack_store.specs.Packs.{CleanIn}
-use Rattle.pack_store.specs.Rows.{number_of, IsKept}
+use Rattle.pack_store.specs.Rows.{number_of, IsKept, IsOfBlob}
 use Rattle.pack_store.specs.Adding.{IsLong}
 
 -- Where each blob stands, in order of arrival; the number of the next pack, 0 where there is none; the pack to which the next record
@@ -45,14 +45,15 @@ needs_pack s = is_filled s.limits.pack_bytes s.current
 abbrev pub is_full : {D : Type 0} → Archive D → Bool
 is_full s = nat_le s.limits.blobs (count s) || (needs_pack s && nat_lt s.limits.last_pack s.next)
 
--- What holds of each store. Each ref is found under its number. Each blob is found in every image, with the bytes that are told. The
--- current pack is the greatest one, is as long as its size says, and is clean in every image.
-pub record IsSound {D : Type 0} (packs : D → Option Packs) (images : D → Packs → Type 0) (places : FinMap ref_cmp ℕ) (s : Archive D) : Type 0 where
+-- What holds of each store. Each ref is found under its number. Each row is of a blob, which is found in every image, with the bytes
+-- that are told. The current pack is the greatest one, is as long as its size says, and is clean in every image.
+pub record IsSound {D : Type 0} (g : Ghosts D) (places : FinMap ref_cmp ℕ) (s : Archive D) : Type 0 where
   pub limited : AreLimits s.limits
   pub placed : (r : List ℕ) → get places r ≡ number_of r s.rows
-  pub kept : ForSome (packs s.disk) (λ held. All (IsKept held (images s.disk)) s.rows)
+  pub blobs : All IsOfBlob s.rows
+  pub kept : ForSome (g.packs s.disk) (λ held. All (IsKept held (g.images s.disk)) s.rows)
   pub last : (current : Current) → s.current ≡ Some current → suc current.pack ≡ s.next
-  pub long : (current : Current) → s.current ≡ Some current → IsLong packs s.disk current.pack current.size
-  pub clean : (current : Current) → s.current ≡ Some current → CleanIn (images s.disk) current.pack
-  pub unused : ForSome (packs s.disk) (λ held. (n : ℕ) → s.next ≤ n → get held n ≡ None)
+  pub long : (current : Current) → s.current ≡ Some current → IsLong g s.disk current.pack current.size
+  pub clean : (current : Current) → s.current ≡ Some current → CleanIn (g.images s.disk) current.pack
+  pub unused : ForSome (g.packs s.disk) (λ held. (n : ℕ) → s.next ≤ n → get held n ≡ None)
   pub numbered : s.next ≤ suc last_number

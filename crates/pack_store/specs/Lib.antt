@@ -4,7 +4,9 @@ pub mod Adding
 pub mod Archive
 pub mod Putting
 pub mod Walk
+pub mod Scan
 pub mod Opening
-pub mod PutsLast
 pub mod Reading
+pub mod PutsLast
+pub mod Content
 pub mod Lives

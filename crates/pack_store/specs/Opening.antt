@@ -5,7 +5,7 @@ use Rattle.std.specs.FinMap.{FinMap, entries, get}
 use Rattle.blobref.specs.Blobref.{ref_cmp}
 use Rattle.salvage_scan.specs.Salvage.{Finding, salvage, broken}
 use Rattle.salvage_scan.specs.Arrivals.{arrivals}
-use Rattle.pack_disk.specs.Packs.{Packs}
+use Rattle.pack_disk.specs.declared.disk.Disk.{Ghosts}
 use Rattle.salvage_scan.specs.declared.found.Found.{Found}
 use Rattle.salvage_scan.specs.declared.found.Clean.{Clean}
 use Rattle.salvage_scan.specs.declared.found.Clean.TheVariants as scanned
@@ -17,7 +17,7 @@ use Rattle.pack_store.specs.declared.limits.Limits.{Limits}
 use Rattle.pack_store.specs.declared.rows.Row.{Row}
 use Rattle.pack_store.specs.declared.rows.Current.{Current}
 use Rattle.pack_store.specs.Packs.{CleanIn}
-use Rattle.pack_store.specs.Rows.{number_of, arrivals_in, IsKept}
+use Rattle.pack_store.specs.Rows.{number_of, arrivals_in, IsKept, IsOfBlob}
 use Rattle.pack_store.specs.Adding.{IsLong}
 use Rattle.pack_store.specs.Archive.{Archive}
 use Rattle.pack_store.specs.Walk.{below}
@@ -38,11 +38,11 @@ current_of (pack ∷ []) = current_if_clean pack
 current_of (pack ∷ next ∷ packs) = current_of (next ∷ packs)
 
 -- the store on a disk has its arrivals, and goes on behind its last pack where that is clean
-pub record IsOpened {D : Type 0} (packs : D → Option Packs) (disk : D) (limits : Limits) (s : Archive D) : Type 0 where
+pub record IsOpened {D : Type 0} (g : Ghosts D) (disk : D) (limits : Limits) (s : Archive D) : Type 0 where
   pub limited : s.limits ≡ limits
-  pub arrived : ForSome (packs disk) (λ held. arrivals_in held s.rows ≡ arrivals (entries held))
-  pub next : ForSome (packs disk) (λ held. s.next ≡ next_of (entries held))
-  pub current : ForSome (packs disk) (λ held. s.current ≡ current_of (entries held))
+  pub arrived : ForSome (g.packs disk) (λ held. arrivals_in held s.rows ≡ arrivals (entries held))
+  pub next : ForSome (g.packs disk) (λ held. s.next ≡ next_of (entries held))
+  pub current : ForSome (g.packs disk) (λ held. s.current ≡ current_of (entries held))
 
 -- why a store isn't opened where a pack isn't read
 abbrev pub fault_of : PackFault → OpenFault
@@ -79,13 +79,14 @@ take_pack rows pack bytes = take_rows rows (map (row_of pack) (salvage bytes))
 abbrev pub IsPlaced : FinMap ref_cmp ℕ → List Row → Type 0
 IsPlaced places rows = (r : List ℕ) → get places r ≡ number_of r rows
 
--- The packs below a number were taken in: their findings have arrived, each is found in every image, and the last of them is the
--- current pack where it is clean.
-pub record IsTaken {D : Type 0} (packs : D → Option Packs) (images : D → Packs → Type 0) (disk : D) (rows : List Row) (next : ℕ) (current : Option Current) : Type 0 where
-  pub arrived : ForSome (packs disk) (λ held. arrivals_in held rows ≡ arrivals (below next held))
-  pub counted : ForSome (packs disk) (λ held. next ≡ next_of (below next held))
-  pub current_is : ForSome (packs disk) (λ held. current ≡ current_of (below next held))
-  pub kept : ForSome (packs disk) (λ held. All (IsKept held (images disk)) rows)
+-- The packs below a number were taken in: their findings have arrived, each is of a blob and is found in every image, and the last of
+-- them is the current pack where it is clean.
+pub record IsTaken {D : Type 0} (g : Ghosts D) (disk : D) (rows : List Row) (next : ℕ) (current : Option Current) : Type 0 where
+  pub arrived : ForSome (g.packs disk) (λ held. arrivals_in held rows ≡ arrivals (below next held))
+  pub counted : ForSome (g.packs disk) (λ held. next ≡ next_of (below next held))
+  pub current_is : ForSome (g.packs disk) (λ held. current ≡ current_of (below next held))
+  pub blobs : All IsOfBlob rows
+  pub kept : ForSome (g.packs disk) (λ held. All (IsKept held (g.images disk)) rows)
   pub last : (c : Current) → current ≡ Some c → suc c.pack ≡ next
-  pub long : (c : Current) → current ≡ Some c → IsLong packs disk c.pack c.size
-  pub clean : (c : Current) → current ≡ Some c → CleanIn (images disk) c.pack
+  pub long : (c : Current) → current ≡ Some c → IsLong g disk c.pack c.size
+  pub clean : (c : Current) → current ≡ Some c → CleanIn (g.images disk) c.pack

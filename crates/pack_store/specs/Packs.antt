@@ -5,7 +5,8 @@ use Rattle.std.specs.Cmp.Lexicographic.{pointwise}
 use Rattle.std.specs.FinMap.{entries, get}
 use Rattle.salvage_scan.specs.Salvage.{salvage, IsClean}
 use Rattle.pack_disk.specs.Packs.{Packs}
-use Rattle.pack_disk.specs.Disk.{LeavesOnly}
+use Rattle.pack_disk.specs.Runs.{LeavesOnly}
+use Rattle.pack_disk.specs.declared.disk.Disk.{Ghosts}
 
 -- whether a blob of that ref is found in a pack
 abbrev pub finds : List ℕ → List ℕ → Bool
@@ -24,6 +25,5 @@ abbrev pub CleanIn : (Packs → Type 0) → ℕ → Type 0
 CleanIn images n = (image : Packs) → images image → (pack : List ℕ) → get image n ≡ Some pack → IsClean pack
 
 -- a crash at any moment since old leaves what holds every ref that each image at old held
-abbrev pub KeepsAll : {D : Type 0} → (D → Packs → Type 0) → (D → ℕ) → (D → ℕ → Packs → Type 0) → D → D → Type 0
-KeepsAll images moment images_since old new =
-    LeavesOnly moment images_since old new (λ image. (r : List ℕ) → HeldByAll (images old) r → holds r image ≡ true)
+abbrev pub KeepsAll : {D : Type 0} → Ghosts D → D → D → Type 0
+KeepsAll disk old new = LeavesOnly disk old new (λ image. (r : List ℕ) → HeldByAll (disk.images old) r → holds r image ≡ true)

@@ -1,15 +1,14 @@
 -- What `put` answers, and what stands then (docs/store.md).
-use Rattle.std.specs.Prelude.{◌≡◌, ℕ, suc, ◌+◌, List, [], ◌∷◌, ◌++◌, length, Bool, true, false, not, nat_eq, nat_lt, if◌then◌else◌, Option, None, Some, Result, Ok, Err}
+use Rattle.std.specs.Prelude.{◌≡◌, ℕ, suc, ◌+◌, List, [], ◌∷◌, ◌++◌, length, Bool, true, false, not, nat_lt, if◌then◌else◌, Option, None, Some, Result, Ok, Err}
 use Rattle.std.specs.Option.{option_map, option_or}
-use Rattle.std.specs.Cmp.Lexicographic.{pointwise}
-use Rattle.blobref.specs.Blobref.{ref_of}
+use Rattle.blobref.specs.Blobref.{is_own_ref, ref_like}
 use Rattle.edge_base.specs.declared.answers.Put.{Put}
 use Rattle.edge_base.specs.declared.answers.Put.TheVariants as put
 use Rattle.edge_base.specs.declared.answers.PutFault.{PutFault}
 use Rattle.edge_base.specs.declared.answers.PutFault.TheVariants as fault
-use Rattle.pack_format.specs.Header.{max_size, record_of}
-use Rattle.pack_disk.specs.Packs.{Packs}
+use Rattle.pack_format.specs.Header.{max_size, record_under}
 use Rattle.pack_disk.specs.Disk.{Tells, SameOthers}
+use Rattle.pack_disk.specs.declared.disk.Disk.{Ghosts}
 use Rattle.pack_store.specs.declared.rows.Row.{Row}
 use Rattle.pack_store.specs.declared.rows.Current.{Current}
 use Rattle.pack_store.specs.Rows.{number_of, arrivals_in}
@@ -27,7 +26,7 @@ settled_own s r size =
 abbrev pub settled : {D : Type 0} → Archive D → List ℕ → List ℕ → Option (Result Put PutFault)
 settled s said bytes =
     if nat_lt max_size (length bytes) then Some (Err (fault.TooBig (length bytes)))
-    else if not (pointwise nat_eq (ref_of bytes) said) then Some (Err (fault.BadDigest said (ref_of bytes)))
+    else if not (is_own_ref said bytes) then Some (Err (fault.BadDigest said (ref_like said bytes)))
     else settled_own s said (length bytes)
 
 -- what else may be answered: the blob was stored under the next number, the disk failed, or memory did
@@ -67,29 +66,29 @@ abbrev pub next_after : {D : Type 0} → Archive D → ℕ
 next_after s = if needs_pack s then suc s.next else s.next
 
 -- where the blob stands then
-abbrev pub row_after : {D : Type 0} → Archive D → List ℕ → Row
-row_after s bytes = row_at (target s) (fill s) bytes
+abbrev pub row_after : {D : Type 0} → Archive D → (r bytes : List ℕ) → Row
+row_after s r bytes = row_at (target s) (fill s) r bytes
 
 -- the current pack then
-abbrev pub current_after : {D : Type 0} → Archive D → List ℕ → Current
-current_after s bytes = record { pack = target s; size = fill s + length (record_of bytes) }
+abbrev pub current_after : {D : Type 0} → Archive D → (r bytes : List ℕ) → Current
+current_after s r bytes = record { pack = target s; size = fill s + length (record_under r bytes) }
 
 -- ---- what stands after a call
 
 -- the blob arrived: it stands in the next record, nothing else was made or added, and every other arrival is as it was
-pub record Stores {D : Type 0} (packs : D → Option Packs) (old new : Archive D) (bytes : List ℕ) : Type 0 where
-  pub value : new ≡ record { rows = old.rows ++ row_after old bytes ∷ []; limits = old.limits; next = next_after old; current = Some (current_after old bytes); disk = new.disk }
-  pub added : Tells (packs old.disk) (packs new.disk) (AddsRecord (target old) bytes)
-  pub arrived : Tells (packs old.disk) (packs new.disk) (λ before now. arrivals_in now new.rows ≡ arrivals_in before old.rows ++ (ref_of bytes, bytes) ∷ [])
+pub record Stores {D : Type 0} (g : Ghosts D) (old new : Archive D) (r bytes : List ℕ) : Type 0 where
+  pub value : new ≡ record { rows = old.rows ++ row_after old r bytes ∷ []; limits = old.limits; next = next_after old; current = Some (current_after old r bytes); disk = new.disk }
+  pub added : Tells (g.packs old.disk) (g.packs new.disk) (AddsRecord (target old) r bytes)
+  pub arrived : Tells (g.packs old.disk) (g.packs new.disk) (λ before now. arrivals_in now new.rows ≡ arrivals_in before old.rows ++ (r, bytes) ∷ [])
 
 -- the disk failed: the arrivals are as they were, no other pack than the one that was asked for has changed, and it isn't current
-pub record Fails {D : Type 0} (packs : D → Option Packs) (old new : Archive D) : Type 0 where
+pub record Fails {D : Type 0} (g : Ghosts D) (old new : Archive D) : Type 0 where
   pub value : new ≡ record { rows = old.rows; limits = old.limits; next = next_after old; current = None; disk = new.disk }
-  pub others : Tells (packs old.disk) (packs new.disk) (SameOthers (target old))
-  pub arrived : Tells (packs old.disk) (packs new.disk) (λ before now. arrivals_in now new.rows ≡ arrivals_in before old.rows)
+  pub others : Tells (g.packs old.disk) (g.packs new.disk) (SameOthers (target old))
+  pub arrived : Tells (g.packs old.disk) (g.packs new.disk) (λ before now. arrivals_in now new.rows ≡ arrivals_in before old.rows)
 
 -- what stands after an answer
-abbrev pub Leaves : {D : Type 0} → (D → Option Packs) → Archive D → Archive D → List ℕ → Result Put PutFault → Type 0
-Leaves packs old new bytes (Ok (put.Stored n)) = Stores packs old new bytes
-Leaves packs old new bytes (Err fault.Disk) = Fails packs old new
-Leaves packs old new bytes _ = new ≡ old
+abbrev pub Leaves : {D : Type 0} → Ghosts D → Archive D → Archive D → (r bytes : List ℕ) → Result Put PutFault → Type 0
+Leaves g old new r bytes (Ok (put.Stored n)) = Stores g old new r bytes
+Leaves g old new r bytes (Err fault.Disk) = Fails g old new
+Leaves g old new r bytes _ = new ≡ old

@@ -1,8 +1,10 @@
 -- Where the blobs of a store stand, and the arrivals that these places stand for (docs/store.md).
-use Rattle.std.specs.Prelude.{◌≡◌, ℕ, List, [], length, take, drop, map, Bool, true, false, ◌==◌, ◌&&◌, Option, None, Some, nat_eq}
+use Rattle.std.specs.Prelude.{◌≡◌, ℕ, ◌≤◌, List, [], length, take, drop, map, Bool, true, false, ◌==◌, ◌&&◌, Option, None, Some, nat_eq}
 use Rattle.std.specs.List.{list_any, position_from}
 use Rattle.std.specs.Cmp.Lexicographic.{pointwise}
 use Rattle.std.specs.FinMap.{get}
+use Rattle.blobref.specs.Blobref.{IsOwnRef}
+use Rattle.pack_format.specs.Header.{max_size}
 use Rattle.salvage_scan.specs.Salvage.{Finding, salvage}
 use Rattle.pack_disk.specs.Packs.{Packs}
 use Rattle.pack_store.specs.declared.rows.Row.{Row}
@@ -10,6 +12,13 @@ use Rattle.pack_store.specs.declared.rows.Row.{Row}
 -- the finding is the row's: the same ref, place and length
 abbrev pub is_found_as : Row → Finding → Bool
 is_found_as row f = pointwise nat_eq f.r row.r && (f.at == row.at) && (length f.bytes == row.size)
+
+-- there are bytes of a blob whose own ref is the row's, and the row's size is their length
+pub record IsOfBlob (row : Row) : Type 0 where
+  pub bytes : List ℕ
+  pub own : IsOwnRef row.r bytes
+  pub small : length bytes ≤ max_size
+  pub long : row.size ≡ length bytes
 
 -- whether the row's blob is found in its pack
 abbrev pub found_in : Row → Option (List ℕ) → Bool

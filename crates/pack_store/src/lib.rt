@@ -15,13 +15,13 @@ mod rows;
 mod store;
 mod whole;
 
-pub use laws::lives_keep;
+pub use laws::{holds_content, lives_keep};
 pub use limits::Limits;
 pub use opened_laws::puts_last;
 pub use opening::OpenFault;
 pub use rows::{Current, Row};
 pub use store::Store;
-pub use whole::{PackFault, read_pack};
+pub use whole::{PackFault, PackScan, scan_pack};
 
 #[cfg(test)]
 mod tests;

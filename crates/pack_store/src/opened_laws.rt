@@ -6,5 +6,5 @@ use pack_disk::Disk;
 /// A blob that is put into a store that was opened becomes the last arrival of its packs, and the store goes on behind it: see
 /// `docs/store.md`.
 pub fn puts_last<D: Disk>()
-    ensures { PutsLast D.packs }
+    ensures { PutsLast D.Disk }
 {}

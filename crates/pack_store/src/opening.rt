@@ -1,12 +1,13 @@
 //! A store is opened: each pack in order is synced and then read.
-ghost use Rattle.std.specs.Prelude.{◌≡◌, ◌≤◌, ◌^◌, ℕ, List, map, IfOk, IfErr, IfSome, OnOk, IsSome, Some, Err};
+ghost use Rattle.std.specs.Prelude.{◌≡◌, ◌≤◌, ◌^◌, ℕ, List, All, map, IfOk, IfErr, IfSome, OnOk, IsSome, Some, Err};
 ghost use Rattle.std.specs.Option.{ForSome};
 ghost use Rattle.std.specs.FinMap.{get};
 ghost use Rattle.edge_base.specs.Edge.{Rose};
-ghost use Rattle.salvage_scan.specs.Scan.{clean_of};
 ghost use Rattle.pack_disk.specs.Packs.{Packs};
-ghost use Rattle.pack_disk.specs.Disk.{Stays, last_number};
+ghost use Rattle.pack_disk.specs.Disk.{last_number};
+ghost use Rattle.pack_disk.specs.Runs.{Stays};
 ghost use Rattle.pack_store.specs.declared.limits.Limits.{Limits};
+ghost use Rattle.pack_store.specs.Rows.{IsOfBlob};
 ghost use Rattle.pack_store.specs.Archive.{Archive, AreLimits, IsSound};
 ghost use Rattle.pack_store.specs.Opening.{IsOpened, IsPlaced, current_if_clean, current_by, row_of_found, take_row, take_rows, take_pack};
 
@@ -14,10 +15,10 @@ use crate::limits::Limits;
 use crate::places::Places;
 use crate::rows::{Current, Row};
 use crate::store::Store;
-use crate::whole::{PackFault, read_pack};
+use crate::whole::{PackFault, scan_pack};
 use blobref::NoMemory;
 use pack_disk::Disk;
-use salvage_scan::{Clean, Found, scan};
+use salvage_scan::{Clean, Found};
 use std::alloc::Global;
 use thiserror::Error;
 
@@ -63,9 +64,9 @@ impl<D: Disk> Store<D> {
     pub fn open_on(alloc: Global, disk: D, limits: Limits) -> Result<Store<D>, (D, OpenFault)>
         requires last_pack { limits.last_pack ≤ last_number }
         requires pack_bytes { limits.pack_bytes ≤ 2 ^ 63 }
-        ensures opened { IfOk result (IsOpened D.packs disk limits) }
-        ensures stays { IfOk result (λ s. Stays D.packs D.images D.moment D.images_since disk s.disk) }
-        ensures stays_err { IfErr result (λ e. Stays D.packs D.images D.moment D.images_since disk e.0) }
+        ensures opened { IfOk result (IsOpened D.Disk disk limits) }
+        ensures stays { IfOk result (λ s. Stays D.Disk disk s.disk) }
+        ensures stays_err { IfErr result (λ e. Stays D.Disk disk e.0) }
         ensures failed { IfErr result (λ e. e.1 ≡ OpenFault.Disk → Rose (D.faults disk) (D.faults e.0)) }
         ensures later { IfOk result (λ s. D.faults disk ≤ D.faults s.disk) }
         ensures later_err { IfErr result (λ e. D.faults disk ≤ D.faults e.0) }
@@ -105,9 +106,9 @@ struct Loaded {
 
 // Takes in each pack in order.
 fn load<D: Disk>(alloc: Global, disk: &mut D) -> Result<Loaded, OpenFault>
-    ensures opened { IfOk result (λ l. (limits : Limits) → IsOpened D.packs disk.old limits (record { rows = l.rows.items; limits = limits; next = l.next; current = l.current; disk = disk.new })) }
-    ensures sound { IfOk result (λ l. (limits : Limits) → AreLimits limits → IsSound D.packs D.images l.places (record { rows = l.rows.items; limits = limits; next = l.next; current = l.current; disk = disk.new })) }
-    ensures stays { Stays D.packs D.images D.moment D.images_since disk.old disk.new }
+    ensures opened { IfOk result (λ l. (limits : Limits) → IsOpened D.Disk disk.old limits (record { rows = l.rows.items; limits = limits; next = l.next; current = l.current; disk = disk.new })) }
+    ensures sound { IfOk result (λ l. (limits : Limits) → AreLimits limits → IsSound D.Disk l.places (record { rows = l.rows.items; limits = limits; next = l.next; current = l.current; disk = disk.new })) }
+    ensures stays { Stays D.Disk disk.old disk.new }
     ensures failed { result ≡ Err OpenFault.Disk → Rose (D.faults disk.old) (D.faults disk.new) }
     ensures later { D.faults disk.old ≤ D.faults disk.new }
 {
@@ -144,20 +145,20 @@ fn take_pack<D: Disk>(
     requires placed { IsPlaced places.old rows.old.items }
     ensures rows { OnOk result (ForSome (D.packs disk.old) (λ held. (bytes : List ℕ) → get held pack ≡ Some bytes → rows.new.items ≡ take_pack rows.old.items pack bytes)) }
     ensures placed { OnOk result (IsPlaced places.new rows.new.items) }
+    ensures blobs { OnOk result (All IsOfBlob rows.old.items → All IsOfBlob rows.new.items) }
     ensures clean { IfOk result (λ current. ForSome (D.packs disk.old) (λ held. (bytes : List ℕ) → get held pack ≡ Some bytes → current ≡ current_if_clean (pack, bytes))) }
     ensures number { IfOk result (λ current. IfSome current (λ c. c.pack ≡ pack)) }
     ensures stands { OnOk result (ForSome (D.packs disk.old) (λ held. (image : Packs) → D.images disk.new image → get image pack ≡ get held pack)) }
-    ensures stays { Stays D.packs D.images D.moment D.images_since disk.old disk.new }
+    ensures stays { Stays D.Disk disk.old disk.new }
     ensures failed { result ≡ Err OpenFault.Disk → Rose (D.faults disk.old) (D.faults disk.new) }
     ensures later { D.faults disk.old ≤ D.faults disk.new }
 {
     if disk.sync(pack).is_err() {
         return Err(OpenFault::Disk);
     }
-    let bytes = read_pack(alloc, disk, pack)?;
-    let (found, clean) = scan(alloc, &bytes)?;
-    take_findings(pack, found.as_slice(), rows, places)?;
-    Ok(current_by(clean, pack, bytes.len() as u64))
+    let scan = scan_pack(alloc, disk, pack)?;
+    take_findings(pack, scan.found.as_slice(), rows, places)?;
+    Ok(current_by(scan.clean, pack, scan.size))
 }
 
 // Takes up the findings of a pack in turn.

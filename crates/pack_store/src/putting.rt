@@ -1,7 +1,7 @@
 //! Blobs are put into a store.
 ghost use Rattle.std.specs.Prelude.{◌≡◌, ◌≤◌, ◌+◌, ◌^◌, ◌∷◌, ◌++◌, [], ℕ, length, OnOk, OnErr, IfSome, Some, None, false, Err, Vec, vec_len, vec_capacity};
 ghost use Rattle.std.specs.FinMap as finite;
-ghost use Rattle.blobref.specs.Blobref.{ref_of};
+ghost use Rattle.blobref.specs.Blobref.{IsOwnRef};
 ghost use Rattle.edge_base.specs.Edge.{Rose};
 ghost use Rattle.pack_format.specs.Header.{max_size};
 ghost use Rattle.pack_store.specs.Packs.{HeldByAll, KeepsAll};
@@ -18,13 +18,11 @@ use crate::store::Store;
 use blobref::{NoMemory, Ref};
 use edge_base::{Put, PutFault};
 use pack_disk::Disk;
-
-// The most bytes that a blob may have.
-const MAX_SIZE: u64 = 16_777_216;
+use pack_format::MAX_SIZE;
 
 impl<D: Disk> Store<D> {
     /// Stores a blob under the ref that is said (`docs/store.md`). The refusals are tried in this order, each exactly where it
-    /// applies: `TooBig` where it has more than 16,777,216 bytes; `BadDigest` where its ref isn't the one that was said; `Already`
+    /// applies: `TooBig` where it has more than 16,777,216 bytes; `BadDigest` where its ref, under the digest that the said one names, isn't the said one, and carries both; `Already`
     /// where its ref has arrived; `Full` where there are as many blobs as there may be, or a new pack is needed and there is none to
     /// be had. Then `NoMemory` may come. After each of these the store and its disk are as they were. `Disk` comes only where the
     /// disk's count of faults rose: the arrivals are as they were, and the pack is never appended to again. At `Stored` the blob is
@@ -33,9 +31,9 @@ impl<D: Disk> Store<D> {
     /// image held before.
     pub fn put(&mut self, said: &Ref, bytes: &[u8]) -> Result<Put, PutFault>
         ensures answer { Answers (settled self.old said.now bytes.now) (count self.old) result }
-        ensures leaves { Leaves D.packs self.old self.new bytes.now result }
+        ensures leaves { Leaves D.Disk self.old self.new said.now bytes.now result }
         ensures acknowledged { OnOk result (HeldByAll (D.images self.new.disk) said.now) }
-        ensures any_moment { KeepsAll D.images D.moment D.images_since self.old.disk self.new.disk }
+        ensures any_moment { KeepsAll D.Disk self.old.disk self.new.disk }
         ensures failed { result ≡ Err PutFault.Disk → Rose (D.faults self.old.disk) (D.faults self.new.disk) }
         ensures later { D.faults self.old.disk ≤ D.faults self.new.disk }
     {
@@ -43,7 +41,7 @@ impl<D: Disk> Store<D> {
         if size > MAX_SIZE {
             return Err(PutFault::TooBig { size });
         }
-        let is = Ref::of(bytes);
+        let is = said.like(bytes);
         if is != *said {
             return Err(PutFault::BadDigest { said: *said, is });
         }
@@ -52,11 +50,11 @@ impl<D: Disk> Store<D> {
 
     /// Stores a blob under its own ref: `put`, but for the digest, which the caller has computed.
     pub fn put_own(&mut self, r: &Ref, bytes: &[u8]) -> Result<Put, PutFault>
-        requires own { r.now ≡ ref_of bytes.now }
+        requires own { IsOwnRef r.now bytes.now }
         ensures answer { Answers (settled_own self.old r.now (length bytes.now)) (count self.old) result }
-        ensures leaves { Leaves D.packs self.old self.new bytes.now result }
+        ensures leaves { Leaves D.Disk self.old self.new r.now bytes.now result }
         ensures acknowledged { OnOk result (HeldByAll (D.images self.new.disk) r.now) }
-        ensures any_moment { KeepsAll D.images D.moment D.images_since self.old.disk self.new.disk }
+        ensures any_moment { KeepsAll D.Disk self.old.disk self.new.disk }
         ensures failed { result ≡ Err PutFault.Disk → Rose (D.faults self.old.disk) (D.faults self.new.disk) }
         ensures later { D.faults self.old.disk ≤ D.faults self.new.disk }
     {
@@ -88,12 +86,12 @@ impl<D: Disk> Store<D> {
 
     // Stores a blob that hasn't arrived, for which there is room.
     fn add(&mut self, r: &Ref, bytes: &[u8]) -> Result<Put, PutFault>
-        requires own { r.now ≡ ref_of bytes.now }
+        requires own { IsOwnRef r.now bytes.now }
         requires open { settled_own self.old r.now (length bytes.now) ≡ None }
         ensures answer { Answers None (count self.old) result }
-        ensures leaves { Leaves D.packs self.old self.new bytes.now result }
+        ensures leaves { Leaves D.Disk self.old self.new r.now bytes.now result }
         ensures acknowledged { OnOk result (HeldByAll (D.images self.new.disk) r.now) }
-        ensures any_moment { KeepsAll D.images D.moment D.images_since self.old.disk self.new.disk }
+        ensures any_moment { KeepsAll D.Disk self.old.disk self.new.disk }
         ensures failed { result ≡ Err PutFault.Disk → Rose (D.faults self.old.disk) (D.faults self.new.disk) }
         ensures later { D.faults self.old.disk ≤ D.faults self.new.disk }
     {
@@ -107,7 +105,7 @@ impl<D: Disk> Store<D> {
         }
         self.next = end.next;
         self.current = None;
-        if write_blob(&mut self.disk, end, bytes, &record).is_err() {
+        if write_blob(&mut self.disk, end, r, bytes, &record).is_err() {
             self.places.remove(r);
             return Err(PutFault::Disk);
         }
@@ -131,7 +129,7 @@ impl<D: Disk> Store<D> {
     // Where the next record goes.
     fn end(&self) -> End
         requires { is_full self.now ≡ false }
-        ensures ready { IsReady D.packs D.images self.now.disk result.pack result.size result.is_new }
+        ensures ready { IsReady D.Disk self.now.disk result.pack result.size result.is_new }
         ensures pack { result.pack ≡ target self.now }
         ensures size { result.size ≡ fill self.now }
         ensures is_new { result.is_new ≡ needs_pack self.now }

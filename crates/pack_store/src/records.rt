@@ -1,17 +1,15 @@
 //! The records of blobs.
 ghost use Rattle.std.specs.Prelude.{◌≡◌, ◌≤◌, length, IfOk};
-ghost use Rattle.blobref.specs.Blobref.{ref_of};
-ghost use Rattle.pack_format.specs.Header.{max_size, record_of};
+ghost use Rattle.pack_format.specs.Header.{max_size, record_under};
 
 use blobref::{NoMemory, Ref};
 use pack_format::write_header;
 use std::alloc::Global;
 
-// The record of a blob under its ref: see docs/formats/packs.md.
+// The record of a blob under a ref: see docs/formats/packs.md.
 pub(crate) fn record_of(alloc: Global, r: &Ref, bytes: &[u8]) -> Result<Vec<u8>, NoMemory>
-    requires own { r.now ≡ ref_of bytes.now }
-    requires small { length bytes.now ≤ max_size }
-    ensures { IfOk result (λ text. text.items ≡ record_of bytes.now) }
+    requires { length bytes.now ≤ max_size }
+    ensures { IfOk result (λ text. text.items ≡ record_under r.now bytes.now) }
 {
     let header = write_header(r, bytes.len() as u64);
     let header = header.as_slice();

@@ -36,7 +36,7 @@ impl<D: Disk> Model for Store<D> {
 
     ghost view = { λ s. record { rows = s.rows.items; limits = s.limits; next = s.next; current = s.current; disk = s.disk } };
 
-    ghost invariant = { λ s. IsSound D.packs D.images s.places (record { rows = s.rows.items; limits = s.limits; next = s.next; current = s.current; disk = s.disk }) };
+    ghost invariant = { λ s. IsSound D.Disk s.places (record { rows = s.rows.items; limits = s.limits; next = s.next; current = s.current; disk = s.disk }) };
 }
 
 impl<D: Disk> Store<D> {
@@ -71,10 +71,18 @@ impl<D: Disk> Store<D> {
         disk
     }
 
-    /// Every image of the disk holds each arrival. Where the disk tells its packs, each has its own ref and its size, and no pack has
-    /// the next number or a greater one. The current pack is the last one, and clean in every image.
+    /// How often a call on the disk has failed, as the disk counts it.
+    pub fn faults(&self) -> u64
+        ensures { result ≡ D.faults self.now.disk }
+    {
+        self.disk.faults()
+    }
+
+    /// Each arrival is of some bytes, at most 16,777,216 of them, under their own ref and with their number as its size. Every image of
+    /// the disk holds each. Where the disk tells its packs, the bytes are those that it has there, and no pack has the next number or a
+    /// greater one. The current pack is the last one, and clean in every image.
     pub fn arrivals_are_held(&self)
-        ensures { AreHeld D.packs D.images self.now }
+        ensures { AreHeld D.Disk self.now }
     {
         let _rows = &self.rows;
     }

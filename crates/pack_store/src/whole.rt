@@ -1,11 +1,14 @@
-//! A pack is read whole.
+//! A pack is read whole and salvaged.
 ghost use Rattle.std.specs.Prelude.{◌≡◌, ◌≤◌, IfOk, IsSome, Some, Err};
 ghost use Rattle.std.specs.Option.{ForSome};
 ghost use Rattle.std.specs.FinMap.{get};
 ghost use Rattle.edge_base.specs.Edge.{Rose};
-ghost use Rattle.pack_disk.specs.Disk.{Stays};
+ghost use Rattle.pack_disk.specs.Runs.{Stays};
+ghost use Rattle.pack_store.specs.Scan.{IsScan};
 
+use blobref::NoMemory;
 use pack_disk::Disk;
+use salvage_scan::{Clean, FoundList, scan};
 use std::alloc::Global;
 use thiserror::Error;
 
@@ -20,12 +23,48 @@ pub enum PackFault {
     NoMemory,
 }
 
-/// All bytes of a pack (`docs/formats/packs.md`). Nothing is synced and nothing is changed. Where the disk tells its packs, they are
-/// exactly the bytes that it tells. `Disk` comes only where the disk's count of faults rose.
-pub fn read_pack<D: Disk>(alloc: Global, disk: &mut D, pack: u32) -> Result<Vec<u8>, PackFault>
+impl From<NoMemory> for PackFault {
+    ghost use Rattle.pack_store.specs.declared.whole.PackFault.TheVariants.{NoMemory as OutOfMemory};
+
+    ghost from_gives = { λ _ fault. fault ≡ OutOfMemory };
+
+    fn from(_error: NoMemory) -> PackFault {
+        PackFault::NoMemory
+    }
+}
+
+/// What is found in a pack, in order, whether it is clean, and its length in bytes.
+#[derive(Drop)]
+pub struct PackScan {
+    pub found: FoundList,
+    pub clean: Clean,
+    pub size: u64,
+}
+
+/// Reads a pack and salvages it (`docs/formats/packs.md`). Nothing is synced and nothing is changed. What is answered is the scan of some
+/// bytes, and where the disk tells its packs, of exactly those that it tells. `Disk` comes only where the disk's count of faults rose.
+/// It takes as much memory as the pack has bytes, and time as a scan does.
+pub fn scan_pack<D: Disk>(alloc: Global, disk: &mut D, pack: u32) -> Result<PackScan, PackFault>
+    requires there { ForSome (D.packs disk.old) (λ held. IsSome (get held pack)) }
+    ensures scanned { IfOk result (IsScan (D.packs disk.old) pack) }
+    ensures stays { Stays D.Disk disk.old disk.new }
+    ensures failed { result ≡ Err PackFault.Disk → Rose (D.faults disk.old) (D.faults disk.new) }
+    ensures later { D.faults disk.old ≤ D.faults disk.new }
+{
+    let bytes = read_pack(alloc, disk, pack)?;
+    let (found, clean) = scan(alloc, &bytes)?;
+    Ok(PackScan {
+        found,
+        clean,
+        size: bytes.len() as u64,
+    })
+}
+
+// All bytes of a pack.
+fn read_pack<D: Disk>(alloc: Global, disk: &mut D, pack: u32) -> Result<Vec<u8>, PackFault>
     requires there { ForSome (D.packs disk.old) (λ held. IsSome (get held pack)) }
     ensures bytes { IfOk result (λ bytes. ForSome (D.packs disk.old) (λ held. get held pack ≡ Some bytes.items)) }
-    ensures stays { Stays D.packs D.images D.moment D.images_since disk.old disk.new }
+    ensures stays { Stays D.Disk disk.old disk.new }
     ensures failed { result ≡ Err PackFault.Disk → Rose (D.faults disk.old) (D.faults disk.new) }
     ensures later { D.faults disk.old ≤ D.faults disk.new }
 {

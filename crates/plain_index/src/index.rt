@@ -16,7 +16,7 @@ ghost use Rattle.index_look.specs.Latest.{latest};
 ghost use Rattle.index_look.specs.Walk.{ref_after};
 
 use crate::claims::{claims, claims_about};
-use crate::facts::FactList;
+use crate::facts::{FactList, sorted};
 use crate::genuine::{genuine, permanodes};
 use crate::lookup::{beside, fact_at, first_after, ref_after};
 use crate::rounds::ready;
@@ -82,7 +82,7 @@ impl<V: Verifier> PlainIndex<V> {
         ensures facts { IfOk result (λ index. index.0 ≡ finite.from_entries facts) }
         ensures keys { IfOk result (λ index. index.1 ≡ keys) }
     {
-        let facts = facts.sorted()?;
+        let facts = sorted(facts)?;
         let ready = ready(alloc, &facts)?;
         let sizes = sizes(alloc, &facts)?;
         let sound = sound(alloc, &facts, &ready, &sizes)?;

@@ -9,7 +9,7 @@ use Rattle.std.specs.FinMap.{find, get-from_entries}
 use Rattle.std.specs.List.{list_any, All, IsDistinct}
 use Rattle.std.specs.Map.{lookup, keys_of}
 use Rattle.std.specs.Option.{option_or}
-use Rattle.blobref.specs.Blobref.{ref_of, ref_cmp}
+use Rattle.blobref.specs.Blobref.{IsOwnRef, ref_cmp}
 use Rattle.pack_format.specs.Header.{max_size}
 use Rattle.salvage_scan.specs.Salvage.{salvage}
 use Rattle.salvage_scan.specs.Arrivals.{blob_of, findings, arrive, arrivals, ArrivalsAreFirsts}
@@ -137,6 +137,6 @@ arrivals_are_firsts = record {
   distinct = λ packs. distinct-arrive (findings packs) [] distinct-none;
   first = λ packs r. lookup-arrive r (findings packs) [];
   content_first = λ packs r. get-from_entries nat_list_cmp_total (arrivals packs) r ∙ find_lookup r (arrivals packs) ∙ lookup-arrive r (findings packs) [];
-  named = λ packs. each_arrival (λ (a : Blob). ref_of a.1 ≡ a.0) (λ pack k d lt. (each_lies pack k d lt).named) packs;
+  named = λ packs. each_arrival (λ (a : Blob). IsOwnRef a.0 a.1) (λ pack k d lt. (each_lies pack k d lt).named) packs;
   small = λ packs. each_arrival (λ (a : Blob). length a.1 ≤ max_size) (λ pack k d lt. (each_lies pack k d lt).small) packs;
 }

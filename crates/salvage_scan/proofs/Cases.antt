@@ -1,17 +1,17 @@
 -- What is computed is the salvage by its four cases.
-use Rattle.std.proofs.Common.{◌≡◌, ℕ, zero, suc, ◌+◌, ◌≤◌, List, [], ◌∷◌, ◌++◌, length, take, drop, Bool, true, false, nat_eq, nat_le, ◌&&◌, cond, Option, Some, refl, sym, ◌∙◌, ap, subst, arith, append_assoc, length-append, length-drop, take-append-drop}
+use Rattle.std.proofs.Common.{◌≡◌, ℕ, zero, suc, ◌+◌, ◌≤◌, List, [], ◌∷◌, ◌++◌, length, take, drop, Bool, true, false, nat_le, ◌&&◌, cond, Option, Some, refl, sym, ◌∙◌, ap, subst, arith, append_assoc, length-append, length-drop, take-append-drop}
 use Rattle.std.proofs.lemmas.List.{drop_at, length-take-le}
 use Rattle.std.proofs.lemmas.Bool.{and_parts, leb-true}
-use Rattle.std.specs.Cmp.Lexicographic.{pointwise, same_text}
-use Rattle.blobref.specs.Blobref.{ref_of}
+use Rattle.blobref.proofs.Digests.{is_own_ref-true}
+use Rattle.blobref.specs.Blobref.{IsOwnRef, is_own_ref}
 use Rattle.pack_format.specs.declared.header.HeaderAt.{HeaderAt}
 use Rattle.pack_format.specs.declared.header.HeaderAt.TheVariants.{Blob, Gone, Missing}
-use Rattle.pack_format.specs.Header.{header, record_of, deleted_header, BeginsWithDeletedHeader}
+use Rattle.pack_format.specs.Header.{header, record_under, deleted_header, BeginsWithDeletedHeader}
 use Rattle.pack_format.specs.Reading.{header_at}
 use Rattle.pack_format.proofs.Headers.{header_at-is, header_at-blob}
 use Rattle.salvage_scan.specs.Salvage.{Finding, Front, Kept, Passed, Junk, front_by, front, is_junk, salvage_past, broken_past}
-use Rattle.salvage_scan.specs.Rules.{BeginsWithRecord, BeginsWithDeleted, finding, IsSalvage, empty, blob, deleted, junk, SalvageIsOne}
-use Rattle.salvage_scan.proofs.Fronts.{front-record, front-deleted, length-record, record-split, record_some, deleted_some}
+use Rattle.salvage_scan.specs.Rules.{BeginsWithRecord, BeginsWithDeleted, finding_under, IsSalvage, empty, blob, deleted, junk, SalvageIsOne}
+use Rattle.salvage_scan.proofs.Fronts.{front-record, front-deleted, length-record_under, record_under-split, record_some, deleted_some}
 use Rattle.salvage_scan.proofs.Cuts.{salvage_past-record, broken_past-record, salvage_past-deleted, broken_past-deleted}
 
 -- ---- what stands at the front, by the cases
@@ -20,25 +20,27 @@ when_kept : (b : Bool) (f g : Front) → cond b f Junk ≡ g → is_junk g ≡ f
 when_kept true f g h kept = (refl, h)
 when_kept false f g h kept = let bad : true ≡ false = ap is_junk h ∙ kept in absurd (cc bad)
 
-record_by : (x q : List ℕ) (size len : ℕ) → header_at x ≡ Blob q size len → len + size ≤ length x → ref_of (take size (drop len x)) ≡ q → BeginsWithRecord x
+record_by : (x q : List ℕ) (size len : ℕ) → header_at x ≡ Blob q size len → len + size ≤ length x → IsOwnRef q (take size (drop len x)) → BeginsWithRecord x
 record_by x q size len at fits named =
     let read = header_at-blob x q size len at in
     let bytes = take size (drop len x) in
     let long : length bytes ≡ size = length-take-le size (drop len x) (omega (arith, length-drop len x)) in
     record {
+      r = q;
       bytes = bytes;
+      own = named;
       small = rw long read.0;
       rest = drop size (drop len x);
       whole =
           read.2 ∙ ap (λ l. header q size ++ l) (sym (take-append-drop size (drop len x)))
-          ∙ (λ i. header (sym named i) (sym long i) ++ (bytes ++ drop size (drop len x))) ∙ sym (record-split bytes (drop size (drop len x)));
+          ∙ (λ i. header q (sym long i) ++ (bytes ++ drop size (drop len x))) ∙ sym (record_under-split q bytes (drop size (drop len x)));
     }
 
 begins_by : (h : HeaderAt) (x r : List ℕ) (start : ℕ) (bytes : List ℕ) → header_at x ≡ h → front_by h x ≡ Kept r start bytes → BeginsWithRecord x
 begins_by (Blob q size len) x r start bytes at is =
-    let tested = when_kept (nat_le (len + size) (length x) && pointwise nat_eq (ref_of (take size (drop len x))) q) _ _ is refl in
+    let tested = when_kept (nat_le (len + size) (length x) && is_own_ref q (take size (drop len x))) _ _ is refl in
     let parts = and_parts (nat_le (len + size) (length x)) _ tested.0 in
-    record_by x q size len at (leb-true _ _ parts.0) (same_text _ _ (sym parts.1))
+    record_by x q size len at (leb-true _ _ parts.0) (is_own_ref-true _ _ parts.1)
 begins_by (Gone size len) x r start bytes at is =
     let tested = when_kept (nat_le (len + size) (length x)) _ _ is refl in
     absurd (cc tested.1)
@@ -70,7 +72,7 @@ whole_deleted x size len head fits =
 
 deleted_by : (h : HeaderAt) (x : List ℕ) (n : ℕ) → header_at x ≡ h → front_by h x ≡ Passed n → BeginsWithDeleted x
 deleted_by (Blob q size len) x n at is =
-    let tested = when_kept (nat_le (len + size) (length x) && pointwise nat_eq (ref_of (take size (drop len x))) q) _ _ is refl in
+    let tested = when_kept (nat_le (len + size) (length x) && is_own_ref q (take size (drop len x))) _ _ is refl in
     absurd (cc tested.1)
 deleted_by (Gone size len) x n at is =
     let tested = when_kept (nat_le (len + size) (length x)) _ _ is refl in
@@ -89,20 +91,20 @@ front-junk x no_record no_deleted = go (front x) refl
     go (Passed n) e = absurd (no_deleted (begins_with_deleted x n e))
     go Junk e = e
 
-pub front_of-record : (x : List ℕ) (w : BeginsWithRecord x) → front x ≡ Kept (ref_of w.bytes) (length (header (ref_of w.bytes) (length w.bytes))) w.bytes
-front_of-record x w = ap front w.whole ∙ front-record w.bytes w.rest w.small
+pub front_of-record : (x : List ℕ) (w : BeginsWithRecord x) → front x ≡ Kept w.r (length (header w.r (length w.bytes))) w.bytes
+front_of-record x w = ap front w.whole ∙ front-record w.r w.bytes w.rest w.own w.small
 
 pub front_of-deleted : (x : List ℕ) (w : BeginsWithDeleted x) → front x ≡ Passed (length w.text)
 front_of-deleted x w = ap front w.whole ∙ front-deleted w.text w.rest w.form
 
 no_record_junk : (x : List ℕ) → front x ≡ Junk → ¬ (BeginsWithRecord x)
-no_record_junk x e w = let bad : Junk ≡ Kept (ref_of w.bytes) (length (header (ref_of w.bytes) (length w.bytes))) w.bytes = sym e ∙ front_of-record x w in absurd (cc bad)
+no_record_junk x e w = let bad : Junk ≡ Kept w.r (length (header w.r (length w.bytes))) w.bytes = sym e ∙ front_of-record x w in absurd (cc bad)
 
 no_deleted_junk : (x : List ℕ) → front x ≡ Junk → ¬ (BeginsWithDeleted x)
 no_deleted_junk x e w = let bad : Junk ≡ Passed (length w.text) = sym e ∙ front_of-deleted x w in absurd (cc bad)
 
 no_record_passed : (x : List ℕ) (n : ℕ) → front x ≡ Passed n → ¬ (BeginsWithRecord x)
-no_record_passed x n e w = let bad : Passed n ≡ Kept (ref_of w.bytes) (length (header (ref_of w.bytes) (length w.bytes))) w.bytes = sym e ∙ front_of-record x w in absurd (cc bad)
+no_record_passed x n e w = let bad : Passed n ≡ Kept w.r (length (header w.r (length w.bytes))) w.bytes = sym e ∙ front_of-record x w in absurd (cc bad)
 
 -- ---- one function
 
@@ -117,9 +119,9 @@ Solved place x = IsSalvage place x (salvage_past place 0 x) (broken_past place 0
 salvage_only : (place : ℕ) (x : List ℕ) (fs : List Finding) (o : Option ℕ) → IsSalvage place x fs o → (fs ≡ salvage_past place 0 x) × (o ≡ broken_past place 0 x)
 unfolding salvage_past broken_past
 salvage_only place x fs o (empty p) = (refl, refl)
-salvage_only place x fs o (blob p bytes rest gs q small h) =
+salvage_only place x fs o (blob p r bytes rest gs q own small h) =
     let more = salvage_only _ _ _ _ h in
-    (ap (λ l. finding p bytes ∷ l) more.0 ∙ sym (salvage_past-record p bytes rest small), more.1 ∙ sym (broken_past-record p bytes rest small))
+    (ap (λ l. finding_under p r bytes ∷ l) more.0 ∙ sym (salvage_past-record p r bytes rest own small), more.1 ∙ sym (broken_past-record p r bytes rest own small))
 salvage_only place x fs o (deleted p text rest gs q form apart h) =
     let more = salvage_only _ _ _ _ h in
     (more.0 ∙ sym (salvage_past-deleted p text rest form), more.1 ∙ sym (broken_past-deleted p text rest form))
@@ -128,13 +130,13 @@ salvage_only place x fs o (junk p b rest gs q unkept undeleted h) =
     let here = past_junk p b rest (front-junk (b ∷ rest) unkept undeleted) in
     (more.0 ∙ sym here.0, sym here.1)
 
-solved_record : (place : ℕ) (x : List ℕ) (w : BeginsWithRecord x) → Solved (place + length (record_of w.bytes)) w.rest → Solved place x
+solved_record : (place : ℕ) (x : List ℕ) (w : BeginsWithRecord x) → Solved (place + length (record_under w.r w.bytes)) w.rest → Solved place x
 solved_record place x w more =
-    let fs_is = salvage_past-record place w.bytes w.rest w.small in
-    let o_is = broken_past-record place w.bytes w.rest w.small in
+    let fs_is = salvage_past-record place w.r w.bytes w.rest w.own w.small in
+    let o_is = broken_past-record place w.r w.bytes w.rest w.own w.small in
     subst (Solved place) (sym w.whole)
-    (subst (λ fs. IsSalvage place (record_of w.bytes ++ w.rest) fs (broken_past place 0 (record_of w.bytes ++ w.rest))) (sym fs_is)
-    (subst (IsSalvage place (record_of w.bytes ++ w.rest) _) (sym o_is) (blob place w.bytes w.rest _ _ w.small more)))
+    (subst (λ fs. IsSalvage place (record_under w.r w.bytes ++ w.rest) fs (broken_past place 0 (record_under w.r w.bytes ++ w.rest))) (sym fs_is)
+    (subst (IsSalvage place (record_under w.r w.bytes ++ w.rest) _) (sym o_is) (blob place w.r w.bytes w.rest _ _ w.own w.small more)))
 
 solved_deleted : (place : ℕ) (x : List ℕ) (w : BeginsWithDeleted x) → ¬ (BeginsWithRecord x) → Solved (place + length w.text) w.rest → Solved place x
 solved_deleted place x w apart more =
@@ -159,8 +161,8 @@ solved_by zero place (b ∷ x) le = absurd (omega arith)
 solved_by (suc n) place (b ∷ x) le = elim (front (b ∷ x)) as (λ f. front (b ∷ x) ≡ f → Solved place (b ∷ x)) [
   | Kept r start bytes ↦ λ e.
       let w = begins_with_record (b ∷ x) r start bytes e in
-      let shorter : length w.rest ≤ n = omega (arith, ap length w.whole, length-append (record_of w.bytes) w.rest, length-record w.bytes, record_some w.bytes) in
-      solved_record place (b ∷ x) w (solved_by n (place + length (record_of w.bytes)) w.rest shorter)
+      let shorter : length w.rest ≤ n = omega (arith, ap length w.whole, length-append (record_under w.r w.bytes) w.rest, length-record_under w.r w.bytes, record_some w.r w.bytes) in
+      solved_record place (b ∷ x) w (solved_by n (place + length (record_under w.r w.bytes)) w.rest shorter)
   | Passed len ↦ λ e.
       let w = begins_with_deleted (b ∷ x) len e in
       let shorter : length w.rest ≤ n = omega (arith, ap length w.whole, length-append w.text w.rest, deleted_some w.text w.form) in

@@ -1,11 +1,12 @@
 -- A clean text is salvaged first, whatever follows it.
 use Rattle.std.proofs.Common.{◌≡◌, ◌≢◌, ℕ, zero, suc, ◌+◌, ◌-◌, ◌≤◌, ◌<◌, List, [], ◌∷◌, ◌++◌, length, drop, Bool, true, false, cond, Option, Some, None, refl, sym, ◌∙◌, ap, arith, append_assoc}
 use Rattle.std.proofs.lemmas.List.{drop_at, append-nil}
-use Rattle.blobref.specs.Blobref.{ref_of}
-use Rattle.pack_format.specs.Header.{max_size, header, record_of, deleted_header, IsDeletedForm, IsDeletedRecord}
+use Rattle.blobref.specs.Blobref.{ref_of, IsOwnRef}
+use Rattle.pack_format.specs.Header.{max_size, header, record_of, record_under, deleted_header, IsDeletedForm, IsDeletedRecord}
 use Rattle.salvage_scan.specs.Salvage.{Front, front, width, found, is_junk, salvage_past, salvage, broken_past, broken, IsClean}
-use Rattle.salvage_scan.specs.Rules.{finding}
-use Rattle.salvage_scan.proofs.Fronts.{front-append, width-front, front-record, front-deleted, length-record}
+use Rattle.salvage_scan.specs.Rules.{finding, finding_under}
+use Rattle.salvage_scan.proofs.Fronts.{front-append, width-front, front-record, front-deleted, length-record_under}
+use Rattle.blobref.proofs.Digests.{IsOwnRef-ref_of}
 
 -- a clean place isn't junk, and what follows is clean
 clean_here : (b : Bool) (p : ℕ) (o : Option ℕ) → cond b (Some p) o ≡ None → (b ≡ false) × (o ≡ None)
@@ -107,11 +108,11 @@ past_front p head rest f is kept wide =
     )
 
 -- a record at the front is found, and then what follows it
-pub salvage_past-record : (p : ℕ) (bytes rest : List ℕ) → length bytes ≤ max_size → salvage_past p 0 (record_of bytes ++ rest) ≡ finding p bytes ∷ salvage_past (p + length (record_of bytes)) 0 rest
-salvage_past-record p bytes rest small = (past_front p (record_of bytes) rest _ (front-record bytes rest small) refl (sym (length-record bytes))).0
+pub salvage_past-record : (p : ℕ) (r bytes rest : List ℕ) → IsOwnRef r bytes → length bytes ≤ max_size → salvage_past p 0 (record_under r bytes ++ rest) ≡ finding_under p r bytes ∷ salvage_past (p + length (record_under r bytes)) 0 rest
+salvage_past-record p r bytes rest own small = (past_front p (record_under r bytes) rest _ (front-record r bytes rest own small) refl (sym (length-record_under r bytes))).0
 
-pub broken_past-record : (p : ℕ) (bytes rest : List ℕ) → length bytes ≤ max_size → broken_past p 0 (record_of bytes ++ rest) ≡ broken_past (p + length (record_of bytes)) 0 rest
-broken_past-record p bytes rest small = (past_front p (record_of bytes) rest _ (front-record bytes rest small) refl (sym (length-record bytes))).1
+pub broken_past-record : (p : ℕ) (r bytes rest : List ℕ) → IsOwnRef r bytes → length bytes ≤ max_size → broken_past p 0 (record_under r bytes ++ rest) ≡ broken_past (p + length (record_under r bytes)) 0 rest
+broken_past-record p r bytes rest own small = (past_front p (record_under r bytes) rest _ (front-record r bytes rest own small) refl (sym (length-record_under r bytes))).1
 
 -- a deleted record is passed over
 pub salvage_past-deleted : (p : ℕ) (text rest : List ℕ) → IsDeletedRecord text → salvage_past p 0 (text ++ rest) ≡ salvage_past (p + length text) 0 rest
@@ -130,33 +131,37 @@ pub nothing-found : (p : ℕ) → salvage_past p 0 [] ≡ []
 unfolding salvage_past
 nothing-found p = refl
 
-broken-record : (p : ℕ) (bytes : List ℕ) → length bytes ≤ max_size → broken_past p 0 (record_of bytes) ≡ None
-broken-record p bytes small = ap (broken_past p 0) (sym (append-nil (record_of bytes))) ∙ broken_past-record p bytes [] small ∙ nothing-broken (p + length (record_of bytes))
-
-pub IsClean-record : (bytes : List ℕ) → length bytes ≤ max_size → IsClean (record_of bytes)
-IsClean-record bytes small = broken-record 0 bytes small
+broken-record : (p : ℕ) (r bytes : List ℕ) → IsOwnRef r bytes → length bytes ≤ max_size → broken_past p 0 (record_under r bytes) ≡ None
+broken-record p r bytes own small = ap (broken_past p 0) (sym (append-nil (record_under r bytes))) ∙ broken_past-record p r bytes [] own small ∙ nothing-broken (p + length (record_under r bytes))
 
 -- ---- a record behind a clean text is found, whatever follows, and the text is clean again
 
+pub salvage-append_record_under : (x r bytes y : List ℕ) → IsOwnRef r bytes → length bytes ≤ max_size → IsClean x → salvage (x ++ record_under r bytes ++ y) ≡ salvage x ++ finding_under (length x) r bytes ∷ salvage_past (length x + length (record_under r bytes)) 0 y
+salvage-append_record_under x r bytes y own small clean =
+    rw append_assoc (salvage-append x (record_under r bytes ++ y) clean ∙ ap (λ l. salvage x ++ l) (salvage_past-record (length x) r bytes y own small))
+
 pub salvage-append_record : (x bytes y : List ℕ) → length bytes ≤ max_size → IsClean x → salvage (x ++ record_of bytes ++ y) ≡ salvage x ++ finding (length x) bytes ∷ salvage_past (length x + length (record_of bytes)) 0 y
-salvage-append_record x bytes y small clean =
-    rw append_assoc (salvage-append x (record_of bytes ++ y) clean ∙ ap (λ l. salvage x ++ l) (salvage_past-record (length x) bytes y small))
+salvage-append_record x bytes y small clean = salvage-append_record_under x (ref_of bytes) bytes y (IsOwnRef-ref_of bytes) small clean
+
+pub IsClean-append_record_under : (x r bytes : List ℕ) → IsOwnRef r bytes → length bytes ≤ max_size → IsClean x → IsClean (x ++ record_under r bytes)
+IsClean-append_record_under x r bytes own small clean = broken-append x (record_under r bytes) clean ∙ broken-record (length x) r bytes own small
 
 pub IsClean-append_record : (x bytes : List ℕ) → length bytes ≤ max_size → IsClean x → IsClean (x ++ record_of bytes)
-IsClean-append_record x bytes small clean = broken-append x (record_of bytes) clean ∙ broken-record (length x) bytes small
+IsClean-append_record x bytes small clean = IsClean-append_record_under x (ref_of bytes) bytes (IsOwnRef-ref_of bytes) small clean
 
 -- Why nothing is appended behind junk: the torn header of a longer blob takes the new record as that blob's bytes.
-pub swallowed : (x bytes : List ℕ) → length (record_of bytes) ≤ max_size → IsClean x → salvage (x ++ header (ref_of (record_of bytes)) (length (record_of bytes)) ++ record_of bytes) ≡ salvage x ++ finding (length x) (record_of bytes) ∷ []
-unfolding record_of
-swallowed x bytes small clean =
-    let e : x ++ header (ref_of (record_of bytes)) (length (record_of bytes)) ++ record_of bytes ≡ x ++ record_of (record_of bytes) ++ [] = append_assoc x _ _ ∙ sym (append-nil (x ++ record_of (record_of bytes))) in
-    ap salvage e ∙ salvage-append_record x (record_of bytes) [] small clean ∙ ap (λ l. salvage x ++ finding (length x) (record_of bytes) ∷ l) (nothing-found _)
+pub swallowed : (x q r bytes : List ℕ) → IsOwnRef q (record_under r bytes) → length (record_under r bytes) ≤ max_size → IsClean x → salvage (x ++ header q (length (record_under r bytes)) ++ record_under r bytes) ≡ salvage x ++ finding_under (length x) q (record_under r bytes) ∷ []
+unfolding record_under
+swallowed x q r bytes own small clean =
+    let text = record_under r bytes in
+    let e : x ++ header q (length text) ++ text ≡ x ++ record_under q text ++ [] = append_assoc x _ _ ∙ sym (append-nil (x ++ record_under q text)) in
+    ap salvage e ∙ salvage-append_record_under x q text [] own small clean ∙ ap (λ l. salvage x ++ finding_under (length x) q text ∷ l) (nothing-found _)
 
 -- and that of a torn deleted record passes it over
-pub lost : (x bytes : List ℕ) (letters digits : ℕ) → IsDeletedForm letters digits (length (record_of bytes)) → IsClean x → salvage (x ++ deleted_header letters digits (length (record_of bytes)) ++ record_of bytes) ≡ salvage x
-lost x bytes letters digits form clean =
-    let text = deleted_header letters digits (length (record_of bytes)) ++ record_of bytes in
-    let is : IsDeletedRecord text = record { letters = letters; digits = digits; body = record_of bytes; form = form; whole = refl } in
-    let e : x ++ deleted_header letters digits (length (record_of bytes)) ++ record_of bytes ≡ x ++ text ++ [] = append_assoc x _ _ ∙ sym (append-nil (x ++ text)) in
+pub lost : (x r bytes : List ℕ) (letters digits : ℕ) → IsDeletedForm letters digits (length (record_under r bytes)) → IsClean x → salvage (x ++ deleted_header letters digits (length (record_under r bytes)) ++ record_under r bytes) ≡ salvage x
+lost x r bytes letters digits form clean =
+    let text = deleted_header letters digits (length (record_under r bytes)) ++ record_under r bytes in
+    let is : IsDeletedRecord text = record { letters = letters; digits = digits; body = record_under r bytes; form = form; whole = refl } in
+    let e : x ++ deleted_header letters digits (length (record_under r bytes)) ++ record_under r bytes ≡ x ++ text ++ [] = append_assoc x _ _ ∙ sym (append-nil (x ++ text)) in
     let none : salvage_past (length x) 0 (text ++ []) ≡ [] = salvage_past-deleted (length x) text [] is ∙ nothing-found (length x + length text) in
     ap salvage e ∙ ap salvage (append_assoc x text []) ∙ salvage-append x (text ++ []) clean ∙ ap (λ l. salvage x ++ l) none ∙ append-nil (salvage x)

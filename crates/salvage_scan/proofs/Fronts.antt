@@ -1,15 +1,14 @@
 -- What a text begins with depends on that beginning alone.
-use Rattle.std.proofs.Common.{◌≡◌, ◌≢◌, ℕ, ◌+◌, ◌≤◌, ◌<◌, List, ◌++◌, length, take, drop, Bool, true, false, nat_eq, nat_le, ◌&&◌, cond, refl, sym, ◌∙◌, ap, arith, append_assoc, length-append, length-drop}
+use Rattle.std.proofs.Common.{◌≡◌, ◌≢◌, ℕ, ◌+◌, ◌≤◌, ◌<◌, List, ◌++◌, length, take, drop, Bool, true, false, nat_le, ◌&&◌, cond, refl, sym, ◌∙◌, ap, arith, append_assoc, length-append, length-drop}
 use Rattle.std.proofs.lemmas.List.{take-append-le, drop-append-le, take_at, drop_at, length-take-le}
 use Rattle.std.proofs.lemmas.Bool.{and_parts, leb-true, le-leb}
-use Rattle.std.specs.Cmp.Lexicographic.{pointwise, nat_list_eq_equiv}
-use Rattle.blobref.specs.Blobref.{ref_of}
+use Rattle.blobref.specs.Blobref.{ref_of, IsOwnRef, is_own_ref}
 use Rattle.pack_format.specs.declared.header.HeaderAt.{HeaderAt}
 use Rattle.pack_format.specs.declared.header.HeaderAt.TheVariants.{Blob, Gone, Missing}
-use Rattle.pack_format.specs.Header.{max_size, header, record_of, deleted_header, IsDeletedRecord}
+use Rattle.pack_format.specs.Header.{max_size, header, record_of, record_under, deleted_header, IsDeletedRecord}
 use Rattle.pack_format.specs.Reading.{header_at, header_max}
 use Rattle.pack_format.proofs.Headers.{header_at-append, header_at-long, header_len, header_len-pos, header_at-header, header_at-deleted}
-use Rattle.pack_format.proofs.Digests.{is_blobref-ref_of}
+use Rattle.blobref.proofs.Digests.{IsOwnRef-is_blobref, is_own_ref-own}
 use Rattle.salvage_scan.specs.Salvage.{Front, Kept, Passed, Junk, front_by, front, width, is_junk}
 
 test_true : (b : Bool) (f : Front) → is_junk (cond b f Junk) ≡ false → b ≡ true
@@ -19,7 +18,7 @@ test_true false f is = absurd (cc is)
 front_by-append : (h : HeaderAt) (x y : List ℕ) → is_junk (front_by h x) ≡ false → front_by h (x ++ y) ≡ front_by h x
 front_by-append (Blob r size len) x y is =
     let bytes = take size (drop len x) in
-    let test = and_parts _ _ (test_true (nat_le (len + size) (length x) && pointwise nat_eq (ref_of bytes) r) (Kept r len bytes) is) in
+    let test = and_parts _ _ (test_true (nat_le (len + size) (length x) && is_own_ref r bytes) (Kept r len bytes) is) in
     let fits : len + size ≤ length x = leb-true _ _ test.0 in
     let same : take size (drop len (x ++ y)) ≡ bytes =
     ap (take size) (drop-append-le len x y (omega arith)) ∙ take-append-le size (drop len x) y (omega (arith, length-drop len x)) in
@@ -46,7 +45,7 @@ front-append x y is =
 width_by : (h : HeaderAt) (x : List ℕ) → 0 < header_len h → is_junk (front_by h x) ≡ false → (0 < width (front_by h x)) × (width (front_by h x) ≤ length x)
 width_by (Blob r size len) x pos is =
     let bytes = take size (drop len x) in
-    let tested = test_true (nat_le (len + size) (length x) && pointwise nat_eq (ref_of bytes) r) (Kept r len bytes) is in
+    let tested = test_true (nat_le (len + size) (length x) && is_own_ref r bytes) (Kept r len bytes) is in
     let fits : len + size ≤ length x = leb-true _ _ (and_parts _ _ tested).0 in
     let sized : length bytes ≡ size = length-take-le size (drop len x) (omega (arith, length-drop len x)) in
     rw tested (omega (arith, sized), omega (arith, sized))
@@ -62,34 +61,37 @@ width-front x is = width_by (header_at x) x (header_len-pos x) is
 
 -- ---- records
 
+pub length-record_under : (r bytes : List ℕ) → length (record_under r bytes) ≡ length (header r (length bytes)) + length bytes
+unfolding record_under
+length-record_under r bytes = length-append (header r (length bytes)) bytes
+
 pub length-record : (bytes : List ℕ) → length (record_of bytes) ≡ length (header (ref_of bytes) (length bytes)) + length bytes
-unfolding record_of
-length-record bytes = length-append (header (ref_of bytes) (length bytes)) bytes
+length-record bytes = length-record_under (ref_of bytes) bytes
+
+pub record_under-split : (r bytes rest : List ℕ) → record_under r bytes ++ rest ≡ header r (length bytes) ++ (bytes ++ rest)
+unfolding record_under
+record_under-split r bytes rest = append_assoc (header r (length bytes)) bytes rest
 
 pub record-split : (bytes rest : List ℕ) → record_of bytes ++ rest ≡ header (ref_of bytes) (length bytes) ++ (bytes ++ rest)
-unfolding record_of
-record-split bytes rest = append_assoc (header (ref_of bytes) (length bytes)) bytes rest
+record-split bytes rest = record_under-split (ref_of bytes) bytes rest
 
 -- the front of a text whose header was read
-front_of-blob : (x head body rest r : List ℕ) → header_at x ≡ Blob r (length body) (length head) → x ≡ head ++ (body ++ rest) → ref_of body ≡ r → front x ≡ Kept r (length head) body
+front_of-blob : (x head body rest r : List ℕ) → header_at x ≡ Blob r (length body) (length head) → x ≡ head ++ (body ++ rest) → IsOwnRef r body → front x ≡ Kept r (length head) body
 unfolding front
 front_of-blob x head body rest r at whole named =
     let behind : drop (length head) x ≡ body ++ rest = ap (drop (length head)) whole ∙ drop_at head (body ++ rest) (length head) refl in
     let same : take (length body) (drop (length head) x) ≡ body = ap (take (length body)) behind ∙ take_at body rest (length body) refl in
     let fits : nat_le (length head + length body) (length x) ≡ true = le-leb _ _ (omega (arith, ap length whole, length-append head (body ++ rest), length-append body rest)) in
-    let ok : pointwise nat_eq (ref_of body) r ≡ true = is_same (ref_of body) r named in
+    let ok : is_own_ref r body ≡ true = is_own_ref-own r body named in
     rw (at, same, fits, ok) refl
-  where
-    is_same : (xs ys : List ℕ) → xs ≡ ys → pointwise nat_eq xs ys ≡ true
-    is_same xs ys e = ap (pointwise nat_eq xs) (sym e) ∙ nat_list_eq_equiv.refl xs
 
 -- a record that stands at the front is found
-pub front-record : (bytes rest : List ℕ) → length bytes ≤ max_size → front (record_of bytes ++ rest) ≡ Kept (ref_of bytes) (length (header (ref_of bytes) (length bytes))) bytes
-front-record bytes rest small =
-    let split = record-split bytes rest in
-    let at : header_at (record_of bytes ++ rest) ≡ Blob (ref_of bytes) (length bytes) (length (header (ref_of bytes) (length bytes))) =
-    ap header_at split ∙ header_at-header (ref_of bytes) (bytes ++ rest) (length bytes) (is_blobref-ref_of bytes) small in
-    front_of-blob (record_of bytes ++ rest) (header (ref_of bytes) (length bytes)) bytes rest (ref_of bytes) at split refl
+pub front-record : (r bytes rest : List ℕ) → IsOwnRef r bytes → length bytes ≤ max_size → front (record_under r bytes ++ rest) ≡ Kept r (length (header r (length bytes))) bytes
+front-record r bytes rest own small =
+    let split = record_under-split r bytes rest in
+    let at : header_at (record_under r bytes ++ rest) ≡ Blob r (length bytes) (length (header r (length bytes))) =
+    ap header_at split ∙ header_at-header r (bytes ++ rest) (length bytes) (IsOwnRef-is_blobref r bytes own) small in
+    front_of-blob (record_under r bytes ++ rest) (header r (length bytes)) bytes rest r at split own
 
 -- and a deleted record is passed over
 front_of-deleted : (x head body rest : List ℕ) → header_at x ≡ Gone (length body) (length head) → x ≡ head ++ (body ++ rest) → front x ≡ Passed (length head + length body)
@@ -108,9 +110,9 @@ front-deleted text rest form =
 
 -- ---- neither is empty
 
-pub record_some : (bytes : List ℕ) → 0 < length (record_of bytes)
-unfolding record_of header
-record_some bytes = omega arith
+pub record_some : (r bytes : List ℕ) → 0 < length (record_under r bytes)
+unfolding record_under header
+record_some r bytes = omega arith
 
 pub deleted_some : (text : List ℕ) → IsDeletedRecord text → 0 < length text
 unfolding deleted_header

@@ -3,13 +3,13 @@ use Rattle.std.proofs.Common.{◌≡◌, ℕ, zero, suc, ◌+◌, ◌-◌, ◌�
 use Rattle.std.proofs.lemmas.List.{take_at, drop_at}
 use Rattle.std.specs.List.{All}
 use Rattle.std.proofs.lemmas.List.Elements.{All-append, All-map, All-nil}
-use Rattle.blobref.specs.Blobref.{ref_of}
-use Rattle.pack_format.specs.Header.{max_size, header, record_of}
+use Rattle.blobref.specs.Blobref.{IsOwnRef}
+use Rattle.pack_format.specs.Header.{max_size, header, record_under}
 use Rattle.salvage_scan.specs.Salvage.{Finding, Front, Kept, Passed, Junk, front, width, found, salvage_past, salvage}
 use Rattle.salvage_scan.specs.Rules.{BeginsWithRecord}
 use Rattle.salvage_scan.specs.Scan.{place_of, bytes_at, LiesIn}
 use Rattle.salvage_scan.specs.Arrivals.{blob_of}
-use Rattle.salvage_scan.proofs.Fronts.{length-record, record-split}
+use Rattle.salvage_scan.proofs.Fronts.{length-record_under, record_under-split}
 use Rattle.salvage_scan.proofs.Cases.{begins_with_record, front_of-record}
 
 -- it lies in a text that stands at a place
@@ -17,8 +17,11 @@ pub record LiesAt (place : ℕ) (x : List ℕ) (f : Finding) : Type 0 where
   pub after : place ≤ f.at
   pub within : f.at + length f.bytes ≤ place + length x
   pub bytes : take (length f.bytes) (drop (f.at - place) x) ≡ f.bytes
-  pub named : ref_of f.bytes ≡ f.r
+  pub named : IsOwnRef f.r f.bytes
   pub small : length f.bytes ≤ max_size
+
+own_moves : {q r x y : List ℕ} → q ≡ r → x ≡ y → IsOwnRef q x → IsOwnRef r y
+own_moves e f own = rw (← e, ← f) own
 
 one_later : (place b : ℕ) (x : List ℕ) (f : Finding) → LiesAt (suc place) x f → LiesAt place (b ∷ x) f
 one_later place b x f in_rest = record {
@@ -37,26 +40,26 @@ All-one P x p zero d lt = p
 All-one P x p (suc k) d lt = absurd (omega arith)
 
 -- a record's bytes
-slice_of : (x bytes : List ℕ) (w : BeginsWithRecord x) → w.bytes ≡ bytes → take (length bytes) (drop (length (header (ref_of w.bytes) (length w.bytes))) x) ≡ bytes
+slice_of : (x bytes : List ℕ) (w : BeginsWithRecord x) → w.bytes ≡ bytes → take (length bytes) (drop (length (header w.r (length w.bytes))) x) ≡ bytes
 slice_of x bytes w same =
-    let head = header (ref_of w.bytes) (length w.bytes) in
-    let split : x ≡ head ++ (w.bytes ++ w.rest) = w.whole ∙ record-split w.bytes w.rest in
+    let head = header w.r (length w.bytes) in
+    let split : x ≡ head ++ (w.bytes ++ w.rest) = w.whole ∙ record_under-split w.r w.bytes w.rest in
     let behind : drop (length head) x ≡ w.bytes ++ w.rest = ap (drop (length head)) split ∙ drop_at head (w.bytes ++ w.rest) (length head) refl in
     ap (take (length bytes)) behind ∙ take_at w.bytes w.rest (length bytes) (ap length same) ∙ same
 
 lies_here : (place : ℕ) (x r : List ℕ) (start : ℕ) (bytes : List ℕ) → front x ≡ Kept r start bytes → LiesAt place x (record { r = r; at = place + start; bytes = bytes })
 lies_here place x r start bytes is =
     let w = begins_with_record x r start bytes is in
-    let same : Kept (ref_of w.bytes) (length (header (ref_of w.bytes) (length w.bytes))) w.bytes ≡ Kept r start bytes = sym (front_of-record x w) ∙ is in
-    let r_is : ref_of w.bytes ≡ r = cc same in
-    let start_is : length (header (ref_of w.bytes) (length w.bytes)) ≡ start = cc same in
+    let same : Kept w.r (length (header w.r (length w.bytes))) w.bytes ≡ Kept r start bytes = sym (front_of-record x w) ∙ is in
+    let r_is : w.r ≡ r = cc same in
+    let start_is : length (header w.r (length w.bytes)) ≡ start = cc same in
     let bytes_is : w.bytes ≡ bytes = cc same in
-    let back : place + start - place ≡ length (header (ref_of w.bytes) (length w.bytes)) = omega (arith, start_is) in
+    let back : place + start - place ≡ length (header w.r (length w.bytes)) = omega (arith, start_is) in
     record {
       after = omega arith;
-      within = omega (arith, ap length w.whole, length-append (record_of w.bytes) w.rest, length-record w.bytes, ap length bytes_is, start_is);
+      within = omega (arith, ap length w.whole, length-append (record_under w.r w.bytes) w.rest, length-record_under w.r w.bytes, ap length bytes_is, start_is);
       bytes = ap (λ n. take (length bytes) (drop n x)) back ∙ slice_of x bytes w bytes_is;
-      named = ap ref_of (sym bytes_is) ∙ r_is;
+      named = own_moves r_is bytes_is w.own;
       small = rw (← bytes_is) w.small;
     }
 
@@ -84,7 +87,7 @@ shown_bytes pack f lies = let same : f.at ≡ f.at - 0 = omega arith in ap (λ n
 shown_lies : (pack : List ℕ) (f : Finding) → LiesAt 0 pack f → LiesIn pack (place_of f)
 shown_lies pack f lies = record {
   within = omega (arith, lies.within);
-  named = ap ref_of (shown_bytes pack f lies) ∙ lies.named;
+  named = own_moves refl (sym (shown_bytes pack f lies)) lies.named;
 }
 
 -- each place that a scan shows lies in the pack

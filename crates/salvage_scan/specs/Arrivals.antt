@@ -4,7 +4,7 @@ use Rattle.std.specs.List.{list_any, IsDistinct}
 use Rattle.std.specs.Map.{lookup, keys_of}
 use Rattle.std.specs.Cmp.Lexicographic.{pointwise}
 use Rattle.std.specs.FinMap.{FinMap, from_entries, get}
-use Rattle.blobref.specs.Blobref.{ref_of, ref_cmp}
+use Rattle.blobref.specs.Blobref.{IsOwnRef, ref_cmp}
 use Rattle.pack_format.specs.Header.{max_size}
 use Rattle.salvage_scan.specs.Salvage.{Finding, salvage}
 
@@ -37,6 +37,6 @@ pub record ArrivalsAreFirsts : Type 0 where
   -- each has the bytes of its first finding, and no finding is left out
   pub first : (packs : List (ℕ × List ℕ)) (r : List ℕ) → lookup (pointwise nat_eq r) (arrivals packs) ≡ lookup (pointwise nat_eq r) (findings packs)
   pub content_first : (packs : List (ℕ × List ℕ)) (r : List ℕ) → get (content packs) r ≡ lookup (pointwise nat_eq r) (findings packs)
-  -- the bytes are those of a blob, under their own ref
-  pub named : (packs : List (ℕ × List ℕ)) → All (λ (a : List ℕ × List ℕ). ref_of a.1 ≡ a.0) (arrivals packs)
+  -- the bytes are those of a blob, under a ref of their own
+  pub named : (packs : List (ℕ × List ℕ)) → All (λ (a : List ℕ × List ℕ). IsOwnRef a.0 a.1) (arrivals packs)
   pub small : (packs : List (ℕ × List ℕ)) → All (λ (a : List ℕ × List ℕ). length a.1 ≤ max_size) (arrivals packs)

@@ -1,6 +1,6 @@
 -- What a scan shows of findings.
-use Rattle.std.specs.Prelude.{◌≡◌, ℕ, ◌+◌, ◌≤◌, List, length, take, drop, Option, None, Some}
-use Rattle.blobref.specs.Blobref.{ref_of}
+use Rattle.std.specs.Prelude.{ℕ, ◌+◌, ◌≤◌, List, length, take, drop, Option, None, Some}
+use Rattle.blobref.specs.Blobref.{IsOwnRef}
 use Rattle.salvage_scan.specs.declared.found.Found.{Found}
 use Rattle.salvage_scan.specs.declared.found.Clean.{Clean}
 use Rattle.salvage_scan.specs.declared.found.Clean.TheVariants as clean
@@ -21,10 +21,10 @@ clean_of (Some at) = clean.No at
 abbrev pub bytes_at : List ℕ → Found → List ℕ
 bytes_at pack f = take f.size (drop f.at pack)
 
--- it lies in the pack, and its ref is the ref of its bytes
+-- it lies in the pack, and its ref is its bytes' own
 pub record LiesIn (pack : List ℕ) (f : Found) : Type 0 where
   pub within : f.at + f.size ≤ length pack
-  pub named : ref_of (bytes_at pack f) ≡ f.r
+  pub named : IsOwnRef f.r (bytes_at pack f)
 
 -- what stands in front, without the bytes
 abbrev pub shown : Front → FrontAt

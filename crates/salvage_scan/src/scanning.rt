@@ -9,7 +9,7 @@ use pack_format::{HeaderAt, read_header};
 use std::alloc::Global;
 
 /// The blobs of a pack in order, by the four cases of docs/formats/packs.md, and whether it is clean. Each finding lies
-/// in the pack, and its ref is the ref of its bytes. A blob is hashed only where a header stands before it.
+/// in the pack, and its ref is its bytes' own. A blob is hashed only where a header stands before it.
 pub fn scan(alloc: Global, pack: &[u8]) -> Result<(FoundList, Clean), NoMemory>
     ensures found { IfOk result (λ scanned. scanned.0 ≡ map place_of (salvage pack.now)) }
     ensures clean { IfOk result (λ scanned. scanned.1 ≡ clean_of (broken pack.now)) }
@@ -56,7 +56,7 @@ fn front_at(bytes: &[u8]) -> FrontAt
             let size = size as usize;
             if len <= bytes.len()
                 && size <= bytes.len() - len
-                && Ref::of(&bytes[len..len + size]) == r
+                && r.like(&bytes[len..len + size]) == r
             {
                 FrontAt::Kept {
                     r,

@@ -5,34 +5,11 @@ ghost use Rattle.schema_date.specs.DateTexts.{IsDateText, IsTimeAt, WrittenDates
 ghost use Rattle.jiff.specs.Words.{IsBetween};
 ghost use Rattle.jiff_core.specs.Calendar.{days_from_civil};
 
+use blobref::ShortText;
 use jiff::{ToSpan, civil};
-use std::marker::Model;
 
-/// The text of a date, in the first `len` bytes (`docs/formats/dates.md`).
-#[derive(Drop)]
-pub struct DateText {
-    pub bytes: [u8; 30],
-    pub len: usize,
-}
-
-impl Model for DateText {
-    ghost use Rattle.std.specs.Prelude.{ℕ, ◌≤◌, List, take};
-
-    ghost Value = { List ℕ };
-
-    ghost view = { λ t. take t.len t.bytes };
-
-    ghost invariant = { λ t. t.len ≤ 30 };
-}
-
-impl DateText {
-    /// The text as a slice.
-    pub fn as_slice(&self) -> &[u8]
-        ensures { result.now ≡ self.now }
-    {
-        &self.bytes[..self.len]
-    }
-}
+/// The text of a date (`docs/formats/dates.md`).
+pub type DateText = ShortText<30>;
 
 // A day of the calendar and a time of that day, in UTC.
 #[derive(Drop)]
@@ -133,7 +110,7 @@ fn written_time(time: &CivilTime) -> DateText
     let mut bytes = [b'Z'; 30];
     bytes[..19].copy_from_slice(&written_seconds(time));
     bytes[19..end].copy_from_slice(fraction);
-    DateText {
+    ShortText {
         bytes,
         len: end + 1,
     }
@@ -154,31 +131,8 @@ fn written_seconds(time: &CivilTime) -> [u8; 19]
     ]
 }
 
-// The text of a fraction, in the first `len` bytes.
-#[derive(Drop)]
-struct FractionText {
-    bytes: [u8; 10],
-    len: usize,
-}
-
-impl Model for FractionText {
-    ghost use Rattle.std.specs.Prelude.{ℕ, ◌≤◌, List, take};
-
-    ghost Value = { List ℕ };
-
-    ghost view = { λ t. take t.len t.bytes };
-
-    ghost invariant = { λ t. t.len ≤ 10 };
-}
-
-impl FractionText {
-    fn as_slice(&self) -> &[u8]
-        ensures text { result.now ≡ self.now }
-        ensures few { length result.now ≤ 10 }
-    {
-        &self.bytes[..self.len]
-    }
-}
+// The text of a fraction.
+type FractionText = ShortText<10>;
 
 // Nothing for zero, else a point and the digits up to the last that isn't zero.
 fn written_fraction(nanosecond: u32) -> FractionText
@@ -190,7 +144,7 @@ fn written_fraction(nanosecond: u32) -> FractionText
     } else {
         1 + trimmed_len(nanosecond)
     };
-    FractionText {
+    ShortText {
         bytes: [b'.', a, b, c, d, e, f, g, h, i],
         len,
     }

@@ -1,7 +1,7 @@
 //! Facts: what blobs say.
 ghost use Rattle.std.specs.Prelude.{◌≡◌, ◌<◌, Some, IfOk, length, slice_get};
 
-use crate::parts::PartList;
+use crate::parts::{PartList, ref_at, ref_count};
 use blobref::{NoMemory, Octets, Ref, RefList, Text};
 use claim_verify::KeyName;
 use schema_date::Date;
@@ -73,7 +73,7 @@ impl Fact {
         ensures { result ≡ length (dependencies self.now) }
     {
         match &self.kind {
-            Kind::File { parts, .. } | Kind::Bytes(parts) => parts.ref_count(),
+            Kind::File { parts, .. } | Kind::Bytes(parts) => ref_count(parts.as_slice()),
             Kind::Directory { .. } | Kind::Permanode(_) => 1,
             Kind::Claim { what, .. } => match what {
                 What::Delete { .. } => 2,
@@ -89,7 +89,7 @@ impl Fact {
         ensures { slice_get (dependencies self.now) i ≡ Some result }
     {
         match &self.kind {
-            Kind::File { parts, .. } | Kind::Bytes(parts) => match parts.ref_at(i) {
+            Kind::File { parts, .. } | Kind::Bytes(parts) => match ref_at(parts.as_slice(), i) {
                 Some(r) => r,
                 None => unreachable!(),
             },

@@ -1,3 +1,4 @@
+pub mod Begins
 pub mod Json
 pub mod KeyBlobs
 pub mod ValidFacts

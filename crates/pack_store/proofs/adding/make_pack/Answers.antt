@@ -6,7 +6,7 @@ use Rattle.pack_store.proofs.adding.make_pack.Goals as goal
 pub returns-clause-any_moment : goal.returns-clause-any_moment
 returns-clause-any_moment g c =
     let disk = g.D.Disk in
-    keeps_make disk.images disk.moment disk.images_since g.met.D.Disk.counts_now g.met.D.Disk.only_now _ _ c.args.pack c.make.ensures.time c.make.ensures.crash
+    keeps_make disk g.met.D.Disk.counts_now g.met.D.Disk.only_now _ _ c.args.pack c.make.ensures.time c.make.ensures.crash
 
 pub returns-clause-told : goal.returns-clause-told
 returns-clause-told g c = tells_map _ _ _ _ (λ before now was is made. makes_others c.args.pack before now made) c.make.ensures.told
@@ -21,4 +21,4 @@ pub returns-clause-clean : goal.returns-clause-clean
 returns-clause-clean g c = λ image is pack at. let from = c.make.ensures.crash image is in makes_clean c.args.pack from.0 image from.2 pack at
 
 pub returns-clause-rows : goal.returns-clause-rows
-returns-clause-rows g c = let disk = g.D.Disk in rows_make disk.packs disk.images g.met.D.Disk.reads g.met.D.Disk.tells _ _ c.args.pack c.make.ensures.crash
+returns-clause-rows g c = let disk = g.D.Disk in rows_make disk g.met.D.Disk.reads g.met.D.Disk.tells _ _ c.args.pack c.make.ensures.crash

@@ -13,21 +13,21 @@ loop-found-init g c =
     record {
       small = omega arith;
       rose = omega arith;
-      stays = stays_itself disk.packs disk.images disk.moment disk.images_since g.met.D.Disk.counts_now g.met.D.Disk.only_now c.args.disk.now;
+      stays = stays_itself disk g.met.D.Disk.counts_now g.met.D.Disk.only_now c.args.disk.now;
       placed = λ r. ap (λ m. get m r) c.empty-places.ensures ∙ get-empty ref_cmp r ∙ ap (number_of r) (sym c.new-rows.ensures.items);
-      taken = rw c.new-rows.ensures.items (taken_none disk.packs disk.images c.args.disk.now);
+      taken = rw c.new-rows.ensures.items (taken_none disk c.args.disk.now);
     }
 
 pub returns-in_default-found-clause-opened : goal.returns-in_default-found-clause-opened
 returns-in_default-found-clause-opened g c = λ limits.
     let disk = g.D.Disk in
-    taken_opened disk.packs disk.images c.args.disk.now c.loop-found.disk c.packs.new.self c.loop-found.rows.items c.loop-found.next c.loop-found.current limits c.loop-found.invariant.taken c.loop-found.invariant.stays.told
+    taken_opened disk c.args.disk.now c.loop-found.disk c.packs.new.self c.loop-found.rows.items c.loop-found.next c.loop-found.current limits c.loop-found.invariant.taken c.loop-found.invariant.stays.told
     (λ held told. sym c.in_default-found.is ∙ c.in-Ok.ensures.least held told)
 
 pub returns-in_default-found-clause-sound : goal.returns-in_default-found-clause-sound
 returns-in_default-found-clause-sound g c = λ limits limited.
     let disk = g.D.Disk in
-    taken_sound disk.packs disk.images c.loop-found.disk c.packs.new.self c.loop-found.rows.items c.loop-found.next c.loop-found.current limits c.loop-found.places c.loop-found.invariant.taken c.loop-found.invariant.placed
+    taken_sound disk c.loop-found.disk c.packs.new.self c.loop-found.rows.items c.loop-found.next c.loop-found.current limits c.loop-found.places c.loop-found.invariant.taken c.loop-found.invariant.placed
     c.packs.ensures.told c.packs.ensures.crash (λ held told. sym c.in_default-found.is ∙ c.in-Ok.ensures.least held told) (omega (arith, c.loop-found.invariant.small)) limited
 
 pub take_pack-requires-clause-there : goal.take_pack-requires-clause-there
@@ -38,16 +38,16 @@ pub loop-found-preserved : goal.loop-found-preserved
 loop-found-preserved g c =
     let disk = g.D.Disk in
     let range = rw c.in-Some.is at c.in-Ok.ensures.range in
-    let asked = stays_by_call disk.packs disk.images disk.moment disk.images_since g.met.D.Disk.counts_now g.met.D.Disk.only_now c.loop-found.disk c.packs.new.self c.packs.ensures.told c.packs.ensures.time c.packs.ensures.crash in
-    let more = stays_then disk.packs disk.images disk.moment disk.images_since g.met.D.Disk.counts_now g.met.D.Disk.only_now c.loop-found.disk c.packs.new.self c.take_pack.new.disk asked c.take_pack.ensures.stays in
+    let asked = stays_by_call disk g.met.D.Disk.counts_now g.met.D.Disk.only_now c.loop-found.disk c.packs.new.self c.packs.ensures.told c.packs.ensures.time c.packs.ensures.crash in
+    let more = stays_then disk g.met.D.Disk.counts_now g.met.D.Disk.only_now c.loop-found.disk c.packs.new.self c.take_pack.new.disk asked c.take_pack.ensures.stays in
     record {
       small = omega (arith, range.1);
       rose = omega (arith, c.loop-found.invariant.rose, c.packs.ensures.cause.later, c.take_pack.ensures.later);
-      stays = stays_then disk.packs disk.images disk.moment disk.images_since g.met.D.Disk.counts_now g.met.D.Disk.only_now c.args.disk.now c.loop-found.disk c.take_pack.new.disk c.loop-found.invariant.stays more;
+      stays = stays_then disk g.met.D.Disk.counts_now g.met.D.Disk.only_now c.args.disk.now c.loop-found.disk c.take_pack.new.disk c.loop-found.invariant.stays more;
       placed = c.in_ok-current.ensures.placed;
-      taken = taken_more disk.packs disk.images g.met.D.Disk.tells c.loop-found.disk c.packs.new.self c.take_pack.new.disk c.loop-found.rows.items c.take_pack.new.rows.items c.loop-found.next c.in-Some.pack c.loop-found.current c.in_ok-current.current
+      taken = taken_more disk g.met.D.Disk.tells c.loop-found.disk c.packs.new.self c.take_pack.new.disk c.loop-found.rows.items c.take_pack.new.rows.items c.loop-found.next c.in-Some.pack c.loop-found.current c.in_ok-current.current
           c.loop-found.invariant.taken c.packs.ensures.told c.take_pack.ensures.stays.told
-          (stays_images disk.packs disk.images disk.moment disk.images_since g.met.D.Disk.counts_now g.met.D.Disk.only_now c.loop-found.disk c.take_pack.new.disk more)
+          (stays_images disk g.met.D.Disk.counts_now g.met.D.Disk.only_now c.loop-found.disk c.take_pack.new.disk more)
           (λ held told. sym c.in-Some.is ∙ c.in-Ok.ensures.least held told) range.0
-          c.in_ok-current.ensures.rows c.in_ok-current.ensures.clean c.in_ok-current.ensures.number c.in_ok-current.ensures.stands;
+          c.in_ok-current.ensures.rows c.in_ok-current.ensures.clean c.in_ok-current.ensures.number c.in_ok-current.ensures.blobs c.in_ok-current.ensures.stands;
     }

@@ -1,5 +1,5 @@
 use Rattle.std.proofs.Common.{◌-◌, ◌≤◌}
-use Rattle.pack_disk.specs.Disk.{Stays}
+use Rattle.pack_disk.specs.Runs.{Stays}
 use Rattle.pack_store.specs.Opening.{IsTaken, IsPlaced}
 use Rattle.pack_store.proofs.opening.load.Given as goal
 
@@ -9,9 +9,9 @@ invariant-loop-found g l =
     record {
       small : l.next ≤ 100000;
       rose : disk.faults l.fn.disk ≤ disk.faults l.disk;
-      stays : Stays disk.packs disk.images disk.moment disk.images_since l.fn.disk l.disk;
+      stays : Stays disk l.fn.disk l.disk;
       placed : IsPlaced l.places l.rows.items;
-      taken : IsTaken disk.packs disk.images l.disk l.rows.items l.next l.current;
+      taken : IsTaken disk l.disk l.rows.items l.next l.current;
     }
 
 abbrev pub decreases-loop-found : goal.decreases-loop-found

@@ -1,13 +1,29 @@
-use Rattle.std.proofs.Common.{◌≡◌, map, sym, ◌∙◌, ap}
+use Rattle.std.proofs.Common.{◌≡◌, map, sym, ◌∙◌, ap, subst}
+use Rattle.std.specs.List.{All}
 use Rattle.salvage_scan.specs.Salvage.{salvage}
 use Rattle.salvage_scan.specs.Scan.{place_of}
-use Rattle.pack_store.specs.Opening.{row_of_found, take_rows}
+use Rattle.pack_store.specs.Rows.{IsOfBlob}
+use Rattle.pack_store.specs.Opening.{row_of_found, take_rows, current_by, current_if_clean}
 use Rattle.pack_store.proofs.Held.{some_same}
-use Rattle.pack_store.proofs.Taking.{rows_shown}
+use Rattle.pack_store.proofs.Taking.{rows_shown, current_shown, All-take_found}
 use Rattle.pack_store.proofs.opening.take_pack.Goals as goal
 
 pub returns-clause-rows : goal.returns-clause-rows
 returns-clause-rows g c = λ held told bytes at.
-    let same = some_same c.in_ok-bytes.bytes.items bytes (sym (c.in_ok-bytes.ensures.bytes held (c.sync.ensures.told ∙ told)) ∙ at) in
-    let shown : c.as_slice.result.now ≡ map place_of (salvage bytes) = c.as_slice.ensures ∙ c.in_ok-found.ensures.found ∙ ap (λ l. map place_of (salvage l)) (c.deref.ensures.value ∙ same) in
+    let scanned = c.in_ok-scan.ensures.scanned in
+    let same : scanned.bytes ≡ bytes = some_same scanned.bytes bytes (sym (scanned.there held (c.sync.ensures.told ∙ told)) ∙ at) in
+    let shown : c.as_slice.result.now ≡ map place_of (salvage bytes) = c.as_slice.ensures ∙ ap (λ s. s.found) scanned.is ∙ ap (λ b. map place_of (salvage b)) same in
     c.in_ok-take_findings.ensures.rows ∙ ap (take_rows c.args.rows.now.items) (ap (map (row_of_found c.args.pack)) shown ∙ rows_shown c.args.pack (salvage bytes))
+
+pub returns-clause-blobs : goal.returns-clause-blobs
+returns-clause-blobs g c = λ old.
+    let scanned = c.in_ok-scan.ensures.scanned in
+    let shown : c.as_slice.result.now ≡ map place_of (salvage scanned.bytes) = c.as_slice.ensures ∙ ap (λ s. s.found) scanned.is in
+    subst (All IsOfBlob) (sym (c.in_ok-take_findings.ensures.rows ∙ ap (λ found. take_rows c.args.rows.now.items (map (row_of_found c.args.pack) found)) shown))
+    (All-take_found c.args.pack scanned.bytes c.args.rows.now.items old)
+
+pub returns-clause-clean : goal.returns-clause-clean
+returns-clause-clean g c = λ held told bytes at.
+    let scanned = c.in_ok-scan.ensures.scanned in
+    let same : scanned.bytes ≡ bytes = some_same scanned.bytes bytes (sym (scanned.there held (c.sync.ensures.told ∙ told)) ∙ at) in
+    c.current_by.ensures ∙ ap (λ s. current_by s.clean c.args.pack s.size) scanned.is ∙ current_shown c.args.pack scanned.bytes ∙ ap (λ b. current_if_clean (c.args.pack, b)) same

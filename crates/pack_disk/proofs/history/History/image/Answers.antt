@@ -29,7 +29,7 @@ returns-clause-left c =
     (left_all c.args.choice _ _ _ _ _ all c.self.invariant.shown c.loop-number.invariant)
 
 pub returns-clause-held : goal.returns-clause-held
-returns-clause-held c = c.loop-number.invariant.durable
+returns-clause-held c = c.loop-number.invariant.begun
 
 pub returns-clause-numbers : goal.returns-clause-numbers
 returns-clause-numbers c =

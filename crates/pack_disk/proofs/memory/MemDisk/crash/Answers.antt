@@ -1,14 +1,17 @@
 use Rattle.std.proofs.Common.{◌∙◌, ap}
-use Rattle.std.specs.FinMap.{get}
-use Rattle.pack_disk.proofs.Crashes.{told_fresh, crash_is_image, only_image}
+use Rattle.std.specs.Option.{option_map}
+use Rattle.pack_disk.specs.PackState.{all_bytes, begun}
+use Rattle.pack_disk.proofs.Crashes.{told_begun, state_begun, crash_is_image, crash_no_new}
 use Rattle.pack_disk.proofs.memory.MemDisk.crash.Goals as goal
 
 pub returns-clause-image : goal.returns-clause-image
-returns-clause-image c =
-    crash_is_image c.args.choice c.args.self.history _ (λ n. ap (λ packs. get packs n) (told_fresh c.in_ok-history.history c.in_ok-history.ensures.fresh) ∙ c.in_ok-history.ensures.left n)
+returns-clause-image c = crash_is_image c.args.choice c.args.self.history c.in_ok-history.history c.in_ok-history.ensures.fresh c.in_ok-history.ensures.left
 
-pub returns-clause-durable : goal.returns-clause-durable
-returns-clause-durable c = λ image is. only_image c.in_ok-history.history image c.in_ok-history.ensures.fresh is
+pub returns-clause-crash : goal.returns-clause-crash
+returns-clause-crash c = crash_no_new c.args.choice c.args.self.history c.in_ok-history.history c.in_ok-history.ensures.fresh c.in_ok-history.ensures.left
 
 pub returns-clause-left : goal.returns-clause-left
-returns-clause-left c = λ n. ap (λ packs. get packs n) (told_fresh c.in_ok-history.history c.in_ok-history.ensures.fresh) ∙ c.in_ok-history.ensures.left n
+returns-clause-left c = λ n. told_begun c.in_ok-history.history c.in_ok-history.ensures.fresh n ∙ ap (option_map all_bytes) (c.in_ok-history.ensures.left n)
+
+pub returns-clause-durable : goal.returns-clause-durable
+returns-clause-durable c = λ n. state_begun c.in_ok-history.history c.in_ok-history.ensures.fresh n ∙ ap (option_map begun) (c.in_ok-history.ensures.left n)
