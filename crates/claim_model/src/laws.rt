@@ -1,6 +1,7 @@
 //! Laws of the definitions.
 ghost use Rattle.claim_model.specs.Least.{ReadyIsLeast, ReadyGrows, ReadyAfter};
 ghost use Rattle.claim_model.specs.DeletedBy.{DeletedByGenuine, DeletedByIsSettled, DeletionIsOne, TargetsComeFirst};
+ghost use Rattle.claim_model.specs.ByClaim.{LastChangeByClaim, ValuesByClaim};
 ghost use Rattle.claim_model.specs.Changes.{AddLast, DelLast, HeldIsGiven};
 ghost use Rattle.claim_model.specs.Stays.{GenuineStays, SoundnessStays};
 ghost use Rattle.claim_model.specs.Laws.{FactsAreRead, OrderIsFree, ReadyIsSettled, RoundsEnd, DeletionIsSettled, SoundnessIsSettled, SoundnessEnds};
@@ -98,4 +99,14 @@ pub fn add_last()
 /// A removal behind other changes takes its value from its attribute, or all where the value is empty, and changes no other.
 pub fn del_last()
     ensures { DelLast }
+{}
+
+/// The values of an attribute are what the counted claims leave, one after another in the order of date, then ref.
+pub fn values_by_claim()
+    ensures { ValuesByClaim }
+{}
+
+/// The date of the last change of a permanode is that of its last counted claim.
+pub fn last_change_by_claim()
+    ensures { LastChangeByClaim }
 {}

@@ -6,7 +6,7 @@ mod laws;
 
 pub use laws::{
     add_last, del_last, deleted_by_genuine, deleted_by_is_settled, deletion_is_one,
-    deletion_is_settled, facts_are_read, genuine_stays, held_is_given, order_is_free, ready_after,
-    ready_grows, ready_is_least, ready_is_settled, rounds_end, soundness_ends,
-    soundness_is_settled, soundness_stays, targets_come_first,
+    deletion_is_settled, facts_are_read, genuine_stays, held_is_given, last_change_by_claim,
+    order_is_free, ready_after, ready_grows, ready_is_least, ready_is_settled, rounds_end,
+    soundness_ends, soundness_is_settled, soundness_stays, targets_come_first, values_by_claim,
 };

@@ -1,14 +1,12 @@
 -- The counted claims on a permanode, by the claims about it alone, and what they leave of the values.
-use Rattle.std.proofs.Common.{◌≡◌, ℕ, ℤ, ◌&&◌, Bool, true, false, not, cond, List, [], ◌∷◌, filter, fold, map, Option, Some, None, refl, sym, ap, ◌∙◌, Ordering, subst, option_map, option_and_then}
+use Rattle.std.proofs.Common.{◌≡◌, ℕ, ℤ, ◌&&◌, Bool, true, false, not, cond, List, [], ◌∷◌, filter, fold, map, Option, Some, None, refl, sym, ap, ◌∙◌, Ordering, subst, option_map, option_and_then, ◌||◌}
 use Rattle.std.specs.declared.cmp.Ordering.TheVariants.{Less, Equal, Greater}
 use Rattle.std.specs.List.{filter_map, cons_option, AllByRecursion, IsDistinct}
 use Rattle.std.specs.List.Sorted.{IsStrictlySortedBy, IsPermutation, IsSorted}
 use Rattle.std.specs.Ordering.{is_eq, eq_by_cmp, int_cmp, ordering_then}
-use Rattle.std.specs.Cmp.{IsTotalOrder, int_cmp_total, on_total, then_total}
-use Rattle.std.specs.Cmp.Lexicographic.{nat_list_cmp_total}
 use Rattle.std.specs.Str.{bytes_eq}
 use Rattle.std.specs.Map.{keys_of}
-use Rattle.std.specs.FinMap.{IsAntisymmetric, get, entries, keys, from_entries, int_cmp-IsAntisymmetric}
+use Rattle.std.specs.FinMap.{get, entries, keys, from_entries}
 use Rattle.std.proofs.lemmas.Map.Keys.{sorted_head, sorted_tail, IsDistinct-cons}
 use Rattle.std.proofs.lemmas.Option.{same_Some}
 use Rattle.blobref.specs.Blobref.{ref_cmp}
@@ -21,9 +19,11 @@ use Rattle.schema_fact.specs.declared.kinds.Kind.TheVariants.{Plain, Key, File, 
 use Rattle.claim_model.specs.Facts.{Facts, Entry, passes}
 use Rattle.claim_model.specs.Genuine.{is_genuine, is_genuine_permanode}
 use Rattle.claim_model.specs.Deleted.{is_deleted, counts_at}
-use Rattle.claim_model.specs.Claims.{moment_cmp, claim_on, is_attribute_claim_on, stands_at, counted, apply, values}
+use Rattle.claim_model.specs.Claims.{stands_at, values}
+use Rattle.claim_model.specs.ByClaim.{claim_moment_cmp, claim_on, is_attribute_claim_on, counted_claims, apply}
+use Rattle.claim_model.proofs.ByClaim.{claim_moment_total, same_claim_moment, values_by_claim}
 use Rattle.index_look.specs.Claims.{subject, claim_under, claims_about, counted_claim, claim_says, said, apply_said}
-use Rattle.index_look.proofs.Entries.{same_ref, entries_had, keys_ascend}
+use Rattle.index_look.proofs.Entries.{entries_had, keys_ascend}
 use Rattle.index_look.proofs.Keys.{keys_sorted, keys-empty, entries_told}
 
 abbrev pub Pair : Type 0
@@ -32,20 +32,9 @@ Pair = List ℕ × List ℕ
 abbrev pub Moment : Type 0
 Moment = ℤ × List ℕ
 
-pub moment_total : IsTotalOrder moment_cmp
-moment_total = then_total (on_total (λ (a : Moment). a.0) int_cmp_total) (on_total (λ (a : Moment). a.1) nat_list_cmp_total)
-
-pub same_moment : IsAntisymmetric moment_cmp
-same_moment a b e = by (int_cmp a.0 b.0) refl e
-  where
-    by : (r : Ordering) → int_cmp a.0 b.0 ≡ r → ordering_then r (ref_cmp a.1 b.1) ≡ Equal → a ≡ b
-    by Less is h = absurd (let p : Less ≡ Equal = h in cc p)
-    by Equal is h = λ i. (int_cmp-IsAntisymmetric a.0 b.0 is i, same_ref a.1 b.1 h i)
-    by Greater is h = absurd (let p : Greater ≡ Equal = h in cc p)
-
 -- ---- an attribute claim is on what it is about
 
-outside : (b c : Bool) {X : Type 0} (x : X) → cond (b && c) (Some x) None ≡ cond b (cond (b && c) (Some x) None) None
+outside : (b c : Bool) {X : Type 0} (x : X) → cond ((b || false) && c) (Some x) None ≡ cond b (cond ((b || false) && c) (Some x) None) None
 outside true c x = refl
 outside false c x = refl
 
@@ -170,37 +159,37 @@ module _ (facts : Facts) (accepts : Accepts) (when : When) (p : List ℕ) where
   less_then Equal = refl
   less_then Greater = refl
 
-  apart : (k : Moment) (xs : List (Moment × What)) → AllByRecursion (λ (x : Moment × What). ref_cmp k.1 x.0.1 ≡ Less) xs → AllByRecursion (λ y. eq_by_cmp moment_cmp k y ≡ false) (keys_of xs)
+  apart : (k : Moment) (xs : List (Moment × What)) → AllByRecursion (λ (x : Moment × What). ref_cmp k.1 x.0.1 ≡ Less) xs → AllByRecursion (λ y. eq_by_cmp claim_moment_cmp k y ≡ false) (keys_of xs)
   apart k [] h = tt
   apart k (x ∷ xs) h = (ap (λ o. is_eq (ordering_then (int_cmp k.0 x.0.0) o)) h.0 ∙ less_then (int_cmp k.0 x.0.0), apart k xs h.1)
 
   distinct_cond : (b : Bool) (m : Option (Moment × What)) (r : List ℕ) (xs : List (Moment × What)) → ((x : Moment × What) → m ≡ Some x → x.0.1 ≡ r) → AllByRecursion (λ (x : Moment × What). ref_cmp r x.0.1 ≡ Less) xs
-      → IsDistinct (eq_by_cmp moment_cmp) (keys_of xs) → IsDistinct (eq_by_cmp moment_cmp) (keys_of (cond b (cons_option m xs) xs))
+      → IsDistinct (eq_by_cmp claim_moment_cmp) (keys_of xs) → IsDistinct (eq_by_cmp claim_moment_cmp) (keys_of (cond b (cons_option m xs) xs))
   distinct_cond false m r xs f above h = h
   distinct_cond true None r xs f above h = h
   distinct_cond true (Some x) r xs f above h =
-      IsDistinct-cons (eq_by_cmp moment_cmp) x.0 (keys_of xs)
+      IsDistinct-cons (eq_by_cmp claim_moment_cmp) x.0 (keys_of xs)
       (apart x.0 xs (subst (λ (q : List ℕ). AllByRecursion (λ (y : Moment × What). ref_cmp q y.0.1 ≡ Less) xs) (sym (f x refl)) above)) h
 
-  distinct_listed : (es : List Entry) → IsStrictlySortedBy ref_cmp (keys_of es) → IsDistinct (eq_by_cmp moment_cmp) (keys_of (listed es))
+  distinct_listed : (es : List Entry) → IsStrictlySortedBy ref_cmp (keys_of es) → IsDistinct (eq_by_cmp claim_moment_cmp) (keys_of (listed es))
   unfolding IsDistinct
   distinct_listed [] h = tt
   distinct_listed (e ∷ es) h =
-      subst (λ (xs : List (Moment × What)). IsDistinct (eq_by_cmp moment_cmp) (keys_of xs))
+      subst (λ (xs : List (Moment × What)). IsDistinct (eq_by_cmp claim_moment_cmp) (keys_of xs))
       (sym (filter_map-cond (λ (f : Entry). claim_on p when f.0 f.1.kind) (stands_at facts accepts when e.0) e (filter (λ f. stands_at facts accepts when f.0) es)))
       (distinct_cond (stands_at facts accepts when e.0) (claim_on p when e.0 e.1.kind) e.0 (listed es) (λ x is. (claim_of e.0 e.1.kind x is).0)
       (above e.0 es (sorted_head ref_cmp e.0 (keys_of es) h)) (distinct_listed es (sorted_tail ref_cmp e.0 (keys_of es) h)))
 
   -- what is counted, where p is a genuine permanode, and where it is none
-  pub moments_counted : (ms ks : List Moment) → true ≡ is_genuine_permanode facts accepts p → ms ≡ filter_map moment (claims_about facts accepts p) → IsPermutation ms ks → IsSorted moment_cmp ks → ks ≡ keys (counted facts accepts when p)
+  pub moments_counted : (ms ks : List Moment) → true ≡ is_genuine_permanode facts accepts p → ms ≡ filter_map moment (claims_about facts accepts p) → IsPermutation ms ks → IsSorted claim_moment_cmp ks → ks ≡ keys (counted_claims facts accepts when p)
   moments_counted ms ks genuine is moved up =
       let all = listed (entries facts) in
       let own : ms ≡ keys_of all = is ∙ sym (moments_listed (entries facts) (entries_had facts)) in
-      keys_sorted moment_total same_moment all ks (subst (λ (xs : List Moment). IsPermutation xs ks) own moved) up (distinct_listed (entries facts) (keys_ascend facts))
-      ∙ ap (λ b. keys (from_entries {R = moment_cmp} (cond b all []))) genuine
+      keys_sorted claim_moment_total same_claim_moment all ks (subst (λ (xs : List Moment). IsPermutation xs ks) own moved) up (distinct_listed (entries facts) (keys_ascend facts))
+      ∙ ap (λ b. keys (from_entries {R = claim_moment_cmp} (cond b all []))) genuine
 
-  pub none_counted : false ≡ is_genuine_permanode facts accepts p → [] ≡ keys (counted facts accepts when p)
-  none_counted other = sym (keys-empty moment_cmp What) ∙ ap (λ b. keys (from_entries {R = moment_cmp} (cond b (listed (entries facts)) []))) other
+  pub none_counted : false ≡ is_genuine_permanode facts accepts p → [] ≡ keys (counted_claims facts accepts when p)
+  none_counted other = sym (keys-empty claim_moment_cmp What) ∙ ap (λ b. keys (from_entries {R = claim_moment_cmp} (cond b (listed (entries facts)) []))) other
 
   said_cond : (b : Bool) → AllByRecursion (λ (x : Moment × What). said facts x.0.1 ≡ Some x.1) (cond b (listed (entries facts)) [])
   said_cond true = said_listed (entries facts) (entries_had facts)
@@ -208,18 +197,19 @@ module _ (facts : Facts) (accepts : Accepts) (when : When) (p : List ℕ) where
 
   -- the fold of what the claims say, taken from their facts
   refold : (name : List ℕ) (es : List (Moment × What)) (found : List (List ℕ)) → AllByRecursion (λ (x : Moment × What). said facts x.0.1 ≡ Some x.1) es
-      → fold (λ found m. apply_said name found (said facts m.1)) found (keys_of es) ≡ fold (apply name) found (map (λ x. x.1) es)
+      → fold (λ found m. apply_said p name found (said facts m.1)) found (keys_of es) ≡ fold (apply p name) found (map (λ x. x.1) es)
   refold name [] found h = refl
   refold name (x ∷ xs) found h =
-      ap (λ o. fold (λ found (m : Moment). apply_said name found (said facts m.1)) (apply_said name found o) (keys_of xs)) h.0 ∙ refold name xs (apply name found x.1) h.1
+      ap (λ o. fold (λ found (m : Moment). apply_said p name found (said facts m.1)) (apply_said p name found o) (keys_of xs)) h.0 ∙ refold name xs (apply p name found x.1) h.1
 
-  pub values_folded : (name : List ℕ) → fold (λ found m. apply_said name found (said facts m.1)) [] (keys (counted facts accepts when p)) ≡ values facts accepts when p name
-  values_folded name = refold name (entries (counted facts accepts when p)) []
-      (entries_told moment_total same_moment (λ (m : Moment). said facts m.1) _ (said_cond (is_genuine_permanode facts accepts p)))
+  pub values_folded : (name : List ℕ) → fold (λ found m. apply_said p name found (said facts m.1)) [] (keys (counted_claims facts accepts when p)) ≡ values facts accepts when p name
+  values_folded name = refold name (entries (counted_claims facts accepts when p)) []
+      (entries_told claim_moment_total same_claim_moment (λ (m : Moment). said facts m.1) _ (said_cond (is_genuine_permanode facts accepts p)))
+      ∙ sym (values_by_claim facts accepts when p name)
 
   -- the counted list, where p is a genuine permanode, and where it is none
-  pub counted_is : true ≡ is_genuine_permanode facts accepts p → from_entries {R = moment_cmp} (listed (entries facts)) ≡ counted facts accepts when p
-  counted_is genuine = ap (λ b. from_entries {R = moment_cmp} (cond b (listed (entries facts)) [])) genuine
+  pub counted_is : true ≡ is_genuine_permanode facts accepts p → from_entries {R = claim_moment_cmp} (listed (entries facts)) ≡ counted_claims facts accepts when p
+  counted_is genuine = ap (λ b. from_entries {R = claim_moment_cmp} (cond b (listed (entries facts)) [])) genuine
 
   pub moments_are : keys_of (listed (entries facts)) ≡ filter_map moment (claims_about facts accepts p)
   moments_are = moments_listed (entries facts) (entries_had facts)

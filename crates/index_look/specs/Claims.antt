@@ -12,7 +12,8 @@ use Rattle.schema_fact.specs.declared.kinds.Kind.TheVariants.{Plain, Key, File, 
 use Rattle.claim_model.specs.Facts.{Entry, Facts}
 use Rattle.claim_model.specs.Genuine.{is_genuine, is_genuine_permanode}
 use Rattle.claim_model.specs.Deleted.{is_deleted}
-use Rattle.claim_model.specs.Claims.{claim_on, apply, stands_at, has_value}
+use Rattle.claim_model.specs.Claims.{stands_at, has_value}
+use Rattle.claim_model.specs.ByClaim.{claim_on, apply}
 
 -- the permanode whose attribute it changes, or the target that it deletes
 abbrev pub what_subject : What → List ℕ
@@ -62,9 +63,9 @@ abbrev pub said : Facts → List ℕ → Option What
 said facts r = option_and_then (λ fact. claim_says fact.kind) (get facts r)
 
 -- what is left of the values after a claim, if it is one
-abbrev pub apply_said : List ℕ → List (List ℕ) → Option What → List (List ℕ)
-apply_said name found None = found
-apply_said name found (Some what) = apply name found what
+abbrev pub apply_said : List ℕ → List ℕ → List (List ℕ) → Option What → List (List ℕ)
+apply_said p name found None = found
+apply_said p name found (Some what) = apply p name found what
 
 -- the moment of an attribute claim on p that counts at that time, is genuine, and isn't deleted then
 abbrev pub standing_moment : Facts → Accepts → When → List ℕ → Entry → Option (ℤ × List ℕ)

@@ -1,7 +1,7 @@
 //! What single facts say as claims and signed blobs.
 ghost use Rattle.std.specs.Prelude.{◌≡◌, option_copied, option_map};
 ghost use Rattle.std.specs.FinMap.{get};
-ghost use Rattle.claim_model.specs.Claims.{claim_on, is_attribute_claim_on};
+ghost use Rattle.claim_model.specs.ByClaim.{claim_on, is_attribute_claim_on};
 ghost use Rattle.claim_model.specs.Deleted.{counts_at, can_be_deleted, deletes};
 ghost use Rattle.claim_model.specs.Facts.{is_permanode, passes};
 ghost use Rattle.claim_model.specs.Genuine.{key_accepts, signature};

@@ -53,7 +53,7 @@ pub trait Look {
     ) -> Result<TextList, NoMemory>
         ensures { IfOk result (λ texts. texts ≡ values (facts self.now) (accepts self.now) when.now p.now attr.now) };
 
-    /// The date of the last counted claim on a permanode at that time, and `None` exactly where nothing is counted.
+    /// The date of the last counted change of a permanode at that time, and `None` exactly where nothing is counted.
     fn last_change<L: Ledger>(&self, p: &Ref, when: &When, steps: &mut Steps<L>) -> Option<Date>
         ensures { result ≡ last_change (facts self.now) (accepts self.now) when.now p.now };
 

@@ -2,7 +2,7 @@
 ghost use Rattle.std.specs.Prelude.{◌≡◌, [], IfOk, OnOk, fold, map, filter, not, option_copied, length, ◌==◌, if◌then◌else◌};
 ghost use Rattle.std.specs.List.{list_any};
 ghost use Rattle.std.specs.Str.{bytes_eq};
-ghost use Rattle.claim_model.specs.Claims.{apply};
+ghost use Rattle.claim_model.specs.ByClaim.{apply};
 ghost use Rattle.index_look.specs.Claims.{apply_said, said};
 ghost use Rattle.index_look.specs.Latest.{later_of};
 
@@ -15,36 +15,38 @@ use schema_fact::What;
 use std::alloc::Global;
 use std::sync::ledger::Ledger;
 
-/// The values of the attribute after the claims of these moments, one after another. One look-up for each. `NoMemory` comes only where
+/// The values of the attribute of a permanode after the claims of these moments, one after another. One look-up for each. `NoMemory` comes only where
 /// no memory is left.
 pub fn folded<T: FactTable, L: Ledger>(
     alloc: Global,
     table: &T,
+    p: &Ref,
     moments: &[(Date, Ref)],
     attr: &str,
     steps: &mut Steps<L>,
 ) -> Result<TextList, NoMemory>
-    ensures { IfOk result (λ texts. texts ≡ fold (λ found m. apply_said attr.now found (said (T.facts table.now) m.1)) [] moments.now) }
+    ensures { IfOk result (λ texts. texts ≡ fold (λ found m. apply_said p.now attr.now found (said (T.facts table.now) m.1)) [] moments.now) }
 {
     let mut found = Vec::new(alloc);
     for (_, r) in moments {
-        apply_said(table, &mut found, r, attr, steps)?;
+        apply_said(table, &mut found, p, r, attr, steps)?;
     }
     copied(alloc, &found)
 }
 
-// What a claim makes of the values of the attribute.
+// What the claim of a ref makes of the values of the attribute of the permanode.
 fn apply_said<'a, T: FactTable, L: Ledger>(
     table: &'a T,
     found: &mut Vec<&'a Text>,
+    p: &Ref,
     r: &Ref,
     attr: &str,
     steps: &mut Steps<L>,
 ) -> Result<(), NoMemory>
-    ensures { OnOk result (map (λ t. t.now) found.new.items ≡ apply_said attr.now (map (λ t. t.now) found.old.items) (said (T.facts table.now) r.now)) }
+    ensures { OnOk result (map (λ t. t.now) found.new.items ≡ apply_said p.now attr.now (map (λ t. t.now) found.old.items) (said (T.facts table.now) r.now)) }
 {
     match said(table, r, steps) {
-        Some(what) => apply(found, what, attr),
+        Some(what) => apply(found, p, what, attr),
         None => Ok(()),
     }
 }
@@ -60,29 +62,29 @@ fn said<'a, T: FactTable, L: Ledger>(
     claim_says(&table.fact_at(r, steps)?.kind)
 }
 
-// What a claim makes of the values of the attribute.
-fn apply<'a>(found: &mut Vec<&'a Text>, what: &'a What, attr: &str) -> Result<(), NoMemory>
-    ensures { OnOk result (map (λ t. t.now) found.new.items ≡ apply attr.now (map (λ t. t.now) found.old.items) what.now) }
+// What a claim makes of the values of the attribute of the permanode.
+fn apply<'a>(found: &mut Vec<&'a Text>, p: &Ref, what: &'a What, attr: &str) -> Result<(), NoMemory>
+    ensures { OnOk result (map (λ t. t.now) found.new.items ≡ apply p.now attr.now (map (λ t. t.now) found.old.items) what.now) }
 {
     match what {
         What::Set {
+            on,
             attr: name,
             value,
-            ..
-        } if name.as_str() == attr => {
+        } if p == on && name.as_str() == attr => {
             found.clear();
             found.push(value)?;
         }
         What::Add {
+            on,
             attr: name,
             value,
-            ..
-        } if name.as_str() == attr => found.push(value)?,
+        } if p == on && name.as_str() == attr => found.push(value)?,
         What::Del {
+            on,
             attr: name,
             value,
-            ..
-        } if name.as_str() == attr => remove(found, value.as_str()),
+        } if p == on && name.as_str() == attr => remove(found, value.as_str()),
         _ => {}
     }
     Ok(())

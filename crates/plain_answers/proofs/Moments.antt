@@ -10,13 +10,15 @@ use Rattle.claim_verify.specs.Verifier.{Accepts}
 use Rattle.schema_date.specs.declared.date.When.{When}
 use Rattle.schema_fact.specs.declared.kinds.What.{What}
 use Rattle.claim_model.specs.Facts.{Facts, Entry}
-use Rattle.claim_model.specs.Claims.{moment_cmp, claim_on, stands_at, has_value}
+use Rattle.claim_model.specs.Claims.{stands_at, has_value}
+use Rattle.claim_model.specs.ByClaim.{claim_moment_cmp, claim_on}
 use Rattle.claim_model.specs.Deleted.{is_deleted, live_permanodes}
 use Rattle.claim_model.specs.Genuine.{is_genuine_permanode}
 use Rattle.index_look.specs.Look.{is_after}
 use Rattle.index_look.specs.Claims.{claims_about, standing_moment, is_holder}
 use Rattle.index_look.specs.Latest.{later, later_of, latest}
-use Rattle.index_look.proofs.Counting.{Moment, moment_total, listed, moment, moments_are, filter_map-cond}
+use Rattle.index_look.proofs.Counting.{Moment, listed, moment, moments_are, filter_map-cond}
+use Rattle.claim_model.proofs.ByClaim.{claim_moment_total}
 use Rattle.index_look.proofs.Order.{less_too, is_Less}
 use Rattle.index_look.proofs.Texts.{filter-twice}
 
@@ -53,36 +55,36 @@ kept_more {X} {Y} h x xs old now all is so_far =
 
 -- ---- the latest
 
-after_both : (a b c : Moment) → is_lt (moment_cmp b a) ≡ false → is_lt (moment_cmp c b) ≡ false → is_lt (moment_cmp c a) ≡ false
-after_both a b c h k = elim (cases_Bool (is_lt (moment_cmp c a))) [
-  | inl less ↦ absurd (let f : true ≡ false = sym (ap is_lt (less_too moment_total b c a k (is_Less (moment_cmp c a) less))) ∙ h in cc f)
+after_both : (a b c : Moment) → is_lt (claim_moment_cmp b a) ≡ false → is_lt (claim_moment_cmp c b) ≡ false → is_lt (claim_moment_cmp c a) ≡ false
+after_both a b c h k = elim (cases_Bool (is_lt (claim_moment_cmp c a))) [
+  | inl less ↦ absurd (let f : true ≡ false = sym (ap is_lt (less_too claim_moment_total b c a k (is_Less (claim_moment_cmp c a) less))) ∙ h in cc f)
   | inr off ↦ off
 ]
 
 -- the later of two moments
 abbrev latter : Moment → Moment → Moment
-latter a b = cond (is_lt (moment_cmp b a)) a b
+latter a b = cond (is_lt (claim_moment_cmp b a)) a b
 
 latter_assoc : (a b c : Moment) → latter (latter a b) c ≡ latter a (latter b c)
-latter_assoc a b c = by (cases_Bool (is_lt (moment_cmp b a))) (cases_Bool (is_lt (moment_cmp c b)))
+latter_assoc a b c = by (cases_Bool (is_lt (claim_moment_cmp b a))) (cases_Bool (is_lt (claim_moment_cmp c b)))
   where
-    by : (is_lt (moment_cmp b a) ≡ true) ⊎ (is_lt (moment_cmp b a) ≡ false) → (is_lt (moment_cmp c b) ≡ true) ⊎ (is_lt (moment_cmp c b) ≡ false) → latter (latter a b) c ≡ latter a (latter b c)
+    by : (is_lt (claim_moment_cmp b a) ≡ true) ⊎ (is_lt (claim_moment_cmp b a) ≡ false) → (is_lt (claim_moment_cmp c b) ≡ true) ⊎ (is_lt (claim_moment_cmp c b) ≡ false) → latter (latter a b) c ≡ latter a (latter b c)
     by (inl ba) (inl cb) =
-        let ca : is_lt (moment_cmp c a) ≡ true = ap is_lt (moment_total.trans c b a (is_Less (moment_cmp c b) cb) (is_Less (moment_cmp b a) ba)) in
-        ap (λ m. latter m c) (cond-true (is_lt (moment_cmp b a)) a b ba) ∙ cond-true (is_lt (moment_cmp c a)) a c ca
-        ∙ sym (ap (latter a) (cond-true (is_lt (moment_cmp c b)) b c cb) ∙ cond-true (is_lt (moment_cmp b a)) a b ba)
+        let ca : is_lt (claim_moment_cmp c a) ≡ true = ap is_lt (claim_moment_total.trans c b a (is_Less (claim_moment_cmp c b) cb) (is_Less (claim_moment_cmp b a) ba)) in
+        ap (λ m. latter m c) (cond-true (is_lt (claim_moment_cmp b a)) a b ba) ∙ cond-true (is_lt (claim_moment_cmp c a)) a c ca
+        ∙ sym (ap (latter a) (cond-true (is_lt (claim_moment_cmp c b)) b c cb) ∙ cond-true (is_lt (claim_moment_cmp b a)) a b ba)
     by (inl ba) (inr cb) =
-        ap (λ m. latter m c) (cond-true (is_lt (moment_cmp b a)) a b ba) ∙ sym (ap (latter a) (cond-false (is_lt (moment_cmp c b)) b c cb))
+        ap (λ m. latter m c) (cond-true (is_lt (claim_moment_cmp b a)) a b ba) ∙ sym (ap (latter a) (cond-false (is_lt (claim_moment_cmp c b)) b c cb))
     by (inr ba) (inl cb) =
-        ap (λ m. latter m c) (cond-false (is_lt (moment_cmp b a)) a b ba) ∙ cond-true (is_lt (moment_cmp c b)) b c cb
-        ∙ sym (ap (latter a) (cond-true (is_lt (moment_cmp c b)) b c cb) ∙ cond-false (is_lt (moment_cmp b a)) a b ba)
+        ap (λ m. latter m c) (cond-false (is_lt (claim_moment_cmp b a)) a b ba) ∙ cond-true (is_lt (claim_moment_cmp c b)) b c cb
+        ∙ sym (ap (latter a) (cond-true (is_lt (claim_moment_cmp c b)) b c cb) ∙ cond-false (is_lt (claim_moment_cmp b a)) a b ba)
     by (inr ba) (inr cb) =
-        let ca : is_lt (moment_cmp c a) ≡ false = after_both a b c ba cb in
-        ap (λ m. latter m c) (cond-false (is_lt (moment_cmp b a)) a b ba) ∙ cond-false (is_lt (moment_cmp c b)) b c cb
-        ∙ sym (ap (latter a) (cond-false (is_lt (moment_cmp c b)) b c cb) ∙ cond-false (is_lt (moment_cmp c a)) a c ca)
+        let ca : is_lt (claim_moment_cmp c a) ≡ false = after_both a b c ba cb in
+        ap (λ m. latter m c) (cond-false (is_lt (claim_moment_cmp b a)) a b ba) ∙ cond-false (is_lt (claim_moment_cmp c b)) b c cb
+        ∙ sym (ap (latter a) (cond-false (is_lt (claim_moment_cmp c b)) b c cb) ∙ cond-false (is_lt (claim_moment_cmp c a)) a c ca)
 
 later-some : (a b : Moment) → later a (Some b) ≡ Some (latter a b)
-later-some a b = by (is_lt (moment_cmp b a))
+later-some a b = by (is_lt (claim_moment_cmp b a))
   where
     by : (t : Bool) → cond t (Some a) (Some b) ≡ Some (cond t a b)
     by true = refl

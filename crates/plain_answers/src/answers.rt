@@ -107,7 +107,7 @@ pub fn values<T: FactTable, V: Verifier, L: Ledger>(
     values_of(alloc, table, keys, p, attr, when, steps)
 }
 
-/// The date of the last counted claim on a permanode at that time, and `None` exactly where nothing is counted. It walks as `values`
+/// The date of the last counted change of a permanode at that time, and `None` exactly where nothing is counted. It walks as `values`
 /// does.
 pub fn last_change<T: FactTable, V: Verifier, L: Ledger>(
     table: &T,

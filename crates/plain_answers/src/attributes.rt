@@ -2,7 +2,8 @@
 ghost use Rattle.std.specs.Prelude.{◌≡◌, ◌++◌, IfOk, OnOk, option_to_list};
 ghost use Rattle.std.specs.List.{filter_map};
 ghost use Rattle.std.specs.FinMap as finite;
-ghost use Rattle.claim_model.specs.Claims.{counted, has_value, values};
+ghost use Rattle.claim_model.specs.ByClaim.{counted_claims};
+ghost use Rattle.claim_model.specs.Claims.{has_value, values};
 ghost use Rattle.index_look.specs.Claims.{standing_moment};
 ghost use Rattle.index_look.specs.Latest.{latest};
 
@@ -89,7 +90,7 @@ fn moments<T: FactTable, V: Verifier, L: Ledger>(
     when: &When,
     steps: &mut Steps<L>,
 ) -> Result<Vec<(Date, Ref)>, NoMemory>
-    ensures { IfOk result (λ moments. moments.items ≡ finite.keys (counted (T.facts table.now) (V.accepts keys.now) when.now p.now)) }
+    ensures { IfOk result (λ moments. moments.items ≡ finite.keys (counted_claims (T.facts table.now) (V.accepts keys.now) when.now p.now)) }
 {
     if !is_genuine_permanode(table, keys, p, steps) {
         return Ok(Vec::new(alloc));
@@ -111,7 +112,7 @@ pub(crate) fn values_of<T: FactTable, V: Verifier, L: Ledger>(
     ensures { IfOk result (λ texts. texts ≡ values (T.facts table.now) (V.accepts keys.now) when.now p.now attr.now) }
 {
     let moments = moments(alloc, table, keys, p, when, steps)?;
-    folded(alloc, table, &moments, attr, steps)
+    folded(alloc, table, p, &moments, attr, steps)
 }
 
 // Whether a permanode has the value at that time.

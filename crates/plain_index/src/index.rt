@@ -4,7 +4,8 @@ ghost use Rattle.std.specs.FinMap as finite;
 ghost use Rattle.std.specs.List.{filter_map};
 ghost use Rattle.blobref.specs.Blobref.{ref_cmp};
 ghost use Rattle.schema_fact.specs.Validity.{IsValid};
-ghost use Rattle.claim_model.specs.Claims.{counted, has_value};
+ghost use Rattle.claim_model.specs.ByClaim.{counted_claims};
+ghost use Rattle.claim_model.specs.Claims.{has_value};
 ghost use Rattle.claim_model.specs.Deleted.{deletes, deleted_within, is_deleted, live_permanodes};
 ghost use Rattle.claim_model.specs.Facts.{AreDistinct, AreValid, passes};
 ghost use Rattle.claim_model.specs.Genuine.{is_genuine, permanodes};
@@ -258,7 +259,7 @@ impl<V: Verifier> PlainIndex<V> {
         when: &When,
         steps: &mut Steps<L>,
     ) -> Result<Vec<(Date, Ref)>, NoMemory>
-        ensures { IfOk result (λ moments. moments.items ≡ finite.keys (counted self.now.0 (V.accepts self.now.1) when.now p.now)) }
+        ensures { IfOk result (λ moments. moments.items ≡ finite.keys (counted_claims self.now.0 (V.accepts self.now.1) when.now p.now)) }
     {
         if !self.is_permanode(p, steps) {
             return Ok(Vec::new(self.alloc));
@@ -359,7 +360,7 @@ impl<V: Verifier> Look for PlainIndex<V> {
         steps: &mut Steps<L>,
     ) -> Result<TextList, NoMemory> {
         let moments = self.moments(p, when, steps)?;
-        folded(self.alloc, self, &moments, attr, steps)
+        folded(self.alloc, self, p, &moments, attr, steps)
     }
 
     /// It looks at the claims about the permanode alone, and asks for each whether it is deleted.

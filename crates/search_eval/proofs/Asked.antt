@@ -4,7 +4,7 @@ use Rattle.std.specs.declared.cmp.Ordering.TheVariants.{Less, Equal, Greater}
 use Rattle.std.specs.List.{AllByRecursion, list_any}
 use Rattle.std.specs.Cmp.{IsTotalOrder}
 use Rattle.std.specs.FinMap.Entries.{by_order}
-use Rattle.std.proofs.lemmas.Bool.{false≢true, and_parts}
+use Rattle.std.proofs.lemmas.Bool.{false≢true, and_parts, or_cases, or_left, or_parts, or_right, not-true}
 use Rattle.std.proofs.lemmas.List.{length-take}
 use Rattle.std.proofs.lemmas.List.Elements.{All-take, All-from_recursion}
 use Rattle.std.specs.FinMap.{keys, get, contains_key-keys, IsAntisymmetric}
@@ -116,22 +116,6 @@ module _ (changed : List ℕ → Option ℤ) where
 
 -- ---- what is left out
 
-or_either : (a b : Bool) → (a || b) ≡ true → (a ≡ true) ⊎ (b ≡ true)
-or_either true b h = inl refl
-or_either false b h = inr h
-
-or_left : (a b : Bool) → a ≡ true → (a || b) ≡ true
-or_left true b h = refl
-or_left false b h = absurd (false≢true h)
-
-or_right : (a b : Bool) → b ≡ true → (a || b) ≡ true
-or_right true b h = refl
-or_right false b h = h
-
-or_neither : (a b : Bool) → (a || b) ≡ false → (a ≡ false) × (b ≡ false)
-or_neither true b h = absurd (false≢true (sym h))
-or_neither false b h = (refl, h)
-
 or_second : (a b : Bool) → a ≡ false → (a || b) ≡ true → b ≡ true
 or_second true b h t = absurd (false≢true (sym h))
 or_second false b h t = t
@@ -147,7 +131,7 @@ module _ (r : List ℕ) where
 
   each_of : (P : List ℕ → Type 0) (rs : List (List ℕ)) → AllByRecursion P rs → stands_in rs ≡ true → P r
   each_of P [] h found = absurd (false≢true found)
-  each_of P (x ∷ xs) h found = by (each_of P xs h.1) (or_either (bytes_eq r x) (stands_in xs) found)
+  each_of P (x ∷ xs) h found = by (each_of P xs h.1) (or_cases (bytes_eq r x) (stands_in xs) found)
     where
       by : (stands_in xs ≡ true → P r) → (bytes_eq r x ≡ true) ⊎ (stands_in xs ≡ true) → P r
       by more (inl here) = subst P (sym ((bytes_eq-Decides r x).0 here)) h.0
@@ -160,14 +144,14 @@ module _ (r : List ℕ) where
   behind R zero xs up found out = (refl, tt)
   behind R (suc n) [] up found out = absurd (false≢true found)
   behind R (suc n) (x ∷ xs) up found out =
-      let parts = or_neither (bytes_eq r x) (stands_in (take n xs)) out in
+      let parts = or_parts (bytes_eq r x) (stands_in (take n xs)) out in
       let later = or_second (bytes_eq r x) (stands_in xs) parts.0 found in
       let rest = behind R n xs up.1 later parts.1 in
       (ap suc rest.0, (each_of (λ y. R x y ≡ Less) xs up.0 later, rest.1))
 
   kept : (t : List ℕ → Bool) (rs : List (List ℕ)) → t r ≡ true → stands_in rs ≡ true → stands_in (filter t rs) ≡ true
   kept t [] pass found = found
-  kept t (x ∷ xs) pass found = by (t x) refl (or_either (bytes_eq r x) (stands_in xs) found) (kept t xs pass)
+  kept t (x ∷ xs) pass found = by (t x) refl (or_cases (bytes_eq r x) (stands_in xs) found) (kept t xs pass)
     where
       by : (b : Bool) → t x ≡ b → (bytes_eq r x ≡ true) ⊎ (stands_in xs ≡ true) → (stands_in xs ≡ true → stands_in (filter t xs) ≡ true) → stands_in (cond b (x ∷ filter t xs) (filter t xs)) ≡ true
       by true is (inl here) more = or_left (bytes_eq r x) (stands_in (filter t xs)) here
@@ -188,10 +172,10 @@ module _ (r : List ℕ) where
 
       by : (o : Ordering) → R d e ≡ o → (is_dated (d ∷ ds) ≡ true → is_dated (key_put R d ds) ≡ true) → is_dated (by_order o (d ∷ e ∷ ds) (e ∷ ds) (e ∷ key_put R d ds)) ≡ true
       by Less is more = found
-      by Equal is more = elim (or_either (bytes_eq r d.1) (is_dated (e ∷ ds)) found) [ inl here ↦ or_left (bytes_eq r e.1) (is_dated ds) (ap (λ (f : Dated). bytes_eq r f.1) (sym (same d e is)) ∙ here) | inr later ↦ later ]
-      by Greater is more = elim (or_either (bytes_eq r d.1) (is_dated (e ∷ ds)) found) [
+      by Equal is more = elim (or_cases (bytes_eq r d.1) (is_dated (e ∷ ds)) found) [ inl here ↦ or_left (bytes_eq r e.1) (is_dated ds) (ap (λ (f : Dated). bytes_eq r f.1) (sym (same d e is)) ∙ here) | inr later ↦ later ]
+      by Greater is more = elim (or_cases (bytes_eq r d.1) (is_dated (e ∷ ds)) found) [
         | inl here ↦ or_right (bytes_eq r e.1) (is_dated (key_put R d ds)) (more (or_left (bytes_eq r d.1) (is_dated ds) here))
-        | inr later ↦ elim (or_either (bytes_eq r e.1) (is_dated ds) later) [
+        | inr later ↦ elim (or_cases (bytes_eq r e.1) (is_dated ds) later) [
           | inl here ↦ or_left (bytes_eq r e.1) (is_dated (key_put R d ds)) here
           | inr last ↦ or_right (bytes_eq r e.1) (is_dated (key_put R d ds)) (more (or_right (bytes_eq r d.1) (is_dated ds) last))
         ]
@@ -199,7 +183,7 @@ module _ (r : List ℕ) where
 
   all_put : (R : Dated → Dated → Ordering) → IsAntisymmetric R → (ds : List Dated) → is_dated ds ≡ true → is_dated (keys_put R ds) ≡ true
   all_put R same [] found = found
-  all_put R same (d ∷ ds) found = put_kept R same d (keys_put R ds) (by (or_either (bytes_eq r d.1) (is_dated ds) found) (all_put R same ds))
+  all_put R same (d ∷ ds) found = put_kept R same d (keys_put R ds) (by (or_cases (bytes_eq r d.1) (is_dated ds) found) (all_put R same ds))
     where
       by : (bytes_eq r d.1 ≡ true) ⊎ (is_dated ds ≡ true) → (is_dated ds ≡ true → is_dated (keys_put R ds) ≡ true) → is_dated (d ∷ keys_put R ds) ≡ true
       by (inl here) more = or_left (bytes_eq r d.1) (is_dated (keys_put R ds)) here
@@ -228,10 +212,6 @@ module _ (r : List ℕ) where
   has_fact : (facts : Facts) → is_some (get facts r) ≡ true → stands_in (keys facts) ≡ true
   has_fact facts some = (λ i. list_any (λ x. sym (is_eq-slice_cmp r x) i) (keys facts)) ∙ sym (contains_key-keys facts r) ∙ some
 
-not_true : (b : Bool) → not b ≡ true → b ≡ false
-not_true true h = absurd (false≢true h)
-not_true false h = refl
-
 module _ (facts : Facts) (accepts : Accepts) (query : Query) where
   abbrev Asked : List (List ℕ) → Type 0
   Asked rs = AllByRecursion (IsAsked facts accepts query) rs
@@ -253,7 +233,7 @@ module _ (facts : Facts) (accepts : Accepts) (query : Query) where
   all_asked =
       kept_each {P = λ r. (is_genuine_permanode facts accepts r ≡ true) × (is_deleted facts accepts query.at r ≡ false)} (meets facts accepts query.at query.constraint)
       (λ r h met. record { genuine = h.0; live = h.1; met = met }) (live_permanodes facts accepts query.at)
-      (kept_each {P = λ r. is_genuine_permanode facts accepts r ≡ true} (λ r. not (is_deleted facts accepts query.at r)) (λ r h live. (h, not_true (is_deleted facts accepts query.at r) live)) (permanodes facts accepts)
+      (kept_each {P = λ r. is_genuine_permanode facts accepts r ≡ true} (λ r. not (is_deleted facts accepts query.at r)) (λ r h live. (h, not-true (is_deleted facts accepts query.at r) live)) (permanodes facts accepts)
       (kept_each {P = λ r. Unit {0}} (is_genuine_permanode facts accepts) (λ r h genuine. genuine) (keys facts) (any_each (keys facts))))
 
   answer_asked : All (IsAsked facts accepts query) (answer facts accepts query)

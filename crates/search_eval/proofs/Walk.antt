@@ -1,5 +1,6 @@
 -- A walk from each genuine permanode to the next comes to all of them.
 use Rattle.std.proofs.Common.{◌≡◌, ℕ, ◌<◌, Bool, true, false, ◌&&◌, not, cond, List, [], ◌∷◌, ◌++◌, length, filter, Option, Some, None, refl, sym, ap, ◌∙◌, arith, inl, inr, ◌⊎◌, append_assoc, append-nil, Ordering}
+use Rattle.std.proofs.Math.Bool.{and_comm}
 use Rattle.std.proofs.lemmas.Bool.{cases_Bool, cond-true, cond-false, false≢true}
 use Rattle.std.proofs.lemmas.Map.Keys.{sorted_head, sorted_tail}
 use Rattle.std.proofs.lemmas.Option.{same_Some}
@@ -120,15 +121,9 @@ filter_twice p q (x ∷ xs) = by (p x) (q x) (filter_twice p q xs)
     by true b h = ap (λ zs. cond (q x) (x ∷ zs) zs) h
     by false b h = h
 
-and_turned : (a b : Bool) → (a && b) ≡ (b && a)
-and_turned true true = refl
-and_turned true false = refl
-and_turned false true = refl
-and_turned false false = refl
-
 pub found_kept : (facts : Facts) (accepts : Accepts) (query : Query) → filter (is_found facts accepts query) (permanodes facts accepts) ≡ found facts accepts query
 found_kept facts accepts query =
-    (λ i. filter (λ r. and_turned (meets facts accepts query.at query.constraint r) (not (is_deleted facts accepts query.at r)) i) (permanodes facts accepts))
+    (λ i. filter (λ r. and_comm (meets facts accepts query.at query.constraint r) (not (is_deleted facts accepts query.at r)) i) (permanodes facts accepts))
     ∙ sym (filter_twice (λ r. not (is_deleted facts accepts query.at r)) (meets facts accepts query.at query.constraint) (permanodes facts accepts))
 
 -- ---- the loop
