@@ -105,7 +105,7 @@ pub unread_refuses : (asked put : Option (List ℕ)) (told store_told : Option P
     → {T : Type 0} (found : Result T GetFault) → IsDamage r store_told found → (found ≡ Err fault.Disk → Rose between now) → IfErr found (λ e. Refuses asked put told before now (unread e))
 unread_refuses asked put told store_told same r before between now le (Ok x) damage rose = tt
 unread_refuses asked put told store_told same r before between now le (Err fault.Disk) damage rose = later_rose before between now le (rose refl)
-unread_refuses asked put told store_told same r before between now le (Err (fault.Damaged want is)) damage rose = (damage.other, sym same ∙ damage.untold)
+unread_refuses asked put told store_told same r before between now le (Err (fault.Damaged want is)) damage rose = record { bytes = damage.bytes; named = damage.named; other = damage.other; untold = sym same ∙ damage.untold }
 unread_refuses asked put told store_told same r before between now le (Err fault.NoMemory) damage rose = tt
 
 pub got_refuses : (told store_told : Option Packs) → store_told ≡ told → (rows : List Row) → ForSome told (λ held. arrivals_in held rows ≡ arrivals (entries held))
@@ -142,6 +142,6 @@ rows_still still P h = subst P (ap (λ s. s.rows) still.value) h
 pub refused_earlier : (asked put : Option (List ℕ)) (told store_told : Option Packs) → store_told ≡ told → (before between now : ℕ) → before ≤ between → (r : Refusal) → Refuses asked put store_told between now r → Refuses asked put told before now r
 refused_earlier asked put told store_told same before between now le (refusal.Absent r) why = (why.0, λ held tells. why.1 held (same ∙ tells))
 refused_earlier asked put told store_told same before between now le (refusal.Full blobs pack) why = (why.0, why.1, why.2, λ held tells. why.3 held (same ∙ tells))
-refused_earlier asked put told store_told same before between now le (refusal.Damaged want is) why = (why.0, sym same ∙ why.1)
+refused_earlier asked put told store_told same before between now le (refusal.Damaged want is) why = record { bytes = why.bytes; named = why.named; other = why.other; untold = sym same ∙ why.untold }
 refused_earlier asked put told store_told same before between now le refusal.Disk why = later_rose before between now le why
 refused_earlier asked put told store_told same before between now le refusal.NoMemory why = tt

@@ -2,7 +2,7 @@
 use Rattle.std.specs.Prelude.{◌≡◌, ◌≢◌, ◌⊎◌, ◌≤◌, ◌<◌, ◌+◌, ℕ, List, [], length, flat_map, Option, None, Some, IfSome, Result, Ok, Err}
 use Rattle.std.specs.Option.{ForSome, option_map}
 use Rattle.std.specs.FinMap.{entries, get}
-use Rattle.blobref.specs.Blobref.{ref_of}
+use Rattle.blobref.specs.Blobref.{ref_of, IsOwnRef}
 use Rattle.edge_base.specs.Edge.{Took, TookFront, GaveAll, GaveFront}
 use Rattle.claim_verify.specs.Verifier.{Accepts}
 use Rattle.schema_date.specs.declared.date.When.TheVariants.{Always}
@@ -23,7 +23,7 @@ use Rattle.perkeep_top.specs.declared.refusal.Refusal.{Refusal}
 use Rattle.perkeep_top.specs.Salvaged.{IsReport, WritesFront}
 use Rattle.perkeep_top.specs.Blobs.{facts_of_content, pack_facts}
 use Rattle.perkeep_top.specs.Outputs.{blobs_of, ref_line, size_line, listed, report}
-use Rattle.perkeep_top.specs.Stored.{search_line, Gains, IsAtLimit, IsFull, status_of}
+use Rattle.perkeep_top.specs.Stored.{search_line, Gains, IsAtLimit, IsDamage, IsFull, status_of}
 
 -- ---- what a command reads
 
@@ -61,7 +61,7 @@ pack_answer attr value accepts pack = search_line (pack_facts pack) accepts attr
 -- The bytes are what a command writes, given what it reads and, where the disk tells them, the packs that it finds.
 abbrev pub IsOutput : CommandLine → Accepts → List ℕ → Option Packs → List ℕ → Type 0
 IsOutput (PutLine dir) accepts input told bytes = bytes ≡ ref_line (ref_of input)
-IsOutput (GetLine dir r) accepts input told bytes = (ref_of bytes ≡ r) × ForSome told (λ held. get (blobs_of held) r ≡ Some bytes)
+IsOutput (GetLine dir r) accepts input told bytes = IsOwnRef r bytes × ForSome told (λ held. get (blobs_of held) r ≡ Some bytes)
 IsOutput (StatLine dir r) accepts input told bytes = ForSome told (λ held. option_map (λ (blob : List ℕ). size_line (r, length blob)) (get (blobs_of held) r) ≡ Some bytes)
 IsOutput (ListLine dir after limit) accepts input told bytes = ForSome told (λ held. bytes ≡ flat_map size_line (listed after limit (blobs_of held)))
 IsOutput (SearchLine dir attr value at) accepts input told bytes = ForSome told (λ held. bytes ≡ search_line (facts_of_content (blobs_of held)) accepts attr value at)
@@ -159,7 +159,7 @@ ComesAt line left left_now told source sink disk status.ReadFault = source
 ComesAt line left left_now told source sink disk status.WriteFault = sink
 ComesAt line left left_now told source sink disk status.Disk = disk
 ComesAt line left left_now told source sink disk (status.Full blobs pack) = IsFullAt line left left_now told blobs pack
-ComesAt line left left_now told source sink disk (status.Damaged want is) = (is ≢ want) × (told ≡ None)
+ComesAt line left left_now told source sink disk (status.Damaged want is) = IsDamage told want is
 ComesAt line left left_now told source sink disk status.NotBuilt = ⊥
 
 -- When each status comes: words that are no line, a text that is wrong, and else by the line.

@@ -8,7 +8,7 @@ use Rattle.edge_base.specs.declared.answers.GetFault.TheVariants as get
 use Rattle.edge_base.specs.declared.answers.Put.{Put}
 use Rattle.edge_base.specs.declared.answers.PutFault.{PutFault}
 use Rattle.edge_base.specs.declared.answers.PutFault.TheVariants as put
-use Rattle.blobref.specs.Blobref.{ref_of}
+use Rattle.blobref.specs.Blobref.{ref_of, ref_like}
 use Rattle.claim_verify.specs.Verifier.{Accepts}
 use Rattle.schema_date.specs.declared.date.When.{When}
 use Rattle.search_query.specs.Queries.{value_query}
@@ -50,12 +50,19 @@ pub record IsFull (r : List ℕ) (blobs pack : ℕ) (held : Packs) : Type 0 wher
 abbrev pub IsAtLimit : ℕ → ℕ → Type 0
 IsAtLimit blobs pack = (limits.blobs ≤ blobs) ⊎ (limits.last_pack ≤ pack)
 
+-- bytes were read in place of a blob, their ref is another one, and the disk doesn't tell its packs
+pub record IsDamage (told : Option Packs) (want is : List ℕ) : Type 0 where
+  pub bytes : List ℕ
+  pub named : is ≡ ref_like want bytes
+  pub other : is ≢ want
+  pub untold : told ≡ None
+
 -- When each refusal comes: for the ref that is asked for, if one is, the ref of the blob that is put, if one is, the packs before, and the
 -- disk's count of faults before and after.
 abbrev pub Refuses : Option (List ℕ) → Option (List ℕ) → Option Packs → ℕ → ℕ → Refusal → Type 0
 Refuses asked put told before now (Absent r) = (asked ≡ Some r) × ForSome told (λ held. finite.get (blobs_of held) r ≡ None)
 Refuses asked put told before now (Full blobs pack) = IsAtLimit blobs pack × (r : List ℕ) × (put ≡ Some r) × ForSome told (IsFull r blobs pack)
-Refuses asked put told before now (Damaged want is) = (is ≢ want) × (told ≡ None)
+Refuses asked put told before now (Damaged want is) = IsDamage told want is
 Refuses asked put told before now Disk = Rose before now
 Refuses asked put told before now NoMemory = Unit {0}
 

@@ -2,7 +2,7 @@
 ghost use Rattle.std.specs.Prelude.{◌≡◌, ◌≤◌, ◌⊎◌, length, flat_map, IfOk, IfErr, OnOk, IsOk, None, Some, option_copied};
 ghost use Rattle.std.specs.Option.{ForSome, option_map};
 ghost use Rattle.std.specs.FinMap.{get};
-ghost use Rattle.blobref.specs.Blobref.{ref_of};
+ghost use Rattle.blobref.specs.Blobref.{IsOwnRef};
 ghost use Rattle.pack_disk.specs.Runs.{Stays};
 ghost use Rattle.perkeep_top.specs.Outputs.{blobs_of, listed, size_line};
 ghost use Rattle.perkeep_top.specs.Stored.{Refuses, bytes_or_refusal, unread};
@@ -17,7 +17,7 @@ use std::alloc::Global;
 
 /// The bytes of a blob.
 pub(crate) fn get<D: Disk>(alloc: Global, disk: D, r: &Ref) -> (D, Result<Octets, Refusal>)
-    ensures named { IfOk result.1 (λ bytes. ref_of bytes ≡ r.now) }
+    ensures named { IfOk result.1 (IsOwnRef r.now) }
     ensures bytes { IfOk result.1 (λ bytes. ForSome (D.packs disk) (λ held. get (blobs_of held) r.now ≡ Some bytes)) }
     ensures refused { IfErr result.1 (Refuses (Some r.now) None (D.packs disk) (D.faults disk) (D.faults result.0)) }
     ensures stays { Stays D.Disk disk result.0 }

@@ -15,6 +15,3 @@ mod status;
 pub use blobs::pack_facts;
 pub use running::run;
 pub use status::{InputFault, Status};
-
-#[cfg(test)]
-mod tests;

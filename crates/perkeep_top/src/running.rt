@@ -16,11 +16,9 @@ use blobref::{NoMemory, Octets, Text};
 use claim_verify::Verifier;
 use edge_base::{Failed, ReadAllError, Sink, Source, read_all, write_all};
 use pack_disk::Disk;
+use pack_format::MAX_SIZE;
 use perkeep_words::{Command, Line, TextFault};
 use std::alloc::Global;
-
-// The most bytes of a blob.
-const LONGEST_BLOB: usize = 16_777_216;
 
 // The most bytes of a pack that is searched: 2 ^ 30.
 const LONGEST_PACK: usize = 1_073_741_824;
@@ -131,7 +129,7 @@ fn put_input<D: Disk, S: Source, K: Sink>(
     ensures sink_later { K.faults sink.old ≤ K.faults sink.new }
     ensures disk_later { D.faults disk ≤ D.faults result.0 }
 {
-    match read_input(alloc, source, LONGEST_BLOB) {
+    match read_input(alloc, source, MAX_SIZE as usize) {
         Ok(bytes) => {
             let (disk, answer) = put(alloc, disk, &bytes);
             (disk, written(answer, sink))

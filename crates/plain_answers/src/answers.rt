@@ -179,12 +179,13 @@ pub fn parents<T: FactTable, V: Verifier, L: Ledger>(
 ) -> Result<RefList, NoMemory>
     ensures { IfOk result (λ refs. refs ≡ parents (T.facts table.now) (V.accepts keys.now) when.now child.now) }
 {
+    let text = child.spell();
     holding(
         alloc,
         table,
         keys,
         "camliMember",
-        &child.text(),
+        text.as_slice(),
         when,
         steps,
     )

@@ -397,7 +397,8 @@ impl<V: Verifier> Look for PlainIndex<V> {
         when: &When,
         steps: &mut Steps<L>,
     ) -> Result<RefList, NoMemory> {
-        self.holding("camliMember", &child.text(), when, steps)
+        let text = child.spell();
+        self.holding("camliMember", text.as_slice(), when, steps)
     }
 }
 
