@@ -15,13 +15,13 @@ returns-clause-ascending c =
     let fs = c.sort_by_key.new.self.items in
     sorted_in_order nat_list_cmp_total same_ref fs
     (c.in_ok-sort_by_key.ensures.sorted (λ e. e.0) (answers_always _ _ _ (λ f a r g called. search rules)))
-    (still_distinct nat_list_cmp_total same_ref _ fs moved (refs_distinct _ (rw c.into_vec.ensures c.requires.distinct)))
+    (still_distinct nat_list_cmp_total same_ref _ fs moved (refs_distinct _ (rw c.into_vec-facts.ensures c.requires.distinct)))
 
 pub returns-clause-same : goal.returns-clause-same
 returns-clause-same c =
     let moved = c.sort_by_key.ensures.permutation in
-    same_map_in_any_order nat_list_cmp_total same_ref _ c.sort_by_key.new.self.items moved (refs_distinct _ (rw c.into_vec.ensures c.requires.distinct))
-    ∙ ap from_entries c.into_vec.ensures
+    same_map_in_any_order nat_list_cmp_total same_ref _ c.sort_by_key.new.self.items moved (refs_distinct _ (rw c.into_vec-facts.ensures c.requires.distinct))
+    ∙ ap from_entries c.into_vec-facts.ensures
 
 pub returns-clause-valid : goal.returns-clause-valid
-returns-clause-valid c = All-permutation (λ (e : Entry). IsValid e.1) _ _ c.sort_by_key.ensures.permutation (rw c.into_vec.ensures c.requires.valid)
+returns-clause-valid c = All-permutation (λ (e : Entry). IsValid e.1) _ _ c.sort_by_key.ensures.permutation (rw c.into_vec-facts.ensures c.requires.valid)
