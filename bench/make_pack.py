@@ -9,9 +9,10 @@ writes `pack`, `keyring` and `answer` into the folder. The kinds are
     large-blobs     512 MiB of blobs of 1 MiB
     false-headers   40 MiB with 64 headers in front of other bytes, each of which costs the hash of 16 MiB
 
-The answer is that of `search-pack tag t0`.
+The answer is that of `search-pack tag t0`. BENCH_MIB is another length of the two large packs, to try a bench.
 """
 
+import os
 import pathlib
 import random
 import sys
@@ -24,6 +25,7 @@ from reference import ref_of
 from writing import claim, delete, key_blob, keyring_line, permanode, record
 
 MIB = 1_048_576
+LARGE = int(os.environ.get("BENCH_MIB", "512"))
 NAME = "load"
 SECRET = b"load"
 LAST = 2**64 - 1
@@ -73,12 +75,12 @@ def store():
 
 def small_blobs():
     length = len(record(bytes(300)))
-    return (record(b"%015d" % number * 20) for number in range(512 * MIB // length)), b'{"blobs":[]}\n'
+    return (record(b"%015d" % number * 20) for number in range(LARGE * MIB // length)), b'{"blobs":[]}\n'
 
 
 def large_blobs():
     noise = random.Random(1)
-    return (record(noise.randbytes(MIB)) for _ in range(511)), b'{"blobs":[]}\n'
+    return (record(noise.randbytes(MIB)) for _ in range(LARGE - 1)), b'{"blobs":[]}\n'
 
 
 def false_headers():

@@ -1,6 +1,6 @@
-"""Times `scan_bench scan` over a pack against `scan_bench hash` over the same bytes, three times each in turn; the best of each counts.
+"""Times `lab scan` over a pack against `lab hash` over the same bytes, three times each in turn; the best of each counts.
 
-    scan.py PROGRAM KIND FOLDER
+    scan.py LAB KIND FOLDER
 """
 
 import pathlib
@@ -9,12 +9,12 @@ import sys
 from compare import MIB, TIMES, run
 
 
-def main(program, kind, folder):
+def main(lab, kind, folder):
     folder = pathlib.Path(folder)
     scans, hashes = [], []
     for _ in range(TIMES):
-        scans.append(run([program, "scan"], folder))
-        hashes.append(run([program, "hash"], folder))
+        scans.append(run([lab, "scan"], folder))
+        hashes.append(run([lab, "hash"], folder))
     for seconds, _, status, output in scans + hashes:
         if status != 0 or not output.endswith(b"\n"):
             sys.exit(f"{kind}: status {status}")

@@ -1,13 +1,15 @@
 #!/usr/bin/env bash
 # Times a scan of large packs against hashing the same bytes alone, both by the same crates: 512 MiB of small blobs, and 512 MiB of
-# large ones. The program is scan_bench, which is built where it is missing, or what SCAN_BENCH names.
+# large ones. The program is crates/lab, which is built where it is missing or older than the sources, or what LAB names. BENCH_MIB is
+# another length of the packs, to try the script.
 #
 # Prints the time of the scan as a multiple of the time of hashing; the goals are 1.5 for small blobs and 1.1 for large ones.
 set -eu
 cd "$(dirname "$0")/.."
-program=${SCAN_BENCH:-crates/scan_bench/out/scan_bench}
-if [ ! -x "$program" ]; then
-  (cd crates/scan_bench && rt run </dev/null >&2)
+program=${LAB:-crates/lab/out/lab}
+if [ -z "${LAB:-}" ] && { [ ! -x "$program" ] || [ -n "$(find crates/*/src -newer "$program" -type f -print -quit)" ]; }; then
+  (cd crates/lab && rt run -- hash </dev/null >&2)
+  touch "$program"
 fi
 program=$(realpath "$program")
 folder=$(mktemp -d)

@@ -6,11 +6,14 @@ Most inputs have an expected answer that is written down here, and the reference
 packs are compared with the reference alone.
 """
 
+import ctypes
 import hashlib
 import itertools
+import mmap
 import os
 import pathlib
 import random
+import resource
 import subprocess
 import sys
 import tempfile
@@ -131,6 +134,7 @@ def example():
     compare(found.what, "length of the answer", 87, len(found.out))
     yield found
     yield answer("a tag that isn't there", source, [], value="b", keyring=keyring)
+    yield answer("an attribute that isn't there", source, [], attribute="title", keyring=keyring)
     yield answer("empty input", b"", [], keyring=keyring)
     yield answer("the example under this script's key", inputs.EXAMPLE, True)
 
@@ -260,6 +264,11 @@ def edges():
     def read_before_write(program):
         with_streams(program, "both fail", line, 5, source=program.folder, sink="/dev/full")
 
+    def broken_off(program):
+        with_broken_source(program, "standard input breaks off", line, b"")
+        with_broken_source(program, "standard input breaks off behind a pack", line, inputs.EXAMPLE)
+        with_broken_source(program, "standard input breaks off, and no write is tried", line, inputs.EXAMPLE, sink="/dev/full")
+
     def no_reader(program):
         read_end, write_end = os.pipe()
         os.close(read_end)
@@ -276,7 +285,8 @@ def edges():
         with_streams(program, "the keyring is a folder", line, 5, folder=folder)
         with_streams(program, "bad words, the keyring is a folder", ("search-pack",), 2, folder=folder)
 
-    return [input_folder, text_before_read, words_before_read, full, read_before_write, no_reader, closed, keyring_folder]
+    reading = [input_folder, text_before_read, words_before_read, broken_off]
+    return reading + [full, read_before_write, no_reader, closed, keyring_folder]
 
 
 def with_streams(program, what, line, status, source=os.devnull, sink=os.devnull, closed=None, folder=None):
@@ -294,11 +304,29 @@ def with_streams(program, what, line, status, source=os.devnull, sink=os.devnull
     compare_ending(what, status, process.returncode, err)
 
 
+def with_broken_source(program, what, line, front, **streams):
+    """Runs the program with a standard input that gives some bytes, and whose next read fails; it has to end with status 5.
+
+    The input is memory of this process, in front of a page whose part of a file is gone.
+    """
+    room = -(-len(front) // mmap.PAGESIZE) * mmap.PAGESIZE
+    with tempfile.TemporaryFile() as file, open("/proc/self/mem", "rb", buffering=0) as memory:
+        file.truncate(room + mmap.PAGESIZE)
+        pages = mmap.mmap(file.fileno(), 0)
+        pages[room - len(front) : room] = front
+        file.truncate(room)
+        memory.seek(ctypes.addressof(ctypes.c_char.from_buffer(pages)) + room - len(front))
+        with_streams(program, what, line, 5, source=memory.fileno(), **streams)
+
+
 def limits():
-    """A pack of the greatest length, and a longer one, of which the rest isn't read."""
+    """A pack of the greatest length, and a longer one, of which the rest isn't read; one that doesn't fit into memory."""
 
     def greatest(program):
         poured(program, "a pack of the greatest length", reference.LARGEST_PACK, 0)
+
+    def one_byte_longer(program):
+        poured(program, "a pack of one byte more", reference.LARGEST_PACK + 1, 4)
 
     def longer(program):
         # What the program doesn't read may stand in the pipe.
@@ -307,16 +335,25 @@ def limits():
         if taken > most:
             raise Difference(f"a longer pack: {taken} bytes were taken, at most {most} should be")
 
-    return [greatest, longer]
+    def no_memory(program):
+        poured(program, "a pack that doesn't fit into memory", 128 * PIECE, 1, preexec_fn=limited_to(64))
+
+    return [greatest, one_byte_longer, longer, no_memory]
 
 
 PIECE = 1_048_576
 
 
-def poured(program, what, length, status):
+def limited_to(mib):
+    """What limits a process that begins to so many MiB of memory."""
+    return lambda: resource.setrlimit(resource.RLIMIT_AS, (mib * PIECE, mib * PIECE))
+
+
+def poured(program, what, length, status, **streams):
     """Pours zeros into the program until it ends or all are taken; answers how many were."""
     folder = program.working_folder(inputs.KEYRING)
-    process = program.start(("search-pack", "tag", "a"), folder, stdin=subprocess.PIPE, stdout=subprocess.PIPE, bufsize=0)
+    streams |= {"stdin": subprocess.PIPE, "stdout": subprocess.PIPE, "bufsize": 0}
+    process = program.start(("search-pack", "tag", "a"), folder, **streams)
     taken = 0
     zeros = bytes(PIECE)
     try:

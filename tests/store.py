@@ -17,7 +17,7 @@ import reference
 from groups import Difference, run_groups
 from reference import ref_of
 from search_pack import compare, compare_ending, finish
-from store_packs import damaged, file_limits, flipped, numbers, removed, syncs, torn
+from store_packs import damaged, file_limits, flipped, memory_limits, numbers, removed, syncs, torn
 from store_refusals import folders, keyrings, streams, texts, words
 from stores import ABC, EMPTY, NOWHERE, NOTHING_FOUND, READING, Program, Store, check_search, ref_by_tool
 from writing import deleted_record, header, pack, record
@@ -26,7 +26,8 @@ from writing import deleted_record, header, pack, record
 # The worked rows
 
 def rows(program):
-    return [lambda row=row: row(program) for row in (empty_blob, two_blobs, one_page, longest_blob, deleted_between, outer_blob)]
+    worked = (empty_blob, two_blobs, one_page, one_store, longest_blob, deleted_between, outer_blob)
+    return [lambda row=row: row(program) for row in worked]
 
 
 def empty_blob(program):
@@ -63,6 +64,30 @@ def one_page(program):
     store.reads("all of two", "list", out=f"{ABC} 3\n{EMPTY} 0\n".encode())
     store.reads("one behind the first", "list", "--after", ABC, "--limit", "1", out=f"{EMPTY} 0\n".encode())
     store.reads("none behind the last", "list", "--after", EMPTY, "--limit", "1")
+
+
+def one_store(program):
+    """One store, from its first blob to a search, whose claim comes before its permanode, and the key last."""
+    store = Store(program)
+    store.reads("a store without blobs", "list")
+    for blob in (b"", b"abc", b""):
+        store.put("two blobs, and one again", blob)
+    found = f"pack-00000.blobs 67 {EMPTY} 0\npack-00000.blobs 134 {ABC} 3\npack-00000.blobs clean\n"
+    store.reads("two blobs", "salvage", out=found.encode())
+    store.reads("two blobs", "list", "--after", ABC, "--limit", "1", out=f"{EMPTY} 0\n".encode())
+    store.reads("two blobs", "get", ABC, out=b"abc")
+    store.reads("two blobs", "stat", ABC, out=f"{ABC} 3\n".encode())
+    store.reads("two blobs", "get", ref_of(inputs.NODE), status=3)
+    store.reads("two blobs", "get", "abc", status=4)
+    store.others = {"keyring": inputs.KEYRING}
+    (store.path / "keyring").write_bytes(inputs.KEYRING)
+    query = ("search", "--attr", "tag", "--value", "a")
+    for blob in reversed(inputs.EXAMPLE_BLOBS):
+        store.reads("a claim, its permanode and its key", *query, out=NOTHING_FOUND)
+        store.put("a claim, its permanode and its key", blob)
+    answer = b'{"blobs":[{"blob":"sha224-adef53a16a87934f7f5595fa4225e39e14c1c80a4e3ed252d959d9b1"}]}\n'
+    store.reads("a claim, its permanode and its key", *query, out=answer)
+    store.reads("before the claim", *query, "--at", "2019-12-31T00:00:00Z", out=NOTHING_FOUND)
 
 
 def longest_blob(program):
@@ -214,6 +239,8 @@ def listing_words(store, blobs):
         (["list", folder, "--limit", "0" * 50 + "3"], three),
         (["list", "--limit", "3", "--", folder], three),
         (["list", folder, "--limit=3", "--"], three),
+        (["list", folder, "--after", refs[4]], reference.listing(blobs, refs[4])),
+        (["list", "--limit=3", "--after=" + refs[4], "--", folder], behind),
         (["list", folder, "--limit=3", "--after", refs[4]], behind),
         (["list", "--after=" + refs[4], "--limit", "3", folder], behind),
         (["list", "--after", refs[4], folder, "--limit=3"], behind),
@@ -282,7 +309,7 @@ def check_form(store, options):
 
 
 def other_keyrings(program):
-    """Values that begin with a hyphen or are empty, and keyrings that are another one or missing."""
+    """Values that begin with a hyphen or are empty, an attribute with an equals sign, and keyrings that are another one or missing."""
     for value in ("-a", "", "--", "a=b", "\u00e4"):
         source, found = inputs.pack_with_value("tag", value)
         store = Store(program, {0: source}, {"keyring": inputs.KEYRING})
@@ -290,6 +317,13 @@ def other_keyrings(program):
     for others in ({}, {"keyring": b""}, {"keyring": inputs.keyring_line("other")}):
         store = Store(program, {0: inputs.EXAMPLE}, others)
         store.reads("a keyring that lacks the key", "search", "--attr", "tag", "--value", "a", out=NOTHING_FOUND)
+    for attribute, value, options in [
+        ("a=b", "", ("--at", inputs.day(1), "--value=", "--attr=a=b")),
+        ("tag", "-a", ("--value=-a", "--attr=tag", "--")),
+    ]:
+        source, found = inputs.pack_with_value(attribute, value)
+        store = Store(program, {0: source}, {"keyring": inputs.KEYRING})
+        store.keeps(f"search {options}", ["search", *options, str(store.path)], reference.search_text(found) + b"\n")
 
 
 MOMENTS = (
@@ -323,7 +357,7 @@ def random_searches(program, seed):
 
 GROUPS = [rows, words, texts, keyrings, folders, listings, torn, flipped, damaged, numbers, puts, large_blobs, searches]
 # These run code between fork and exec, stop the program, or print, so nothing else runs beside them.
-ONE_AT_A_TIME = [streams, file_limits, removed, syncs]
+ONE_AT_A_TIME = [streams, file_limits, memory_limits, removed, syncs]
 
 
 def main(path, *names):

@@ -1,4 +1,4 @@
-"""Packs on the disk: which one a put goes to, packs that are torn or damaged, files that can't grow, and the order of syncs.
+"""Packs on the disk: which one a put goes to, packs that are torn or damaged, files that can't grow, little memory, and the order of syncs.
 
 Each group is a function of the program, and answers its checks.
 """
@@ -19,8 +19,8 @@ import inputs
 import reference
 from groups import Difference
 from reference import pack_name, ref_of
-from search_pack import compare, compare_ending, finish
-from stores import ABC, CLEAN, TORN, Store, check_search, lines_of
+from search_pack import compare, compare_ending, finish, limited_to
+from stores import ABC, CLEAN, TORN, Store, check_search, lines_of, look
 from writing import deleted_record, header, pack, record
 
 
@@ -145,6 +145,49 @@ def within(program, packs, room, handler, endings):
     store.put(f"{what}, the put after it", blob)
     store.lists(f"{what}, the put after it")
 
+
+# Little memory
+
+SCANT, AMPLE = 12, 256
+
+
+def memory_limits(program):
+    """Commands with so many MiB of memory, about the longest blob, which has 16: they fail where it can't fit, and leave all as it was."""
+    longest = bytes(reference.LARGEST_BLOB)
+    checks = [
+        lambda packs=packs, mib=mib: put_within_memory(program, packs, longest, mib)
+        for packs, mib in itertools.product((None, {0: CLEAN}, {0: TORN}), (4, 8, SCANT, 18, 24, 34, 48, AMPLE))
+    ]
+    store = Store(program, {0: pack(longest)})
+    return checks + [lambda line=line: read_within_memory(store, line) for line in lines_of(store.path).values()]
+
+
+def put_within_memory(program, packs, blob, mib):
+    store, what = Store(program, packs), f"a put within {mib} MiB beside {packs and sorted(packs)}"
+    before = look(store.path)
+    status, out, err = program.run(what, store.words("put"), blob, preexec_fn=limited_to(mib))
+    if mib <= SCANT or mib < AMPLE and status != 0:
+        compare_ending(what, 1, status, err)
+        compare(what, "standard output", b"", out)
+        compare(what, "the folder", before, look(store.path))
+        return
+    compare_ending(what, 0, status, err)
+    store.packs = reference.put(store.packs, blob)
+    compare(what, "standard output", ref_of(blob).encode() + b"\n", out)
+    store.check_files(what)
+
+
+def read_within_memory(store, line):
+    """A store whose pack doesn't fit can't be opened."""
+    what = f"{line[0]} within {SCANT} MiB"
+    before = look(store.path)
+    status, out, err = store.program.run(what, line, b"new", preexec_fn=limited_to(SCANT))
+    compare_ending(what, 1, status, err)
+    compare(what, "standard output", b"", out)
+    compare(what, "the folder", before, look(store.path))
+
+
+# Folders that go
 
 def removed(program):
     """Puts whose folder is removed while they run."""

@@ -11,7 +11,7 @@ import subprocess
 import inputs
 import reference
 from reference import pack_name, ref_of
-from search_pack import compare, compare_ending, with_streams
+from search_pack import compare, compare_ending, with_broken_source, with_streams
 from stores import ABC, NOTHING_FOUND, READING, Store, lines_of, look
 from writing import pack, record
 
@@ -39,6 +39,7 @@ def bad_lines(folder, ref):
         ("put",),
         ("put", folder, folder),
         ("put", folder, ref),
+        ("put", "-d"),
         ("put", "--x=1", folder),
         ("put", folder, "--limit", "1"),
         ("put", folder, "-"),
@@ -54,14 +55,18 @@ def bad_lines(folder, ref):
         ("get", folder, ref, "--limit=1"),
         ("get", folder, "--after", ref),
         ("stat", folder),
+        ("stat", folder, "--"),
+        ("stat", folder, "--after", "x"),
         ("stat", folder, ref, ""),
         ("stat", folder, "--", ref, "--"),
         ("list",),
         ("list", folder, folder),
         ("list", folder, "--after"),
         ("list", folder, "--limit"),
+        ("list", folder, "--limit", "--"),
         ("list", folder, "--limit", "1", "--limit", "1"),
         ("list", folder, "--limit=1", "--limit", "2"),
+        ("list", folder, "--limit", "5", "--limit=5"),
         ("list", folder, "--after", ref, "--after", ref),
         ("list", folder, "--limit", "-1"),
         ("list", folder, "--limit", "--", "1"),
@@ -69,10 +74,12 @@ def bad_lines(folder, ref):
         ("list", folder, "--at", DATE),
         ("list", folder, "--Limit=1"),
         ("list", folder, "--limits=1"),
+        ("list", folder, "--limits", "5"),
         ("list", folder, "-limit=1"),
         ("list", folder, "--=1"),
         ("list", folder, "--", "--limit", "1"),
         ("list", "--limit", folder),
+        ("list", "--limit", "5"),
         ("search", folder),
         ("search", *query),
         ("search", folder, "tag", "a"),
@@ -82,6 +89,7 @@ def bad_lines(folder, ref):
         ("search", folder, "--attr", "tag", "--value", "-a"),
         ("search", folder, *query, "b"),
         ("search", folder, *query, "--attr", "tag"),
+        ("search", folder, *query, "--attr=tag"),
         ("search", folder, *query, "--value=a"),
         ("search", folder, *query, "--at"),
         ("search", folder, *query, "--at", DATE, "--at", DATE),
@@ -90,14 +98,17 @@ def bad_lines(folder, ref):
         ("salvage",),
         ("salvage", folder, folder),
         ("salvage", folder, "--x", "1"),
+        ("salvage", folder, "--at=x"),
         ("salvage", "--after", ref, folder),
     ]
 
 
 def good_lines(program):
-    """Positions before and behind `--`, and a folder whose name begins with a hyphen."""
+    """Positions before and behind `--`, and folders whose names begin with a hyphen, or are `--`."""
     inside = program.new_path()
     inside.mkdir()
+    program.check("a folder of the name --", ["put", "--", "--"], ABC.encode() + b"\n", source=b"abc", folder=inside)
+    compare("a folder of the name --", "its pack", pack(b"abc"), (inside / "--" / pack_name(0)).read_bytes())
     for number, form in enumerate((("put", "--", "-s"), ("put", "--", "./-s"), ("put", "-s/../-s", "--")[:1] + ("./-s", "--"))):
         blob = b"blob %d" % number
         program.check(f"words {form}", list(form), ref_of(blob).encode() + b"\n", source=blob, folder=inside)
@@ -128,6 +139,7 @@ def texts(program):
     lines += [("list", file, "--limit=1", "--after=x"), ("list", "--after=x", store.path, "--limit=1")]
     query = ("--attr=tag", "--value=a")
     lines += [("search", store.path, *query, f"--at={text}") for text, is_date in inputs.DATES if not is_date]
+    lines += [("search", store.path, *query, "--at", "1970-01-01"), ("search", store.path, *query, "--at", "x")]
     lines += [("search", store.path, "--attr=", "--value=a"), ("search", file, "--value=", "--attr", "")]
     lines += [("search", "--at=x", "--attr=", "--value=a", store.path), ("search", "--attr=", "--value=a", store.path, "--at=x")]
     lines = [tuple(map(str, line)) for line in lines]
@@ -174,6 +186,8 @@ def failing_sources(program):
         before = look(store.path)
         for what, stream in [("closed", {"closed": 0}), ("a folder", {"source": program.folder})]:
             with_streams(program, f"put, standard input is {what}", store.words("put"), 5, folder=program.working, **stream)
+        for front in (b"half a blob", bytes(1_000_000)):
+            with_broken_source(program, "put, standard input breaks off", store.words("put"), front, folder=program.working)
         compare("put without a source", "the folder", before, look(store.path))
 
 

@@ -5,6 +5,8 @@
 mod laws;
 
 pub use laws::{
-    deletion_is_settled, order_is_free, ready_is_settled, rounds_end, soundness_ends,
-    soundness_is_settled,
+    add_last, del_last, deleted_by_genuine, deleted_by_is_settled, deletion_is_one,
+    deletion_is_settled, facts_are_read, genuine_stays, held_is_given, order_is_free, ready_after,
+    ready_grows, ready_is_least, ready_is_settled, rounds_end, soundness_ends,
+    soundness_is_settled, soundness_stays, targets_come_first,
 };

@@ -5,6 +5,7 @@ ghost use Rattle.std.specs.Cmp.Lexicographic.{pointwise, nat_list_eq_equiv, nat_
 ghost use Rattle.std.specs.List.{list_all};
 ghost use Rattle.claim_verify.specs.KeyName.{key_name_in, is_name_byte, name_cmp};
 
+use blobref::ShortText;
 use std::cmp::Ordering;
 use std::marker::Model;
 
@@ -14,18 +15,15 @@ const LONGEST: usize = 64;
 /// ordered as their bytes.
 #[derive(Drop)]
 pub struct KeyName {
-    bytes: [u8; LONGEST],
-    len: usize,
+    text: ShortText<LONGEST>,
 }
 
 impl Model for KeyName {
-    ghost use Rattle.std.specs.Prelude.{ℕ, ◌≤◌, List, take};
+    ghost use Rattle.std.specs.Prelude.{ℕ, List};
 
     ghost Value = { List ℕ };
 
-    ghost view = { λ n. take n.len n.bytes };
-
-    ghost invariant = { λ n. n.len ≤ 64 };
+    ghost view = { λ n. n.text };
 }
 
 impl KeyName {
@@ -36,17 +34,16 @@ impl KeyName {
         if text.is_empty() || text.len() > LONGEST || !are_name_bytes(text) {
             return None;
         }
-        let len = text.len();
-        let mut bytes = [0; LONGEST];
-        bytes[..len].copy_from_slice(text);
-        Some(KeyName { bytes, len })
+        Some(KeyName {
+            text: ShortText::of(text),
+        })
     }
 
     /// The bytes of the name.
     pub fn bytes(&self) -> &[u8]
         ensures { result.now ≡ self.now }
     {
-        &self.bytes[..self.len]
+        self.text.as_slice()
     }
 
     /// An equal name.
@@ -54,8 +51,7 @@ impl KeyName {
         ensures { result ≡ self.now }
     {
         KeyName {
-            bytes: self.bytes,
-            len: self.len,
+            text: self.text.copy(),
         }
     }
 }

@@ -1,5 +1,5 @@
 -- JSON texts (RFC 8259) that are written piece by piece without white space, and what `serde_json` reads them as.
-use Rattle.std.specs.Prelude.{◌≡◌, ◌<◌, ◌^◌, decimal, true, not, ℕ, List, [], ◌∷◌, ◌++◌, codes, fold, Option, Some, None, option_and_then, bytes_eq, if◌then◌else◌}
+use Rattle.std.specs.Prelude.{◌≡◌, ◌<◌, ◌^◌, decimal, Bool, true, false, not, ℕ, suc, List, [], ◌∷◌, ◌++◌, codes, fold, Option, Some, None, option_and_then, bytes_eq, if◌then◌else◌}
 use Rattle.std.specs.List.{list_all, join_by}
 use Rattle.std.specs.Option.{option_or}
 use Rattle.std.specs.Str.{IsUtf8}
@@ -7,7 +7,7 @@ use Rattle.json.specs.Lex.{tokens}
 use Rattle.json.specs.Json as json
 use Rattle.json.specs.Print.{quoted}
 use Rattle.json.specs.Word.{is_space}
-use Rattle.serde_json.specs.Data.{Data, string, number, unsigned, array, object, Items, no_items, item, Members, no_members, put}
+use Rattle.serde_json.specs.Data.{Data, string, number, unsigned, boolean, array, object, Items, no_items, item, Members, no_members, put}
 use Rattle.serde_json.specs.Find.{get}
 use Rattle.serde_json.specs.Read.{of_json, read}
 
@@ -34,10 +34,14 @@ payload_text ps = codes "{" ++ join_by pair_text (codes ",") ps
 abbrev pub object_text : List Pair → List ℕ
 object_text ps = payload_text ps ++ codes "}"
 
--- each text reads as its value, and nests at most 126 deep
+-- each text reads as its value, and nests at most this deep
+abbrev pub ValuesReadWithin : ℕ → List Pair → Type 0
+ValuesReadWithin n [] = Unit {0}
+ValuesReadWithin n (p ∷ ps) = (read_within n p.text ≡ Some p.value) × ValuesReadWithin n ps
+
+-- so deep that an object of them is read
 abbrev pub ValuesAreRead : List Pair → Type 0
-ValuesAreRead [] = Unit {0}
-ValuesAreRead (p ∷ ps) = (read_within 126 p.text ≡ Some p.value) × ValuesAreRead ps
+ValuesAreRead ps = ValuesReadWithin 126 ps
 
 -- the members of the object: the pairs, put in one after the other
 abbrev pub members_of : List Pair → Members
@@ -51,6 +55,10 @@ last_value k (p ∷ ps) = option_or (last_value k ps) (if bytes_eq k p.key then 
 -- an object that is written pair by pair, in any order of keys, reads as the object of its pairs
 abbrev pub ObjectsAreRead : Type 0
 ObjectsAreRead = (ps : List Pair) → ValuesAreRead ps → read (object_text ps) ≡ Some (object (members_of ps))
+
+-- an object nests one deeper than its values
+abbrev pub ObjectsNest : Type 0
+ObjectsNest = (n : ℕ) (ps : List Pair) → ValuesReadWithin n ps → read_within (suc n) (object_text ps) ≡ Some (object (members_of ps))
 
 -- and under each key stands the value of the last pair with that key
 abbrev pub MembersAreFound : Type 0
@@ -70,10 +78,14 @@ pub record Item : Type 0 where
 abbrev pub list_text : List Item → List ℕ
 list_text is = codes "[" ++ join_by (λ i. i.text) (codes ",") is ++ codes "]"
 
--- each text reads as its value, and nests at most 126 deep
+-- each text reads as its value, and nests at most this deep
+abbrev pub ItemsReadWithin : ℕ → List Item → Type 0
+ItemsReadWithin n [] = Unit {0}
+ItemsReadWithin n (i ∷ is) = (read_within n i.text ≡ Some i.value) × ItemsReadWithin n is
+
+-- so deep that a list of them is read
 abbrev pub ItemsAreRead : List Item → Type 0
-ItemsAreRead [] = Unit {0}
-ItemsAreRead (i ∷ is) = (read_within 126 i.text ≡ Some i.value) × ItemsAreRead is
+ItemsAreRead is = ItemsReadWithin 126 is
 
 abbrev pub items_of : List Item → Items
 items_of [] = no_items
@@ -83,7 +95,11 @@ items_of (i ∷ is) = item i.value (items_of is)
 abbrev pub ListsAreRead : Type 0
 ListsAreRead = (is : List Item) → ItemsAreRead is → read (list_text is) ≡ Some (array (items_of is))
 
--- ---- texts and whole numbers, and white space
+-- a list nests one deeper than its items
+abbrev pub ListsNest : Type 0
+ListsNest = (n : ℕ) (is : List Item) → ItemsReadWithin n is → read_within (suc n) (list_text is) ≡ Some (array (items_of is))
+
+-- ---- texts, whole numbers and truth values, and white space
 
 -- a JSON string, as it is written for a text, reads as that text
 abbrev pub TextsAreRead : Type 0
@@ -92,6 +108,15 @@ TextsAreRead = (n : ℕ) (s : List ℕ) → read_within n (quoted s) ≡ Some (s
 -- the decimal digits of a number below 2^64 read as that number
 abbrev pub NumbersAreRead : Type 0
 NumbersAreRead = (n k : ℕ) → k < 2 ^ 64 → read_within n (decimal k) ≡ Some (number (unsigned k))
+
+-- as a truth value is written
+abbrev pub truth_text : Bool → List ℕ
+truth_text true = codes "true"
+truth_text false = codes "false"
+
+-- a truth value, as it is written, reads as itself
+abbrev pub TruthsAreRead : Type 0
+TruthsAreRead = (n : ℕ) (b : Bool) → read_within n (truth_text b) ≡ Some (boolean b)
 
 -- white space may follow a text that reads: spaces, tabs, line feeds and carriage returns
 abbrev pub SpaceMayFollow : Type 0
@@ -110,6 +135,10 @@ ItemsAreUtf8 (i ∷ is) = IsUtf8 i.text × ItemsAreUtf8 is
 -- a JSON string of a UTF-8 text is UTF-8
 abbrev pub TextsAreUtf8 : Type 0
 TextsAreUtf8 = (s : List ℕ) → IsUtf8 s → IsUtf8 (quoted s)
+
+-- a truth value's text is UTF-8
+abbrev pub TruthsAreUtf8 : Type 0
+TruthsAreUtf8 = (b : Bool) → IsUtf8 (truth_text b)
 
 -- an object of UTF-8 keys and texts is UTF-8
 abbrev pub ObjectsAreUtf8 : Type 0

@@ -1,20 +1,22 @@
 //! Laws of written JSON texts.
-ghost use Rattle.json_laws.specs.Written.{ObjectsAreRead, MembersAreFound, PairsAreFound, ObjectsAreUtf8, ListsAreRead, ListsAreUtf8, TextsAreRead, TextsAreUtf8, NumbersAreRead, SpaceMayFollow};
+ghost use Rattle.json_laws.specs.Written.{ObjectsAreRead, ObjectsNest, MembersAreFound, PairsAreFound, ObjectsAreUtf8, ListsAreRead, ListsNest, ListsAreUtf8, TextsAreRead, TextsAreUtf8, NumbersAreRead, TruthsAreRead, TruthsAreUtf8, SpaceMayFollow};
 ghost use Rattle.json_laws.specs.Signing.{SignaturesAreRead, SignaturesAreUtf8, PayloadsEnd};
 
 /// An object that is written pair by pair is read as the object of its pairs (`docs/formats/schema.md`): under each key
-/// stands the value of the last pair with that key, so each pair is found where the keys are distinct. Its text is UTF-8 where the keys and the values' texts are.
+/// stands the value of the last pair with that key, so each pair is found where the keys are distinct. It nests one deeper than its values. Its text is UTF-8 where the keys and the values' texts are.
 pub fn objects_are_read()
     ensures value { ObjectsAreRead }
+    ensures nest { ObjectsNest }
     ensures members { MembersAreFound }
     ensures pairs { PairsAreFound }
     ensures utf8 { ObjectsAreUtf8 }
 {}
 
-/// A list that is written item by item is read as the list of its items (`docs/formats/schema.md`). Its text is UTF-8
-/// where the items' texts are.
+/// A list that is written item by item is read as the list of its items (`docs/formats/schema.md`). It nests one deeper
+/// than its items. Its text is UTF-8 where the items' texts are.
 pub fn lists_are_read()
     ensures value { ListsAreRead }
+    ensures nest { ListsNest }
     ensures utf8 { ListsAreUtf8 }
 {}
 
@@ -27,6 +29,12 @@ pub fn texts_are_read()
 /// The decimal digits of a number below 2^64 are read as that number (`docs/formats/schema.md`).
 pub fn numbers_are_read()
     ensures { NumbersAreRead }
+{}
+
+/// `true` and `false` are read as the truth values (`docs/formats/schema.md`). They are UTF-8.
+pub fn truths_are_read()
+    ensures value { TruthsAreRead }
+    ensures utf8 { TruthsAreUtf8 }
 {}
 
 /// White space may follow a text that is read, and changes nothing (`docs/formats/schema.md`).

@@ -6,7 +6,7 @@ use Rattle.blobref.specs.Blobref.{ref_of}
 use Rattle.claim_verify.specs.Verifier.{Accepts}
 use Rattle.edge_base.specs.Edge.{GaveAll, Rose}
 use Rattle.pack_format.specs.Header.{max_size}
-use Rattle.schema_json.specs.declared.date.When.{When}
+use Rattle.schema_date.specs.declared.date.When.{When}
 use Rattle.pack_disk.specs.Packs.{Packs}
 use Rattle.pack_disk.specs.declared.disk.Disk.{Ghosts}
 use Rattle.pack_disk.specs.Disk.{Tells}

@@ -13,7 +13,8 @@ use Rattle.std.specs.Ordering.{eq_by_cmp}
 use Rattle.std.specs.Prelude.{IsTrue}
 use Rattle.std.specs.Str.{bytes_eq}
 use Rattle.blobref.specs.Blobref.{ref_cmp}
-use Rattle.schema_json.specs.Facts.{fact_of, IsValid}
+use Rattle.schema_json.specs.Facts.{fact_of}
+use Rattle.schema_fact.specs.Validity.{IsValid}
 use Rattle.schema_json.proofs.ValidFacts.{HasValidParts-kind_of}
 use Rattle.claim_model.specs.Facts.{Entry, AreDistinct, AreValid}
 use Rattle.salvage_scan.specs.declared.found.Found.{Found}

@@ -4,7 +4,7 @@ use Rattle.std.specs.FinMap.{entries, from_entries}
 use Rattle.std.specs.Option.{ForSome}
 use Rattle.claim_model.specs.Facts.{Entry}
 use Rattle.claim_verify.specs.Verifier.{Accepts}
-use Rattle.schema_json.specs.declared.date.When.{When}
+use Rattle.schema_date.specs.declared.date.When.{When}
 use Rattle.salvage_scan.specs.Arrivals.{arrivals}
 use Rattle.pack_disk.specs.Packs.{Packs}
 use Rattle.pack_store.specs.declared.rows.Row.{Row}

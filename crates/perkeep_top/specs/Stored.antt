@@ -10,7 +10,7 @@ use Rattle.edge_base.specs.declared.answers.PutFault.{PutFault}
 use Rattle.edge_base.specs.declared.answers.PutFault.TheVariants as put
 use Rattle.blobref.specs.Blobref.{ref_of}
 use Rattle.claim_verify.specs.Verifier.{Accepts}
-use Rattle.schema_json.specs.declared.date.When.{When}
+use Rattle.schema_date.specs.declared.date.When.{When}
 use Rattle.search_query.specs.Queries.{value_query}
 use Rattle.search_eval.specs.Answer.{answer_bytes}
 use Rattle.claim_model.specs.Facts.{Facts}

@@ -3,7 +3,7 @@ use Rattle.std.proofs.Common.{◌≡◌, ◌<◌, ◌+◌, ◌*◌, ◌-◌, ◌
 use Rattle.std.specs.Result.{result_ok, OkIff}
 use Rattle.std.specs.Str.Parse.{ParsesUnsigned}
 use Rattle.std.proofs.lemmas.Str.Parse.{IsNumeralModel, FoldsDigits, numerals_by_fold, parse_digits}
-use Rattle.schema_json.specs.Dates.{are_digits, number}
+use Rattle.schema_date.specs.Dates.{are_digits, number}
 
 abbrev number_after : ℕ → List ℕ → ℕ
 number_after n digits = fold (λ n c. 10 * n + (c - 48)) n digits

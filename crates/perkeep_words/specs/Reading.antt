@@ -2,9 +2,9 @@
 use Rattle.std.specs.Prelude.{◌≡◌, ◌≢◌, ◌↔◌, ◌&&◌, ◌+◌, ℕ, Bool, true, false, if◌then◌else◌, List, [], ◌∷◌, ◌++◌, Option, Some, None, Result, Ok, Err, unwrap_or, is_some, option_map, option_and_then, option_to_list, length, codes, nat_le}
 use Rattle.std.specs.List.{slice_get}
 use Rattle.blobref.specs.Blobref.{is_blobref, blobref_in}
-use Rattle.schema_json.specs.Dates.{are_digits, number, date_in}
-use Rattle.schema_json.specs.declared.date.When.{When}
-use Rattle.schema_json.specs.declared.date.When.TheVariants.{Always, At}
+use Rattle.schema_date.specs.Dates.{are_digits, number, date_in}
+use Rattle.schema_date.specs.declared.date.When.{When}
+use Rattle.schema_date.specs.declared.date.When.TheVariants.{Always, At}
 use Rattle.perkeep_words.specs.Parts.{Part, HasParts, start, are_parts, parts_from}
 use Rattle.perkeep_words.specs.Forms.{name_of, name_text, position_kinds, option_kind, texts_at, has_form}
 use Rattle.perkeep_words.specs.declared.forms.CommandName.{CommandName}

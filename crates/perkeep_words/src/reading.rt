@@ -1,6 +1,6 @@
 //! Lines, and the commands that they are (docs/commands.md).
 ghost use Rattle.std.specs.Prelude.{◌≡◌, IfOk, Some, None, option_copied, unwrap_or, option_map, option_and_then, true, ◌<◌, ◌^◌, length, SomeIff};
-ghost use Rattle.schema_json.specs.Dates.{are_digits, number};
+ghost use Rattle.schema_date.specs.Dates.{are_digits, number};
 ghost use Rattle.blobref.specs.Blobref.{is_blobref, blobref_in};
 ghost use Rattle.perkeep_words.specs.Parts.{start, parts_from};
 ghost use Rattle.perkeep_words.specs.Forms.{texts_at, has_form};
@@ -10,7 +10,7 @@ ghost use Rattle.perkeep_words.specs.declared.forms.CommandName.TheVariants.{Lis
 use crate::forms::{CommandName, TextKind, nth};
 use crate::parts::{Part, State};
 use blobref::{Ref, Text};
-use schema_json::{Date, When};
+use schema_date::{Date, When};
 use std::marker::Model;
 
 /// Words that are the line of a command, as docs/commands.md says. A contract sees it as these words.

@@ -1,6 +1,7 @@
-use crate::{Command, Line, Places, TextFault, places};
+use crate::{Command, Line, TextFault, places};
 use blobref::{NoMemory, Text};
-use schema_json::When;
+use schema_date::When;
+use std::alloc::Global;
 use std::str::Split;
 
 // What a line asks for: a word, up to three texts, and a number, which is 1 in a search at a date; or what is wrong.
@@ -127,35 +128,36 @@ fn field<'a>(fields: &mut Split<'a, char>) -> &'a str {
     fields.next().unwrap_or("")
 }
 
+// Whether the words of a row ask for what it says, and name its place of DIR.
+fn holds(alloc: Global, row: &str) -> Result<bool, NoMemory> {
+    let mut fields = row.split('|');
+    let (kind, first, second, third) = (
+        field(&mut fields),
+        field(&mut fields),
+        field(&mut fields),
+        field(&mut fields),
+    );
+    let number = field(&mut fields).parse::<u32>().unwrap_or(0);
+    let place = field(&mut fields).parse::<usize>().ok();
+    let words = words_of(alloc, field(&mut fields))?;
+    let found = places(&words);
+    let answer = Line::read(&words).map(|line| line.command());
+    let asks = asked(&answer) == (kind, first, second, third, number);
+    Ok(asks && found.dir == place && found.addr.is_none())
+}
+
+fn words_of(alloc: Global, line: &str) -> Result<Vec<Text>, NoMemory> {
+    let mut words = Vec::new(alloc);
+    for word in line.split(' ') {
+        words.push(Text::copy(alloc, word)?)?;
+    }
+    Ok(words)
+}
+
 #[test]
 fn lines_ask_for_commands(rt: HostRuntime) -> Result<(), NoMemory> {
     for row in ROWS.lines() {
-        let mut fields = row.split('|');
-        let (kind, first, second, third) = (
-            field(&mut fields),
-            field(&mut fields),
-            field(&mut fields),
-            field(&mut fields),
-        );
-        let number = field(&mut fields).parse::<u32>().unwrap_or(0);
-        let place = field(&mut fields).parse::<usize>().ok();
-        let mut words = Vec::new(rt.alloc());
-        for word in field(&mut fields).split(' ') {
-            words.push(Text::copy(rt.alloc(), word)?)?;
-        }
-        let answer = Line::read(&words).map(|line| line.command());
-        assert_eq!(rt;
-            asked(&answer),
-            (kind, first, second, third, number),
-            "{row}"
-        );
-        assert!(rt;
-            places(&words)
-                == Places {
-                    dir: place,
-                    addr: None
-                }
-        );
+        assert!(rt; holds(rt.alloc(), row)?, "{row}");
     }
     assert!(rt; Line::read(&[]).is_none());
     Ok(())

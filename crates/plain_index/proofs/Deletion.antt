@@ -6,16 +6,16 @@ use Rattle.std.specs.List.{list_any, filter_map, cons_option, AllByRecursion}
 use Rattle.std.specs.Str.{bytes_eq}
 use Rattle.std.specs.FinMap.{get, entries}
 use Rattle.claim_verify.specs.Verifier.{Accepts}
-use Rattle.schema_json.specs.declared.date.When.{When}
-use Rattle.schema_json.specs.declared.kinds.What.{What}
-use Rattle.schema_json.specs.declared.kinds.What.TheVariants.{Set, Add, Del, Delete}
-use Rattle.schema_json.specs.declared.kinds.Kind.{Kind}
-use Rattle.schema_json.specs.declared.kinds.Kind.TheVariants.{Plain, Key, File, Bytes, Directory, StaticSet, Permanode, Claim, Unread}
+use Rattle.schema_date.specs.declared.date.When.{When}
+use Rattle.schema_fact.specs.declared.kinds.What.{What}
+use Rattle.schema_fact.specs.declared.kinds.What.TheVariants.{Set, Add, Del, Delete}
+use Rattle.schema_fact.specs.declared.kinds.Kind.{Kind}
+use Rattle.schema_fact.specs.declared.kinds.Kind.TheVariants.{Plain, Key, File, Bytes, Directory, StaticSet, Permanode, Claim, Unread}
 use Rattle.claim_model.specs.Facts.{Facts, Entry, passes}
 use Rattle.claim_model.specs.Genuine.{is_genuine}
 use Rattle.claim_model.specs.Deleted.{deletes, what_deletes, counts_at, can_be_deleted, deleted_within}
-use Rattle.plain_index.specs.Claims.{subject, claim_under, claims_about}
-use Rattle.plain_index.proofs.Tables.{entries_had}
+use Rattle.index_look.specs.Claims.{subject, claim_under, claims_about}
+use Rattle.index_look.proofs.Entries.{entries_had}
 
 abbrev Pair : Type 0
 Pair = List ℕ × List ℕ

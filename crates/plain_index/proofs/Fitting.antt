@@ -6,15 +6,16 @@ use Rattle.std.proofs.lemmas.List.{get_or-map}
 use Rattle.std.specs.Prelude.{option_and_then}
 use Rattle.blobref.specs.Blobref.{ref_cmp}
 use Rattle.std.specs.Ordering.{eq_by_cmp}
-use Rattle.schema_json.specs.Facts.{IsValid}
-use Rattle.schema_json.specs.declared.kinds.Fact.{Fact}
+use Rattle.schema_fact.specs.Validity.{IsValid}
+use Rattle.schema_fact.specs.declared.kinds.Fact.{Fact}
 use Rattle.claim_model.specs.Facts.{Entry, Facts, AreValid}
 use Rattle.claim_model.specs.Ready.{is_ready}
 use Rattle.claim_model.specs.Trees.{own_size, parts_fit, sound_within, is_sound_tree, tree_size}
 use Rattle.claim_model.proofs.Iterated.{no_fact, settled_on}
 use Rattle.claim_model.proofs.Soundness.{deeper, deeper_is, depths_are}
 use Rattle.plain_index.specs.Tables.{IsAscending, IsPlaceOf, beside}
-use Rattle.plain_index.proofs.Tables.{map_of, beside-map, get_found, map-both_had, len-ascending}
+use Rattle.index_look.proofs.Entries.{map_of}
+use Rattle.plain_index.proofs.Tables.{beside-map, get_found, map-both_had, len-ascending}
 use Rattle.plain_index.proofs.Settling.{beside-ready}
 
 -- each fact of a valid list is valid

@@ -10,11 +10,11 @@ use Rattle.std.proofs.lemmas.List.{get_or-map}
 use Rattle.std.proofs.lemmas.Map.Entries.{length-keys_of}
 use Rattle.blobref.specs.Blobref.{ref_cmp}
 use Rattle.claim_model.specs.Facts.{Entry}
-use Rattle.plain_index.specs.Look.{is_after}
+use Rattle.index_look.specs.Look.{is_after}
 use Rattle.plain_index.specs.Tables.{IsAscending}
-use Rattle.plain_index.specs.Walk.{ref_after}
-use Rattle.plain_index.proofs.Order.{entries_in_order}
-use Rattle.plain_index.proofs.Tables.{map_of, same_ref}
+use Rattle.index_look.specs.Walk.{ref_after}
+use Rattle.index_look.proofs.Order.{entries_in_order}
+use Rattle.index_look.proofs.Entries.{map_of, same_ref}
 use Rattle.plain_index.proofs.Groups.{find_at, parted_up_to, greater, not_less}
 
 -- those at most q, then those greater

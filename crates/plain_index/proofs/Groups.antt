@@ -15,6 +15,7 @@ use Rattle.std.proofs.lemmas.Option.{slice_get_past, slice_get-get_or}
 use Rattle.std.proofs.lemmas.Map.Keys.{Less-from_sorted}
 use Rattle.std.proofs.lemmas.Map.Text.{is_eq-slice_cmp}
 use Rattle.blobref.specs.Blobref.{ref_cmp}
+use Rattle.index_look.proofs.Order.{is_Less, is_Equal, less_too}
 
 -- the elements of a front that passes, where none behind it does
 take_passing : {X : Type 0} (t : X → Bool) (xs : List X) (n : ℕ) → AllWithin (λ x. t x ≡ true) xs 0 n → AllWithin (λ x. t x ≡ false) xs n (length xs) → n ≤ length xs → take n xs ≡ filter t xs
@@ -43,26 +44,7 @@ find_at t (x ∷ xs) (suc i) off on =
     find_at t xs i (λ k d low lt. off (suc k) d (omega arith) (omega arith)) (λ k d low lt. on (suc k) d (omega arith) (omega arith))
     ∙ sym (cond-false (t x) (Some x) (find t xs) (off zero x (omega arith) (omega arith)))
 
-pub is_Less : (o : Ordering) → is_lt o ≡ true → o ≡ Less
-is_Less Less e = refl
-is_Less Equal e = absurd (let p : false ≡ true = e in cc p)
-is_Less Greater e = absurd (let p : false ≡ true = e in cc p)
-
-is_Equal : (o : Ordering) → is_eq o ≡ true → o ≡ Equal
-is_Equal Less e = absurd (let p : false ≡ true = e in cc p)
-is_Equal Equal e = refl
-is_Equal Greater e = absurd (let p : false ≡ true = e in cc p)
-
 module _ {K : Type 0} {R : K → K → Ordering} (o : IsTotalOrder R) where
-  -- what does not come after one that is less is less
-  pub less_too : (a b q : K) → is_lt (R b a) ≡ false → R b q ≡ Less → R a q ≡ Less
-  less_too a b q h less = by (R a b) refl
-    where
-      by : (r : Ordering) → R a b ≡ r → R a q ≡ Less
-      by Less e = o.trans a b q e less
-      by Equal e = o.congr a b q e ∙ less
-      by Greater e = absurd (let p : true ≡ false = ap is_lt (sym (o.antisymm b a ∙ ap ordering_reverse e)) ∙ h in cc p)
-
   -- what does not come after one that ties with q, and is not less than q, ties too
   tied_too : (a b q : K) → is_lt (R b a) ≡ false → R q b ≡ Equal → is_lt (R a q) ≡ false → R q a ≡ Equal
   tied_too a b q h tied low = by (R q a) refl

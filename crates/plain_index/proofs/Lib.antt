@@ -1,16 +1,6 @@
-pub mod Order
 pub mod Tables
 pub mod Settling
 pub mod Fitting
 pub mod Groups
 pub mod Deletion
-pub mod Keys
-pub mod Texts
-pub mod Counting
-pub mod Lasts
-pub mod Distinct
-pub mod Walking
-pub mod Reaching
-pub mod Moments
 pub mod Greater
-pub mod Deleting

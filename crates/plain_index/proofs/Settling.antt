@@ -6,15 +6,16 @@ use Rattle.std.specs.FinMap.{get, find, get-from_entries, len}
 use Rattle.std.specs.Cmp.Lexicographic.{nat_list_cmp_total}
 use Rattle.std.proofs.Common.{None}
 use Rattle.blobref.specs.Blobref.{ref_cmp}
-use Rattle.schema_json.specs.Dependencies.{dependencies}
+use Rattle.schema_fact.specs.Dependencies.{dependencies}
 use Rattle.claim_model.specs.Facts.{Entry, Facts, passes, is_permanode}
 use Rattle.claim_model.specs.Ready.{round, is_ready}
 use Rattle.claim_model.specs.Genuine.{is_genuine, is_signed, permanodes}
 use Rattle.claim_verify.specs.Verifier.{Accepts}
-use Rattle.plain_index.specs.Claims.{claim_under, claims_about}
-use Rattle.plain_index.proofs.Order.{entries_in_order}
+use Rattle.index_look.specs.Claims.{claim_under, claims_about}
+use Rattle.index_look.proofs.Order.{entries_in_order}
 use Rattle.plain_index.specs.Tables.{IsAscending, beside}
-use Rattle.plain_index.proofs.Tables.{map_of, same_ref, beside-map, all_had, map-had, len-ascending, keys_kept}
+use Rattle.index_look.proofs.Entries.{map_of, same_ref, all_had}
+use Rattle.plain_index.proofs.Tables.{beside-map, map-had, len-ascending, keys_kept}
 
 -- the table of a round
 abbrev pub round_table : List Entry → ℕ → List Bool

@@ -1,30 +1,28 @@
 -- Tables of truths beside facts in the order of their refs.
-use Rattle.std.proofs.Common.{◌≡◌, ◌<◌, ℕ, zero, suc, Bool, true, false, cond, List, [], ◌∷◌, length, get_or, None, Some, Result, Ok, Err, IfSome, IfNone, refl, sym, ap, ◌∙◌, arith, inl, inr, is_some, map, ◌&&◌, not, filter, subst}
+use Rattle.std.proofs.Common.{◌≡◌, ◌<◌, ℕ, zero, suc, Bool, true, false, cond, List, [], ◌∷◌, length, get_or, None, Some, Result, Ok, Err, IfSome, IfNone, refl, sym, ap, ◌∙◌, arith, inl, inr, is_some, map, ◌&&◌, not, filter}
 use Rattle.std.specs.declared.cmp.Ordering.TheVariants.{Less}
 use Rattle.std.specs.Ordering.{is_eq, eq_by_cmp}
 use Rattle.std.specs.Str.{bytes_eq}
 use Rattle.std.specs.List.{AllByRecursion, IsDistinct, list_all}
-use Rattle.std.specs.List.Sorted.{IsStrictlySortedBy, IsBinarySearchResult, IsSearchInRange}
+use Rattle.std.specs.List.Sorted.{IsBinarySearchResult, IsSearchInRange}
 use Rattle.std.specs.Cmp.{eq_by_cmp_equiv}
 use Rattle.std.specs.Cmp.Lexicographic.{nat_list_cmp_total, nat_list_eq_equiv}
 use Rattle.std.specs.Result.{result_ok}
 use Rattle.std.specs.Map.{lookup, keys_of}
-use Rattle.std.specs.FinMap.{IsAntisymmetric, find, get, from_entries, entries, same_map, get-entries, get-from_entries, get-insert, len, keys, len-entries, slice_cmp-IsAntisymmetric, nat_cmp-IsAntisymmetric}
+use Rattle.std.specs.FinMap.{find, get, get-from_entries, len, keys, len-entries}
 use Rattle.std.proofs.lemmas.Bool.{cases_Bool, cond-true, cond-false, and_parts, not-true}
 use Rattle.std.proofs.lemmas.Slice.Eq.{bytes_eq-Decides}
 use Rattle.std.proofs.lemmas.List.{get_or-map}
 use Rattle.std.proofs.lemmas.Map.Text.{is_eq-slice_cmp}
-use Rattle.std.proofs.lemmas.Map.Keys.{sorted_head, sorted_tail, IsDistinct-from_sorted, Less-from_sorted}
+use Rattle.std.proofs.lemmas.Map.Keys.{sorted_tail, IsDistinct-from_sorted, Less-from_sorted}
 use Rattle.std.proofs.lemmas.Map.Entries.{lookup_from_place, length-keys_of}
 use Rattle.std.proofs.lemmas.Option.{get_or_from_slice_get, slice_get-get_or}
 use Rattle.blobref.specs.Blobref.{ref_cmp}
-use Rattle.schema_json.specs.declared.kinds.Fact.{Fact}
-use Rattle.claim_model.specs.Facts.{Entry, Facts, passes, AreDistinct}
+use Rattle.schema_fact.specs.declared.kinds.Fact.{Fact}
+use Rattle.claim_model.specs.Facts.{Entry, passes, AreDistinct}
 use Rattle.plain_index.specs.Tables.{IsAscending, IsPlaceOf, beside}
-use Rattle.plain_index.proofs.Order.{found_at, absent_at, find-lookup, entries_in_order, ascending_entries}
-
-pub same_ref : IsAntisymmetric ref_cmp
-same_ref = slice_cmp-IsAntisymmetric nat_cmp-IsAntisymmetric
+use Rattle.index_look.proofs.Order.{found_at, absent_at, find-lookup, entries_in_order}
+use Rattle.index_look.proofs.Entries.{same_ref, map_of, IsHad, all_had}
 
 pub place_found : (es : List Entry) (q : List ℕ) (r : Result ℕ ℕ) → IsSearchInRange r (length es) → IsBinarySearchResult (λ e. ref_cmp e.0 q) es r → IfSome (result_ok r) (IsPlaceOf es q)
 place_found es q (Err i) bound at = tt
@@ -34,9 +32,6 @@ place_found es q (Ok i) bound at =
 
 pub place_absent : (es : List Entry) (q : List ℕ) (r : Result ℕ ℕ) → IsAscending es → IsBinarySearchResult (λ e. ref_cmp e.0 q) es r → IfNone (result_ok r) (find ref_cmp q es ≡ None)
 place_absent es q r h at = absent_at nat_list_cmp_total same_ref es q r h at
-
-abbrev pub map_of : List Entry → Facts
-map_of es = from_entries es
 
 bytes_eq_refl : (q : List ℕ) → bytes_eq q q ≡ true
 bytes_eq_refl q = nat_list_eq_equiv.refl q
@@ -94,23 +89,6 @@ beside-map p q (e ∷ es) off = elim (cases_Bool (bytes_eq q e.0)) [
       ∙ beside-map p q es (λ none. off (cond-false (eq_by_cmp ref_cmp q e.0) (Some e.1) (find ref_cmp q es) (is_eq-slice_cmp q e.0 ∙ h) ∙ none))
 ]
 
--- the map has each entry of the list
-abbrev pub IsHad : List Entry → Entry → Type 0
-IsHad es e = get (map_of es) e.0 ≡ Some e.1
-
-still_had : (e : Entry) (all es : List Entry) → AllByRecursion (λ y. ref_cmp e.0 y ≡ Less) (keys_of es) → AllByRecursion (IsHad all) es → AllByRecursion (IsHad (e ∷ all)) es
-still_had e all [] h had = tt
-still_had e all (f ∷ es) h had =
-    let other : eq_by_cmp ref_cmp f.0 e.0 ≡ false = (eq_by_cmp_equiv nat_list_cmp_total).symm f.0 e.0 ∙ ap is_eq h.0 in
-    (get-insert nat_list_cmp_total (map_of all) e.0 e.1 f.0 ∙ cond-false (eq_by_cmp ref_cmp f.0 e.0) (Some e.1) (get (map_of all) f.0) other ∙ had.0, still_had e all es h.1 had.1)
-
-pub all_had : (es : List Entry) → IsAscending es → AllByRecursion (IsHad es) es
-all_had [] h = tt
-all_had (e ∷ es) h = (
-  get-insert nat_list_cmp_total (map_of es) e.0 e.1 e.0 ∙ cond-true (eq_by_cmp ref_cmp e.0 e.0) (Some e.1) (get (map_of es) e.0) ((eq_by_cmp_equiv nat_list_cmp_total).refl e.0),
-  still_had e es es (sorted_head ref_cmp e.0 (keys_of es) h) (all_had es (sorted_tail ref_cmp e.0 (keys_of es) h)),
-)
-
 -- so what a test says of each entry's own fact, it says of the fact that the map has
 pub map-had : (all : List Entry) (p : Fact → Bool) (es : List Entry) → AllByRecursion (IsHad all) es → map (λ e. p e.1) es ≡ map (λ e. passes p (get (map_of all) e.0)) es
 map-had all p [] had = refl
@@ -154,15 +132,3 @@ kept all t p (e ∷ es) had =
 
 pub keys_kept : (es : List Entry) (t : List ℕ → Bool) (p : Fact → Bool) → IsAscending es → map (λ (e : Entry). e.0) (filter (λ e. t e.0 && p e.1) es) ≡ filter (λ r. t r && passes p (get (map_of es) r)) (keys (map_of es))
 keys_kept es t p h = kept es t p es (all_had es h) ∙ ap (λ fs. filter (λ r. t r && passes p (get (map_of es) r)) (keys_of fs)) (sym (entries_in_order nat_list_cmp_total same_ref es h))
-
--- the map of a map's own entries
-own_map : (facts : Facts) → map_of (entries facts) ≡ facts
-own_map facts = same_map nat_list_cmp_total same_ref (map_of (entries facts)) facts (λ q. get-from_entries nat_list_cmp_total (entries facts) q ∙ sym (get-entries facts q))
-
-pub keys_ascend : (facts : Facts) → IsStrictlySortedBy ref_cmp (keys facts)
-keys_ascend facts = ascending_entries ref_cmp facts
-
-pub entries_had : (facts : Facts) → AllByRecursion (λ (e : Entry). get facts e.0 ≡ Some e.1) (entries facts)
-entries_had facts =
-    let P : Facts → Type 0 = λ m. AllByRecursion (λ (e : Entry). get m e.0 ≡ Some e.1) (entries facts) in
-    subst P (own_map facts) (all_had (entries facts) (ascending_entries ref_cmp facts))

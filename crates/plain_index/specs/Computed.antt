@@ -10,7 +10,7 @@ use Rattle.claim_model.specs.Ready.{is_ready}
 use Rattle.claim_model.specs.Genuine.{is_genuine, permanodes}
 use Rattle.claim_model.specs.Trees.{is_sound_tree, own_size}
 use Rattle.plain_index.specs.Tables.{IsAscending}
-use Rattle.plain_index.specs.Claims.{claims_about}
+use Rattle.index_look.specs.Claims.{claims_about}
 
 -- the facts are valid, and in the order of their refs; beside each stands whether it is ready, whether it is a sound tree, its size as a
 -- tree, and whether it is genuine; and the genuine claims are in the order of what they are about

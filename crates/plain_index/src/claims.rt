@@ -1,16 +1,15 @@
 //! The genuine claims, grouped by what they are about.
-ghost use Rattle.std.specs.Prelude.{◌≡◌, ℕ, List, IfOk, filter, length, option_copied};
+ghost use Rattle.std.specs.Prelude.{◌≡◌, ℕ, List, IfOk, filter, length};
 ghost use Rattle.std.specs.List.{filter_map};
 ghost use Rattle.std.specs.List.Sorted.{IsSortedByKey};
 ghost use Rattle.std.specs.Str.{bytes_eq};
 ghost use Rattle.blobref.specs.Blobref.{ref_cmp};
-ghost use Rattle.claim_model.specs.Deleted.{counts_at, can_be_deleted, deletes};
 ghost use Rattle.plain_index.specs.Tables.{beside, IsAscending};
-ghost use Rattle.plain_index.specs.Claims.{subject, claim_under, what_subject};
+ghost use Rattle.index_look.specs.Claims.{subject, claim_under, what_subject};
 
 use crate::lookup::beside;
 use blobref::{NoMemory, Ref};
-use schema_json::{Date, Fact, Kind, What, When};
+use schema_fact::{Fact, Kind, What};
 use std::alloc::Global;
 
 // The refs of the genuine claims, each behind the ref that it is about, in the order of these and then their own.
@@ -87,32 +86,4 @@ pub(crate) fn claims_about<'a>(claims: &'a [(Ref, Ref)], q: &Ref) -> &'a [(Ref, 
     let rest = &claims[start..];
     let end = rest.partition_point(|claim| *q == claim.0);
     &rest[..end]
-}
-
-pub(crate) fn can_be_deleted(kind: &Kind) -> bool
-    ensures { result ≡ can_be_deleted kind.now }
-{
-    matches!(kind, Kind::Permanode(_) | Kind::Claim { .. })
-}
-
-pub(crate) fn deletes(target: &Ref, when: &When, kind: &Kind) -> bool
-    ensures { result ≡ deletes target.now when.now kind.now }
-{
-    match kind {
-        Kind::Claim {
-            date,
-            what: What::Delete { target: other },
-            ..
-        } => counts_at(when, date) && target == other,
-        _ => false,
-    }
-}
-
-pub(crate) fn counts_at(when: &When, date: &Date) -> bool
-    ensures { result ≡ counts_at when.now date.now }
-{
-    match when {
-        When::Always => true,
-        When::At(now) => !(now < date),
-    }
 }

@@ -1,15 +1,16 @@
 //! Which facts are genuine.
-ghost use Rattle.std.specs.Prelude.{◌≡◌, ◌&&◌, IfOk, length, map, filter, option_copied};
+ghost use Rattle.std.specs.Prelude.{◌≡◌, ◌&&◌, IfOk, length, map, filter};
 ghost use Rattle.std.specs.FinMap as finite;
 ghost use Rattle.claim_model.specs.Facts.{is_permanode};
 ghost use Rattle.claim_model.specs.Ready.{is_ready};
-ghost use Rattle.claim_model.specs.Genuine.{is_genuine, is_signed, key_accepts, signature};
+ghost use Rattle.claim_model.specs.Genuine.{is_genuine, is_signed};
 ghost use Rattle.plain_index.specs.Tables.{beside, IsAscending};
 
 use crate::lookup::{beside, fact_at};
 use blobref::{NoMemory, Ref};
 use claim_verify::Verifier;
-use schema_json::{Fact, Kind, Signed};
+use index_look::claim::{is_permanode, key_accepts, signature};
+use schema_fact::Fact;
 use std::alloc::Global;
 
 // Which of the facts are genuine, given which are ready.
@@ -51,12 +52,6 @@ pub(crate) fn permanodes(
     Ok(refs)
 }
 
-pub(crate) fn is_permanode(kind: &Kind) -> bool
-    ensures { result ≡ is_permanode kind.now }
-{
-    matches!(kind, Kind::Permanode(_))
-}
-
 fn is_signed<V: Verifier>(facts: &[(Ref, Fact)], keys: &V, fact: &Fact) -> bool
     requires { IsAscending facts.now }
     ensures { result ≡ is_signed (finite.from_entries facts.now) (V.accepts keys.now) fact.now }
@@ -68,23 +63,4 @@ fn is_signed<V: Verifier>(facts: &[(Ref, Fact)], keys: &V, fact: &Fact) -> bool
         return false;
     };
     key_accepts(keys, signed, &signer.kind)
-}
-
-pub(crate) fn key_accepts<V: Verifier>(keys: &V, signed: &Signed, kind: &Kind) -> bool
-    ensures { result ≡ key_accepts (V.accepts keys.now) signed.now kind.now }
-{
-    match kind {
-        Kind::Key(name) => keys.check(name, signed.payload.as_slice(), &signed.sig),
-        _ => false,
-    }
-}
-
-// What a permanode or a claim was signed with.
-pub(crate) fn signature(kind: &Kind) -> Option<&Signed>
-    ensures { option_copied result ≡ signature kind.now }
-{
-    match kind {
-        Kind::Permanode(signed) | Kind::Claim { signed, .. } => Some(signed),
-        _ => None,
-    }
 }

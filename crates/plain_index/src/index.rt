@@ -1,32 +1,34 @@
 //! The index from scratch.
-ghost use Rattle.std.specs.Prelude.{◌≡◌, ◌&&◌, ◌++◌, [], IfOk, IfSome, OnOk, option_to_list, filter, fold, map, not, option_copied, option_map};
+ghost use Rattle.std.specs.Prelude.{◌≡◌, ◌&&◌, ◌++◌, IfOk, IfSome, OnOk, option_to_list, filter, not, option_copied, option_map};
 ghost use Rattle.std.specs.FinMap as finite;
 ghost use Rattle.std.specs.List.{filter_map};
 ghost use Rattle.blobref.specs.Blobref.{ref_cmp};
-ghost use Rattle.schema_json.specs.Facts.{IsValid};
+ghost use Rattle.schema_fact.specs.Validity.{IsValid};
 ghost use Rattle.claim_model.specs.Claims.{counted, has_value};
-ghost use Rattle.claim_model.specs.Deleted.{can_be_deleted, deletes, deleted_within, is_deleted, live_permanodes};
+ghost use Rattle.claim_model.specs.Deleted.{deletes, deleted_within, is_deleted, live_permanodes};
 ghost use Rattle.claim_model.specs.Facts.{AreDistinct, AreValid, passes};
-ghost use Rattle.claim_model.specs.Genuine.{is_genuine, is_genuine_permanode, permanodes};
+ghost use Rattle.claim_model.specs.Genuine.{is_genuine, permanodes};
 ghost use Rattle.claim_model.specs.Ready.{is_ready};
 ghost use Rattle.claim_model.specs.Trees.{file_size, is_file, is_sound_tree, tree_size};
-ghost use Rattle.plain_index.specs.Claims.{claims_about, apply_said, counted_claim, said};
-ghost use Rattle.plain_index.specs.Latest.{latest};
-ghost use Rattle.plain_index.specs.Walk.{ref_after};
+ghost use Rattle.index_look.specs.Claims.{claims_about, counted_claim};
+ghost use Rattle.index_look.specs.Latest.{latest};
+ghost use Rattle.index_look.specs.Walk.{ref_after};
 
-use crate::claims::{can_be_deleted, claims, claims_about, deletes};
-use crate::facts::FactList;
-use crate::genuine::{genuine, is_permanode, permanodes};
-use crate::look::Look;
+use crate::claims::{claims, claims_about};
+use crate::facts::{FactList, sorted};
+use crate::genuine::{genuine, permanodes};
 use crate::lookup::{beside, fact_at, first_after, ref_after};
 use crate::rounds::ready;
-use crate::soundness::{is_file, size_at, sizes, sound};
-use crate::table::FactTable;
-use crate::values::{apply, claim_says, copied, is_among, later, moment_on};
-use blobref::{NoMemory, Ref, RefList, Text, TextList};
+use crate::soundness::{size_at, sizes, sound};
+use blobref::{NoMemory, Ref, RefList, TextList};
 use claim_verify::Verifier;
 use edge_base::Steps;
-use schema_json::{Date, Fact, What, When};
+use index_look::claim::{can_be_deleted_at, deletes, is_permanode_at, moment_on};
+use index_look::tree::is_file;
+use index_look::values::{folded, is_among, later};
+use index_look::{FactTable, Look};
+use schema_date::{Date, When};
+use schema_fact::Fact;
 use std::alloc::Global;
 use std::marker::Model;
 use std::sync::ledger::Ledger;
@@ -51,7 +53,7 @@ pub struct PlainIndex<V: Verifier> {
 impl<V: Verifier> Model for PlainIndex<V> {
     ghost use Rattle.std.specs.FinMap as finite;
     ghost use Rattle.std.specs.Coded.{coded_ℕ, coded_list, coded×};
-    ghost use Rattle.schema_json.specs.contracts.kinds.Fact as fact;
+    ghost use Rattle.schema_fact.specs.contracts.kinds.Fact as fact;
     ghost use Rattle.claim_model.specs.Facts.{Facts};
     ghost use Rattle.plain_index.specs.Computed.{IsComputed};
 
@@ -79,7 +81,7 @@ impl<V: Verifier> PlainIndex<V> {
         ensures facts { IfOk result (λ index. index.0 ≡ finite.from_entries facts) }
         ensures keys { IfOk result (λ index. index.1 ≡ keys) }
     {
-        let facts = facts.sorted()?;
+        let facts = sorted(facts)?;
         let ready = ready(alloc, &facts)?;
         let sizes = sizes(alloc, &facts)?;
         let sound = sound(alloc, &facts, &ready, &sizes)?;
@@ -166,16 +168,6 @@ impl<V: Verifier> PlainIndex<V> {
         claims_about(&self.claims, q)
     }
 
-    // Whether the blob can be deleted at all.
-    fn can_be_deleted<L: Ledger>(&self, r: &Ref, steps: &mut Steps<L>) -> bool
-        ensures { result ≡ passes (λ fact. can_be_deleted fact.kind) (finite.get self.now.0 r.now) }
-    {
-        match self.found_at(r, steps) {
-            Some(fact) => can_be_deleted(&fact.kind),
-            None => false,
-        }
-    }
-
     fn deletes<L: Ledger>(&self, target: &Ref, when: &When, r: &Ref, steps: &mut Steps<L>) -> bool
         ensures { result ≡ passes (λ fact. deletes target.now when.now fact.kind) (finite.get self.now.0 r.now) }
     {
@@ -196,7 +188,7 @@ impl<V: Verifier> PlainIndex<V> {
     ) -> bool
         ensures { result ≡ deleted_within self.now.0 (V.accepts self.now.1) when.now depth x.now }
     {
-        if depth == 0 || !self.can_be_deleted(x, steps) {
+        if depth == 0 || !can_be_deleted_at(self, x, steps) {
             return false;
         }
         for (_, r) in self.claims_about(x) {
@@ -205,15 +197,6 @@ impl<V: Verifier> PlainIndex<V> {
             }
         }
         false
-    }
-
-    fn is_genuine_permanode<L: Ledger>(&self, r: &Ref, steps: &mut Steps<L>) -> bool
-        ensures { result ≡ is_genuine_permanode self.now.0 (V.accepts self.now.1) r.now }
-    {
-        match self.found_at(r, steps) {
-            Some(fact) => self.is_genuine(r) && is_permanode(&fact.kind),
-            None => false,
-        }
     }
 
     // The moment of a claim on the permanode, where it counts at that time.
@@ -277,7 +260,7 @@ impl<V: Verifier> PlainIndex<V> {
     ) -> Result<Vec<(Date, Ref)>, NoMemory>
         ensures { IfOk result (λ moments. moments.items ≡ finite.keys (counted self.now.0 (V.accepts self.now.1) when.now p.now)) }
     {
-        if !self.is_genuine_permanode(p, steps) {
+        if !self.is_permanode(p, steps) {
             return Ok(Vec::new(self.alloc));
         }
         let mut moments = self.moments_of(p, when, steps)?;
@@ -295,45 +278,6 @@ impl<V: Verifier> PlainIndex<V> {
             last = later(self.moment(p, when, &claims[i].1, steps), last);
         }
         last
-    }
-
-    // What a claim says.
-    fn said<L: Ledger>(&self, r: &Ref, steps: &mut Steps<L>) -> Option<&What>
-        ensures { option_copied result ≡ said self.now.0 r.now }
-    {
-        claim_says(&self.found_at(r, steps)?.kind)
-    }
-
-    // What a claim makes of the values of the attribute.
-    fn apply<'a, L: Ledger>(
-        &'a self,
-        found: &mut Vec<&'a Text>,
-        r: &Ref,
-        attr: &str,
-        steps: &mut Steps<L>,
-    ) -> Result<(), NoMemory>
-        ensures { OnOk result (map (λ t. t.now) found.new.items ≡ apply_said attr.now (map (λ t. t.now) found.old.items) (said self.now.0 r.now)) }
-    {
-        match self.said(r, steps) {
-            Some(what) => apply(found, what, attr),
-            None => Ok(()),
-        }
-    }
-
-    // The values of the attribute after these claims, one after another.
-    fn folded<L: Ledger>(
-        &self,
-        moments: &[(Date, Ref)],
-        attr: &str,
-        steps: &mut Steps<L>,
-    ) -> Result<TextList, NoMemory>
-        ensures { IfOk result (λ texts. texts ≡ fold (λ found m. apply_said attr.now found (said self.now.0 m.1)) [] moments.now) }
-    {
-        let mut found = Vec::new(self.alloc);
-        for (_, r) in moments {
-            self.apply(&mut found, r, attr, steps)?;
-        }
-        copied(self.alloc, &found)
     }
 
     // Whether a permanode isn't deleted at that time, and has the value.
@@ -389,6 +333,11 @@ impl<V: Verifier> Look for PlainIndex<V> {
         if self.is_ready(r) { Some(fact) } else { None }
     }
 
+    /// Two look-ups.
+    fn is_permanode<L: Ledger>(&self, r: &Ref, steps: &mut Steps<L>) -> bool {
+        is_permanode_at(self, r, steps) && self.is_genuine(r)
+    }
+
     /// One binary search among the genuine permanodes.
     fn permanode_after<L: Ledger>(&self, after: Option<&Ref>, steps: &mut Steps<L>) -> Option<Ref> {
         steps.tick();
@@ -410,12 +359,12 @@ impl<V: Verifier> Look for PlainIndex<V> {
         steps: &mut Steps<L>,
     ) -> Result<TextList, NoMemory> {
         let moments = self.moments(p, when, steps)?;
-        self.folded(&moments, attr, steps)
+        folded(self.alloc, self, &moments, attr, steps)
     }
 
     /// It looks at the claims about the permanode alone, and asks for each whether it is deleted.
     fn last_change<L: Ledger>(&self, p: &Ref, when: &When, steps: &mut Steps<L>) -> Option<Date> {
-        if !self.is_genuine_permanode(p, steps) {
+        if !self.is_permanode(p, steps) {
             return None;
         }
         self.latest(p, when, steps).map(|last| last.0)

@@ -5,11 +5,11 @@ ghost use Rattle.std.specs.List.Sorted.{IsStrictlySortedBy};
 ghost use Rattle.std.specs.FinMap as finite;
 ghost use Rattle.std.specs.Map.{keys_of};
 ghost use Rattle.blobref.specs.Blobref.{ref_cmp};
-ghost use Rattle.plain_index.specs.Look.{is_after};
+ghost use Rattle.index_look.specs.Look.{is_after};
 ghost use Rattle.plain_index.specs.Tables.{IsAscending, IsPlaceOf, beside};
 
 use blobref::Ref;
-use schema_json::Fact;
+use schema_fact::Fact;
 
 // The place of a ref's entry.
 pub(crate) fn place_of(facts: &[(Ref, Fact)], r: &Ref) -> Option<usize>

@@ -2,13 +2,13 @@
 ghost use Rattle.std.specs.Prelude.{◌≡◌, IfOk, length, map};
 ghost use Rattle.std.specs.List.{list_all};
 ghost use Rattle.std.specs.FinMap as finite;
-ghost use Rattle.schema_json.specs.Dependencies.{dependencies, origin_ref, part_refs, target_of};
+ghost use Rattle.schema_fact.specs.Dependencies.{dependencies, part_refs, target_of};
 ghost use Rattle.claim_model.specs.Ready.{is_ready};
 ghost use Rattle.plain_index.specs.Tables.{beside, IsAscending};
 
 use crate::lookup::beside;
 use blobref::{NoMemory, Ref};
-use schema_json::{Fact, Kind, Origin, Part, What};
+use schema_fact::{Fact, Kind, Part, What};
 use std::alloc::Global;
 
 // Which of the facts are ready. There are as many rounds as the longest chain of dependencies has links, and one more; each looks
@@ -72,18 +72,8 @@ fn parts_stand(facts: &[(Ref, Fact)], standing: &[bool], parts: &[Part]) -> bool
 {
     parts
         .iter()
-        .filter_map(|part| origin_ref(&part.origin))
+        .filter_map(|part| part.origin.source())
         .all(|r| beside(facts, standing, &r))
-}
-
-// The ref from which a part's bytes come.
-pub(crate) fn origin_ref(origin: &Origin) -> Option<Ref>
-    ensures { result ≡ origin_ref origin.now }
-{
-    match origin {
-        Origin::Zeros => None,
-        Origin::Blob(r) | Origin::Tree(r) => Some(*r),
-    }
 }
 
 fn target_stands(facts: &[(Ref, Fact)], standing: &[bool], what: &What) -> bool

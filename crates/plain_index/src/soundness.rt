@@ -1,18 +1,19 @@
 //! Which facts are sound file trees, by rounds over all of them.
-ghost use Rattle.std.specs.Prelude.{◌≡◌, ◌+◌, ◌&&◌, IfOk, IfSome, length, map, nat_le, option_copied, All};
+ghost use Rattle.std.specs.Prelude.{◌≡◌, ◌&&◌, IfOk, length, map, All};
 ghost use Rattle.std.specs.List.{list_all};
 ghost use Rattle.std.specs.FinMap as finite;
 ghost use Rattle.blobref.specs.Blobref.{ref_cmp};
-ghost use Rattle.schema_json.specs.Facts.{IsValid, HasValidParts};
-ghost use Rattle.schema_json.specs.Parts.{total_size, IsShortPart, MeetsLimits};
-ghost use Rattle.claim_model.specs.Facts.{AreValid, passes};
+ghost use Rattle.schema_fact.specs.Validity.{IsValid};
+ghost use Rattle.schema_fact.specs.Limits.{IsShortPart};
+ghost use Rattle.claim_model.specs.Facts.{AreValid};
 ghost use Rattle.claim_model.specs.Ready.{is_ready};
-ghost use Rattle.claim_model.specs.Trees.{is_file, is_sound_tree, origin_holds, own_size, part_fits, parts_fit, tree_parts, tree_size};
+ghost use Rattle.claim_model.specs.Trees.{is_sound_tree, own_size, part_fits, parts_fit, tree_size};
 ghost use Rattle.plain_index.specs.Tables.{beside, IsAscending};
 
 use crate::lookup::{beside, fact_at, place_of};
 use blobref::{NoMemory, Ref};
-use schema_json::{Fact, Kind, Origin, Part, PartList};
+use index_look::tree::{blob_holds, own_size, part_end, tree_holds, tree_parts};
+use schema_fact::{Fact, Origin, Part};
 use std::alloc::Global;
 
 // The size of each fact that is a file or bytes blob.
@@ -127,68 +128,4 @@ pub(crate) fn size_at(facts: &[(Ref, Fact)], sizes: &[Option<u64>], r: &Ref) -> 
 {
     let place = place_of(facts, r)?;
     sizes[place]
-}
-
-// Where a part ends in its origin.
-pub(crate) fn part_end(part: &Part) -> u64
-    requires { IsShortPart part.now }
-    ensures { result ≡ part.now.offset + part.now.size }
-{
-    part.offset + part.size
-}
-
-pub(crate) fn blob_holds(fact: Option<&Fact>, end: u64) -> bool
-    ensures { result ≡ passes (λ fact. nat_le end fact.size) (option_copied fact.entry) }
-{
-    match fact {
-        Some(fact) => end <= fact.size,
-        None => false,
-    }
-}
-
-pub(crate) fn tree_holds(size: Option<u64>, end: u64) -> bool
-    ensures { result ≡ passes (nat_le end) size }
-{
-    match size {
-        Some(size) => end <= size,
-        None => false,
-    }
-}
-
-// The size of a file or bytes blob.
-pub(crate) fn own_size(fact: &Fact) -> Option<u64>
-    requires { IsValid fact.now }
-    ensures { result ≡ own_size fact.now }
-{
-    let parts = tree_parts(&fact.kind)?;
-    Some(total_size(parts.as_slice()))
-}
-
-fn total_size(parts: &[Part]) -> u64
-    requires { MeetsLimits parts.now }
-    ensures { result ≡ total_size parts.now }
-{
-    let mut total = 0;
-    for part in parts {
-        total += part.size;
-    }
-    total
-}
-
-// The parts of a file or bytes blob.
-pub(crate) fn tree_parts(kind: &Kind) -> Option<&PartList>
-    requires { HasValidParts kind.now }
-    ensures value { option_copied result ≡ tree_parts kind.now }
-    ensures valid { IfSome result (λ parts. MeetsLimits parts.now) }
-{
-    match kind {
-        Kind::File { parts, .. } | Kind::Bytes(parts) => Some(parts),
-        _ => None,
-    }
-}
-
-pub(crate) fn is_file(kind: &Kind) -> bool
-    ensures { result ≡ is_file kind.now }
-{
-    matches!(kind, Kind::File { .. })
 }

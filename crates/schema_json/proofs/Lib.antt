@@ -1,10 +1,4 @@
-pub mod Calendar
-pub mod CivilDays
-pub mod DateParts
-pub mod Digits
+pub mod Begins
 pub mod Json
 pub mod KeyBlobs
-pub mod Numerals
-pub mod OneDate
 pub mod ValidFacts
-pub mod WrittenDates

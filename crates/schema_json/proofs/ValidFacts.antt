@@ -6,14 +6,16 @@ use Rattle.std.specs.Str.{bytes_eq}
 use Rattle.serde_json.specs.Data.{Data, Items, no_items, item}
 use Rattle.serde_json.specs.Find.{get, as_array}
 use Rattle.schema_json.specs.Fields.{whole_at, whole_or_zero, json_in, type_of, ref_at, refs_at}
-use Rattle.schema_json.specs.Parts.{greatest_length, is_length, length_in, origin_in, part_in, parts_of, total_size, part_list_of, IsShortPart, MeetsLimits}
+use Rattle.schema_json.specs.Parts.{length_in, origin_in, part_in, parts_of, part_list_of}
+use Rattle.schema_fact.specs.Limits.{greatest_length, is_length, total_size, IsShortPart, MeetsLimits}
 use Rattle.schema_json.specs.Signing.{signed_in}
-use Rattle.schema_json.specs.Facts.{file_name_of, file_kind, bytes_kind, directory_kind, set_kind, permanode_of, permanode_kind, date_of, what_of, claim_of, claim_kind, signed_kind, known_kind, object_kind, schema_kind, kind_of, key_in, HasValidParts}
-use Rattle.schema_json.specs.declared.parts.Origin.{Origin}
-use Rattle.schema_json.specs.declared.parts.Part.{Part}
-use Rattle.schema_json.specs.declared.kinds.Signed.{Signed}
-use Rattle.schema_json.specs.declared.kinds.Kind.{Kind}
-use Rattle.schema_json.specs.declared.kinds.Kind.TheVariants.{Plain, Key, File, Bytes, Directory, StaticSet, Permanode, Claim, Unread}
+use Rattle.schema_json.specs.Facts.{file_name_of, file_kind, bytes_kind, directory_kind, set_kind, permanode_of, permanode_kind, date_of, what_of, claim_of, claim_kind, signed_kind, known_kind, object_kind, schema_kind, kind_of, key_in}
+use Rattle.schema_fact.specs.Validity.{HasValidParts}
+use Rattle.schema_fact.specs.declared.parts.Origin.{Origin}
+use Rattle.schema_fact.specs.declared.parts.Part.{Part}
+use Rattle.schema_fact.specs.declared.kinds.Signed.{Signed}
+use Rattle.schema_fact.specs.declared.kinds.Kind.{Kind}
+use Rattle.schema_fact.specs.declared.kinds.Kind.TheVariants.{Plain, Key, File, Bytes, Directory, StaticSet, Permanode, Claim, Unread}
 
 -- what holds of each value that may be found
 follows : {A B : Type 0} (P : B → Type 0) (f : A → Option B) (o : Option A) → ((a : A) → IfSome (f a) P) → IfSome (option_and_then f o) P

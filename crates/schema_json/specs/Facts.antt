@@ -4,17 +4,17 @@ use Rattle.std.specs.Str.{bytes_eq}
 use Rattle.serde_json.specs.Data.{Data}
 use Rattle.serde_json.specs.Find.{get}
 use Rattle.claim_verify.specs.KeyName.{key_name_in}
-use Rattle.schema_json.specs.Dates.{date_in}
+use Rattle.schema_date.specs.Dates.{date_in}
 use Rattle.schema_json.specs.Fields.{json_in, text_at, text_or_empty, ref_at, refs_at, type_of, has_type}
-use Rattle.schema_json.specs.Parts.{part_list_of, MeetsLimits}
+use Rattle.schema_json.specs.Parts.{part_list_of}
 use Rattle.schema_json.specs.Signing.{signed_in}
 use Rattle.schema_json.specs.declared.claims.Change.{Change}
-use Rattle.schema_json.specs.declared.kinds.Signed.{Signed}
-use Rattle.schema_json.specs.declared.kinds.What.{What}
-use Rattle.schema_json.specs.declared.kinds.What.TheVariants.{Set, Add, Del, Delete}
-use Rattle.schema_json.specs.declared.kinds.Kind.{Kind}
-use Rattle.schema_json.specs.declared.kinds.Kind.TheVariants.{Plain, Key, File, Bytes, Directory, StaticSet, Permanode, Claim, Unread}
-use Rattle.schema_json.specs.declared.kinds.Fact.{Fact}
+use Rattle.schema_fact.specs.declared.kinds.Signed.{Signed}
+use Rattle.schema_fact.specs.declared.kinds.What.{What}
+use Rattle.schema_fact.specs.declared.kinds.What.TheVariants.{Set, Add, Del, Delete}
+use Rattle.schema_fact.specs.declared.kinds.Kind.{Kind}
+use Rattle.schema_fact.specs.declared.kinds.Kind.TheVariants.{Plain, Key, File, Bytes, Directory, StaticSet, Permanode, Claim, Unread}
+use Rattle.schema_fact.specs.declared.kinds.Fact.{Fact}
 
 -- Keys
 
@@ -139,19 +139,3 @@ kind_of bytes = unwrap_or (option_map Key (key_in bytes)) (schema_kind bytes)
 
 unfoldable pub fact_of : List ℕ → Fact
 fact_of bytes = record { size = length bytes; kind = kind_of bytes }
-
--- Valid facts: a part list meets the limits
-
-abbrev pub HasValidParts : Kind → Type 0
-HasValidParts Plain = Unit {0}
-HasValidParts (Key name) = Unit {0}
-HasValidParts (File name parts) = MeetsLimits parts
-HasValidParts (Bytes parts) = MeetsLimits parts
-HasValidParts (Directory name entries) = Unit {0}
-HasValidParts (StaticSet members) = Unit {0}
-HasValidParts (Permanode signed) = Unit {0}
-HasValidParts (Claim signed date what) = Unit {0}
-HasValidParts (Unread type) = Unit {0}
-
-abbrev pub IsValid : Fact → Type 0
-IsValid fact = HasValidParts fact.kind

@@ -1,6 +1,8 @@
 -- The fields of JSON objects that facts are made of, over what serde_json reads.
-use Rattle.std.specs.Prelude.{ℕ, ◌==◌, List, [], ◌∷◌, Bool, false, Option, Some, None, codes, option_and_then, option_map, unwrap_or, if◌then◌else◌}
+use Rattle.std.specs.Prelude.{ℕ, ◌==◌, List, [], ◌∷◌, Bool, false, not, Option, Some, None, codes, option_and_then, option_map, unwrap_or, if◌then◌else◌}
+use Rattle.std.specs.List.{find}
 use Rattle.std.specs.Str.{bytes_eq, is_utf8}
+use Rattle.json.specs.Word.{is_space}
 use Rattle.serde_json.specs.Data.{Data, Items, no_items, item}
 use Rattle.serde_json.specs.Find.{get, as_str, as_number, as_u64, as_array}
 use Rattle.serde_json.specs.Read.{read}
@@ -9,6 +11,10 @@ use Rattle.blobref.specs.Blobref.{blobref_in}
 -- the one JSON value that the bytes are; bytes that are not UTF-8 are none
 abbrev pub json_in : List ℕ → Option Data
 json_in bytes = if is_utf8 bytes then read bytes else None
+
+-- the first byte that is no white space is a brace, as in the text of an object
+abbrev pub begins_object : List ℕ → Bool
+begins_object bytes = unwrap_or (option_map (λ c. c == 123) (find (λ c. not (is_space c)) bytes)) false
 
 -- the text under a key
 abbrev pub text_at : List ℕ → Data → Option (List ℕ)

@@ -1,18 +1,12 @@
 -- Part lists: the parts of which a file is made.
-use Rattle.std.specs.Prelude.{ℕ, ◌≤◌, Bool, List, [], ◌∷◌, Option, Some, None, codes, nat_le, option_and_then, option_map, if◌then◌else◌, All, sum_by}
+use Rattle.std.specs.Prelude.{ℕ, List, [], ◌∷◌, Option, Some, None, codes, option_and_then, option_map, if◌then◌else◌}
 use Rattle.serde_json.specs.Data.{Data, Items, no_items, item}
 use Rattle.serde_json.specs.Find.{get, as_array}
 use Rattle.schema_json.specs.Fields.{ref_in, whole_at, whole_or_zero}
-use Rattle.schema_json.specs.declared.parts.Origin.{Origin}
-use Rattle.schema_json.specs.declared.parts.Origin.TheVariants.{Zeros, Blob, Tree}
-use Rattle.schema_json.specs.declared.parts.Part.{Part}
-
--- no offset, no size and no sum of sizes is greater: 256 TiB
-abbrev pub greatest_length : ℕ
-greatest_length = 281474976710656
-
-abbrev pub is_length : ℕ → Bool
-is_length n = nat_le n greatest_length
+use Rattle.schema_fact.specs.Limits.{is_length, total_size}
+use Rattle.schema_fact.specs.declared.parts.Origin.{Origin}
+use Rattle.schema_fact.specs.declared.parts.Origin.TheVariants.{Zeros, Blob, Tree}
+use Rattle.schema_fact.specs.declared.parts.Part.{Part}
 
 -- a whole number within the limit
 abbrev pub length_in : Option ℕ → Option ℕ
@@ -43,21 +37,8 @@ abbrev pub parts_of : Items → Option (List Part)
 parts_of no_items = Some []
 parts_of (item d ds) = option_and_then (λ part. option_map (λ parts. part ∷ parts) (parts_of ds)) (part_in d)
 
--- how many bytes the parts have together
-abbrev pub total_size : List Part → ℕ
-total_size parts = sum_by (λ part. part.size) parts
-
 -- the part list under `parts`
 abbrev pub part_list_of : Data → Option (List Part)
 part_list_of d =
     option_and_then (λ parts. if is_length (total_size parts) then Some parts else None)
     (option_and_then parts_of (option_and_then as_array (get (codes "parts") d)))
-
--- a part within the limits
-abbrev pub IsShortPart : Part → Type 0
-IsShortPart part = (part.size ≤ greatest_length) × (part.offset ≤ greatest_length)
-
--- a part list within the limits
-pub record MeetsLimits (parts : List Part) : Type 0 where
-  pub each : All IsShortPart parts
-  pub together : total_size parts ≤ greatest_length

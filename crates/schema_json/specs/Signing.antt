@@ -9,7 +9,7 @@ use Rattle.hex.specs.Hex.{decode_sized}
 use Rattle.blobref.specs.Blobref.{is_lower_digit}
 use Rattle.claim_verify.specs.Split.{split_of}
 use Rattle.schema_json.specs.Fields.{json_in, ref_at, text_at}
-use Rattle.schema_json.specs.declared.kinds.Signed.{Signed}
+use Rattle.schema_fact.specs.declared.kinds.Signed.{Signed}
 
 -- 64 lower-case hexadecimal digits
 abbrev pub is_signature : List ℕ → Bool

@@ -3,11 +3,11 @@ ghost use Rattle.std.specs.Prelude.{◌≡◌, IfOk, option_copied};
 ghost use Rattle.serde_json.specs.View.{view};
 ghost use Rattle.schema_json.specs.Facts.{attribute_of, change_of, set_of, add_of, del_of, delete_of, what_by, what_of, claim_of, claim_kind, date_of};
 
-use crate::date::Date;
 use crate::fields::{has_type, ref_at, text_at, text_or_empty};
-use crate::kinds::{Kind, Signed, What};
 use crate::signing::signed_in;
 use blobref::{NoMemory, Ref, Text};
+use schema_date::Date;
+use schema_fact::{Kind, Signed, What};
 use serde_json::Value;
 use std::alloc::Global;
 

@@ -1,8 +1,9 @@
 //! The fields of JSON objects that facts are made of.
 ghost use Rattle.std.specs.Prelude.{◌≡◌, IfOk, Some, None, option_map, option_copied};
+ghost use Rattle.json.specs.Word.{is_space};
 ghost use Rattle.serde_json.specs.View.{view, items_view};
 ghost use Rattle.serde_json.specs.Find.{get};
-ghost use Rattle.schema_json.specs.Fields.{json_in, text_at, text_or_empty, whole_at, whole_or_zero, ref_in, ref_at, refs_at, refs_of, type_of, has_type};
+ghost use Rattle.schema_json.specs.Fields.{begins_object, json_in, text_at, text_or_empty, whole_at, whole_or_zero, ref_in, ref_at, refs_at, refs_of, type_of, has_type};
 
 use blobref::{NoMemory, Ref, RefList};
 use serde_json::Value;
@@ -22,6 +23,19 @@ pub(crate) fn json_in(alloc: Global, bytes: &[u8]) -> Result<Option<Value>, NoMe
             }
         }
     }
+}
+
+// Whether the first byte that is no white space is a brace, as in the text of an object.
+pub(crate) fn begins_object(bytes: &[u8]) -> bool
+    ensures { result ≡ begins_object bytes.now }
+{
+    bytes.iter().find(|byte| !is_space(**byte)) == Some(&b'{')
+}
+
+fn is_space(byte: u8) -> bool
+    ensures { result ≡ is_space byte }
+{
+    matches!(byte, b' ' | b'\t' | b'\n' | b'\r')
 }
 
 // The text under a key.

@@ -1,11 +1,12 @@
 //! Part lists of schema objects.
-ghost use Rattle.std.specs.Prelude.{◌≡◌, IfOk};
+ghost use Rattle.std.specs.Prelude.{◌≡◌, ◌++◌, ◌∷◌, [], IfOk, OnOk};
 ghost use Rattle.serde_json.specs.View.{view, items_view};
-ghost use Rattle.schema_json.specs.Parts.{is_length, length_in, origin_in, part_in, parts_of, part_list_of, total_size};
+ghost use Rattle.schema_json.specs.Parts.{length_in, origin_in, part_in, parts_of, part_list_of};
+ghost use Rattle.schema_fact.specs.Limits.{is_length, total_size};
 
 use crate::fields::{ref_in, whole_at, whole_or_zero};
-use crate::parts::{Origin, Part, PartList};
 use blobref::NoMemory;
+use schema_fact::{Origin, Part, PartList};
 use serde_json::Value;
 use std::alloc::Global;
 
@@ -36,9 +37,25 @@ fn parts_of(alloc: Global, items: &[Value]) -> Result<Option<PartList>, NoMemory
         let Some(part) = part_in(value) else {
             return Ok(None);
         };
-        parts.push(part)?;
+        push(&mut parts, part)?;
     }
     Ok(Some(parts))
+}
+
+// Puts a part behind the others.
+fn push(parts: &mut PartList, part: Part) -> Result<(), NoMemory>
+    ensures { OnOk result (parts.new ≡ parts.old ++ part ∷ []) }
+{
+    let Part {
+        size,
+        offset,
+        origin,
+    } = part;
+    parts.push(Part {
+        size,
+        offset,
+        origin,
+    })
 }
 
 // Whether the sum of the sizes is within the limit.

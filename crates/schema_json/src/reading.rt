@@ -1,15 +1,16 @@
 //! What blobs say.
 ghost use Rattle.std.specs.Prelude.{◌≡◌, IfOk};
 ghost use Rattle.serde_json.specs.View.{view};
-ghost use Rattle.schema_json.specs.Facts.{fact_of, kind_of, schema_kind, object_kind, known_kind, signed_kind, file_kind, bytes_kind, directory_kind, set_kind, permanode_kind, key_in, IsValid};
+ghost use Rattle.schema_json.specs.Facts.{fact_of, kind_of, schema_kind, object_kind, known_kind, signed_kind, file_kind, bytes_kind, directory_kind, set_kind, permanode_kind, key_in};
+ghost use Rattle.schema_fact.specs.Validity.{IsValid};
 
 use crate::claims::claim_kind;
-use crate::fields::{has_type, json_in, ref_at, refs_at, text_or_empty, type_of};
-use crate::kinds::{Fact, Kind};
+use crate::fields::{begins_object, has_type, json_in, ref_at, refs_at, text_or_empty, type_of};
 use crate::part_list::part_list_of;
 use crate::signing::signed_in;
 use blobref::{NoMemory, Text};
 use claim_verify::KeyName;
+use schema_fact::{Fact, Kind};
 use serde_json::Value;
 use std::alloc::Global;
 
@@ -44,11 +45,14 @@ fn key_in(bytes: &[u8]) -> Option<KeyName>
     KeyName::read(line.strip_suffix(b"\n")?)
 }
 
-// What a blob that is no key says.
+// What a blob that is no key says. It is read as JSON only where it may be an object.
 fn schema_kind(alloc: Global, bytes: &[u8]) -> Result<Kind, NoMemory>
     ensures { IfOk result (λ kind. kind ≡ schema_kind bytes.now) }
 {
     if bytes.len() > LONGEST_SCHEMA {
+        return Ok(Kind::Plain);
+    }
+    if !begins_object(bytes) {
         return Ok(Kind::Plain);
     }
     match json_in(alloc, bytes)? {

@@ -6,9 +6,9 @@ ghost use Rattle.std.specs.List.{list_all};
 ghost use Rattle.blobref.specs.Blobref.{is_lower_digit};
 
 use crate::fields::{json_in, ref_at, text_at};
-use crate::kinds::Signed;
 use blobref::{NoMemory, Octets};
 use claim_verify::split_signed;
+use schema_fact::Signed;
 use serde_json::Value;
 use std::alloc::Global;
 

@@ -11,8 +11,8 @@ use Rattle.std.specs.Map.{keys_of}
 use Rattle.std.specs.FinMap.{IsAntisymmetric, int_cmp-IsAntisymmetric}
 use Rattle.std.proofs.lemmas.Map.Keys.{sorted_head, sorted_tail, IsDistinct-cons}
 use Rattle.blobref.specs.Blobref.{ref_cmp}
-use Rattle.plain_index.proofs.Tables.{same_ref}
-use Rattle.plain_index.proofs.Keys.{keys_sorted}
+use Rattle.index_look.proofs.Entries.{same_ref}
+use Rattle.index_look.proofs.Keys.{keys_sorted}
 use Rattle.search_eval.specs.Answer.{Dated, rising_cmp, falling_cmp, refs_by, dated}
 
 dates_total : IsTotalOrder (option_cmp int_cmp)
@@ -69,6 +69,12 @@ module _ (by_date : Option ℤ → Option ℤ → Ordering) where
         let all = dated changed rs in
         ap (map (λ (e : Dated). e.1)) (keys_sorted total (same_dated same) (map (λ (e : Dated). (e, e.1)) all) ds
         (subst (λ (xs : List Dated). IsPermutation xs ds) (sym (keys_are all)) moved) sorted (subst (IsDistinct (eq_by_cmp by_both)) (sym (keys_are all)) (distinct rs up)))
+
+pub rising_same : IsAntisymmetric rising_cmp
+rising_same = same_dated (option_cmp int_cmp) same_date
+
+pub falling_same : IsAntisymmetric falling_cmp
+falling_same = same_dated (λ a b. option_cmp int_cmp b a) (λ a b e. sym (same_date b a e))
 
 module _ (changed : List ℕ → Option ℤ) (rs : List (List ℕ)) (ds : List Dated) where
   pub rises : IsStrictlySortedBy ref_cmp rs → IsPermutation (dated changed rs) ds → IsSorted rising_cmp ds → map (λ e. e.1) ds ≡ refs_by rising_cmp (dated changed rs)

@@ -12,16 +12,14 @@ use Rattle.std.proofs.lemmas.Cmp.{tied_itself}
 use Rattle.std.specs.FinMap.{keys}
 use Rattle.blobref.specs.Blobref.{ref_cmp}
 use Rattle.claim_verify.specs.Verifier.{Accepts}
-use Rattle.schema_json.specs.declared.date.When.{When}
 use Rattle.claim_model.specs.Facts.{Facts}
 use Rattle.claim_model.specs.Genuine.{permanodes, is_genuine_permanode}
 use Rattle.claim_model.specs.Deleted.{is_deleted}
-use Rattle.plain_index.specs.Look.{is_after}
-use Rattle.plain_index.proofs.Tables.{keys_ascend}
-use Rattle.search_query.specs.declared.query.PermanodeTest.{PermanodeTest}
+use Rattle.index_look.specs.Look.{is_after}
+use Rattle.index_look.proofs.Entries.{keys_ascend}
 use Rattle.search_query.specs.declared.query.Query.{Query}
-use Rattle.search_eval.specs.Meaning.{meets, meets_permanode, values_meet}
-use Rattle.search_eval.specs.Walk.{is_found, test_met}
+use Rattle.search_eval.specs.Meaning.{meets}
+use Rattle.search_eval.specs.Walk.{is_found}
 use Rattle.search_eval.specs.Answer.{found}
 
 abbrev pub Ascends : List (List ℕ) → Type 0
@@ -113,16 +111,6 @@ permanodes_ascend facts accepts = filter_ascends (is_genuine_permanode facts acc
 
 -- ---- what the walk keeps is what the query asks for
 
-kept_same : (facts : Facts) (accepts : Accepts) (when : When) (test : Option PermanodeTest) (r : List ℕ)
-    → is_genuine_permanode facts accepts r ≡ true → (not (is_deleted facts accepts when r) && meets_permanode facts accepts when test r) ≡ (not (is_deleted facts accepts when r) && test_met facts accepts when test r)
-kept_same facts accepts when None r genuine = refl
-kept_same facts accepts when (Some test) r genuine = by (is_genuine_permanode facts accepts r) (is_deleted facts accepts when r) genuine
-  where
-    by : (g d : Bool) → g ≡ true → (not d && ((g && not d) && values_meet facts accepts when test.attr test.value r)) ≡ (not d && values_meet facts accepts when test.attr test.value r)
-    by true true h = refl
-    by true false h = refl
-    by false d h = absurd (false≢true h)
-
 filter_twice : (p q : List ℕ → Bool) (xs : List (List ℕ)) → filter q (filter p xs) ≡ filter (λ x. p x && q x) xs
 filter_twice p q [] = refl
 filter_twice p q (x ∷ xs) = by (p x) (q x) (filter_twice p q xs)
@@ -132,19 +120,16 @@ filter_twice p q (x ∷ xs) = by (p x) (q x) (filter_twice p q xs)
     by true b h = ap (λ zs. cond (q x) (x ∷ zs) zs) h
     by false b h = h
 
-filter_same : (p q g : List ℕ → Bool) (xs : List (List ℕ)) → ((x : List ℕ) → g x ≡ true → p x ≡ q x) → filter p (filter g xs) ≡ filter q (filter g xs)
-filter_same p q g [] h = refl
-filter_same p q g (x ∷ xs) h = by (g x) refl (filter_same p q g xs h)
-  where
-    by : (b : Bool) → g x ≡ b → filter p (filter g xs) ≡ filter q (filter g xs) → filter p (cond b (x ∷ filter g xs) (filter g xs)) ≡ filter q (cond b (x ∷ filter g xs) (filter g xs))
-    by true is rest = λ i. cond (h x is i) (x ∷ rest i) (rest i)
-    by false is rest = rest
+and_turned : (a b : Bool) → (a && b) ≡ (b && a)
+and_turned true true = refl
+and_turned true false = refl
+and_turned false true = refl
+and_turned false false = refl
 
 pub found_kept : (facts : Facts) (accepts : Accepts) (query : Query) → filter (is_found facts accepts query) (permanodes facts accepts) ≡ found facts accepts query
 found_kept facts accepts query =
-    sym (filter_twice (λ r. not (is_deleted facts accepts query.at r)) (meets facts accepts query.at query.constraint) (permanodes facts accepts)
-    ∙ filter_same (λ r. not (is_deleted facts accepts query.at r) && meets facts accepts query.at query.constraint r) (is_found facts accepts query) (is_genuine_permanode facts accepts) (keys facts)
-    (λ r genuine. kept_same facts accepts query.at query.constraint.permanode r genuine))
+    (λ i. filter (λ r. and_turned (meets facts accepts query.at query.constraint r) (not (is_deleted facts accepts query.at r)) i) (permanodes facts accepts))
+    ∙ sym (filter_twice (λ r. not (is_deleted facts accepts query.at r)) (meets facts accepts query.at query.constraint) (permanodes facts accepts))
 
 -- ---- the loop
 

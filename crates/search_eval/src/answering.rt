@@ -6,11 +6,11 @@ ghost use Rattle.claim_model.specs.Claims.{last_change};
 ghost use Rattle.search_eval.specs.Answer.{answer, found, in_order};
 ghost use Rattle.search_eval.specs.Walk.{is_found};
 
-use crate::meeting::values_meet;
+use crate::meeting::meets;
 use crate::ordering::in_order;
 use blobref::{NoMemory, Ref, RefList};
 use edge_base::Steps;
-use plain_index::Look;
+use index_look::Look;
 use search_query::Query;
 use std::alloc::Global;
 use std::sync::ledger::Ledger;
@@ -49,7 +49,7 @@ fn found<K: Look, L: Ledger>(
     Ok(kept)
 }
 
-// Keeps a genuine permanode where it isn't deleted and meets the query's constraint.
+// Keeps a genuine permanode where it meets the query's constraint and isn't deleted.
 fn keep_found<K: Look, L: Ledger>(
     look: &K,
     query: &Query,
@@ -65,22 +65,17 @@ fn keep_found<K: Look, L: Ledger>(
     Ok(())
 }
 
-// Whether a permanode that is genuine isn't deleted and meets the query's constraint.
+// Whether a blob meets the query's constraint, and isn't deleted.
 fn is_found<K: Look, L: Ledger>(
     look: &K,
     query: &Query,
-    p: &Ref,
+    r: &Ref,
     steps: &mut Steps<L>,
 ) -> Result<bool, NoMemory>
-    ensures { IfOk result (λ kept. kept ≡ is_found (K.facts look.now) (K.accepts look.now) query.now p.now) }
+    ensures { IfOk result (λ kept. kept ≡ is_found (K.facts look.now) (K.accepts look.now) query.now r.now) }
 {
-    if look.deleted(p, &query.at, steps) {
-        return Ok(false);
-    }
-    match &query.constraint.permanode {
-        None => Ok(true),
-        Some(test) => values_meet(look, test, p, &query.at, steps),
-    }
+    let met = meets(look, &query.constraint, r, &query.at, steps)?;
+    Ok(met && !look.deleted(r, &query.at, steps))
 }
 
 // The first refs, at most so many.

@@ -4,7 +4,7 @@ ghost use Rattle.search_query.specs.declared.query.Query.{Query};
 ghost use Rattle.search_eval.specs.Answer.{answer, answer_bytes};
 ghost use Rattle.search_eval.specs.Laws.{AnswersAreAsked};
 
-use plain_index::Look;
+use index_look::Look;
 
 /// Two indexes over the same facts, whose keys accept the same, answer every query alike, and with the same text, whichever way
 /// each is kept.
@@ -17,7 +17,8 @@ pub fn same_answers<A: Look, B: Look>(a: &A, b: &B)
 {}
 
 /// Each ref of an answer is a genuine permanode that isn't deleted at the query's date and meets its constraint then; there are at
-/// most `limit` of them; and they are in the query's order, none twice.
+/// most `limit` of them; and they are in the query's order, none twice. Such a permanode is left out only where there are `limit` refs,
+/// each of which comes before it in that order.
 pub fn answers_are_asked()
     ensures { AnswersAreAsked }
 {}

@@ -8,6 +8,3 @@ mod ordering;
 
 pub use answering::answer;
 pub use laws::{answers_are_asked, same_answers};
-
-#[cfg(test)]
-mod tests;

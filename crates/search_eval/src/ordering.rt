@@ -7,8 +7,8 @@ ghost use Rattle.search_eval.specs.Answer.{dated, falling_cmp, in_order, refs_by
 
 use blobref::{NoMemory, Ref, RefList};
 use edge_base::Steps;
-use plain_index::Look;
-use schema_json::{Date, When};
+use index_look::Look;
+use schema_date::{Date, When};
 use search_query::{Query, Sort};
 use std::alloc::Global;
 use std::cmp::Reverse;

@@ -3,7 +3,7 @@ ghost use Rattle.std.specs.Prelude.{◌≢◌, ◌≡◌, [], IfOk};
 ghost use Rattle.search_query.specs.Queries.{value_query, IsValid};
 
 use blobref::{NoMemory, Text};
-use schema_json::When;
+use schema_date::When;
 use std::alloc::Global;
 
 /// The order of an answer.

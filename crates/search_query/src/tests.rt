@@ -1,6 +1,6 @@
 use crate::{Query, Sort};
 use blobref::NoMemory;
-use schema_json::When;
+use schema_date::When;
 
 #[test]
 fn asks_for_a_value(rt: HostRuntime) -> Result<(), NoMemory> {

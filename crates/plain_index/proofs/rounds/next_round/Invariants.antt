@@ -1,6 +1,6 @@
 use Rattle.std.proofs.Common.{◌≡◌, map, take}
 use Rattle.std.specs.List.{list_all}
-use Rattle.schema_json.specs.Dependencies.{dependencies}
+use Rattle.schema_fact.specs.Dependencies.{dependencies}
 use Rattle.plain_index.specs.Tables.{beside}
 use Rattle.plain_index.proofs.rounds.next_round.Given as goal
 

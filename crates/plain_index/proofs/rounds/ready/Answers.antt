@@ -1,7 +1,7 @@
 use Rattle.std.proofs.Common.{sym, ◌∙◌, arith}
 use Rattle.std.specs.Cmp.{booleans_Decides}
 use Rattle.std.proofs.lemmas.Slice.Eq.{slice_eq-Decides}
-use Rattle.plain_index.proofs.Tables.{map_of}
+use Rattle.index_look.proofs.Entries.{map_of}
 use Rattle.plain_index.proofs.Settling.{round_table-zero, round_table-next, round_table-stays, round_table-last}
 use Rattle.plain_index.proofs.rounds.ready.Goals as goal
 

@@ -2,7 +2,7 @@ use Rattle.std.proofs.Common.{◌∙◌, sym, ap, Option, option_map, List, ℕ}
 use Rattle.serde_json.specs.View.{view}
 use Rattle.schema_json.specs.Facts.{change_of}
 use Rattle.schema_json.specs.declared.claims.Change.{Change}
-use Rattle.schema_json.specs.declared.kinds.What.TheVariants.{Add}
+use Rattle.schema_fact.specs.declared.kinds.What.TheVariants.{Add}
 use Rattle.schema_json.proofs.claims.add_of.Goals as goal
 
 pub returns-in-Some : goal.returns-in-Some

@@ -1,5 +1,5 @@
 use Rattle.std.proofs.Common.{◌≡◌, drop, nat_le}
-use Rattle.schema_json.specs.Parts.{is_length, total_size}
+use Rattle.schema_fact.specs.Limits.{is_length, total_size}
 use Rattle.schema_json.proofs.part_list.are_short.Given as goal
 
 -- what is left of the limit holds the parts to come exactly where the limit holds them all

@@ -1,5 +1,5 @@
 use Rattle.std.proofs.Common.{sym, subst}
-use Rattle.schema_json.specs.Facts.{HasValidParts}
+use Rattle.schema_fact.specs.Validity.{HasValidParts}
 use Rattle.schema_json.proofs.ValidFacts.{HasValidParts-kind_of}
 use Rattle.schema_json.proofs.reading.fact.Goals as goal
 

@@ -2,7 +2,7 @@ use Rattle.std.proofs.Common.{ap, ◌∙◌, subst, sym}
 use Rattle.std.specs.List.Sorted.{IsStrictlySortedBy}
 use Rattle.blobref.specs.Blobref.{ref_cmp}
 use Rattle.claim_model.specs.Genuine.{permanodes}
-use Rattle.plain_index.specs.Look.{permanode_after}
+use Rattle.index_look.specs.Look.{permanode_after}
 use Rattle.search_eval.specs.Walk.{is_found}
 use Rattle.search_eval.proofs.Walk.{begins, fewer, goes_on, ends, permanodes_ascend, filter_ascends, found_kept}
 use Rattle.search_eval.proofs.answering.found.Goals as goal

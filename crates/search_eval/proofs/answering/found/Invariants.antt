@@ -1,6 +1,6 @@
 use Rattle.std.proofs.Common.{◌≡◌, ◌++◌, filter, length}
 use Rattle.claim_model.specs.Genuine.{permanodes}
-use Rattle.plain_index.specs.Look.{is_after}
+use Rattle.index_look.specs.Look.{is_after}
 use Rattle.search_eval.specs.Walk.{is_found}
 use Rattle.search_eval.proofs.answering.found.Given as goal
 

@@ -3,7 +3,7 @@ use Rattle.std.specs.List.{list_any}
 use Rattle.std.specs.FinMap.{get}
 use Rattle.claim_model.specs.Facts.{passes}
 use Rattle.claim_model.specs.Deleted.{deletes, deleted_within}
-use Rattle.plain_index.specs.Claims.{claims_about}
+use Rattle.index_look.specs.Claims.{claims_about}
 use Rattle.plain_index.proofs.index.PlainIndex.+deleted_within.Given as goal
 
 abbrev pub decreases-deleted_within : goal.decreases-deleted_within

@@ -6,7 +6,7 @@ use Rattle.claim_model.specs.Genuine.{is_genuine}
 use Rattle.claim_model.specs.Trees.{is_sound_tree, own_size}
 use Rattle.std.specs.List.{filter_map}
 use Rattle.std.specs.Str.{bytes_eq}
-use Rattle.plain_index.specs.Claims.{claim_under}
+use Rattle.index_look.specs.Claims.{claim_under}
 use Rattle.plain_index.specs.Tables.{beside}
 use Rattle.plain_index.proofs.Settling.{permanodes_kept, claims_told}
 use Rattle.plain_index.proofs.index.PlainIndex.build.Goals as goal

@@ -3,7 +3,7 @@ use Rattle.std.proofs.lemmas.List.{take_all}
 use Rattle.claim_model.specs.Claims.{has_value}
 use Rattle.claim_model.specs.Deleted.{is_deleted}
 use Rattle.claim_model.specs.Genuine.{permanodes}
-use Rattle.plain_index.proofs.Texts.{filter-twice}
+use Rattle.index_look.proofs.Texts.{filter-twice}
 use Rattle.plain_index.proofs.index.PlainIndex.holding.Goals as goal
 
 pub returns : goal.returns

@@ -1,7 +1,7 @@
 use Rattle.std.proofs.Common.{◌≡◌, drop, option_map}
 use Rattle.std.specs.List.{filter_map}
-use Rattle.plain_index.specs.Claims.{counted_claim}
-use Rattle.plain_index.specs.Latest.{latest}
+use Rattle.index_look.specs.Claims.{counted_claim}
+use Rattle.index_look.specs.Latest.{latest}
 use Rattle.plain_index.proofs.index.PlainIndex.latest.Given as goal
 
 -- the latest of those from the place on

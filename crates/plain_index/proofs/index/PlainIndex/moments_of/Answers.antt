@@ -1,5 +1,5 @@
 use Rattle.std.proofs.Common.{arith}
-use Rattle.plain_index.proofs.Texts.{one_more_kept}
+use Rattle.index_look.proofs.Texts.{one_more_kept}
 use Rattle.plain_index.proofs.index.PlainIndex.moments_of.Goals as goal
 
 pub loop-r-preserved : goal.loop-r-preserved

@@ -1,6 +1,6 @@
 use Rattle.std.proofs.Common.{◌≡◌, take, option_map}
 use Rattle.std.specs.List.{filter_map}
-use Rattle.plain_index.specs.Claims.{counted_claim}
+use Rattle.index_look.specs.Claims.{counted_claim}
 use Rattle.plain_index.proofs.index.PlainIndex.moments_of.Given as goal
 
 abbrev pub invariant-loop-r : goal.invariant-loop-r

@@ -4,7 +4,7 @@ use Rattle.std.specs.List.Sorted.{IsStrictlySortedBy}
 use Rattle.std.proofs.lemmas.List.Kept.{IsStrictlySortedBy-filter}
 use Rattle.blobref.specs.Blobref.{ref_cmp}
 use Rattle.claim_model.specs.Genuine.{is_genuine_permanode}
-use Rattle.plain_index.proofs.Tables.{keys_ascend}
+use Rattle.index_look.proofs.Entries.{keys_ascend}
 use Rattle.plain_index.proofs.index.PlainIndexLook.permanode_after.Goals as goal
 
 pub first_after-requires : goal.first_after-requires

@@ -1,6 +1,6 @@
 use Rattle.std.proofs.Common.{◌≡◌, ◌∙◌, ap, subst, fold, IfOk, [], ℕ, ℤ, List}
-use Rattle.plain_index.specs.Claims.{apply_said, said}
-use Rattle.plain_index.proofs.Counting.{values_folded}
+use Rattle.index_look.specs.Claims.{apply_said, said}
+use Rattle.index_look.proofs.Counting.{values_folded}
 use Rattle.plain_index.proofs.index.PlainIndexLook.values.Goals as goal
 
 pub returns : goal.returns

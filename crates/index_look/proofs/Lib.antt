@@ -1,0 +1,6 @@
+pub mod Counting
+pub mod Entries
+pub mod Keys
+pub mod Lasts
+pub mod Order
+pub mod Texts

@@ -1,0 +1,4 @@
+pub mod Look
+pub mod Walk
+pub mod Claims
+pub mod Latest

@@ -1,0 +1,85 @@
+//! Queries over three permanodes, of which one is tagged.
+ghost use Rattle.std.specs.Prelude.{◌≡◌, ◌<◌};
+
+use crate::blobs::{HIGH, KEY, LOW, PERMANODE, TAG, index_of, time_of};
+use blobref::{NoMemory, Ref, RefList};
+use edge_base::Steps;
+use schema_date::When;
+use search_eval::answer;
+use search_query::{Constraint, Query, Sort};
+use std::alloc::Global;
+use std::marker::Brand;
+use std::sync::ledger::{Blank, Ledger};
+
+fn answered<L: Ledger>(alloc: Global, query: &Query, blank: Blank) -> Result<RefList, NoMemory>
+    requires name { blank.name ≡ L.name }
+    requires parts { blank.parts ≡ L.parts }
+    requires some { 0 < blank.parts }
+{
+    let mut steps = Steps::<L>::start(blank);
+    answer(
+        alloc,
+        &index_of(alloc, &[TAG, HIGH, PERMANODE, KEY, LOW])?,
+        query,
+        &mut steps,
+    )
+}
+
+// Whether the answer has these blobs, in this order.
+fn finds(alloc: Global, query: &Query, want: &[&str]) -> Result<bool, NoMemory> {
+    let found = answered::<Brand>(alloc, query, Blank::new(1))?;
+    Ok(
+        found.len() == want.len()
+            && found
+                .as_slice()
+                .iter()
+                .zip(want)
+                .all(|(r, blob)| *r == Ref::of(blob.as_bytes())),
+    )
+}
+
+// Whether the query for a tag at that time has this answer.
+fn finds_tag(alloc: Global, value: &str, at: When, want: &[&str]) -> Result<bool, NoMemory> {
+    let query = Query::for_value(alloc, "tag", value, at)?;
+    finds(alloc, &query, want)
+}
+
+#[test]
+fn one_tagged_permanode_is_found(rt: HostRuntime) -> Result<(), NoMemory> {
+    let alloc = rt.alloc();
+    assert!(rt; finds_tag(alloc, "sunset", When::Always, &[PERMANODE])?);
+    assert!(rt;
+        finds_tag(
+            alloc,
+            "sunset",
+            time_of("2014-01-02T00:00:00Z"),
+            &[PERMANODE]
+        )?
+    );
+    assert!(rt; finds_tag(alloc, "sunset", time_of("2014-01-01T23:59:59Z"), &[])?);
+    assert!(rt; finds_tag(alloc, "sun", When::Always, &[])?);
+    Ok(())
+}
+
+// Whether all permanodes come in this order, and the first two where two are asked for.
+fn come_in_order(alloc: Global, sort: Sort, want: &[&str; 3]) -> Result<bool, NoMemory> {
+    let all = Query {
+        constraint: Constraint { permanode: None },
+        limit: 200,
+        sort,
+        at: When::Always,
+    };
+    if !finds(alloc, &all, want)? {
+        return Ok(false);
+    }
+    finds(alloc, &Query { limit: 2, ..all }, &want[..2])
+}
+
+#[test]
+fn three_orders(rt: HostRuntime) -> Result<(), NoMemory> {
+    let alloc = rt.alloc();
+    assert!(rt; come_in_order(alloc, Sort::Ref, &[LOW, PERMANODE, HIGH])?);
+    assert!(rt; come_in_order(alloc, Sort::Mod, &[LOW, HIGH, PERMANODE])?);
+    assert!(rt; come_in_order(alloc, Sort::ModDown, &[PERMANODE, LOW, HIGH])?);
+    Ok(())
+}

@@ -1,0 +1,4 @@
+pub mod Deleting
+pub mod Moments
+pub mod Reaching
+pub mod Walking

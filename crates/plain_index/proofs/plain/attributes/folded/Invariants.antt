@@ -1,6 +1,0 @@
-use Rattle.std.proofs.Common.{◌≡◌, [], map, take, fold}
-use Rattle.plain_index.specs.Claims.{apply_said, said}
-use Rattle.plain_index.proofs.plain.attributes.folded.Given as goal
-
-abbrev pub invariant-loop-r : goal.invariant-loop-r
-invariant-loop-r g l = map (λ t. t.now) l.found.items ≡ fold (λ found m. apply_said l.attr found (said (g.T.FactTable.facts l.table) m.1)) [] (take l.r-index l.moments)

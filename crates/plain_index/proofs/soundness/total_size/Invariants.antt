@@ -1,6 +1,0 @@
-use Rattle.std.proofs.Common.{◌≡◌, take}
-use Rattle.schema_json.specs.Parts.{total_size}
-use Rattle.plain_index.proofs.soundness.total_size.Given as goal
-
-abbrev pub invariant-loop-part : goal.invariant-loop-part
-invariant-loop-part l = l.total ≡ total_size (take l.part-index l.parts)
