@@ -134,14 +134,11 @@ fn lacks(store: &mut Store<MemDisk>, r: &Ref, number: u64) -> bool {
 }
 
 // Whether these are the first refs behind one, with their sizes.
-fn lists(
-    store: &Store<MemDisk>,
-    after: Option<&Ref>,
-    limit: usize,
-    want: &[(Ref, u64)],
-) -> Result<bool, NoMemory> {
-    let listing = store.list(after, limit)?;
-    Ok(listing.as_slice() == want)
+fn lists(store: &Store<MemDisk>, after: Option<&Ref>, limit: usize, want: &[(Ref, u64)]) -> bool {
+    match store.list(after, limit) {
+        Ok(listing) => listing.as_slice() == want,
+        Err(_) => false,
+    }
 }
 
 // The least pack number at or above one.
@@ -172,9 +169,9 @@ fn false_refs_are_refused(rt: HostRuntime) -> Result<(), Fail> {
         said: empty,
         is: abc,
     };
-    assert!(rt; store.put(&empty, b"abc") == Err(refused));
+    let answered = store.put(&empty, b"abc") == Err(refused);
     let mut disk = store.give_back();
-    assert_eq!(rt; disk.packs(0), Ok(None));
+    assert!(rt; answered && disk.packs(0) == Ok(None));
     Ok(())
 }
 
@@ -194,12 +191,11 @@ fn abc_is_stored(store: &mut Store<MemDisk>) -> bool {
 }
 
 // Whether both are listed. The ref of `abc` is the lesser one.
-fn both_are_listed(store: &Store<MemDisk>) -> Result<bool, NoMemory> {
+fn both_are_listed(store: &Store<MemDisk>) -> bool {
     let (empty, abc) = (named(EMPTY), named(ABC));
-    let all = lists(store, None, 9, &[(abc, 3), (empty, 0)])?;
-    let first = lists(store, None, 1, &[(abc, 3)])?;
-    let rest = lists(store, Some(&abc), 9, &[(empty, 0)])?;
-    Ok(all && first && rest)
+    lists(store, None, 9, &[(abc, 3), (empty, 0)])
+        && lists(store, None, 1, &[(abc, 3)])
+        && lists(store, Some(&abc), 9, &[(empty, 0)])
 }
 
 // Whether both records stand in the first pack.
@@ -211,12 +207,12 @@ fn both_are_held(disk: &mut MemDisk) -> bool {
 fn blobs_are_put_and_read(rt: HostRuntime) -> Result<(), Fail> {
     let alloc = rt.alloc();
     let mut store = opened(alloc, failing(alloc, None)?, WIDE)?;
-    assert!(rt; abc_is_stored(&mut store));
-    assert!(rt; store.put_own(&Ref::of(b""), b"") == Ok(Put::Stored { number: 1 }));
-    assert!(rt; both_are_listed(&store)?);
+    let first = abc_is_stored(&mut store);
+    let second = store.put_own(&Ref::of(b""), b"") == Ok(Put::Stored { number: 1 });
+    let listed = both_are_listed(&store);
     store.arrivals_are_held();
     let mut disk = store.give_back();
-    assert!(rt; both_are_held(&mut disk));
+    assert!(rt; first && second && listed && both_are_held(&mut disk));
     Ok(())
 }
 
@@ -284,35 +280,37 @@ fn is_stored_late(store: &mut Store<MemDisk>) -> bool {
 fn packs_are_left_after_a_fault(rt: HostRuntime) -> Result<(), Fail> {
     let alloc = rt.alloc();
     let mut store = opened(alloc, failing(alloc, Some(3))?, WIDE)?;
-    assert!(rt; is_stored_late(&mut store));
+    let stored = is_stored_late(&mut store);
     let mut disk = store.give_back();
-    assert!(rt; holds(&mut disk, 1, EMPTY_RECORD));
+    assert!(rt; stored && holds(&mut disk, 1, EMPTY_RECORD));
     Ok(())
 }
 
 // Whether a scan of the first pack finds `abc`, and one byte behind it that belongs to nothing.
-fn is_scanned(alloc: Global, disk: &mut MemDisk) -> Result<bool, Fail> {
-    let Some(pack) = next_number(disk, 0)? else {
-        return Ok(false);
+fn is_scanned(alloc: Global, disk: &mut MemDisk) -> bool {
+    let Ok(Some(pack)) = next_number(disk, 0) else {
+        return false;
     };
-    let scan = scan_pack(alloc, disk, pack)?;
     let found = Found {
         r: named(ABC),
         at: 67,
         size: 3,
     };
-    Ok(
-        scan.found.as_slice() == [found].as_slice()
-            && scan.clean == Clean::No { at: 70 }
-            && scan.size == 71,
-    )
+    match scan_pack(alloc, disk, pack) {
+        Ok(scan) => {
+            scan.found.as_slice() == [found].as_slice()
+                && scan.clean == Clean::No { at: 70 }
+                && scan.size == 71
+        }
+        Err(_) => false,
+    }
 }
 
 #[test]
 fn packs_are_scanned(rt: HostRuntime) -> Result<(), Fail> {
     let alloc = rt.alloc();
     let mut disk = written(alloc, ABC_AND_MORE)?;
-    assert!(rt; is_scanned(alloc, &mut disk)?);
+    assert!(rt; is_scanned(alloc, &mut disk));
     Ok(())
 }
 
