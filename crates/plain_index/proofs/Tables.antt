@@ -1,25 +1,25 @@
 -- Tables of truths beside facts in the order of their refs.
-use Rattle.std.proofs.Common.{◌≡◌, ◌<◌, ℕ, zero, suc, Bool, true, false, cond, List, [], ◌∷◌, length, get_or, None, Some, Result, Ok, Err, IfSome, IfNone, refl, sym, ap, ◌∙◌, arith, inl, inr, is_some, map, ◌&&◌, not, filter, subst}
+use Rattle.std.proofs.Common.{◌≡◌, ◌<◌, ℕ, zero, suc, Bool, true, false, cond, List, [], ◌∷◌, length, get_or, None, Some, Result, Ok, Err, IfSome, IfNone, refl, sym, ap, ◌∙◌, arith, inl, inr, is_some, map, ◌&&◌, not, filter}
 use Rattle.std.specs.declared.cmp.Ordering.TheVariants.{Less}
 use Rattle.std.specs.Ordering.{is_eq, eq_by_cmp}
 use Rattle.std.specs.Str.{bytes_eq}
 use Rattle.std.specs.List.{AllByRecursion, IsDistinct, list_all}
-use Rattle.std.specs.List.Sorted.{IsStrictlySortedBy, IsBinarySearchResult, IsSearchInRange}
+use Rattle.std.specs.List.Sorted.{IsBinarySearchResult, IsSearchInRange}
 use Rattle.std.specs.Cmp.{eq_by_cmp_equiv}
 use Rattle.std.specs.Cmp.Lexicographic.{nat_list_cmp_total, nat_list_eq_equiv}
 use Rattle.std.specs.Result.{result_ok}
 use Rattle.std.specs.Map.{lookup, keys_of}
-use Rattle.std.specs.FinMap.{IsAntisymmetric, find, get, from_entries, entries, same_map, get-entries, get-from_entries, get-insert, len, keys, len-entries, slice_cmp-IsAntisymmetric, nat_cmp-IsAntisymmetric}
+use Rattle.std.specs.FinMap.{find, get, get-from_entries, len, keys, len-entries}
 use Rattle.std.proofs.lemmas.Bool.{cases_Bool, cond-true, cond-false, and_parts, not-true}
 use Rattle.std.proofs.lemmas.Slice.Eq.{bytes_eq-Decides}
 use Rattle.std.proofs.lemmas.List.{get_or-map}
 use Rattle.std.proofs.lemmas.Map.Text.{is_eq-slice_cmp}
-use Rattle.std.proofs.lemmas.Map.Keys.{sorted_head, sorted_tail, IsDistinct-from_sorted, Less-from_sorted}
+use Rattle.std.proofs.lemmas.Map.Keys.{sorted_tail, IsDistinct-from_sorted, Less-from_sorted}
 use Rattle.std.proofs.lemmas.Map.Entries.{lookup_from_place, length-keys_of}
 use Rattle.std.proofs.lemmas.Option.{get_or_from_slice_get, slice_get-get_or}
 use Rattle.blobref.specs.Blobref.{ref_cmp}
 use Rattle.schema_fact.specs.declared.kinds.Fact.{Fact}
-use Rattle.claim_model.specs.Facts.{Entry, Facts, passes, AreDistinct}
+use Rattle.claim_model.specs.Facts.{Entry, passes, AreDistinct}
 use Rattle.plain_index.specs.Tables.{IsAscending, IsPlaceOf, beside}
 use Rattle.index_look.proofs.Order.{found_at, absent_at, find-lookup, entries_in_order}
 use Rattle.index_look.proofs.Entries.{same_ref, map_of, IsHad, all_had}
