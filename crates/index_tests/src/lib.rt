@@ -1,8 +1,10 @@
-//! Tests of what blobs say, of the index over them, and of queries.
+//! Tests of dates, of what blobs say, of the index over them, and of queries.
 #![tactic(auto)]
 
 #[cfg(test)]
 mod blobs;
+#[cfg(test)]
+mod dates;
 #[cfg(test)]
 mod index;
 #[cfg(test)]

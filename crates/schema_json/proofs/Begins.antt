@@ -1,5 +1,5 @@
 -- A text that begins with no brace reads as no object, so such a blob is plain.
-use Rattle.std.proofs.Common.{◌≡◌, ℕ, zero, suc, codes, nat_lt, if◌then◌else◌, ◌==◌, ◌||◌, ◌&&◌, Bool, true, false, cond, not, List, [], ◌∷◌, length, drop, take, Option, Some, None, option_and_then, option_map, unwrap_or, refl, sym, ap, ◌∙◌, subst, inl, inr}
+use Rattle.std.proofs.Common.{◌≡◌, ℕ, zero, suc, codes, nat_lt, if◌then◌else◌, ◌==◌, ◌||◌, ◌&&◌, Bool, true, false, cond, not, List, [], ◌∷◌, length, drop, Option, Some, None, option_and_then, option_map, unwrap_or, refl, sym, ap, ◌∙◌, subst, inl, inr}
 use Rattle.std.specs.Prelude.{nat_eq}
 use Rattle.std.specs.List.{find, starts_with}
 use Rattle.std.specs.Str.{is_utf8}
@@ -17,7 +17,6 @@ use Rattle.serde_json.specs.Find.{get}
 use Rattle.serde_json.specs.Read.{read, of_json, of_items, number_of, max_depth}
 use Rattle.schema_json.specs.Fields.{begins_object, json_in, text_at, whole_in}
 use Rattle.schema_json.specs.Facts.{object_kind, schema_kind, known_kind}
-use Rattle.schema_fact.specs.declared.kinds.Kind.{Kind}
 use Rattle.schema_fact.specs.declared.kinds.Kind.TheVariants.{Plain, Unread}
 
 abbrev NoBrace : Token → Type 0

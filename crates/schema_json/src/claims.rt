@@ -1,10 +1,9 @@
 //! What claims say.
 ghost use Rattle.std.specs.Prelude.{◌≡◌, IfOk, option_copied};
 ghost use Rattle.serde_json.specs.View.{view};
-ghost use Rattle.schema_json.specs.Facts.{attribute_of, change_of, set_of, add_of, del_of, delete_of, what_by, what_of, claim_of, claim_kind, date_of};
+ghost use Rattle.schema_json.specs.Facts.{attribute_of, change_of, set_of, add_of, del_of, delete_of, what_by, what_of, claim_of, date_of};
 
 use crate::fields::{has_type, ref_at, text_at, text_or_empty};
-use crate::signing::signed_in;
 use blobref::{NoMemory, Ref, Text};
 use schema_date::Date;
 use schema_fact::{Kind, Signed, What};
@@ -19,17 +18,12 @@ struct Change {
     value: Text,
 }
 
-// A claim: a signed blob whose payload has the type, a date and what it says.
-pub(crate) fn claim_kind(alloc: Global, bytes: &[u8]) -> Result<Option<Kind>, NoMemory>
-    ensures { IfOk result (λ kind. kind ≡ claim_kind bytes.now) }
-{
-    match signed_in(alloc, bytes)? {
-        Some((object, signed)) => claim_of(alloc, &object, signed),
-        None => Ok(None),
-    }
-}
-
-fn claim_of(alloc: Global, object: &Value, signed: Signed) -> Result<Option<Kind>, NoMemory>
+// A claim: the payload of a signed blob has the type, a date and what it says.
+pub(crate) fn claim_of(
+    alloc: Global,
+    object: &Value,
+    signed: Signed,
+) -> Result<Option<Kind>, NoMemory>
     ensures { IfOk result (λ kind. kind ≡ claim_of (view object.now) signed) }
 {
     if !has_type(object, "claim") {

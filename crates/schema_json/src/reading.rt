@@ -1,16 +1,17 @@
 //! What blobs say.
 ghost use Rattle.std.specs.Prelude.{◌≡◌, IfOk};
 ghost use Rattle.serde_json.specs.View.{view};
-ghost use Rattle.schema_json.specs.Facts.{fact_of, kind_of, schema_kind, object_kind, known_kind, signed_kind, file_kind, bytes_kind, directory_kind, set_kind, permanode_kind, key_in};
+ghost use Rattle.schema_json.specs.Facts.{fact_of, kind_of, schema_kind, file_kind, bytes_kind, directory_kind, set_kind, key_in};
+ghost use Rattle.schema_json.specs.Reading.{signed_of, signed_first, unsigned_kind, unsigned_object, unsigned_in};
 ghost use Rattle.schema_fact.specs.Validity.{IsValid};
 
-use crate::claims::claim_kind;
+use crate::claims::claim_of;
 use crate::fields::{begins_object, has_type, json_in, ref_at, refs_at, text_or_empty, type_of};
 use crate::part_list::part_list_of;
 use crate::signing::signed_in;
 use blobref::{NoMemory, Text};
 use claim_verify::KeyName;
-use schema_fact::{Fact, Kind};
+use schema_fact::{Fact, Kind, Signed};
 use serde_json::Value;
 use std::alloc::Global;
 
@@ -55,50 +56,63 @@ fn schema_kind(alloc: Global, bytes: &[u8]) -> Result<Kind, NoMemory>
     if !begins_object(bytes) {
         return Ok(Kind::Plain);
     }
+    match signed_first(alloc, bytes)? {
+        Some(kind) => Ok(kind),
+        None => unsigned_in(alloc, bytes),
+    }
+}
+
+// What a blob says that is a permanode or a claim, by its payload and its signature: the whole isn't read.
+fn signed_first(alloc: Global, bytes: &[u8]) -> Result<Option<Kind>, NoMemory>
+    ensures { IfOk result (λ kind. kind ≡ signed_first bytes.now) }
+{
+    match signed_in(alloc, bytes)? {
+        Some((object, signed)) => signed_of(alloc, &object, signed),
+        None => Ok(None),
+    }
+}
+
+// What a payload's object says with what is signed.
+fn signed_of(alloc: Global, object: &Value, signed: Signed) -> Result<Option<Kind>, NoMemory>
+    ensures { IfOk result (λ kind. kind ≡ signed_of (view object.now) signed) }
+{
+    if has_type(object, "permanode") {
+        return Ok(Some(Kind::Permanode(signed)));
+    }
+    claim_of(alloc, object, signed)
+}
+
+// What a blob says that is no permanode and no claim.
+fn unsigned_in(alloc: Global, bytes: &[u8]) -> Result<Kind, NoMemory>
+    ensures { IfOk result (λ kind. kind ≡ unsigned_in bytes.now) }
+{
     match json_in(alloc, bytes)? {
-        Some(value) => object_kind(alloc, bytes, &value),
+        Some(value) => unsigned_object(alloc, &value),
         None => Ok(Kind::Plain),
     }
 }
 
-// What the blob of this JSON value says.
-fn object_kind(alloc: Global, bytes: &[u8], value: &Value) -> Result<Kind, NoMemory>
-    ensures { IfOk result (λ kind. kind ≡ object_kind bytes.now (view value.now)) }
+fn unsigned_object(alloc: Global, value: &Value) -> Result<Kind, NoMemory>
+    ensures { IfOk result (λ kind. kind ≡ unsigned_object (view value.now)) }
 {
     let Some(type_name) = type_of(value) else {
         return Ok(Kind::Plain);
     };
-    match known_kind(alloc, type_name, bytes, value)? {
+    match unsigned_kind(alloc, type_name, value)? {
         Some(kind) => Ok(kind),
         None => Ok(Kind::Unread(Text::copy(alloc, type_name)?)),
     }
 }
 
-// What the blob of an object of this type says, where it meets the conditions of the type.
-fn known_kind(
-    alloc: Global,
-    type_name: &str,
-    bytes: &[u8],
-    value: &Value,
-) -> Result<Option<Kind>, NoMemory>
-    ensures { IfOk result (λ kind. kind ≡ known_kind type_name.now bytes.now (view value.now)) }
+// What an object of this type says that isn't signed, where it meets the conditions of the type.
+fn unsigned_kind(alloc: Global, type_name: &str, value: &Value) -> Result<Option<Kind>, NoMemory>
+    ensures { IfOk result (λ kind. kind ≡ unsigned_kind type_name.now (view value.now)) }
 {
     match type_name {
         "file" => file_kind(alloc, value),
         "bytes" => bytes_kind(alloc, value),
         "directory" => directory_kind(alloc, value),
         "static-set" => set_kind(alloc, value),
-        _ => signed_kind(alloc, type_name, bytes),
-    }
-}
-
-// What a blob of this type says that must be signed.
-fn signed_kind(alloc: Global, type_name: &str, bytes: &[u8]) -> Result<Option<Kind>, NoMemory>
-    ensures { IfOk result (λ kind. kind ≡ signed_kind type_name.now bytes.now) }
-{
-    match type_name {
-        "permanode" => permanode_kind(alloc, bytes),
-        "claim" => claim_kind(alloc, bytes),
         _ => Ok(None),
     }
 }
@@ -142,17 +156,4 @@ fn set_kind(alloc: Global, value: &Value) -> Result<Option<Kind>, NoMemory>
         return Ok(None);
     }
     Ok(refs_at(alloc, value, "members")?.map(Kind::StaticSet))
-}
-
-fn permanode_kind(alloc: Global, bytes: &[u8]) -> Result<Option<Kind>, NoMemory>
-    ensures { IfOk result (λ kind. kind ≡ permanode_kind bytes.now) }
-{
-    let Some((object, signed)) = signed_in(alloc, bytes)? else {
-        return Ok(None);
-    };
-    if has_type(&object, "permanode") {
-        Ok(Some(Kind::Permanode(signed)))
-    } else {
-        Ok(None)
-    }
 }

@@ -1,8 +1,7 @@
 -- Queries (docs/search.md).
 use Rattle.std.specs.Prelude.{◌≡◌, ◌≢◌, ◌≤◌, ℕ, List, [], Option, Some, None, IsSome}
 use Rattle.schema_date.specs.declared.date.When.{When}
-use Rattle.search_query.specs.declared.query.Sort.{Sort}
-use Rattle.search_query.specs.declared.query.Sort.TheVariants.{Ref, Mod, ModDown}
+use Rattle.search_query.specs.declared.query.Sort.TheVariants.{Ref}
 use Rattle.search_query.specs.declared.query.PermanodeTest.{PermanodeTest}
 use Rattle.search_query.specs.declared.query.Constraint.{Constraint}
 use Rattle.search_query.specs.declared.query.Query.{Query}

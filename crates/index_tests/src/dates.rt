@@ -1,4 +1,5 @@
-use crate::Date;
+//! Dates and their texts.
+use schema_date::Date;
 
 fn is_written(number: i128, text: &str) -> bool {
     match Date::of(number) {
