@@ -102,6 +102,7 @@ fn is_one_permanode<L: Ledger>(index: &PlainIndex<Keyring>, blank: Blank) -> boo
     let mut steps = Steps::<L>::start(blank);
     let p = Ref::of(PERMANODE.as_bytes());
     index.fact_of(&p, &mut steps).is_some()
+        && index.is_permanode(&p, &mut steps)
         && index.permanode_after(None, &mut steps) == Some(p)
         && index.permanode_after(Some(&p), &mut steps).is_none()
         && index.last_change(&p, &When::Always, &mut steps) == Date::read(b"2014-01-02T00:00:00Z")
@@ -265,6 +266,7 @@ fn is_plain<L: Ledger>(table: &PlainIndex<Keyring>, keys: &Keyring, blank: Blank
     let tag = Ref::of(TAG.as_bytes());
     let then = time_of(UNDELETED);
     plain_answers::fact_of(table, keys, &p, &mut steps).is_some()
+        && plain_answers::is_permanode(table, keys, &p, &mut steps)
         && plain_answers::permanode_after(table, keys, None, &mut steps) == Some(p)
         && !plain_answers::deleted(table, keys, &tag, &then, &mut steps)
         && plain_answers::deleted(table, keys, &tag, &When::Always, &mut steps)

@@ -2,11 +2,11 @@
 ghost use Rattle.std.specs.Prelude.{◌≡◌, ◌<◌};
 
 use crate::blobs::{HIGH, KEY, LOW, PERMANODE, TAG, index_of, time_of};
-use blobref::{NoMemory, Ref, RefList};
+use blobref::{NoMemory, Ref, RefList, Text};
 use edge_base::Steps;
 use schema_date::When;
 use search_eval::answer;
-use search_query::{Constraint, Query, Sort};
+use search_query::{Constraint, PermanodeTest, Query, Sort};
 use std::alloc::Global;
 use std::marker::Brand;
 use std::sync::ledger::{Blank, Ledger};
@@ -81,5 +81,29 @@ fn three_orders(rt: HostRuntime) -> Result<(), NoMemory> {
     assert!(rt; come_in_order(alloc, Sort::Ref, &[LOW, PERMANODE, HIGH])?);
     assert!(rt; come_in_order(alloc, Sort::Mod, &[LOW, HIGH, PERMANODE])?);
     assert!(rt; come_in_order(alloc, Sort::ModDown, &[PERMANODE, LOW, HIGH])?);
+    Ok(())
+}
+
+// Whether the permanodes with any value of the attribute are these.
+fn finds_any(alloc: Global, attr: &str, want: &[&str]) -> Result<bool, NoMemory> {
+    let test = PermanodeTest {
+        attr: Some(Text::copy(alloc, attr)?),
+        value: None,
+    };
+    let query = Query {
+        constraint: Constraint {
+            permanode: Some(test),
+        },
+        limit: 200,
+        sort: Sort::Ref,
+        at: When::Always,
+    };
+    finds(alloc, &query, want)
+}
+
+#[test]
+fn an_attribute_alone_asks_for_some_value(rt: HostRuntime) -> Result<(), NoMemory> {
+    assert!(rt; finds_any(rt.alloc(), "tag", &[PERMANODE])?);
+    assert!(rt; finds_any(rt.alloc(), "title", &[])?);
     Ok(())
 }
