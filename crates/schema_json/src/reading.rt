@@ -2,7 +2,7 @@
 ghost use Rattle.std.specs.Prelude.{◌≡◌, IfOk};
 ghost use Rattle.serde_json.specs.View.{view};
 ghost use Rattle.schema_json.specs.Facts.{fact_of, kind_of, schema_kind, file_kind, bytes_kind, directory_kind, set_kind, key_in};
-ghost use Rattle.schema_json.specs.Reading.{signed_of, signed_first, unsigned_kind, unsigned_object, unsigned_in};
+ghost use Rattle.schema_json.specs.Reading.{signed_of, payload_kind, signed_first, unsigned_kind, unsigned_object, unsigned_in};
 ghost use Rattle.schema_fact.specs.Validity.{IsValid};
 
 use crate::claims::claim_of;
@@ -62,13 +62,23 @@ fn schema_kind(alloc: Global, bytes: &[u8]) -> Result<Kind, NoMemory>
     }
 }
 
-// What a blob says that is a permanode or a claim, by its payload and its signature: the whole isn't read.
+// What a signed blob says, by its payload and its signature: the whole isn't read.
 fn signed_first(alloc: Global, bytes: &[u8]) -> Result<Option<Kind>, NoMemory>
     ensures { IfOk result (λ kind. kind ≡ signed_first bytes.now) }
 {
     match signed_in(alloc, bytes)? {
-        Some((object, signed)) => signed_of(alloc, &object, signed),
+        Some((object, signed)) => Ok(Some(payload_kind(alloc, &object, signed)?)),
         None => Ok(None),
+    }
+}
+
+// What a payload's object says, with what is signed or by itself.
+fn payload_kind(alloc: Global, object: &Value, signed: Signed) -> Result<Kind, NoMemory>
+    ensures { IfOk result (λ kind. kind ≡ payload_kind (view object.now) signed) }
+{
+    match signed_of(alloc, object, signed)? {
+        Some(kind) => Ok(kind),
+        None => unsigned_object(alloc, object),
     }
 }
 
@@ -82,7 +92,7 @@ fn signed_of(alloc: Global, object: &Value, signed: Signed) -> Result<Option<Kin
     claim_of(alloc, object, signed)
 }
 
-// What a blob says that is no permanode and no claim.
+// What a blob says that isn't signed.
 fn unsigned_in(alloc: Global, bytes: &[u8]) -> Result<Kind, NoMemory>
     ensures { IfOk result (λ kind. kind ≡ unsigned_in bytes.now) }
 {
@@ -104,7 +114,7 @@ fn unsigned_object(alloc: Global, value: &Value) -> Result<Kind, NoMemory>
     }
 }
 
-// What an object of this type says that isn't signed, where it meets the conditions of the type.
+// What an object of this type says that needn't be signed, where it meets the conditions of the type.
 fn unsigned_kind(alloc: Global, type_name: &str, value: &Value) -> Result<Option<Kind>, NoMemory>
     ensures { IfOk result (λ kind. kind ≡ unsigned_kind type_name.now (view value.now)) }
 {
