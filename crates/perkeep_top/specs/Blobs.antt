@@ -1,12 +1,11 @@
 -- What the blobs of a pack say (docs/formats/packs.md, docs/formats/schema.md).
-use Rattle.std.specs.Prelude.{◌≡◌, ℕ, Bool, List, [], ◌∷◌, ◌++◌, map, if◌then◌else◌}
+use Rattle.std.specs.Prelude.{◌≡◌, ℕ, Bool, List, [], ◌∷◌, ◌++◌, if◌then◌else◌}
 use Rattle.std.specs.List.{list_any}
 use Rattle.std.specs.Str.{bytes_eq}
 use Rattle.std.specs.BTreeSet.{BTreeSet, contains}
-use Rattle.std.specs.FinMap.{FinMap, entries, from_entries}
 use Rattle.blobref.specs.Blobref.{ref_cmp}
 use Rattle.schema_json.specs.Facts.{fact_of}
-use Rattle.claim_model.specs.Facts.{Facts, Entry}
+use Rattle.claim_model.specs.Facts.{Facts, Entry, Content, facts_of}
 use Rattle.salvage_scan.specs.Arrivals.{content}
 use Rattle.salvage_scan.specs.Scan.{bytes_at}
 use Rattle.salvage_scan.specs.declared.found.Found.{Found}
@@ -20,8 +19,8 @@ abbrev pub entry_of : Blob → Entry
 entry_of blob = (blob.0, fact_of blob.1)
 
 -- the facts of the bytes under each ref
-abbrev pub facts_of_content : FinMap ref_cmp (List ℕ) → Facts
-facts_of_content blobs = from_entries (map entry_of (entries blobs))
+abbrev pub facts_of_content : Content → Facts
+facts_of_content blobs = facts_of fact_of blobs
 
 -- the facts of the blobs that are found in a pack, each ref at its first finding
 abbrev pub pack_facts : List ℕ → Facts
