@@ -11,6 +11,3 @@ pub use finding::places;
 pub use parts::parts_agree;
 pub use place::Places;
 pub use reading::{Command, Line, TextFault, readings_agree};
-
-#[cfg(test)]
-mod tests;
