@@ -1,9 +1,9 @@
 -- A walk over facts, from each ref to the next greater one.
 use Rattle.std.specs.Prelude.{ℕ, List, length, filter, Option}
+use Rattle.blobref.specs.Blobref.{is_after}
 use Rattle.std.specs.List.{find}
 use Rattle.std.specs.FinMap.{entries, keys}
 use Rattle.claim_model.specs.Facts.{Facts, Entry}
-use Rattle.index_look.specs.Look.{is_after}
 
 -- the least ref of a fact that is greater than the other ref, or the least of all
 abbrev pub ref_after : Facts → Option (List ℕ) → Option (List ℕ)

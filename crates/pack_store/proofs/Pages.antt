@@ -14,11 +14,11 @@ use Rattle.std.specs.Cmp.Lexicographic.{pointwise, nat_list_cmp_total, texts_tie
 use Rattle.std.specs.FinMap.{entries, entries_sorted, find, from_entries, get-entries, get-from_entries, is_sorted, IsAntisymmetric, slice_cmp-IsAntisymmetric, nat_cmp-IsAntisymmetric}
 use Rattle.std.specs.FinMap.Entries.{below_all, same_entries}
 use Rattle.std.proofs.lemmas.List.{append-nil}
-use Rattle.blobref.specs.Blobref.{ref_cmp}
+use Rattle.blobref.specs.Blobref.{ref_cmp, is_after}
 use Rattle.pack_store.specs.declared.rows.Row.{Row}
 use Rattle.pack_store.specs.Rows.{number_of, sizes_in}
 use Rattle.pack_store.specs.Opening.{IsPlaced}
-use Rattle.pack_store.specs.Reading.{is_after, page, bound_of, page_from, size_at}
+use Rattle.pack_store.specs.Reading.{page, bound_of, page_from, size_at}
 use Rattle.pack_store.proofs.Numbers.{get_ref, no_row_of}
 use Rattle.pack_store.proofs.Looking.{row_of_number, number_below}
 

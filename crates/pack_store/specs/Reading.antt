@@ -1,5 +1,5 @@
 -- What is read from a store (docs/store.md).
-use Rattle.std.specs.Prelude.{◌≡◌, ◌≢◌, ℕ, suc, ◌≤◌, List, length, take, map, All, Bool, true, nat_eq, filter, Option, None, Some, Result, Err, slice_get}
+use Rattle.std.specs.Prelude.{◌≡◌, ◌≢◌, ℕ, suc, ◌≤◌, List, length, take, map, All, true, nat_eq, filter, Option, None, Some, Result, Err, slice_get}
 use Rattle.std.specs.Cmp.Lexicographic.{pointwise}
 use Rattle.std.specs.FinMap.{entries, from_entries, get}
 use Rattle.std.specs.Map.{lookup}
@@ -7,8 +7,7 @@ use Rattle.std.specs.BTreeMap.Range.{entries_between}
 use Rattle.std.specs.declared.ops.Bound.{Bound}
 use Rattle.std.specs.declared.ops.Bound.TheVariants.{Excluded, Unbounded}
 use Rattle.std.specs.Option.{option_map, unwrap_or}
-use Rattle.std.specs.Ordering.{is_lt}
-use Rattle.blobref.specs.Blobref.{IsOwnRef, ref_cmp, ref_like}
+use Rattle.blobref.specs.Blobref.{IsOwnRef, ref_cmp, ref_like, is_after}
 use Rattle.edge_base.specs.declared.answers.GetFault.{GetFault}
 use Rattle.edge_base.specs.declared.answers.GetFault.TheVariants as fault
 use Rattle.pack_disk.specs.Packs.{Packs}
@@ -61,11 +60,6 @@ entry_at number rows = slice_get (sizes_in rows) number
 -- the ref of an arrival, by its number
 abbrev pub ref_at : ℕ → List Row → Option (List ℕ)
 ref_at number rows = option_map (λ (row : Row). row.r) (slice_get rows number)
-
--- whether a ref is greater than this one, if there is one
-abbrev pub is_after : Option (List ℕ) → List ℕ → Bool
-is_after None r = true
-is_after (Some start) r = is_lt (ref_cmp start r)
 
 -- so many of the refs that are greater, ascending, each with its size
 abbrev pub page : Option (List ℕ) → ℕ → List Row → List (List ℕ × ℕ)

@@ -6,7 +6,7 @@ use Rattle.std.specs.FinMap.Entries.{put, by_order}
 use Rattle.std.specs.List.{position_from}
 use Rattle.std.specs.Map.{lookup}
 use Rattle.std.specs.Option.{ForSome, option_map, is_some}
-use Rattle.blobref.specs.Blobref.{ref_cmp}
+use Rattle.blobref.specs.Blobref.{ref_cmp, is_after}
 use Rattle.edge_base.specs.Edge.{Rose}
 use Rattle.edge_base.specs.declared.answers.GetFault.{GetFault}
 use Rattle.edge_base.specs.declared.answers.GetFault.TheVariants as fault
@@ -17,7 +17,7 @@ use Rattle.pack_disk.specs.declared.disk.Disk.{Ghosts}
 use Rattle.pack_store.specs.declared.rows.Row.{Row}
 use Rattle.pack_store.specs.Rows.{arrival_of, arrivals_in, number_of, sizes_in}
 use Rattle.pack_store.specs.Archive.{Archive}
-use Rattle.pack_store.specs.Reading.{bytes_of, entry_of, size_of, page, is_after, IsDamage, StaysStill}
+use Rattle.pack_store.specs.Reading.{bytes_of, entry_of, size_of, page, IsDamage, StaysStill}
 use Rattle.perkeep_top.specs.declared.refusal.Refusal.{Refusal}
 use Rattle.perkeep_top.specs.declared.refusal.Refusal.TheVariants as refusal
 use Rattle.perkeep_top.specs.Outputs.{blobs_of, sizes_of, listed}

@@ -1,7 +1,7 @@
 -- What the commands write (docs/commands.md).
 use Rattle.std.specs.Prelude.{ℕ, ◌-◌, List, ◌++◌, length, map, filter, flat_map, take, replicate, codes, decimal, Option}
 use Rattle.std.specs.FinMap.{FinMap, entries}
-use Rattle.blobref.specs.Blobref.{ref_cmp}
+use Rattle.blobref.specs.Blobref.{ref_cmp, is_after}
 use Rattle.salvage_scan.specs.Arrivals.{content}
 use Rattle.salvage_scan.specs.Salvage.{salvage, broken}
 use Rattle.salvage_scan.specs.Scan.{place_of, clean_of}
@@ -9,7 +9,6 @@ use Rattle.salvage_scan.specs.declared.found.Found.{Found}
 use Rattle.salvage_scan.specs.declared.found.Clean.{Clean}
 use Rattle.salvage_scan.specs.declared.found.Clean.TheVariants.{Yes, No}
 use Rattle.pack_disk.specs.Packs.{Packs}
-use Rattle.pack_store.specs.Reading.{is_after}
 
 -- bytes under their refs
 abbrev pub Blobs : Type 0

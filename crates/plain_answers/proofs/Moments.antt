@@ -1,5 +1,6 @@
 -- The moments of counted claims, by a walk over all facts.
 use Rattle.std.proofs.Common.{◌≡◌, ℕ, ◌&&◌, Bool, true, false, not, cond, List, [], ◌∷◌, ◌++◌, filter, Option, Some, None, refl, sym, ap, ◌∙◌, append_assoc, option_map, option_and_then, inl, inr, ◌⊎◌}
+use Rattle.blobref.specs.Blobref.{is_after}
 use Rattle.std.specs.Prelude.{option_to_list}
 use Rattle.std.specs.List.{find, filter_map, cons_option}
 use Rattle.std.specs.Map.{keys_of}
@@ -14,7 +15,6 @@ use Rattle.claim_model.specs.Claims.{stands_at, has_value}
 use Rattle.claim_model.specs.ByClaim.{claim_moment_cmp, claim_on}
 use Rattle.claim_model.specs.Deleted.{is_deleted, live_permanodes}
 use Rattle.claim_model.specs.Genuine.{is_genuine_permanode}
-use Rattle.index_look.specs.Look.{is_after}
 use Rattle.index_look.specs.Claims.{claims_about, standing_moment, is_holder}
 use Rattle.index_look.specs.Latest.{later, later_of, latest}
 use Rattle.index_look.proofs.Counting.{Moment, listed, moment, moments_are, filter_map-cond}

@@ -11,10 +11,9 @@ use Rattle.std.specs.Ordering.{is_lt, ordering_reverse}
 use Rattle.std.specs.Cmp.Lexicographic.{nat_list_cmp_total}
 use Rattle.std.proofs.lemmas.Cmp.{tied_itself}
 use Rattle.std.specs.FinMap.{get, entries, len, len-entries}
-use Rattle.blobref.specs.Blobref.{ref_cmp}
+use Rattle.blobref.specs.Blobref.{ref_cmp, is_after}
 use Rattle.schema_fact.specs.declared.kinds.Fact.{Fact}
 use Rattle.claim_model.specs.Facts.{Facts, Entry}
-use Rattle.index_look.specs.Look.{is_after}
 use Rattle.index_look.specs.Walk.{ref_after, entries_after, number_after}
 use Rattle.index_look.proofs.Entries.{keys_ascend, entries_had}
 

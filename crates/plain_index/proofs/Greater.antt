@@ -8,9 +8,8 @@ use Rattle.std.specs.Ordering.{is_lt, is_gt, ordering_reverse}
 use Rattle.std.specs.Cmp.Lexicographic.{nat_list_cmp_total}
 use Rattle.std.proofs.lemmas.List.{get_or-map}
 use Rattle.std.proofs.lemmas.Map.Entries.{length-keys_of}
-use Rattle.blobref.specs.Blobref.{ref_cmp}
+use Rattle.blobref.specs.Blobref.{ref_cmp, is_after}
 use Rattle.claim_model.specs.Facts.{Entry}
-use Rattle.index_look.specs.Look.{is_after}
 use Rattle.plain_index.specs.Tables.{IsAscending}
 use Rattle.index_look.specs.Walk.{ref_after}
 use Rattle.index_look.proofs.Order.{entries_in_order}

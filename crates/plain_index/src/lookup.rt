@@ -4,8 +4,7 @@ ghost use Rattle.std.specs.List.{find};
 ghost use Rattle.std.specs.List.Sorted.{IsStrictlySortedBy};
 ghost use Rattle.std.specs.FinMap as finite;
 ghost use Rattle.std.specs.Map.{keys_of};
-ghost use Rattle.blobref.specs.Blobref.{ref_cmp};
-ghost use Rattle.index_look.specs.Look.{is_after};
+ghost use Rattle.blobref.specs.Blobref.{ref_cmp, is_after};
 ghost use Rattle.plain_index.specs.Tables.{IsAscending, IsPlaceOf, beside};
 
 use blobref::Ref;

@@ -11,12 +11,11 @@ use Rattle.std.specs.Ordering.{is_lt, ordering_reverse}
 use Rattle.std.specs.Cmp.Lexicographic.{nat_list_cmp_total}
 use Rattle.std.proofs.lemmas.Cmp.{tied_itself}
 use Rattle.std.specs.FinMap.{keys}
-use Rattle.blobref.specs.Blobref.{ref_cmp}
+use Rattle.blobref.specs.Blobref.{ref_cmp, is_after}
 use Rattle.claim_verify.specs.Verifier.{Accepts}
 use Rattle.claim_model.specs.Facts.{Facts}
 use Rattle.claim_model.specs.Genuine.{permanodes, is_genuine_permanode}
 use Rattle.claim_model.specs.Deleted.{is_deleted}
-use Rattle.index_look.specs.Look.{is_after}
 use Rattle.index_look.proofs.Entries.{keys_ascend}
 use Rattle.search_query.specs.declared.query.Query.{Query}
 use Rattle.search_eval.specs.Meaning.{meets}

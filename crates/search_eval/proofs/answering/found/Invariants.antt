@@ -1,6 +1,6 @@
 use Rattle.std.proofs.Common.{◌≡◌, ◌++◌, filter, length}
+use Rattle.blobref.specs.Blobref.{is_after}
 use Rattle.claim_model.specs.Genuine.{permanodes}
-use Rattle.index_look.specs.Look.{is_after}
 use Rattle.search_eval.specs.Walk.{is_found}
 use Rattle.search_eval.proofs.answering.found.Given as goal
 

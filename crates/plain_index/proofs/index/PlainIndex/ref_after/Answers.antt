@@ -1,7 +1,7 @@
 use Rattle.std.proofs.Common.{ap, ◌∙◌, option_copied}
+use Rattle.blobref.specs.Blobref.{is_after}
 use Rattle.std.specs.List.{find}
 use Rattle.std.specs.Map.{keys_of}
-use Rattle.index_look.specs.Look.{is_after}
 use Rattle.index_look.specs.Walk.{ref_after}
 use Rattle.plain_index.proofs.Greater.{own_after}
 use Rattle.plain_index.proofs.index.PlainIndex.ref_after.Goals as goal
