@@ -1,6 +1,5 @@
 pub mod PartReadings
 pub mod Numbers
-pub mod Faults
 pub mod LineReadings
+pub mod Fitting
 pub mod Placing
-pub mod Naming

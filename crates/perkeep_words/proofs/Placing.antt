@@ -1,17 +1,17 @@
 -- The place of the first position is that of DIR.
-use Rattle.std.proofs.Common.{◌≡◌, ◌⊎◌, inl, inr, ◌+◌, ◌&&◌, ◌==◌, ℕ, Bool, true, false, if◌then◌else◌, List, [], ◌∷◌, ◌++◌, Option, Some, None, unwrap_or, option_and_then, codes, flat_map, length, drop, arith, refl, ap, sym, subst, ◌∙◌}
+use Rattle.std.proofs.Common.{◌≡◌, ◌⊎◌, inl, inr, ◌+◌, ◌&&◌, ℕ, Bool, true, false, if◌then◌else◌, List, [], ◌∷◌, ◌++◌, Option, Some, None, option_and_then, codes, flat_map, length, drop, nat_lt, arith, refl, ap, sym, subst, ◌∙◌}
 use Rattle.std.specs.List.{list_all, slice_get}
 use Rattle.std.proofs.lemmas.Bool.{and_parts, and_from, both_ways, cases_Bool}
 use Rattle.std.proofs.lemmas.List.{append_assoc, length-append}
 use Rattle.perkeep_words.specs.Words.{begins_with_dash, is_option_name, Item, Apart, Joined, Position, words_of, is_item}
 use Rattle.perkeep_words.specs.Parts.{Part, part_of, State, start, Step, value_step, item_step, step, are_parts, parts_from}
-use Rattle.perkeep_words.specs.Forms.{name_text, texts_at, has_form, is_known, position_kinds, are_options_given}
-use Rattle.perkeep_words.specs.Reading.{LineSeen, IsLineOf, line_of, position_at}
-use Rattle.perkeep_words.specs.Places.{has_dir, is_option, StandsAsDir, IsDirPlace, is_position, position_or, first_position, dir_place_in, dir_place}
-use Rattle.perkeep_words.specs.declared.forms.CommandName.{CommandName}
-use Rattle.perkeep_words.specs.declared.forms.CommandName.TheVariants.{Put, Get, Stat, List as ListBlobs, Search, Salvage, SearchPack}
+use Rattle.perkeep_words.specs.Forms.{texts_at, has_form, position_at, is_dir}
+use Rattle.perkeep_words.specs.Table.{form_of, has_dir}
+use Rattle.perkeep_words.specs.Reading.{LineSeen, IsLineOf, line_of}
+use Rattle.perkeep_words.specs.Places.{is_option, StandsAsDir, IsDirPlace, is_position, position_or, first_position, dir_place_in, dir_place}
 use Rattle.perkeep_words.proofs.PartReadings.{ItemCase, Closes, Waits, Whole, Refused, item_case, goes, gives, stops, value_plain, parts_agree}
 use Rattle.perkeep_words.proofs.LineReadings.{readings_agree, are_read}
+use Rattle.perkeep_words.proofs.Fitting.{position_given}
 
 -- one step of the search
 onward : (state : State) (place : ℕ) (word : List ℕ) (words : List (List ℕ)) (next : Step) → step state word ≡ Some next → first_position state place (word ∷ words) ≡ (if is_position next.1 then Some place else first_position next.0 (place + 1) words)
@@ -138,24 +138,13 @@ found_from (word ∷ words) (Some name) closed place dir h is = found_value name
 found_from (word ∷ words) None true place dir h is = (words, ap (λ (d : List ℕ). d ∷ words) (same_text word dir is), refl)
 found_from (word ∷ words) None false place dir h is = found_item word words place dir (item_case word) h is (λ waiting closed. found_from words waiting closed (place + 1) dir)
 
--- a command with DIR has a first position
-some_position : (name : CommandName) (texts : List (List ℕ)) → has_dir name ≡ true → (length texts == length (position_kinds name)) ≡ true → slice_get texts 0 ≡ Some (unwrap_or (slice_get texts 0) [])
-some_position name (text ∷ texts) has count = refl
-some_position Put [] has count = absurd (cc)
-some_position Get [] has count = absurd (cc)
-some_position Stat [] has count = absurd (cc)
-some_position ListBlobs [] has count = absurd (cc)
-some_position Search [] has count = absurd (cc)
-some_position Salvage [] has count = absurd (cc)
-some_position SearchPack [] has count = absurd (cc)
+-- a line with DIR has a first position
+first_given : (line : LineSeen) → has_dir line.0 ≡ true → has_form (form_of line.0) line.1 ≡ true → first_text line.1 ≡ Some (position_at 0 line.1)
+first_given line has is =
+    let form = form_of line.0 in
+    position_given form line.1 0 is (and_parts (nat_lt 0 form.needed) (is_dir (slice_get form.positions 0)) has).0
 
-first_given : (line : LineSeen) → has_dir line.0 ≡ true → has_form line.0 line.1 ≡ true → first_text line.1 ≡ Some (position_at 0 line.1)
-first_given line has form =
-    let front = and_parts (list_all (λ part. is_known line.0 part) line.1 && (length (texts_at None line.1) == length (position_kinds line.0))) (are_options_given line.0 line.1) form in
-    let count = and_parts (list_all (λ part. is_known line.0 part) line.1) (length (texts_at None line.1) == length (position_kinds line.0)) front.0 in
-    some_position line.0 (texts_at None line.1) has count.1
-
-placed : (words behind : List (List ℕ)) (line : LineSeen) → line_of words ≡ Some line → has_dir line.0 ≡ true → words ≡ name_text line.0 ∷ behind → FoundAt behind (first_position start 1 behind) 1 (position_at 0 line.1) → (place : ℕ) × (dir_place_in words line ≡ Some place) × StandsAsDir words place
+placed : (words behind : List (List ℕ)) (line : LineSeen) → line_of words ≡ Some line → has_dir line.0 ≡ true → words ≡ (form_of line.0).name ∷ behind → FoundAt behind (first_position start 1 behind) 1 (position_at 0 line.1) → (place : ℕ) × (dir_place_in words line ≡ Some place) × StandsAsDir words place
 placed words behind line is has spelled found =
     let searched : dir_place_in words line ≡ first_position start 1 behind = rw has (ap (λ (ws : List (List ℕ)). first_position start 1 (drop 1 ws)) spelled) in (
       1 + length (flat_map words_of found.options ++ found.dashes),
@@ -169,12 +158,12 @@ placed words behind line is has spelled found =
         dashes = found.dashes;
         closes = found.closes;
         behind = found.behind;
-        spelled = spelled ∙ ap (λ (ws : List (List ℕ)). name_text line.0 ∷ ws) found.spelled;
+        spelled = spelled ∙ ap (λ (ws : List (List ℕ)). (form_of line.0).name ∷ ws) found.spelled;
         counted = refl;
       },
     )
 
-found_behind : (behind : List (List ℕ)) (line : LineSeen) → has_dir line.0 ≡ true → has_form line.0 line.1 ≡ true → are_parts start behind ≡ true → parts_from start behind ≡ line.1 → FoundAt behind (first_position start 1 behind) 1 (position_at 0 line.1)
+found_behind : (behind : List (List ℕ)) (line : LineSeen) → has_dir line.0 ≡ true → has_form (form_of line.0) line.1 ≡ true → are_parts start behind ≡ true → parts_from start behind ≡ line.1 → FoundAt behind (first_position start 1 behind) 1 (position_at 0 line.1)
 unfolding FoundFrom
 found_behind behind line has form are parts = found_from behind None false 1 (position_at 0 line.1) are (rw parts (first_given line has form))
 

@@ -1,78 +1,28 @@
--- The commands: which words name them, and which options and positions their lines have (docs/commands.md).
-use Rattle.std.specs.Prelude.{◌==◌, ◌&&◌, ℕ, Bool, true, false, if◌then◌else◌, List, [], ◌∷◌, length, nat_le, flat_map, Option, Some, None, is_some, bytes_eq, codes}
-use Rattle.std.specs.List.{list_all}
+-- The forms of lines, as data: which positions and options a line has, and what each text has to be (docs/commands.md).
+use Rattle.std.specs.Prelude.{◌&&◌, ◌||◌, ◌+◌, ℕ, Bool, true, false, not, if◌then◌else◌, List, [], ◌∷◌, ◌++◌, length, nat_le, nat_lt, flat_map, Option, Some, None, unwrap_or, option_to_list, bytes_eq}
+use Rattle.std.specs.List.{slice_get}
 use Rattle.perkeep_words.specs.Parts.{Part}
-use Rattle.perkeep_words.specs.declared.forms.CommandName.{CommandName}
-use Rattle.perkeep_words.specs.declared.forms.CommandName.TheVariants.{Put, Get, Stat, List as ListBlobs, Search, Salvage, SearchPack}
-use Rattle.perkeep_words.specs.declared.forms.TextKind.{TextKind}
-use Rattle.perkeep_words.specs.declared.forms.TextKind.TheVariants.{Any, Blobref, Date, Limit, Name}
+use Rattle.perkeep_words.specs.Kinds.{fits_kind, fault_of}
+use Rattle.perkeep_words.specs.declared.kinds.TextKind.{TextKind}
+use Rattle.perkeep_words.specs.declared.kinds.TextKind.TheVariants.{Dir}
+use Rattle.perkeep_words.specs.declared.kinds.TextFault.{TextFault}
 
--- the words that name the commands
-abbrev pub name_text : CommandName → List ℕ
-name_text Put = codes "put"
-name_text Get = codes "get"
-name_text Stat = codes "stat"
-name_text ListBlobs = codes "list"
-name_text Search = codes "search"
-name_text Salvage = codes "salvage"
-name_text SearchPack = codes "search-pack"
+-- an option: its name, what its value has to be, and whether it has to be given
+pub record OptionForm : Type 0 where
+  pub name : List ℕ
+  pub kind : TextKind
+  pub needed : Bool
 
-abbrev pub pack_name_of : List ℕ → Option CommandName
-pack_name_of word =
-    if bytes_eq word (codes "search") then Some Search
-    else if bytes_eq word (codes "salvage") then Some Salvage
-    else if bytes_eq word (codes "search-pack") then Some SearchPack
-    else None
-
--- the command that a word names
-abbrev pub name_of : List ℕ → Option CommandName
-name_of word =
-    if bytes_eq word (codes "put") then Some Put
-    else if bytes_eq word (codes "get") then Some Get
-    else if bytes_eq word (codes "stat") then Some Stat
-    else if bytes_eq word (codes "list") then Some ListBlobs
-    else pack_name_of word
-
--- the kinds of a command's positions, in their order
-abbrev pub position_kinds : CommandName → List TextKind
-position_kinds Put = Any ∷ []
-position_kinds Get = Any ∷ Blobref ∷ []
-position_kinds Stat = Any ∷ Blobref ∷ []
-position_kinds ListBlobs = Any ∷ []
-position_kinds Search = Any ∷ []
-position_kinds Salvage = Any ∷ []
-position_kinds SearchPack = Name ∷ Any ∷ []
-
-abbrev pub list_option : List ℕ → Option TextKind
-list_option option =
-    if bytes_eq option (codes "after") then Some Blobref
-    else if bytes_eq option (codes "limit") then Some Limit
-    else None
-
-abbrev pub search_option : List ℕ → Option TextKind
-search_option option =
-    if bytes_eq option (codes "attr") then Some Name
-    else if bytes_eq option (codes "value") then Some Any
-    else if bytes_eq option (codes "at") then Some Date
-    else None
-
--- the kind of an option's value, for the options that the command has
-abbrev pub option_kind : CommandName → List ℕ → Option TextKind
-option_kind Put option = None
-option_kind Get option = None
-option_kind Stat option = None
-option_kind ListBlobs option = list_option option
-option_kind Search option = search_option option
-option_kind Salvage option = None
-option_kind SearchPack option = None
-
--- whether the part is a position, or an option that the command has
-abbrev pub is_named_known : CommandName → Option (List ℕ) → Bool
-is_named_known command None = true
-is_named_known command (Some option) = is_some (option_kind command option)
-
-abbrev pub is_known : CommandName → Part → Bool
-is_known command part = is_named_known command part.0
+-- A row of the table: the word that names the command; whether the command may change the store; what the positions of
+-- its lines have to be, in their order; how many of them are needed whatever the line says; the place of a position and
+-- the word there with which the others may be left out, or None where all are needed; and the options.
+pub record Form : Type 0 where
+  pub name : List ℕ
+  pub writes : Bool
+  pub positions : List TextKind
+  pub needed : ℕ
+  pub spared : Option (ℕ × List ℕ)
+  pub options : List OptionForm
 
 -- whether a part is a value of the option that is named, or a position where none is
 abbrev pub is_same_name : Option (List ℕ) → Option (List ℕ) → Bool
@@ -88,25 +38,84 @@ text_if option part = if is_same_name part.0 option then part.1 ∷ [] else []
 abbrev pub texts_at : Option (List ℕ) → List Part → List (List ℕ)
 texts_at option parts = flat_map (λ part. text_if option part) parts
 
-abbrev pub is_given_once : List ℕ → List Part → Bool
-is_given_once option parts = length (texts_at (Some option) parts) == 1
+-- how many values of an option there are, or positions
+abbrev pub count_at : Option (List ℕ) → List Part → ℕ
+count_at option parts = length (texts_at option parts)
 
-abbrev pub is_given_at_most_once : List ℕ → List Part → Bool
-is_given_at_most_once option parts = nat_le (length (texts_at (Some option) parts)) 1
+-- the position at a place
+abbrev pub position_at : ℕ → List Part → List ℕ
+position_at place parts = unwrap_or (slice_get (texts_at None parts) place) []
+
+-- the value of an option
+abbrev pub value_of : List ℕ → List Part → Option (List ℕ)
+value_of option parts = slice_get (texts_at (Some option) parts) 0
+
+-- the value of an option that has to be given
+abbrev pub text_of : List ℕ → List Part → List ℕ
+text_of option parts = unwrap_or (value_of option parts) []
+
+-- what the value of an option has to be, and whether it has to be given
+abbrev pub kind_in : List OptionForm → List ℕ → Option TextKind
+kind_in [] option = None
+kind_in (o ∷ options) option = if bytes_eq o.name option then Some o.kind else kind_in options option
+
+abbrev pub is_needed : List OptionForm → List ℕ → Bool
+is_needed [] option = false
+is_needed (o ∷ options) option = if bytes_eq o.name option then o.needed else is_needed options option
+
+-- what a part has to be before which so many positions stand; None where the form has no such part
+abbrev pub kind_of : Form → ℕ → Option (List ℕ) → Option TextKind
+kind_of form place None = slice_get form.positions place
+kind_of form place (Some option) = kind_in form.options option
+
+abbrev pub place_after : ℕ → Option (List ℕ) → ℕ
+place_after place None = place + 1
+place_after place (Some option) = place
+
+-- whether the form has all these parts, and the texts that are judged with the line are right
+abbrev pub are_of : Form → ℕ → List Part → Bool
+are_of form place [] = true
+are_of form place (part ∷ parts) =
+    fits_kind (kind_of form place part.0) part.1 && are_of form (place_after place part.0) parts
+
+abbrev pub is_spared : Option (ℕ × List ℕ) → List Part → Bool
+is_spared None parts = false
+is_spared (Some word) parts = bytes_eq (position_at word.0 parts) word.1
+
+-- whether there are all the positions that have to be given
+abbrev pub has_positions : Form → List Part → Bool
+has_positions form parts =
+    nat_le form.needed (count_at None parts)
+    && (nat_le (length form.positions) (count_at None parts) || is_spared form.spared parts)
+
+abbrev pub is_given : List Part → OptionForm → Bool
+is_given parts option =
+    nat_le (count_at (Some option.name) parts) 1
+    && (not option.needed || nat_le 1 (count_at (Some option.name) parts))
 
 -- whether each option is given as often as it has to be
-abbrev pub are_options_given : CommandName → List Part → Bool
-are_options_given Put parts = true
-are_options_given Get parts = true
-are_options_given Stat parts = true
-are_options_given ListBlobs parts = is_given_at_most_once (codes "after") parts && is_given_at_most_once (codes "limit") parts
-are_options_given Search parts = is_given_once (codes "attr") parts && is_given_once (codes "value") parts && is_given_at_most_once (codes "at") parts
-are_options_given Salvage parts = true
-are_options_given SearchPack parts = true
+abbrev pub are_given : List OptionForm → List Part → Bool
+are_given [] parts = true
+are_given (option ∷ options) parts = is_given parts option && are_given options parts
 
--- whether the parts are those of a line of the command: all its positions, and no option but its own
-abbrev pub has_form : CommandName → List Part → Bool
-has_form command parts =
-    list_all (λ part. is_known command part) parts
-    && (length (texts_at None parts) == length (position_kinds command))
-    && are_options_given command parts
+-- whether the parts are those of a line of the form
+abbrev pub has_form : Form → List Part → Bool
+has_form form parts = are_of form 0 parts && has_positions form parts && are_given form.options parts
+
+-- all that is wrong, in the order of the parts, of parts before which so many positions stand
+abbrev pub faults : Form → ℕ → List Part → List TextFault
+faults form place [] = []
+faults form place (part ∷ parts) =
+    option_to_list (fault_of (kind_of form place part.0) part.1) ++ faults form (place_after place part.0) parts
+
+-- what is wrong first
+abbrev pub first_fault : Form → List Part → Option TextFault
+first_fault form parts = slice_get (faults form 0 parts) 0
+
+abbrev pub is_dir : Option TextKind → Bool
+is_dir (Some Dir) = true
+is_dir _ = false
+
+-- whether each line of the form has DIR: its first position is needed, and is DIR
+abbrev pub begins_at_dir : Form → Bool
+begins_at_dir form = nat_lt 0 form.needed && is_dir (slice_get form.positions 0)

@@ -3,20 +3,9 @@ use Rattle.std.specs.Prelude.{◌≡◌, ◌⊎◌, ◌+◌, ◌&&◌, ℕ, Bool
 use Rattle.std.specs.List.{list_all}
 use Rattle.perkeep_words.specs.Words.{Item, Apart, Joined, Position, words_of, is_item}
 use Rattle.perkeep_words.specs.Parts.{Part, State, Step, start, step}
-use Rattle.perkeep_words.specs.Forms.{name_text}
-use Rattle.perkeep_words.specs.Reading.{LineSeen, line_of, position_at}
-use Rattle.perkeep_words.specs.declared.forms.CommandName.{CommandName}
-use Rattle.perkeep_words.specs.declared.forms.CommandName.TheVariants.{Put, Get, Stat, List as ListBlobs, Search, Salvage, SearchPack}
-
--- whether the command's first position is DIR
-abbrev pub has_dir : CommandName → Bool
-has_dir Put = true
-has_dir Get = true
-has_dir Stat = true
-has_dir ListBlobs = true
-has_dir Search = true
-has_dir Salvage = true
-has_dir SearchPack = false
+use Rattle.perkeep_words.specs.Forms.{position_at}
+use Rattle.perkeep_words.specs.Table.{form_of, has_dir}
+use Rattle.perkeep_words.specs.Reading.{LineSeen, line_of}
 
 abbrev pub is_option : Item → Bool
 is_option (Apart name value) = true
@@ -33,7 +22,7 @@ pub record StandsAsDir (words : List (List ℕ)) (place : ℕ) : Type 0 where
   pub dashes : List (List ℕ)
   pub closes : (dashes ≡ []) ⊎ (dashes ≡ codes "--" ∷ [])
   pub behind : List (List ℕ)
-  pub spelled : words ≡ name_text line.0 ∷ (flat_map words_of options ++ dashes ++ position_at 0 line.1 ∷ behind)
+  pub spelled : words ≡ (form_of line.0).name ∷ (flat_map words_of options ++ dashes ++ position_at 0 line.1 ∷ behind)
   pub counted : place ≡ 1 + length (flat_map words_of options ++ dashes)
 
 -- the place is that of DIR, or none where the words are no line that has it

@@ -1,15 +1,15 @@
 //! Where the words name the folder of the store, and the address of a peer.
 ghost use Rattle.std.specs.Prelude.{◌≡◌, None};
 ghost use Rattle.perkeep_words.specs.Parts.{start};
-ghost use Rattle.perkeep_words.specs.Places.{IsDirPlace, has_dir, first_position, is_position, dir_place};
+ghost use Rattle.perkeep_words.specs.Places.{IsDirPlace, first_position, is_position, dir_place};
 
-use crate::forms::CommandName;
 use crate::parts::{Part, State};
 use crate::place::Places;
+use crate::table::CommandName;
 use blobref::Text;
 
-/// The places of DIR and ADDR in the words. Each is None exactly where the words are no line that has it, whatever the line's
-/// texts say (docs/commands.md). It takes no memory.
+/// The places of DIR and ADDR in the words. Each is None exactly where the words are no line that has it, whatever the
+/// line's texts say (docs/commands.md). It takes no memory.
 pub fn places(words: &[Text]) -> Places
     ensures dir { IsDirPlace words.now result.dir }
     ensures addr { result.addr ≡ None }
@@ -25,17 +25,11 @@ fn dir_place(words: &[Text]) -> Option<usize>
     ensures { result ≡ dir_place words.now }
 {
     let (word, behind) = words.split_first()?;
-    let name = CommandName::of(word.as_str())?;
-    if !name.has_line(behind) || !has_dir(name) {
+    let form = CommandName::of(word.as_str())?.form();
+    if !form.has_line(behind) || !form.begins_at_dir() {
         return None;
     }
     first_position(behind)
-}
-
-fn has_dir(name: CommandName) -> bool
-    ensures { result ≡ has_dir name }
-{
-    name != CommandName::SearchPack
 }
 
 // The place of the first position, of the words behind the command's name.

@@ -1,188 +1,210 @@
-//! The commands, and the options and positions of their lines.
-ghost use Rattle.std.specs.Prelude.{◌≡◌, ◌&&◌, ◌==◌, length, Some, unwrap_or, option_copied, option_to_list};
-ghost use Rattle.std.specs.List.{list_all, slice_get};
+//! The forms of lines, as data, and whether words are a line of a form.
+ghost use Rattle.std.specs.Prelude.{◌≡◌, ◌&&◌, bytes_eq, option_map, option_copied, option_to_list};
+ghost use Rattle.std.specs.List.{slice_get};
 ghost use Rattle.perkeep_words.specs.Parts.{start, are_parts, parts_from};
-ghost use Rattle.perkeep_words.specs.Forms.{name_of, pack_name_of, position_kinds, option_kind, list_option, search_option, is_known, is_same_name, texts_at, is_given_once, is_given_at_most_once, are_options_given, has_form};
-ghost use Rattle.perkeep_words.specs.declared.forms.TextKind.TheVariants.{Any};
+ghost use Rattle.perkeep_words.specs.Kinds.{fault_of};
+ghost use Rattle.perkeep_words.specs.Forms.{texts_at, count_at, position_at, kind_in, kind_of, are_of, is_spared, has_positions, is_given, are_given, has_form, first_fault, begins_at_dir};
+ghost use Rattle.perkeep_words.specs.Seen.{option_seen, options_seen};
 
+use crate::kinds::{TextFault, TextKind, fault_of, fits_kind};
 use crate::parts::{Part, State};
 use blobref::Text;
+use std::marker::Model;
 
-/// A command.
-#[derive(Clone, Copy, PartialEq, Eq)]
-pub enum CommandName {
-    Put,
-    Get,
-    Stat,
-    List,
-    Search,
-    Salvage,
-    SearchPack,
+/// An option of a line.
+#[derive(Clone, Copy)]
+pub struct OptionForm {
+    /// Its name, without dashes.
+    pub name: &'static str,
+    /// What its value has to be.
+    pub kind: TextKind,
+    /// Whether it has to be given.
+    pub needed: bool,
 }
 
-/// What a text of a line has to be.
-#[derive(Clone, Copy, PartialEq, Eq)]
-pub enum TextKind {
-    /// Any text, also the empty one.
-    Any,
-    /// A blobref.
-    Blobref,
-    /// A date.
-    Date,
-    /// A number of 1 to 4,194,304.
-    Limit,
-    /// A text that isn't empty.
-    Name,
+/// A command's row: the form of its lines, and what the command may do.
+#[derive(Drop)]
+pub struct Form {
+    /// The word that names the command.
+    pub name: &'static str,
+    /// Whether the command may change the store.
+    pub writes: bool,
+    /// What the positions have to be, in their order.
+    pub positions: &'static [TextKind],
+    /// How many positions are needed whatever the line says.
+    pub needed: usize,
+    /// The place of a position, and the word there with which those beyond may be left out. None where all are needed.
+    pub spared: Option<(usize, &'static str)>,
+    /// The options.
+    pub options: &'static [OptionForm],
 }
 
-impl CommandName {
-    /// The command that a word names.
-    pub fn of(word: &str) -> Option<CommandName>
-        ensures { result ≡ name_of word.now }
+impl Model for Form {
+    ghost use Rattle.std.specs.Prelude.{option_map};
+    ghost use Rattle.perkeep_words.specs.Forms as forms;
+    ghost use Rattle.perkeep_words.specs.Seen.{options_seen};
+
+    ghost Value = { forms.Form };
+
+    ghost view = { λ f. record {
+      name = f.name.now;
+      writes = f.writes;
+      positions = f.positions.now;
+      needed = f.needed;
+      spared = option_map (λ word. (word.0, word.1.now)) f.spared;
+      options = options_seen f.options.now;
+    } };
+}
+
+impl Form {
+    /// Whether the words are a line of the form.
+    pub fn has_line(&self, words: &[Text]) -> bool
+        ensures { result ≡ (are_parts start words.now && has_form self.now (parts_from start words.now)) }
     {
-        match word {
-            "put" => Some(CommandName::Put),
-            "get" => Some(CommandName::Get),
-            "stat" => Some(CommandName::Stat),
-            "list" => Some(CommandName::List),
-            _ => pack_name_of(word),
+        self.knows_all(words) && self.has_positions(words) && are_given(self.options, words)
+    }
+
+    /// Whether each of its lines has DIR as the first position.
+    pub fn begins_at_dir(&self) -> bool
+        ensures { result ≡ begins_at_dir self.now }
+    {
+        self.needed > 0 && matches!(self.positions.first(), Some(TextKind::Dir))
+    }
+
+    /// The first thing that is wrong in the texts of a line.
+    pub fn first_fault(&self, words: &[Text]) -> Option<TextFault>
+        ensures { result ≡ first_fault self.now (parts_from start words.now) }
+    {
+        let mut state = State::start();
+        let mut place = 0;
+        for word in words {
+            let (next, part) = state.step(word)?;
+            if let Some(part) = part {
+                let fault = self.part_fault(place, &part);
+                if fault.is_some() {
+                    return fault;
+                }
+                place += usize::from(part.name.is_none());
+            }
+            state = next;
+        }
+        None
+    }
+
+    // What is wrong with a part before which so many positions stand.
+    fn part_fault(&self, place: usize, part: &Part) -> Option<TextFault>
+        ensures { result ≡ fault_of (kind_of self.now place part.now.0) part.now.1 }
+    {
+        fault_of(self.kind_of(place, part.name), part.text)
+    }
+
+    // What a part has to be before which so many positions stand. None where the form has no such part.
+    fn kind_of(&self, place: usize, option: Option<&str>) -> Option<TextKind>
+        ensures { result ≡ kind_of self.now place (option_copied option.entry) }
+    {
+        match option {
+            None => self.positions.get(place).copied(),
+            Some(option) => kind_in(self.options, option),
         }
     }
 
-    /// How many positions its line has.
-    pub fn position_count(self) -> usize
-        ensures { result ≡ length (position_kinds self) }
+    // Whether the words are parts, and the form has all of them.
+    fn knows_all(&self, words: &[Text]) -> bool
+        ensures { result ≡ (are_parts start words.now && are_of self.now 0 (parts_from start words.now)) }
     {
-        match self {
-            CommandName::Get | CommandName::Stat | CommandName::SearchPack => 2,
-            _ => 1,
+        let mut state = State::start();
+        let mut place = 0;
+        for word in words {
+            let Some((next, part)) = state.step(word) else {
+                return false;
+            };
+            if let Some(part) = part {
+                if !fits_kind(self.kind_of(place, part.name), part.text) {
+                    return false;
+                }
+                place += usize::from(part.name.is_none());
+            }
+            state = next;
         }
+        !state.is_waiting()
     }
 
-    /// What the position at a place has to be. Any, where there is none.
-    pub fn position_kind(self, i: usize) -> TextKind
-        ensures { result ≡ unwrap_or (slice_get (position_kinds self) i) Any }
+    // Whether there are all the positions that have to be given.
+    fn has_positions(&self, words: &[Text]) -> bool
+        ensures { result ≡ has_positions self.now (parts_from start words.now) }
     {
-        match (self, i) {
-            (CommandName::Get | CommandName::Stat, 1) => TextKind::Blobref,
-            (CommandName::SearchPack, 0) => TextKind::Name,
-            _ => TextKind::Any,
-        }
-    }
-
-    /// What an option's value has to be, for the options of the command.
-    pub fn option_kind(self, option: &str) -> Option<TextKind>
-        ensures { result ≡ option_kind self option.now }
-    {
-        match self {
-            CommandName::List => list_option(option),
-            CommandName::Search => search_option(option),
-            _ => None,
-        }
-    }
-
-    /// Whether the words behind the command's name are a line of it.
-    pub fn has_line(self, words: &[Text]) -> bool
-        ensures { result ≡ (are_parts start words.now && has_form self (parts_from start words.now)) }
-    {
-        knows_all(self, words)
-            && count(words, None) == self.position_count()
-            && are_options_given(self, words)
+        let count = count(words, None);
+        self.needed <= count && (self.positions.len() <= count || is_spared(self.spared, words))
     }
 }
 
-fn pack_name_of(word: &str) -> Option<CommandName>
-    ensures { result ≡ pack_name_of word.now }
+impl OptionForm {
+    fn is_named(&self, option: &str) -> bool
+        ensures { result ≡ bytes_eq self.now.name.now option.now }
+    {
+        self.name == option
+    }
+
+    fn kind(&self) -> TextKind
+        ensures { result ≡ self.now.kind }
+    {
+        self.kind
+    }
+
+    // Whether it is given as often as it has to be.
+    fn is_given(&self, words: &[Text]) -> bool
+        ensures { result ≡ is_given (parts_from start words.now) (option_seen self.now) }
+    {
+        let count = count(words, Some(self.name));
+        count <= 1 && (!self.needed || 1 <= count)
+    }
+}
+
+// What the value of an option has to be.
+fn kind_in(options: &[OptionForm], option: &str) -> Option<TextKind>
+    ensures { result ≡ kind_in (options_seen options.now) option.now }
 {
-    match word {
-        "search" => Some(CommandName::Search),
-        "salvage" => Some(CommandName::Salvage),
-        "search-pack" => Some(CommandName::SearchPack),
-        _ => None,
+    for form in options {
+        if form.is_named(option) {
+            return Some(form.kind());
+        }
     }
-}
-
-fn list_option(option: &str) -> Option<TextKind>
-    ensures { result ≡ list_option option.now }
-{
-    match option {
-        "after" => Some(TextKind::Blobref),
-        "limit" => Some(TextKind::Limit),
-        _ => None,
-    }
-}
-
-fn search_option(option: &str) -> Option<TextKind>
-    ensures { result ≡ search_option option.now }
-{
-    match option {
-        "attr" => Some(TextKind::Name),
-        "value" => Some(TextKind::Any),
-        "at" => Some(TextKind::Date),
-        _ => None,
-    }
+    None
 }
 
 // Whether each option is given as often as it has to be.
-fn are_options_given(command: CommandName, words: &[Text]) -> bool
-    ensures { result ≡ are_options_given command (parts_from start words.now) }
+fn are_given(options: &[OptionForm], words: &[Text]) -> bool
+    ensures { result ≡ are_given (options_seen options.now) (parts_from start words.now) }
 {
-    match command {
-        CommandName::List => is_given_at_most_once("after", words)
-            && is_given_at_most_once("limit", words),
-        CommandName::Search => {
-            is_given_once("attr", words)
-                && is_given_once("value", words)
-                && is_given_at_most_once("at", words)
-        }
-        _ => true,
-    }
-}
-
-fn is_given_once(option: &str, words: &[Text]) -> bool
-    ensures { result ≡ is_given_once option.now (parts_from start words.now) }
-{
-    count(words, Some(option)) == 1
-}
-
-fn is_given_at_most_once(option: &str, words: &[Text]) -> bool
-    ensures { result ≡ is_given_at_most_once option.now (parts_from start words.now) }
-{
-    count(words, Some(option)) <= 1
-}
-
-// Whether the words are parts, and each of them a position or an option that the command has.
-fn knows_all(command: CommandName, words: &[Text]) -> bool
-    ensures { result ≡ (are_parts start words.now && list_all (λ part. is_known command part) (parts_from start words.now)) }
-{
-    let mut state = State::start();
-    for word in words {
-        let Some((next, part)) = state.step(word) else {
-            return false;
-        };
-        if !part_is_known(command, &part) {
+    for form in options {
+        if !form.is_given(words) {
             return false;
         }
-        state = next;
     }
-    !state.is_waiting()
+    true
 }
 
-fn part_is_known(command: CommandName, part: &Option<Part>) -> bool
-    ensures { result ≡ list_all (λ part. is_known command part) (option_to_list part.now) }
+// Whether the positions that aren't always needed may be left out.
+fn is_spared(spared: Option<(usize, &str)>, words: &[Text]) -> bool
+    ensures { result
+        ≡ is_spared (option_map (λ word. (word.0, word.1.now)) spared.entry) (parts_from start words.now) }
 {
-    match part {
-        Some(part) => match part.name {
-            Some(option) => command.option_kind(option).is_some(),
-            None => true,
-        },
-        None => true,
+    match spared {
+        None => false,
+        Some((place, word)) => position(words, place) == word,
     }
 }
 
-/// How many values of an option the parts have, or positions.
-pub fn count(words: &[Text], option: Option<&str>) -> usize
-    ensures { result ≡ length (texts_at (option_copied option.entry) (parts_from start words.now)) }
+/// The position at a place.
+pub fn position<'a>(words: &'a [Text], place: usize) -> &'a str
+    ensures { result.now ≡ position_at place (parts_from start words.now) }
+{
+    nth(words, None, place).unwrap_or("")
+}
+
+// How many values of an option the parts have, or positions.
+fn count(words: &[Text], option: Option<&str>) -> usize
+    ensures { result ≡ count_at (option_copied option.entry) (parts_from start words.now) }
 {
     let mut state = State::start();
     let mut count = 0;

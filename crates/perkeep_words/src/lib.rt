@@ -3,11 +3,16 @@
 
 mod finding;
 mod forms;
+mod kinds;
 mod parts;
 mod place;
 mod reading;
+mod table;
+mod words;
 
 pub use finding::places;
+pub use kinds::TextFault;
 pub use parts::parts_agree;
 pub use place::Places;
-pub use reading::{Command, Line, TextFault, readings_agree};
+pub use reading::{Command, Line, readings_agree};
+pub use words::{Filled, Word};

@@ -1,19 +1,65 @@
 //! Lines, and the commands that they are (docs/commands.md).
-ghost use Rattle.std.specs.Prelude.{◌≡◌, IfOk, Some, None, option_copied, unwrap_or, option_map, option_and_then, true, ◌<◌, ◌^◌, length, SomeIff};
-ghost use Rattle.schema_date.specs.Dates.{are_digits, number};
-ghost use Rattle.blobref.specs.Blobref.{is_blobref, blobref_in};
+ghost use Rattle.std.specs.Prelude.{◌≡◌, true};
+ghost use Rattle.blobref.specs.Blobref.{is_blobref};
 ghost use Rattle.perkeep_words.specs.Parts.{start, parts_from};
-ghost use Rattle.perkeep_words.specs.Forms.{texts_at, has_form};
-ghost use Rattle.perkeep_words.specs.Reading.{line_of, line_in, limit_in, limit_within, limit_of, when_of, fault_of, kind_of, first_fault, command_at, command_of, position_at, value_of, text_of, seen, result_seen, IsNamed, ReadingsAgree};
-ghost use Rattle.perkeep_words.specs.declared.forms.CommandName.TheVariants.{List as ListBlobs, Search};
+ghost use Rattle.perkeep_words.specs.Forms.{position_at, text_of};
+ghost use Rattle.perkeep_words.specs.Table.{writes_of};
+ghost use Rattle.perkeep_words.specs.Reading.{line_of, command_at, command_in, ref_of, number_of, when_of, NeedsAt, NeedsOption, ReadingsAgree};
+ghost use Rattle.perkeep_words.specs.declared.kinds.TextKind.TheVariants.{Blobref, Name};
 
-use crate::forms::{CommandName, TextKind, nth};
-use crate::parts::{Part, State};
+use crate::forms::{nth, position};
+use crate::kinds::{TextFault, number_within};
+use crate::table::{CommandName, LIMIT_MAX};
+use crate::words::{Filled, Word};
 use blobref::{Ref, Text};
 use schema_date::{Date, When};
 use std::marker::Model;
 
-/// Words that are the line of a command, as docs/commands.md says. A contract sees it as these words.
+/// What a line asks for, with its texts. DIR is any text.
+#[derive(Drop)]
+pub enum Command<'a> {
+    /// `put DIR`
+    Put {
+        dir: Word<'a>,
+    },
+    /// `get DIR REF`
+    Get {
+        dir: Word<'a>,
+        r: Ref,
+    },
+    /// `stat DIR REF`
+    Stat {
+        dir: Word<'a>,
+        r: Ref,
+    },
+    /// `list DIR [--after REF] [--limit N]`: refs above `after`, at most `limit` of them, 1 to 4,194,304.
+    List {
+        dir: Word<'a>,
+        after: Option<Ref>,
+        limit: u32,
+    },
+    /// `search DIR --attr A --value V [--at DATE]`
+    Search {
+        dir: Word<'a>,
+        attr: Filled<'a>,
+        value: Word<'a>,
+        at: When,
+    },
+    /// `salvage DIR`
+    Salvage {
+        dir: Word<'a>,
+    },
+    /// `search-pack A V`
+    SearchPack {
+        attr: Filled<'a>,
+        value: Word<'a>,
+    },
+}
+
+const DEFAULT_LIMIT: u32 = 1_000;
+
+/// Words that are the line of a command, whatever its texts say (docs/commands.md). A contract sees it as the command,
+/// and the parts behind the command's name in their order.
 #[derive(Drop)]
 pub struct Line<'a> {
     name: CommandName,
@@ -21,200 +67,179 @@ pub struct Line<'a> {
 }
 
 impl<'a> Model for Line<'a> {
-    ghost use Rattle.std.specs.Prelude.{◌≡◌, ℕ, List, ◌∷◌, Some};
+    ghost use Rattle.std.specs.Prelude.{◌≡◌, ◌∷◌, Some};
     ghost use Rattle.perkeep_words.specs.Parts.{start, parts_from};
-    ghost use Rattle.perkeep_words.specs.Forms.{name_text};
-    ghost use Rattle.perkeep_words.specs.Reading.{line_of};
+    ghost use Rattle.perkeep_words.specs.Table.{form_of};
+    ghost use Rattle.perkeep_words.specs.Reading.{LineSeen, line_of};
 
-    ghost Value = { List (List ℕ) };
+    ghost Value = { LineSeen };
 
-    ghost view = { λ l. name_text l.name ∷ l.behind.now };
+    ghost view = { λ l. (l.name, parts_from start l.behind.now) };
 
-    ghost invariant = { λ l. line_of (name_text l.name ∷ l.behind.now) ≡ Some (l.name, parts_from start l.behind.now) };
+    ghost invariant = { λ l.
+        line_of ((form_of l.name).name ∷ l.behind.now) ≡ Some (l.name, parts_from start l.behind.now) };
 }
 
-/// What a line asks for, with its texts. DIR is any text.
+// A line in which nothing is wrong.
 #[derive(Drop)]
-pub enum Command<'a> {
-    /// `put DIR`
-    Put {
-        dir: &'a str,
-    },
-    /// `get DIR REF`
-    Get {
-        dir: &'a str,
-        r: Ref,
-    },
-    /// `stat DIR REF`
-    Stat {
-        dir: &'a str,
-        r: Ref,
-    },
-    /// `list DIR [--after REF] [--limit N]`: refs above `after`, at most `limit` of them, 1 to 4,194,304.
-    List {
-        dir: &'a str,
-        after: Option<Ref>,
-        limit: u32,
-    },
-    /// `search DIR --attr A --value V [--at DATE]`. A isn't empty.
-    Search {
-        dir: &'a str,
-        attr: &'a str,
-        value: &'a str,
-        at: When,
-    },
-    /// `salvage DIR`
-    Salvage {
-        dir: &'a str,
-    },
-    /// `search-pack A V`. A isn't empty.
-    SearchPack {
-        attr: &'a str,
-        value: &'a str,
-    },
+struct RightLine<'a> {
+    name: CommandName,
+    behind: &'a [Text],
 }
 
-/// What is wrong with a text of a line.
-#[derive(Clone, Copy, Debug, PartialEq, Eq)]
-pub enum TextFault {
-    /// It should be a blobref.
-    BadRef,
-    /// It should be a date.
-    BadDate,
-    /// It should be a number of 1 to 4,194,304.
-    BadNumber,
-    /// It should be a name, and is empty.
-    BadName,
+impl<'a> Model for RightLine<'a> {
+    ghost use Rattle.perkeep_words.specs.Parts.{start, parts_from};
+    ghost use Rattle.perkeep_words.specs.Reading.{LineSeen, IsRight};
+
+    ghost Value = { LineSeen };
+
+    ghost view = { λ l. (l.name, parts_from start l.behind.now) };
+
+    ghost invariant = { λ l. IsRight (l.name, parts_from start l.behind.now) };
 }
-
-const DEFAULT_LIMIT: u32 = 1_000;
-
-const LIMIT_MAX: u32 = 4_194_304;
 
 impl<'a> Line<'a> {
     /// The line that the words are, whatever its texts say. None exactly where they are none.
     pub fn read(words: &'a [Text]) -> Option<Line<'a>>
-        ensures { result ≡ line_in words.now }
+        ensures { result ≡ line_of words.now }
     {
         let (word, behind) = words.split_first()?;
         let name = CommandName::of(word.as_str())?;
-        if !name.has_line(behind) {
+        if !name.form().has_line(behind) {
             return None;
         }
         Some(Line { name, behind })
     }
 
-    /// The command of the line. An error where a text of it is wrong: of several, the one that stands first in the words.
-    pub fn command(&self) -> Result<Command<'a>, TextFault>
-        ensures read { command_of self.now ≡ Some (result_seen result) }
-        ensures named { IfOk result (λ command. IsNamed (seen command)) }
+    /// Whether its command may change the store.
+    pub fn writes(&self) -> bool
+        ensures { result ≡ writes_of self.now.0 }
     {
-        match first_fault(self.name, self.behind) {
+        self.name.form().writes
+    }
+
+    /// The command of the line. An error where a text of it is wrong: of several, the one that stands first in the
+    /// words.
+    pub fn command(&self) -> Result<Command<'a>, TextFault>
+        ensures { result ≡ command_in self.now }
+    {
+        match self.name.form().first_fault(self.behind) {
             Some(fault) => Err(fault),
-            None => Ok(command_at(self.name, self.behind)),
+            None => Ok(command_at(&RightLine {
+                name: self.name,
+                behind: self.behind,
+            })),
         }
     }
-}
-
-// The first thing that is wrong in the texts of a line.
-fn first_fault(name: CommandName, words: &[Text]) -> Option<TextFault>
-    ensures { result ≡ first_fault name (parts_from start words.now) }
-{
-    let mut state = State::start();
-    let mut place = 0;
-    for word in words {
-        let (next, part) = state.step(word)?;
-        if let Some(part) = part {
-            let fault = part_fault(name, place, &part);
-            if fault.is_some() {
-                return fault;
-            }
-            place += usize::from(part.name.is_none());
-        }
-        state = next;
-    }
-    None
-}
-
-// What is wrong with a part before which so many positions stand.
-fn part_fault(name: CommandName, place: usize, part: &Part) -> Option<TextFault>
-    ensures { result ≡ fault_of (kind_of name place part.now.0) part.now.1 }
-{
-    let kind = match part.name {
-        Some(option) => name.option_kind(option).unwrap_or(TextKind::Any),
-        None => name.position_kind(place),
-    };
-    text_fault(kind, part.text)
-}
-
-fn text_fault(kind: TextKind, text: &str) -> Option<TextFault>
-    ensures { result ≡ fault_of kind text.now }
-{
-    let (is_good, fault) = match kind {
-        TextKind::Any => return None,
-        TextKind::Blobref => (Ref::read(text.as_bytes()).is_some(), TextFault::BadRef),
-        TextKind::Date => (Date::read(text.as_bytes()).is_some(), TextFault::BadDate),
-        TextKind::Limit => (limit_in(text).is_some(), TextFault::BadNumber),
-        TextKind::Name => (!text.is_empty(), TextFault::BadName),
-    };
-    if is_good { None } else { Some(fault) }
 }
 
 // The command of a line in which nothing is wrong.
-fn command_at<'a>(name: CommandName, words: &'a [Text]) -> Command<'a>
-    requires form { has_form name (parts_from start words.now) ≡ true }
-    requires right { first_fault name (parts_from start words.now) ≡ None }
-    ensures { seen result ≡ command_at name (parts_from start words.now) }
+fn command_at<'a>(line: &RightLine<'a>) -> Command<'a>
+    ensures { result ≡ command_at line.now.0 line.now.1 }
 {
-    let first = position(words, 0);
-    match name {
-        CommandName::Put => Command::Put { dir: first },
+    let dir = line.word(0);
+    match line.name() {
+        CommandName::Put => Command::Put { dir },
         CommandName::Get => Command::Get {
-            dir: first,
-            r: blobref(position(words, 1)),
+            dir,
+            r: line.blobref(1),
         },
         CommandName::Stat => Command::Stat {
-            dir: first,
-            r: blobref(position(words, 1)),
+            dir,
+            r: line.blobref(1),
         },
-        CommandName::List => list_command(first, words),
-        CommandName::Search => search_command(first, words),
-        CommandName::Salvage => Command::Salvage { dir: first },
+        CommandName::List => Command::List {
+            dir,
+            after: line.ref_option("after"),
+            limit: line.number("limit", 1, LIMIT_MAX, DEFAULT_LIMIT),
+        },
+        CommandName::Search => Command::Search {
+            dir,
+            attr: line.filled_option("attr"),
+            value: line.word_option("value"),
+            at: line.when("at"),
+        },
+        CommandName::Salvage => Command::Salvage { dir },
         CommandName::SearchPack => Command::SearchPack {
-            attr: first,
-            value: position(words, 1),
+            attr: line.filled(0),
+            value: line.word(1),
         },
     }
 }
 
-fn list_command<'a>(dir: &'a str, words: &'a [Text]) -> Command<'a>
-    requires { dir.now ≡ position_at 0 (parts_from start words.now) }
-    ensures { seen result ≡ command_at ListBlobs (parts_from start words.now) }
-{
-    Command::List {
-        dir,
-        after: after_of(nth(words, Some("after"), 0)),
-        limit: limit_of(nth(words, Some("limit"), 0)),
+impl<'a> RightLine<'a> {
+    fn name(&self) -> CommandName
+        ensures { result ≡ self.now.0 }
+    {
+        self.name
     }
-}
 
-fn search_command<'a>(dir: &'a str, words: &'a [Text]) -> Command<'a>
-    requires { dir.now ≡ position_at 0 (parts_from start words.now) }
-    ensures { seen result ≡ command_at Search (parts_from start words.now) }
-{
-    Command::Search {
-        dir,
-        attr: value(words, "attr"),
-        value: value(words, "value"),
-        at: when_of(nth(words, Some("at"), 0)),
+    // The position at a place.
+    fn word(&self, place: usize) -> Word<'a>
+        ensures { result ≡ position_at place self.now.1 }
+    {
+        Word::of(position(self.behind, place))
     }
-}
 
-// The position at a place.
-fn position<'a>(words: &'a [Text], place: usize) -> &'a str
-    ensures { result.now ≡ position_at place (parts_from start words.now) }
-{
-    nth(words, None, place).unwrap_or("")
+    // A position that is a blobref.
+    fn blobref(&self, place: usize) -> Ref
+        requires { NeedsAt self.now place Blobref }
+        ensures { result ≡ position_at place self.now.1 }
+    {
+        blobref(position(self.behind, place))
+    }
+
+    // A position that isn't empty.
+    fn filled(&self, place: usize) -> Filled<'a>
+        requires { NeedsAt self.now place Name }
+        ensures { result ≡ position_at place self.now.1 }
+    {
+        Filled::of(position(self.behind, place))
+    }
+
+    // The value of an option that has to be given.
+    fn word_option(&self, option: &str) -> Word<'a>
+        ensures { result ≡ text_of option.now self.now.1 }
+    {
+        Word::of(value(self.behind, option))
+    }
+
+    // The value of an option that has to be given, and isn't empty.
+    fn filled_option(&self, option: &str) -> Filled<'a>
+        requires { NeedsOption self.now option.now Name }
+        ensures { result ≡ text_of option.now self.now.1 }
+    {
+        Filled::of(value(self.behind, option))
+    }
+
+    fn ref_option(&self, option: &str) -> Option<Ref>
+        ensures { result ≡ ref_of option.now self.now.1 }
+    {
+        Ref::read(nth(self.behind, Some(option), 0)?.as_bytes())
+    }
+
+    // The number that an option gives.
+    fn number(&self, option: &str, least: u32, most: u32, default: u32) -> u32
+        ensures { result ≡ number_of option.now least most default self.now.1 }
+    {
+        match nth(self.behind, Some(option), 0) {
+            Some(text) => number_within(least, most, text).unwrap_or(default),
+            None => default,
+        }
+    }
+
+    // The date that an option gives.
+    fn when(&self, option: &str) -> When
+        ensures { result ≡ when_of option.now self.now.1 }
+    {
+        match nth(self.behind, Some(option), 0) {
+            Some(text) => match Date::read(text.as_bytes()) {
+                Some(date) => When::At(date),
+                None => When::Always,
+            },
+            None => When::Always,
+        }
+    }
 }
 
 // The value of an option that has to be given.
@@ -235,69 +260,8 @@ fn blobref(text: &str) -> Ref
     }
 }
 
-fn after_of(given: Option<&str>) -> Option<Ref>
-    ensures { result ≡ option_and_then blobref_in (option_copied given.entry) }
-{
-    Ref::read(given?.as_bytes())
-}
-
-fn limit_of(given: Option<&str>) -> u32
-    ensures { result ≡ limit_of (option_copied given.entry) }
-{
-    match given {
-        Some(text) => limit_in(text).unwrap_or(DEFAULT_LIMIT),
-        None => DEFAULT_LIMIT,
-    }
-}
-
-fn when_of(given: Option<&str>) -> When
-    ensures { result ≡ when_of (option_copied given.entry) }
-{
-    match given {
-        Some(text) => match Date::read(text.as_bytes()) {
-            Some(date) => When::At(date),
-            None => When::Always,
-        },
-        None => When::Always,
-    }
-}
-
-// The number of a limit: decimal digits, of 1 to 4,194,304.
-fn limit_in(text: &str) -> Option<u32>
-    ensures { result ≡ limit_in text.now }
-{
-    if !are_digits(text) || text.is_empty() {
-        return None;
-    }
-    limit_within(number_in(text)?)
-}
-
-fn limit_within(limit: u32) -> Option<u32>
-    ensures { result ≡ limit_within limit }
-{
-    if limit >= 1 && limit <= LIMIT_MAX {
-        Some(limit)
-    } else {
-        None
-    }
-}
-
-// The number that digits are. None where it doesn't fit.
-fn number_in(digits: &str) -> Option<u32>
-    requires digits { are_digits digits.now ≡ true }
-    requires some { 0 < length digits.now }
-    ensures { SomeIff result (number digits.now < 2 ^ 32) (number digits.now) }
-{
-    digits.parse().ok()
-}
-
-fn are_digits(text: &str) -> bool
-    ensures { result ≡ are_digits text.now }
-{
-    text.as_bytes().iter().all(|c| matches!(c, b'0'..=b'9'))
-}
-
-/// The words are a line, by the rules of its command, exactly where `Line::read` gives it: so they are one line at most.
+/// The words are a line, by the rules of its command, exactly where `Line::read` gives it: so they are one line at
+/// most.
 pub fn readings_agree()
     ensures { ReadingsAgree }
 {}

@@ -1,0 +1,126 @@
+//! The commands, and the form of each one's lines.
+ghost use Rattle.std.specs.Prelude.{◌≡◌, ◌∷◌, [], false, length, None};
+ghost use Rattle.perkeep_words.specs.Table.{row, form_of, named_in, name_of};
+ghost use Rattle.perkeep_words.specs.Seen.{options_seen};
+ghost use Rattle.perkeep_words.specs.declared.kinds.TextKind.TheVariants.{Dir};
+
+use crate::forms::{Form, OptionForm};
+use crate::kinds::TextKind;
+
+/// A command.
+#[derive(Clone, Copy, PartialEq, Eq)]
+pub enum CommandName {
+    Put,
+    Get,
+    Stat,
+    List,
+    Search,
+    Salvage,
+    SearchPack,
+}
+
+const COMMANDS: [CommandName; 7] = [
+    CommandName::Put,
+    CommandName::Get,
+    CommandName::Stat,
+    CommandName::List,
+    CommandName::Search,
+    CommandName::Salvage,
+    CommandName::SearchPack,
+];
+
+/// The greatest number of refs that a line of `list` asks for.
+pub const LIMIT_MAX: u32 = 4_194_304;
+
+const LIST_OPTIONS: &[OptionForm] = &[
+    OptionForm {
+        name: "after",
+        kind: TextKind::Blobref,
+        needed: false,
+    },
+    OptionForm {
+        name: "limit",
+        kind: TextKind::Number(1, LIMIT_MAX),
+        needed: false,
+    },
+];
+
+const SEARCH_OPTIONS: &[OptionForm] = &[
+    OptionForm {
+        name: "attr",
+        kind: TextKind::Name,
+        needed: true,
+    },
+    OptionForm {
+        name: "value",
+        kind: TextKind::Any,
+        needed: true,
+    },
+    OptionForm {
+        name: "at",
+        kind: TextKind::Date,
+        needed: false,
+    },
+];
+
+impl CommandName {
+    /// The command that a word names.
+    pub fn of(word: &str) -> Option<CommandName>
+        ensures { result ≡ name_of word.now }
+    {
+        named_in(&COMMANDS, word)
+    }
+
+    /// The form of its lines.
+    pub fn form(self) -> Form
+        ensures { result ≡ form_of self }
+    {
+        match self {
+            CommandName::Put => Form {
+                writes: true,
+                ..plain("put", &[TextKind::Dir])
+            },
+            CommandName::Get => plain("get", &[TextKind::Dir, TextKind::Blobref]),
+            CommandName::Stat => plain("stat", &[TextKind::Dir, TextKind::Blobref]),
+            CommandName::List => with_options("list", LIST_OPTIONS),
+            CommandName::Search => with_options("search", SEARCH_OPTIONS),
+            CommandName::Salvage => plain("salvage", &[TextKind::Dir]),
+            CommandName::SearchPack => plain("search-pack", &[TextKind::Name, TextKind::Any]),
+        }
+    }
+}
+
+// Positions alone, all of them needed, of a command that leaves the store as it is.
+fn plain(name: &'static str, positions: &'static [TextKind]) -> Form
+    ensures { result ≡ row name.now false positions.now (length positions.now) None [] }
+{
+    Form {
+        name,
+        writes: false,
+        positions,
+        needed: positions.len(),
+        spared: None,
+        options: &[],
+    }
+}
+
+// DIR and options, of a command that leaves the store as it is.
+fn with_options(name: &'static str, options: &'static [OptionForm]) -> Form
+    ensures { result ≡ row name.now false (Dir ∷ []) 1 None (options_seen options.now) }
+{
+    Form {
+        options,
+        ..plain(name, &[TextKind::Dir])
+    }
+}
+
+fn named_in(names: &[CommandName], word: &str) -> Option<CommandName>
+    ensures { result ≡ named_in names.now word.now }
+{
+    for name in names {
+        if name.form().name == word {
+            return Some(*name);
+        }
+    }
+    None
+}

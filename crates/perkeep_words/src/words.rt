@@ -1,0 +1,68 @@
+//! Texts that a command has.
+ghost use Rattle.std.specs.Prelude.{◌≡◌, ◌≢◌, []};
+
+use std::marker::Model;
+
+/// A text of a line, also the empty one. A contract sees it as its bytes.
+#[derive(Drop)]
+pub struct Word<'a> {
+    text: &'a str,
+}
+
+impl<'a> Model for Word<'a> {
+    ghost use Rattle.std.specs.Prelude.{ℕ, List};
+
+    ghost Value = { List ℕ };
+
+    ghost view = { λ w. w.text.now };
+}
+
+impl<'a> Word<'a> {
+    /// The word of this text.
+    pub fn of(text: &'a str) -> Word<'a>
+        ensures { result ≡ text.now }
+    {
+        Word { text }
+    }
+
+    /// Its text.
+    pub fn as_str(&self) -> &'a str
+        ensures { result.now ≡ self.now }
+    {
+        self.text
+    }
+}
+
+/// A text of a line that isn't empty. A contract sees it as its bytes.
+#[derive(Drop)]
+pub struct Filled<'a> {
+    text: &'a str,
+}
+
+impl<'a> Model for Filled<'a> {
+    ghost use Rattle.std.specs.Prelude.{◌≢◌, ℕ, List, []};
+
+    ghost Value = { List ℕ };
+
+    ghost view = { λ w. w.text.now };
+
+    ghost invariant = { λ w. w.text.now ≢ [] };
+}
+
+impl<'a> Filled<'a> {
+    /// The filled word of this text.
+    pub fn of(text: &'a str) -> Filled<'a>
+        requires { text.now ≢ [] }
+        ensures { result ≡ text.now }
+    {
+        Filled { text }
+    }
+
+    /// Its text.
+    pub fn as_str(&self) -> &'a str
+        ensures text { result.now ≡ self.now }
+        ensures filled { result.now ≢ [] }
+    {
+        self.text
+    }
+}
