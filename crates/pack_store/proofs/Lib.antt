@@ -14,3 +14,6 @@ pub mod Appending
 pub mod Standing
 pub mod Soundness
 pub mod LastPack
+pub mod Blobs
+pub mod Runs
+pub mod PutRuns

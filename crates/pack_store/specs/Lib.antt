@@ -10,3 +10,4 @@ pub mod Reading
 pub mod PutsLast
 pub mod Content
 pub mod Lives
+pub mod Puts

@@ -1,0 +1,108 @@
+-- What blobs that are put make of packs, and when no more can be put (docs/store.md).
+use Rattle.std.specs.Prelude.{◌≡◌, ◌⊎◌, ◌||◌, ◌&&◌, ◌≤◌, ◌<◌, ℕ, ◌-◌, Bool, true, false, List, [], ◌∷◌, length, nat_le, nat_lt, Result, Ok, Err}
+use Rattle.std.specs.Option.{ForSome, is_some}
+use Rattle.std.specs.FinMap.{FinMap, entries, get, insert}
+use Rattle.blobref.specs.Blobref.{ref_cmp, ref_of}
+use Rattle.edge_base.specs.Edge.{Rose}
+use Rattle.edge_base.specs.declared.answers.Put.{Put}
+use Rattle.edge_base.specs.declared.answers.PutFault.{PutFault}
+use Rattle.edge_base.specs.declared.answers.PutFault.TheVariants as fault
+use Rattle.pack_format.specs.Header.{max_size}
+use Rattle.salvage_scan.specs.Arrivals.{arrivals, content}
+use Rattle.pack_disk.specs.Packs.{Packs}
+use Rattle.pack_disk.specs.Disk.{Tells}
+use Rattle.pack_disk.specs.Runs.{Stays}
+use Rattle.pack_disk.specs.declared.disk.Disk.{Ghosts}
+use Rattle.pack_store.specs.declared.limits.Limits.{Limits}
+use Rattle.pack_store.specs.Adding.{AddsRecord}
+use Rattle.pack_store.specs.Archive.{Archive, is_filled}
+use Rattle.pack_store.specs.Opening.{IsOpened, next_of, current_of}
+use Rattle.pack_store.specs.Packs.{HeldByAll, KeepsAll}
+use Rattle.pack_store.specs.Putting.{pack_of}
+
+-- bytes under their refs
+abbrev pub Blobs : Type 0
+Blobs = FinMap ref_cmp (List ℕ)
+
+-- the blobs of packs, each ref with the bytes of its first finding
+abbrev pub blobs_of : Packs → Blobs
+blobs_of held = content (entries held)
+
+-- whether a ref stands in packs
+abbrev pub has_blob : Packs → List ℕ → Bool
+has_blob held r = is_some (get (blobs_of held) r)
+
+-- ---- one blob
+
+-- whether the next record needs a new pack: the last one isn't clean, or is long enough
+abbrev pub needs_pack_on : Limits → Packs → Bool
+needs_pack_on limits held = is_filled limits.pack_bytes (current_of (entries held))
+
+-- whether no blob may be added: there are as many as there may be, or a new pack is needed and there is none to be had
+abbrev pub is_full_on : Limits → Packs → Bool
+is_full_on limits held = nat_le limits.blobs (length (arrivals (entries held))) || (needs_pack_on limits held && nat_lt limits.last_pack (next_of (entries held)))
+
+-- the pack of the next record
+abbrev pub target_on : Limits → Packs → ℕ
+target_on limits held = pack_of (needs_pack_on limits held) (next_of (entries held)) (current_of (entries held))
+
+-- there was room for the blob, its record was added where the next one goes, and the blobs are those before and it
+pub record Adds (limits : Limits) (bytes : List ℕ) (before now : Packs) : Type 0 where
+  pub lacked : has_blob before (ref_of bytes) ≡ false
+  pub room : is_full_on limits before ≡ false
+  pub added : AddsRecord (target_on limits before) (ref_of bytes) bytes before now
+  pub gains : blobs_of now ≡ insert (blobs_of before) (ref_of bytes) bytes
+
+-- the blob stood there, or it was added
+abbrev pub PutsOne : Limits → List ℕ → Packs → Packs → Type 0
+PutsOne limits bytes before now = ((has_blob before (ref_of bytes) ≡ true) × (now ≡ before)) ⊎ Adds limits bytes before now
+
+-- the store lacks the blob and has no room for it; these are the number of its blobs and that of its last pack, 0 where it has none
+pub record IsFull (limits : Limits) (bytes : List ℕ) (blobs pack : ℕ) (held : Packs) : Type 0 where
+  pub lacking : has_blob held (ref_of bytes) ≡ false
+  pub full : is_full_on limits held ≡ true
+  pub blobs_are : blobs ≡ length (arrivals (entries held))
+  pub pack_is : pack ≡ next_of (entries held) - 1
+
+-- one of the two numbers is at its limit
+abbrev pub IsAtLimit : Limits → ℕ → ℕ → Type 0
+IsAtLimit limits blobs pack = (limits.blobs ≤ blobs) ⊎ (limits.last_pack ≤ pack)
+
+-- ---- several blobs
+
+-- these blobs were put in turn
+abbrev pub PutsAll : Limits → List (List ℕ) → Packs → Packs → Type 0
+PutsAll limits [] before now = now ≡ before
+PutsAll limits (bytes ∷ more) before now = (between : Packs) × PutsOne limits bytes before between × PutsAll limits more between now
+
+-- every image holds these blobs
+abbrev pub HoldAll : (Packs → Type 0) → List (List ℕ) → Type 0
+HoldAll images [] = Unit {0}
+HoldAll images (bytes ∷ more) = HeldByAll images (ref_of bytes) × HoldAll images more
+
+-- ---- a store that blobs are put into
+
+-- the store is as its disk says
+abbrev pub Stands : {D : Type 0} → Ghosts D → Limits → Archive D → Type 0
+Stands g limits s = IsOpened g s.disk limits s
+
+-- These blobs were put in turn, and nothing else was done; where none were, nothing was changed.
+pub record PutsBlobs {D : Type 0} (g : Ghosts D) (limits : Limits) (old : Archive D) (blobs : List (List ℕ)) (new : Archive D) : Type 0 where
+  pub crash : KeepsAll g old.disk new.disk
+  pub still : blobs ≡ [] → Stays g old.disk new.disk
+  pub held : HoldAll (g.images new.disk) blobs
+  pub stands : Stands g limits old → Stands g limits new
+  pub packs : Stands g limits old → Tells (g.packs old.disk) (g.packs new.disk) (PutsAll limits blobs)
+
+-- a store that is as its disk says has no room for the blob
+abbrev pub HasNoRoom : {D : Type 0} → Ghosts D → Limits → Archive D → List ℕ → ℕ → ℕ → Type 0
+HasNoRoom g limits s bytes blobs pack = Stands g limits s → IsAtLimit limits blobs pack × ForSome (g.packs s.disk) (IsFull limits bytes blobs pack)
+
+-- what a put of a blob under its own ref leaves, by its answer: it was put, or nothing was, or the disk failed
+abbrev pub PutLeaves : {D : Type 0} → Ghosts D → Limits → (old new : Archive D) → List ℕ → Result Put PutFault → Type 0
+PutLeaves g limits old new bytes (Ok done) = PutsBlobs g limits old (bytes ∷ []) new
+PutLeaves g limits old new bytes (Err (fault.TooBig size)) = PutsBlobs g limits old [] new × (size ≡ length bytes) × (max_size < size)
+PutLeaves g limits old new bytes (Err (fault.BadDigest said is)) = ⊥
+PutLeaves g limits old new bytes (Err (fault.Full blobs pack)) = PutsBlobs g limits old [] new × HasNoRoom g limits new bytes blobs pack
+PutLeaves g limits old new bytes (Err fault.Disk) = Rose (g.faults old.disk) (g.faults new.disk)
+PutLeaves g limits old new bytes (Err fault.NoMemory) = PutsBlobs g limits old [] new
