@@ -1,220 +1,333 @@
--- How a run ends, from what its command answered and what was written of it.
-use Rattle.std.proofs.Common.{◌≡◌, ◌≢◌, Bool, true, false, cond, ◌⊎◌, inl, inr, ⊎_elim, ℕ, Option, None, Some, Result, Ok, Err, IfOk, IfErr, OnOk, List, [], refl, sym, ap, subst}
-use Rattle.std.specs.FinMap.{get}
-use Rattle.std.specs.Option.{ForSome, is_some}
-use Rattle.blobref.specs.Blobref.{ref_of}
-use Rattle.claim_verify.specs.Verifier.{Accepts}
-use Rattle.edge_base.specs.Edge.{GaveAll, Rose}
+-- How far a run has come, and how it ends from there: the same for every command.
+use Rattle.std.proofs.Common.{◌≡◌, inl, inr, ℕ, ◌≤◌, Bool, true, false, Option, None, Some, Err, List, [], ◌∷◌, ◌++◌, length, refl, sym, ap, subst, ◌∙◌, arith}
+use Rattle.std.proofs.lemmas.List.{append-nil}
+use Rattle.edge_base.specs.Edge.{Rose, Took, TookFront}
+use Rattle.edge_base.specs.declared.answers.PutFault.{PutFault}
+use Rattle.edge_base.specs.declared.answers.PutFault.TheVariants as put
 use Rattle.pack_format.specs.Header.{max_size}
-use Rattle.schema_date.specs.declared.date.When.{When}
 use Rattle.pack_disk.specs.Packs.{Packs}
-use Rattle.pack_disk.specs.declared.disk.Disk.{Ghosts}
 use Rattle.pack_disk.specs.Disk.{Tells}
 use Rattle.pack_disk.specs.Runs.{Stays}
-use Rattle.pack_store.specs.Packs.{HeldByAll, KeepsAll}
-use Rattle.perkeep_words.specs.Reading.{CommandLine, PutLine, GetLine, StatLine, ListLine, SearchLine, SalvageLine, line_of, line_in}
-use Rattle.perkeep_words.specs.declared.reading.TextFault.{TextFault}
+use Rattle.pack_disk.specs.declared.disk.Disk.{Ghosts as DiskGhosts}
+use Rattle.edge_base.specs.declared.edge.Source.{Ghosts as SourceGhosts}
+use Rattle.edge_base.specs.declared.edge.Sink.{Ghosts as SinkGhosts}
+use Rattle.pack_store.specs.Archive.{Archive}
+use Rattle.pack_store.specs.Packs.{KeepsAll}
+use Rattle.pack_store.specs.Puts.{PutsAll, HoldAll, Stands, PutsBlobs, PutLeaves}
+use Rattle.pack_store.proofs.Moments.{keeps_itself, keeps_then, held_after, stays_itself, stays_then, stays_keeps}
+use Rattle.pack_store.proofs.Runs.{puts_join, told_join, told_nothing, hold_join, hold_on}
 use Rattle.perkeep_top.specs.declared.status.InputFault.TheVariants.{BadRef, BadDate, BadNumber, BadName, TooBig}
 use Rattle.perkeep_top.specs.declared.status.Status.{Status}
 use Rattle.perkeep_top.specs.declared.status.Status.TheVariants as status
-use Rattle.perkeep_top.specs.declared.refusal.Refusal.{Refusal}
-use Rattle.perkeep_top.specs.declared.refusal.Refusal.TheVariants as refusal
-use Rattle.perkeep_top.specs.Outputs.{blobs_of, ref_line}
-use Rattle.perkeep_top.specs.Salvaged.{IsReport, Writes, WritesFront, ComesWhileTelling}
-use Rattle.perkeep_top.specs.Stored.{Gains, IsFull, Refuses, status_of}
-use Rattle.perkeep_top.specs.Run.{most_read, Reads, IsOutput, Puts, Salvages, Ran, asked_ref, ComesAt, ComesReading, Ends, IsWritten}
+use Rattle.perkeep_top.specs.Faults.{put_status}
+use Rattle.perkeep_top.specs.Frame.{reads_nothing, reads_first, RefusedEarly, Meaning, Given, IsQuiet, ReadsAll, ReadsSome, Always, Finishes, WritesSome, Stops, StopsFull, WhileReading, IsTooLong, read_too_much, EndsBy, Ends}
+use Rattle.perkeep_top.specs.Limits.{limits}
+use Rattle.perkeep_top.specs.Outside.{Outside, World, world}
+use Rattle.perkeep_top.specs.Steps.{RefusesInput, Finds, Writes}
 
--- a refusal is told by no status of an answer
-not_done : (r : Refusal) → status_of r ≢ status.Done
-not_done (refusal.Absent r) e = cc e
-not_done (refusal.Full blobs pack) e = cc e
-not_done (refusal.Damaged want is) e = cc e
-not_done refusal.Disk e = cc e
-not_done refusal.NoMemory e = cc e
+-- nothing was written
+pub took_nothing : (held : Option (List ℕ)) → Took held held []
+took_nothing None = refl
+took_nothing (Some h) = ap Some (sym (append-nil h))
 
-not_part : (r : Refusal) → status_of r ≢ status.WriteFault
-not_part (refusal.Absent r) e = cc e
-not_part (refusal.Full blobs pack) e = cc e
-not_part (refusal.Damaged want is) e = cc e
-not_part refusal.Disk e = cc e
-not_part refusal.NoMemory e = cc e
+pub later_rose : (before between now : ℕ) → before ≤ between → Rose between now → Rose before now
+later_rose before between now le rose = omega (arith, le, rose)
 
--- the blob that is put is all that the source had left
-abbrev IsInput : CommandLine → Option (List ℕ) → Option (List ℕ) → Option (List ℕ) → Type 0
-IsInput line left left_now put = (r : List ℕ) → put ≡ Some r → Puts line × (input : List ℕ) × GaveAll left left_now input × (ref_of input ≡ r)
+abbrev pub nothing_given : Given
+nothing_given = record { input = [] }
 
-refusal_comes : (line : CommandLine) (left left_now put : Option (List ℕ)) (told : Option Packs) (source sink : Type 0) (before now : ℕ) → IsInput line left left_now put
-    → (r : Refusal) → Refuses (asked_ref line) put told before now r → ComesAt line left left_now told source sink (Rose before now) (status_of r)
-refusal_comes line left left_now put told source sink before now input (refusal.Absent r) why = why
-refusal_comes line left left_now put told source sink before now input (refusal.Full blobs pack) why =
-    let given = input why.1 why.2 in
-    (given.0, why.0, given.1, given.2, λ held tells. subst (λ r. IsFull r blobs pack held) (sym given.3) (why.3 held tells))
-refusal_comes line left left_now put told source sink before now input (refusal.Damaged want is) why = why
-refusal_comes line left left_now put told source sink before now input refusal.Disk why = why
-refusal_comes line left left_now put told source sink before now input refusal.NoMemory why = tt
+abbrev pub given_input : List ℕ → Given
+given_input input = record { input = input }
 
-module _ {D : Type 0} (g : Ghosts D)
-    (line : CommandLine) (accepts : Accepts) (left left_now written written_now : Option (List ℕ)) (source sink silent : Type 0) (before now : ℕ) (old new : D) where
-  abbrev End : Status → Type 0
-  End answer = Ends g line accepts left left_now written written_now source sink (Rose before now) silent old new answer
+-- a run of a command: the laws of its disk, its meaning, which has nothing bad in its words, and the world before
+pub record Begun (D S K : Type 0) : Type 1 where
+  pub o : Outside D S K
+  pub counts_now : (d : D) (t : ℕ) (c : Packs) → t ≤ o.disk.moment d → o.disk.images d c → o.disk.images_since d t c
+  pub only_now : (d : D) (c : Packs) → o.disk.images_since d (o.disk.moment d) c → o.disk.images d c
+  pub m : Meaning
+  pub fit : m.bad ≡ None
+  pub b : World D S K
 
-  -- an answer that was written, or a refusal
-  pub ends_written : (Salvages line → ⊥) → KeepsAll g old new → Puts line ⊎ Stays g old new
-      → (put : Option (List ℕ)) → IsInput line left left_now put
-      → (answer : Result (List ℕ) Refusal) → IfErr answer (Refuses (asked_ref line) put (g.packs old) before now) → IfErr answer (λ r. r ≢ refusal.Disk → g.packs new ≡ g.packs old)
-      → IfOk answer (λ bytes. Ran line accepts left left_now (g.packs old) (g.packs new) (g.images new) bytes)
-      → (end : Status) → IsWritten answer written written_now sink silent end → End end
-  ends_written quiet keeps stays put input (Ok bytes) why same ran end is = ⊎_elim
-      (λ all. subst End (sym all.0) (record {
-        done = λ e. (bytes, ran, all.1);
-        part = λ e. absurd (cc e);
-        comes = tt;
-        any_moment = keeps;
-        stays = stays;
-        unchanged = λ a b c. absurd (a refl);
-        unwritten = λ a b. absurd (a refl);
-        report = λ s. absurd (quiet s);
-      }))
-      (λ part. subst End (sym part.0) (record {
-        done = λ e. absurd (cc e);
-        part = λ e. (bytes, ran, part.2);
-        comes = part.1;
-        any_moment = keeps;
-        stays = stays;
-        unchanged = λ a b c. absurd (b refl);
-        unwritten = λ a b. absurd (b refl);
-        report = λ s. absurd (quiet s);
-      }))
-      is
-  ends_written quiet keeps stays put input (Err r) why same ran end is = subst End (sym is.0) (record {
-    done = λ e. absurd (not_done r e);
-    part = λ e. absurd (not_part r e);
-    comes = refusal_comes line left left_now put (g.packs old) source sink before now input r why;
-    any_moment = keeps;
-    stays = stays;
-    unchanged = λ a b c. same (λ e. c (ap status_of e));
-    unwritten = λ a b. inl is.1;
-    report = λ s. absurd (quiet s);
-  })
+abbrev pub begun : {D S K : Type 0} (o : Outside D S K) → ((d : D) (t : ℕ) (c : Packs) → t ≤ o.disk.moment d → o.disk.images d c → o.disk.images_since d t c)
+    → ((d : D) (c : Packs) → o.disk.images_since d (o.disk.moment d) c → o.disk.images d c) → (m : Meaning) → m.bad ≡ None → World D S K → Begun D S K
+begun o counts_now only_now m fit b = record { o = o; counts_now = counts_now; only_now = only_now; m = m; fit = fit; b = b }
 
-  -- an input that wasn't read
-  pub ends_unread : (Salvages line → ⊥) → KeepsAll g old new → Puts line ⊎ Stays g old new → g.packs new ≡ g.packs old → silent
-      → (most : ℕ) → most_read line ≡ Some most → (end : Status) → ComesReading most left left_now source end → End end
-  ends_unread quiet keeps stays same still most reads end why = record {
-    done = λ e. absurd (never_done (subst (ComesReading most left left_now source) e why));
-    part = λ e. absurd (never_part (subst (ComesReading most left left_now source) e why));
-    comes = comes end why;
-    any_moment = keeps;
-    stays = stays;
-    unchanged = λ a b c. same;
-    unwritten = λ a b. inl still;
-    report = λ s. absurd (quiet s);
+module _ {D S K : Type 0} (run : Begun D S K) where
+  abbrev disk : DiskGhosts D
+  disk = run.o.disk
+
+  abbrev source : SourceGhosts S
+  source = run.o.source
+
+  abbrev sink : SinkGhosts K
+  sink = run.o.sink
+
+  abbrev m : Meaning
+  m = run.m
+
+  abbrev b : World D S K
+  b = run.b
+
+  abbrev EndsAs : World D S K → Status → Type 0
+  EndsAs now end = Ends run.o m b now end
+
+  -- it has come here, and has written these bytes
+  pub record At (now : World D S K) (bytes : List ℕ) : Type 0 where
+    pub always : Always run.o m b now
+    pub wrote : WritesSome run.o m b now m.streams bytes
+
+  -- and it has put these blobs, and nothing else
+  pub record Far (now : World D S K) (blobs : List (List ℕ)) (bytes : List ℕ) : Type 0 where
+    pub at : At now bytes
+    pub packs : Tells (disk.packs b.disk) (disk.packs now.disk) (PutsAll limits blobs)
+    pub held : HoldAll (disk.images now.disk) blobs
+
+  -- it has read this of what it reads
+  pub record Has (s : S) (given : Given) : Type 0 where
+    pub read : ReadsSome source m.input b.source s given.input
+    pub right : m.wrong given.input ≡ None
+
+  stays_same : (d : D) → Stays disk d d
+  stays_same d = stays_itself disk run.counts_now run.only_now d
+
+  keeps_of : (d e : D) → Stays disk d e → KeepsAll disk d e
+  keeps_of d e stays = stays_keeps disk run.counts_now run.only_now d e stays
+
+  wrote_nothing : (streams : Bool) (d : D) (s : S) → WritesSome run.o m b (world d s b.sink) streams []
+  wrote_nothing false d s = refl
+  wrote_nothing true d s = took_nothing (sink.written b.sink)
+
+  -- nothing was asked of the disk
+  pub far_read : (s : S) → (m.input ≡ reads_nothing → s ≡ b.source) → source.faults b.source ≤ source.faults s → Far (world b.disk s b.sink) [] []
+  far_read s alone later = record {
+    at = record {
+      always = record {
+        crash = keeps_itself disk run.counts_now run.only_now b.disk;
+        quiet = λ _. stays_same b.disk;
+        unopened = λ _. refl;
+        unread = alone;
+        disk_later = omega arith;
+        source_later = later;
+        sink_later = omega arith;
+      };
+      wrote = wrote_nothing m.streams b.disk s;
+    };
+    packs = told_nothing limits (disk.packs b.disk);
+    held = tt;
   }
+
+  pub far_start : Far b [] []
+  far_start = far_read b.source (λ _. refl) (omega arith)
+
+  -- out of memory before the disk was asked
+  pub early_memory : (s : S) → Far (world b.disk s b.sink) [] [] → EndsAs (world b.disk s b.sink) status.NoMemory
+  early_memory s far = record { always = far.at.always; ends = inl (record { unasked = refl; unwritten = refl; why = tt }) }
+
+  -- ---- a step: the objects before and after it
+
+  -- what a step over them leaves of what always holds
+  pub record Steps (now next : World D S K) : Type 0 where
+    pub disk_later : disk.faults now.disk ≤ disk.faults next.disk
+    pub source_later : source.faults now.source ≤ source.faults next.source
+    pub sink_later : sink.faults now.sink ≤ sink.faults next.sink
+    pub crash : KeepsAll disk now.disk next.disk
+    pub quiet : IsQuiet m → Stays disk now.disk next.disk
+    pub unread : m.input ≡ reads_nothing → next.source ≡ now.source
+
+  module _ (opens : m.opens ≡ true) where
+    pub always_then : (now next : World D S K) → Always run.o m b now → Steps now next → Always run.o m b next
+    always_then now next always step = record {
+      crash = keeps_then disk run.counts_now run.only_now b.disk now.disk next.disk always.crash step.crash;
+      quiet = λ q. stays_then disk run.counts_now run.only_now b.disk now.disk next.disk (always.quiet q) (step.quiet q);
+      unopened = λ e. absurd (cc (opens, e));
+      unread = λ e. step.unread e ∙ always.unread e;
+      disk_later = omega (arith, always.disk_later, step.disk_later);
+      source_later = omega (arith, always.source_later, step.source_later);
+      sink_later = omega (arith, always.sink_later, step.sink_later);
+    }
+
+    -- the disk is asked, and nothing changes there, as the sink is written or not
+    pub far_told : (d e : D) (s : S) (k l : K) (blobs : List (List ℕ)) (bytes written : List ℕ) → Far (world d s k) blobs bytes → Stays disk d e → disk.faults d ≤ disk.faults e → sink.faults k ≤ sink.faults l
+        → WritesSome run.o m b (world e s l) m.streams written → Far (world e s l) blobs written
+    far_told d e s k l blobs bytes written far stays later sink_later wrote = record {
+      at = record {
+        always = always_then (world d s k) (world e s l) far.at.always
+            (record { disk_later = later; source_later = omega arith; sink_later = sink_later; crash = keeps_of d e stays; quiet = λ _. stays; unread = λ _. refl });
+        wrote = wrote;
+      };
+      packs = subst (λ p. Tells (disk.packs b.disk) p (PutsAll limits blobs)) (sym stays.told) far.packs;
+      held = hold_on (disk.images d) (disk.images e) (held_after disk run.counts_now run.only_now d e (keeps_of d e stays)) blobs far.held;
+    }
+
+    pub far_asked : (d e : D) (s : S) → Far (world d s b.sink) [] [] → Stays disk d e → disk.faults d ≤ disk.faults e → Far (world e s b.sink) [] []
+    far_asked d e s far stays later = far_told d e s b.sink b.sink [] [] [] far stays later (omega arith) (wrote_nothing m.streams e s)
+
+    -- blobs are put, as the source is read or not and the sink written or not
+    pub far_puts : (old new : Archive D) (s t : S) (k l : K) (blobs more : List (List ℕ)) (bytes written : List ℕ) → Far (world old.disk s k) blobs bytes → Stands disk limits old → PutsBlobs disk limits old more new
+        → (IsQuiet m → more ≡ []) → disk.faults old.disk ≤ disk.faults new.disk → source.faults s ≤ source.faults t → sink.faults k ≤ sink.faults l → (m.input ≡ reads_nothing → t ≡ s)
+        → WritesSome run.o m b (world new.disk t l) m.streams written → Far (world new.disk t l) (blobs ++ more) written
+    far_puts old new s t k l blobs more bytes written far stands puts quiet later source_later sink_later alone wrote = record {
+      at = record {
+        always = always_then (world old.disk s k) (world new.disk t l) far.at.always
+            (record { disk_later = later; source_later = source_later; sink_later = sink_later; crash = puts.crash; quiet = λ q. puts.still (quiet q); unread = alone });
+        wrote = wrote;
+      };
+      packs = told_join (disk.packs b.disk) (disk.packs old.disk) (disk.packs new.disk) (PutsAll limits blobs) (PutsAll limits more) (PutsAll limits (blobs ++ more)) far.packs (puts.packs stands) (puts_join limits blobs more);
+      held = hold_join (disk.images new.disk) blobs more
+          (hold_on (disk.images old.disk) (disk.images new.disk) (held_after disk run.counts_now run.only_now old.disk new.disk puts.crash) blobs far.held) puts.held;
+    }
+
+  -- ---- the ends
+
+  module _ (now : World D S K) (bytes : List ℕ) (at : At now bytes) (given : Given) (has : Has now.source given) (part : m.IsPart given (disk.packs b.disk) bytes) where
+    -- the disk failed by now
+    pub failed : Rose (disk.faults b.disk) (disk.faults now.disk) → EndsAs now status.Disk
+    failed rose = record {
+      always = at.always;
+      ends = record { given = given; bytes = bytes; fit = run.fit; read = has.read; right = has.right; written = at.wrote; part = part; why = rose };
+    }
+
+  module _ (now : World D S K) (blobs : List (List ℕ)) (bytes : List ℕ) (far : Far now blobs bytes) (given : Given) (rest : List (List ℕ)) (has : Has now.source given) (cut : m.blobs given ≡ blobs ++ rest)
+      (part : m.IsPart given (disk.packs b.disk) bytes) where
+    pub stops : (Why : Given → List ℕ → List (List ℕ) → List (List ℕ) → Type 0) → Why given bytes blobs rest → Stops run.o m b now Why
+    stops Why why = record {
+      given = given;
+      bytes = bytes;
+      fit = run.fit;
+      read = has.read;
+      right = has.right;
+      written = far.at.wrote;
+      part = part;
+      why = record { blobs = blobs; rest = rest; cut = cut; put = far.packs; held = far.held; why = why };
+    }
+
+    pub no_memory : EndsAs now status.NoMemory
+    no_memory = record { always = far.at.always; ends = inr (stops (λ given bytes gone rest. Unit {0}) tt) }
+
+    pub full : (count pack : ℕ) → StopsFull run.o m b now count pack rest → EndsAs now (status.Full count pack)
+    full count pack why = record { always = far.at.always; ends = stops (λ given bytes gone rest. StopsFull run.o m b now count pack rest) why }
+
+    -- a write failed as it went
+    pub not_written : m.streams ≡ true → Rose (sink.faults b.sink) (sink.faults now.sink) → EndsAs now status.WriteFault
+    not_written streams rose = record { always = far.at.always; ends = (rose, inr (streams, stops (λ given bytes gone rest. Unit {0}) tt)) }
+
+    pub absent : (r : List ℕ) → m.Refuses given (disk.packs b.disk) bytes blobs (status.Absent r) → EndsAs now (status.Absent r)
+    absent r why = record { always = far.at.always; ends = stops (λ given bytes gone rest. m.Refuses given (disk.packs b.disk) bytes gone (status.Absent r)) why }
+
+    pub damaged : (want is : List ℕ) → m.Refuses given (disk.packs b.disk) bytes blobs (status.Damaged want is) → EndsAs now (status.Damaged want is)
+    damaged want is why = record { always = far.at.always; ends = stops (λ given bytes gone rest. m.Refuses given (disk.packs b.disk) bytes gone (status.Damaged want is)) why }
+
+  -- all was put and, where it streams, written
+  pub done : (now : World D S K) (blobs : List (List ℕ)) (bytes : List ℕ) → Always run.o m b now → Tells (disk.packs b.disk) (disk.packs now.disk) (PutsAll limits blobs) → HoldAll (disk.images now.disk) blobs
+      → (given : Given) → ReadsAll source m.input b.source now.source given.input → m.wrong given.input ≡ None → m.IsOutput given (disk.packs b.disk) bytes → m.blobs given ≡ blobs
+      → (end : Status) → Writes sink b.sink now.sink bytes end → EndsAs now end
+  done now blobs bytes always packs held given read right output all end writes = record { always = always; ends = by end writes }
     where
-      never_done : ComesReading most left left_now source status.Done → ⊥
-      never_done h = h
+      finishes : (Wrote : List ℕ → Type 0) → Wrote bytes → Finishes run.o m b now Wrote
+      finishes Wrote wrote = record {
+        given = given;
+        bytes = bytes;
+        fit = run.fit;
+        read = read;
+        right = right;
+        output = output;
+        put = subst (λ l. Tells (disk.packs b.disk) (disk.packs now.disk) (PutsAll limits l)) (sym all) packs;
+        held = subst (HoldAll (disk.images now.disk)) (sym all) held;
+        wrote = wrote;
+      }
 
-      never_part : ComesReading most left left_now source status.WriteFault → ⊥
-      never_part h = h
+      by : (end : Status) → Writes sink b.sink now.sink bytes end → EndsBy run.o m b now end
+      by status.Done w = finishes (Took (sink.written b.sink) (sink.written now.sink)) w
+      by status.WriteFault w = (w.0, inl (finishes (TookFront (sink.written b.sink) (sink.written now.sink)) w.1))
+      by status.NoMemory w = absurd w
+      by status.BadWords w = absurd w
+      by (status.Absent r) w = absurd w
+      by (status.BadInput fault) w = absurd w
+      by status.ReadFault w = absurd w
+      by status.Disk w = absurd w
+      by (status.Full blobs pack) w = absurd w
+      by (status.Damaged want is) w = absurd w
 
-      comes : (end : Status) → ComesReading most left left_now source end → ComesAt line left left_now (g.packs old) source sink (Rose before now) end
-      comes status.Done h = absurd h
-      comes status.NoMemory h = tt
-      comes status.BadWords h = absurd h
-      comes (status.Absent r) h = absurd h
-      comes (status.BadInput BadRef) h = absurd h
-      comes (status.BadInput BadDate) h = absurd h
-      comes (status.BadInput BadNumber) h = absurd h
-      comes (status.BadInput BadName) h = absurd h
-      comes (status.BadInput (TooBig size)) h = (most, reads, h)
-      comes status.ReadFault h = h
-      comes status.WriteFault h = absurd h
-      comes status.Disk h = absurd h
-      comes (status.Full blobs pack) h = absurd h
-      comes (status.Damaged want is) h = absurd h
-      comes status.NotBuilt h = absurd h
+  -- what is written stands at the end alone
+  pub finished : (d : D) (s : S) (blobs : List (List ℕ)) → Far (world d s b.sink) blobs [] → (k : K) (given : Given) (bytes : List ℕ) → ReadsAll source m.input b.source s given.input → m.wrong given.input ≡ None
+      → m.IsOutput given (disk.packs b.disk) bytes → m.blobs given ≡ blobs → (end : Status) → Writes sink b.sink k bytes end → sink.faults b.sink ≤ sink.faults k → EndsAs (world d s k) end
+  finished d s blobs far k given bytes read right output all end writes later = done (world d s k) blobs bytes (record {
+    crash = far.at.always.crash;
+    quiet = far.at.always.quiet;
+    unopened = far.at.always.unopened;
+    unread = far.at.always.unread;
+    disk_later = far.at.always.disk_later;
+    source_later = far.at.always.source_later;
+    sink_later = later;
+  }) far.packs far.held given read right output all end writes
 
--- what packs hold was told
-module _ {D : Type 0} (g : Ghosts D)
-    (dir : List ℕ) (accepts : Accepts) (left written written_now : Option (List ℕ)) (source sink silent : Type 0) (before now : ℕ) (old new : D) where
-  pub ends_told : KeepsAll g old new → Stays g old new
-      → (end : Status) → (end ≡ status.Done → Writes (IsReport (g.packs old)) written written_now) → WritesFront (IsReport (g.packs old)) written written_now → ComesWhileTelling sink (Rose before now) end
-      → Ends g (SalvageLine dir) accepts left left written written_now source sink (Rose before now) silent old new end
-  ends_told keeps stays end done part why = record {
-    done = λ e. let w = done e in (w.0, record { input = []; reads = (refl, refl); output = w.1; leaves = stays.told }, w.2);
-    part = λ e. (part.0, record { input = []; reads = (refl, refl); output = part.1; leaves = stays.told }, part.2);
-    comes = comes end why;
-    any_moment = keeps;
-    stays = inr stays;
-    unchanged = λ a b c. stays.told;
-    unwritten = λ a b. inr tt;
-    report = λ s. part;
-  }
+  -- what was asked of the disk, with nothing put or written so far, was refused
+  pub refused : m.opens ≡ true → (d e : D) (s : S) → Far (world d s b.sink) [] [] → Stays disk d e → disk.faults d ≤ disk.faults e → (given : Given) → Has s given → m.IsPart given (disk.packs b.disk) []
+      → (Why : Status → Type 0) → ((end : Status) → Why end → m.Refuses given (disk.packs b.disk) [] [] end) → (end : Status) → Finds disk d e Why end → EndsAs (world e s b.sink) end
+  refused opens d e s far stays later given has part Why tells end why = by end why
     where
-      comes : (end : Status) → ComesWhileTelling sink (Rose before now) end → ComesAt (SalvageLine dir) left left (g.packs old) source sink (Rose before now) end
-      comes status.Done h = tt
-      comes status.NoMemory h = tt
-      comes status.BadWords h = absurd h
-      comes (status.Absent r) h = absurd h
-      comes (status.BadInput fault) h = absurd h
-      comes status.ReadFault h = absurd h
-      comes status.WriteFault h = h
-      comes status.Disk h = h
-      comes (status.Full blobs pack) h = absurd h
-      comes (status.Damaged want is) h = absurd h
-      comes status.NotBuilt h = absurd h
+      so : Far (world e s b.sink) [] []
+      so = far_asked opens d e s far stays later
 
--- the blob that was read is put
-pub ran_put : (dir : List ℕ) (accepts : Accepts) (left left_now : Option (List ℕ)) (told told_now : Option Packs) (images : Packs → Type 0) (input : List ℕ) → Reads (Some max_size) left left_now input
-    → (answer : Result (List ℕ) Refusal) → IfOk answer (λ line. line ≡ ref_line (ref_of input)) → OnOk answer (Tells told told_now (Gains input)) → OnOk answer (HeldByAll images (ref_of input))
-    → IfOk answer (λ bytes. Ran (PutLine dir) accepts left left_now told told_now images bytes)
-ran_put dir accepts left left_now told told_now images input reads (Ok bytes) line gains held = record { input = input; reads = reads; output = line; leaves = (gains, held) }
-ran_put dir accepts left left_now told told_now images input reads (Err r) line gains held = tt
+      by : (end : Status) → Finds disk d e Why end → EndsAs (world e s b.sink) end
+      by status.Disk w = failed (world e s b.sink) [] so.at given has part (later_rose (disk.faults b.disk) (disk.faults d) (disk.faults e) far.at.always.disk_later w)
+      by status.NoMemory w = no_memory (world e s b.sink) [] [] so given (m.blobs given) has refl part
+      by (status.Absent r) w = absent (world e s b.sink) [] [] so given (m.blobs given) has refl part r (tells (status.Absent r) w)
+      by (status.Damaged want is) w = damaged (world e s b.sink) [] [] so given (m.blobs given) has refl part want is (tells (status.Damaged want is) w)
+      by status.ReadFault w = absurd w
+      by (status.BadInput fault) w = absurd w
+      by status.Done w = absurd w
+      by status.WriteFault w = absurd w
+      by status.BadWords w = absurd w
+      by (status.Full blobs pack) w = absurd w
 
--- what was asked of a store, without any input
-pub ran_get : (dir r : List ℕ) (accepts : Accepts) (left : Option (List ℕ)) (told told_now : Option Packs) (images : Packs → Type 0) → told_now ≡ told
-    → (answer : Result (List ℕ) Refusal) → IfOk answer (λ bytes. ref_of bytes ≡ r) → IfOk answer (λ bytes. ForSome told (λ held. get (blobs_of held) r ≡ Some bytes))
-    → IfOk answer (λ bytes. Ran (GetLine dir r) accepts left left told told_now images bytes)
-ran_get dir r accepts left told told_now images same (Ok bytes) named is = record { input = []; reads = (refl, refl); output = (named, is); leaves = same }
-ran_get dir r accepts left told told_now images same (Err e) named is = tt
+  -- ---- one blob that is put, and an input that isn't read before the opening
 
-pub ran_stat : (dir r : List ℕ) (accepts : Accepts) (left : Option (List ℕ)) (told told_now : Option Packs) (images : Packs → Type 0) → told_now ≡ told
-    → (answer : Result (List ℕ) Refusal) → IfOk answer (λ bytes. IsOutput (StatLine dir r) accepts [] told bytes) → IfOk answer (λ bytes. Ran (StatLine dir r) accepts left left told told_now images bytes)
-ran_stat dir r accepts left told told_now images same (Ok bytes) is = record { input = []; reads = (refl, refl); output = is; leaves = same }
-ran_stat dir r accepts left told told_now images same (Err e) is = tt
+  module _ (opens : m.opens ≡ true) (puts_some : IsQuiet m → ⊥) (old new : Archive D) (s : S) (k : K) (blobs : List (List ℕ)) (bytes : List ℕ) (far : Far (world old.disk s k) blobs bytes) (stands : Stands disk limits old)
+      (crash : KeepsAll disk old.disk new.disk) (later : disk.faults old.disk ≤ disk.faults new.disk) (wrote : WritesSome run.o m b (world new.disk s k) m.streams bytes) where
+    pub far_put : (more : List (List ℕ)) → PutsBlobs disk limits old more new → Far (world new.disk s k) (blobs ++ more) bytes
+    far_put more puts = far_puts opens old new s s k k blobs more bytes bytes far stands puts (λ q. absurd (puts_some q)) later (omega arith) (omega arith) (λ _. refl) wrote
 
-pub ran_list : (dir : List ℕ) (after : Option (List ℕ)) (limit : ℕ) (accepts : Accepts) (left : Option (List ℕ)) (told told_now : Option Packs) (images : Packs → Type 0) → told_now ≡ told
-    → (answer : Result (List ℕ) Refusal) → IfOk answer (λ bytes. IsOutput (ListLine dir after limit) accepts [] told bytes) → IfOk answer (λ bytes. Ran (ListLine dir after limit) accepts left left told told_now images bytes)
-ran_list dir after limit accepts left told told_now images same (Ok bytes) is = record { input = []; reads = (refl, refl); output = is; leaves = same }
-ran_list dir after limit accepts left told told_now images same (Err e) is = tt
+    far_same : PutsBlobs disk limits old [] new → Far (world new.disk s k) blobs bytes
+    far_same puts = subst (λ l. Far (world new.disk s k) l bytes) (append-nil blobs) (far_put [] puts)
 
-pub ran_search : (dir attr value : List ℕ) (at : When) (accepts : Accepts) (left : Option (List ℕ)) (told told_now : Option Packs) (images : Packs → Type 0) → told_now ≡ told
-    → (answer : Result (List ℕ) Refusal) → IfOk answer (λ bytes. IsOutput (SearchLine dir attr value at) accepts [] told bytes) → IfOk answer (λ bytes. Ran (SearchLine dir attr value at) accepts left left told told_now images bytes)
-ran_search dir attr value at accepts left told told_now images same (Ok bytes) is = record { input = []; reads = (refl, refl); output = is; leaves = same }
-ran_search dir attr value at accepts left told told_now images same (Err e) is = tt
+    pub not_put : (given : Given) (next : List ℕ) (more : List (List ℕ)) → Has s given → m.blobs given ≡ blobs ++ next ∷ more → m.IsPart given (disk.packs b.disk) bytes → length next ≤ max_size
+        → (e : PutFault) → PutLeaves disk limits old new next (Err e) → EndsAs (world new.disk s k) (put_status e)
+    not_put given next more has cut part small (put.TooBig size) w = absurd (omega (arith, w.1, w.2, small))
+    not_put given next more has cut part small (put.BadDigest said is) w = absurd w
+    not_put given next more has cut part small (put.Full count pack) w = full (world new.disk s k) blobs bytes (far_same w.0) given (next ∷ more) has cut part count pack (w.1 (w.0.stands stands))
+    not_put given next more has cut part small put.Disk w = failed (world new.disk s k) bytes (record {
+      always = always_then opens (world old.disk s k) (world new.disk s k) far.at.always
+          (record { disk_later = later; source_later = omega arith; sink_later = omega arith; crash = crash; quiet = λ q. absurd (puts_some q); unread = λ _. refl });
+      wrote = wrote;
+    }) given has part (later_rose (disk.faults b.disk) (disk.faults old.disk) (disk.faults new.disk) far.at.always.disk_later w)
+    not_put given next more has cut part small put.NoMemory w = no_memory (world new.disk s k) blobs bytes (far_same w) given (next ∷ more) has cut part
 
--- ---- small steps
+  pub unread_first : (most : ℕ) → m.input ≡ reads_first most → ((size : ℕ) → m.too_long size ≡ TooBig size) → (s : S) → Far (world b.disk s b.sink) [] [] → (end : Status) → RefusesInput source most b.source s end
+      → EndsAs (world b.disk s b.sink) end
+  unread_first most reads told s far end why = record { always = far.at.always; ends = by end why }
+    where
+      here : World D S K
+      here = world b.disk s b.sink
 
-pub always_same : {A P : Type 0} (answer : Result A Refusal) → P → IfErr answer (λ r. r ≢ refusal.Disk → P)
-always_same (Ok a) same = tt
-always_same (Err r) same = λ _. same
+      early : (Why : Type 0) → Why → RefusedEarly run.o m b here Why
+      early Why why = record { unasked = refl; unwritten = refl; why = why }
 
-pub no_input : (line : CommandLine) (left left_now : Option (List ℕ)) → IsInput line left left_now None
-no_input line left left_now r e = absurd (cc e)
+      while_reading : (Why : ℕ → Type 0) → Why most → WhileReading run.o m b here m.input Why
+      while_reading Why why = subst (λ i. WhileReading run.o m b here i Why) (sym reads) (early ((m.bad ≡ None) × Why most) (run.fit, why))
 
-pub put_input : (dir input : List ℕ) (left left_now : Option (List ℕ)) → GaveAll left left_now input → IsInput (PutLine dir) left left_now (Some (ref_of input))
-put_input dir input left left_now gave r e = (tt, input, gave, some_same (ref_of input) r e)
-  where
-    some_same : (a b : List ℕ) → Some a ≡ Some b → a ≡ b
-    some_same a b e = cc e
-
--- a line that was read has the words that were read
-pub line_words : (words line : List (List ℕ)) → line_in words ≡ Some line → line ≡ words
-line_words words line is = go (is_some (line_of words)) is
-  where
-    go : (b : Bool) → cond b (Some words) None ≡ Some line → line ≡ words
-    go true e = cc e
-    go false e = absurd (cc e)
-
-pub same_line : (a b : CommandLine) → ◌≡◌ {A = Option (Result CommandLine TextFault)} (Some (Ok a)) (Some (Ok b)) → a ≡ b
-same_line a b e = cc e
+      by : (end : Status) → RefusesInput source most b.source s end → EndsBy run.o m b here end
+      by status.ReadFault w = while_reading (λ most. Rose (source.faults b.source) (source.faults s)) w
+      by (status.BadInput (TooBig size)) w = read_too_much (while_reading (IsTooLong run.o m b here (TooBig size)) (size, sym (told size), w))
+      by status.NoMemory w = inl (early (Unit {0}) tt)
+      by (status.BadInput BadRef) w = absurd w
+      by (status.BadInput BadDate) w = absurd w
+      by (status.BadInput BadNumber) w = absurd w
+      by (status.BadInput BadName) w = absurd w
+      by status.Done w = absurd w
+      by status.WriteFault w = absurd w
+      by status.BadWords w = absurd w
+      by (status.Absent r) w = absurd w
+      by status.Disk w = absurd w
+      by (status.Full blobs pack) w = absurd w
+      by (status.Damaged want is) w = absurd w

@@ -1,8 +1,9 @@
 pub mod Gathering
 pub mod Zeros
-pub mod Arrived
-pub mod Telling
-pub mod Gaining
-pub mod Reporting
-pub mod Searching
 pub mod Ending
+pub mod Arrived
+pub mod Reporting
+pub mod Telling
+pub mod Searching
+pub mod Sizes
+pub mod Asking

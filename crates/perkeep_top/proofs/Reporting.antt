@@ -1,10 +1,9 @@
 -- Packs are told of one after another.
-use Rattle.std.proofs.Common.{◌≡◌, ℕ, ◌+◌, Option, None, Some, List, [], ◌∷◌, ◌++◌, unwrap_or, refl, sym, ap, ◌∙◌, append_assoc}
+use Rattle.std.proofs.Common.{◌≡◌, ℕ, ◌+◌, Option, None, Some, Result, Ok, Err, OnErr, List, [], ◌∷◌, ◌++◌, unwrap_or, refl, sym, ap, ◌∙◌, append_assoc}
 use Rattle.std.proofs.lemmas.Grind.{flat_map-append}
 use Rattle.std.proofs.lemmas.List.{append-nil}
 use Rattle.std.specs.FinMap.{get}
 use Rattle.std.specs.Option.{ForSome}
-use Rattle.edge_base.specs.Edge.{Took}
 use Rattle.edge_base.proofs.Moves.{Took-chain}
 use Rattle.pack_disk.specs.Packs.{Packs, least_from}
 use Rattle.pack_store.specs.Walk.{below, from_on}
@@ -12,6 +11,7 @@ use Rattle.pack_store.specs.declared.whole.PackScan.{PackScan}
 use Rattle.pack_store.specs.Scan.{IsScan}
 use Rattle.pack_store.proofs.Walking.{walk_begins, walk_step, walk_ends}
 use Rattle.perkeep_top.specs.Outputs.{pack_report, report, report_of}
+use Rattle.perkeep_top.proofs.Ending.{took_nothing}
 use Rattle.perkeep_top.specs.Salvaged.{IsReport, IsPackReport, IsReportBelow, IsCutAt, Writes, WritesFront}
 
 abbrev Told : Type 0
@@ -23,10 +23,6 @@ same_packs x y e = cc e
 same_bytes : (x y : List ℕ) → Some x ≡ Some y → x ≡ y
 same_bytes x y e = cc e
 
-took_nothing : (w : Option (List ℕ)) → Took w w []
-took_nothing None = refl
-took_nothing (Some held) = ap Some (sym (append-nil held))
-
 -- ---- one pack
 
 some_report : (n : ℕ) (told : Told) → (text : List ℕ) × IsPackReport n told text
@@ -37,8 +33,9 @@ some_report n (Some held) = (
       ap (λ (o : Option (List ℕ)). pack_report (n, unwrap_or o [])) (ap (λ h. get h n) (same_packs held other is) ∙ at),
 )
 
-pub not_begun : (n : ℕ) (told : Told) (w : Option (List ℕ)) → WritesFront (IsPackReport n told) w w
-not_begun n told w = let some = some_report n told in (some.0, some.1, ([], some.0, refl, took_nothing w))
+pub not_begun : {T E : Type 0} (result : Result T E) (n : ℕ) (told : Told) (w : Option (List ℕ)) → OnErr result (WritesFront (IsPackReport n told) w w)
+not_begun (Ok done) n told w = tt
+not_begun (Err e) n told w = let some = some_report n told in (some.0, some.1, ([], some.0, refl, took_nothing w))
 
 pub pack_told : (n : ℕ) (told : Told) (bytes text : List ℕ) → ForSome told (λ held. get held n ≡ Some bytes) → text ≡ pack_report (n, bytes) → IsPackReport n told text
 pack_told n told bytes text there is = λ held tells pack at. is ∙ ap (λ b. pack_report (n, b)) (same_bytes bytes pack (sym (there held tells) ∙ at))

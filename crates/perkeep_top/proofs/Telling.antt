@@ -1,44 +1,49 @@
--- Lines that are made of what a store tells.
-use Rattle.std.proofs.Common.{◌≡◌, ◌⊎◌, ⊎_elim, ℕ, Option, None, Some, Result, Ok, Err, IfOk, IfErr, OnOk, IsOk, List, length, flat_map, refl, sym, ap, subst, ◌∙◌}
-use Rattle.std.specs.FinMap.{get}
-use Rattle.std.specs.Option.{ForSome, option_map}
+-- How `salvage` ends, from what was written by then.
+use Rattle.std.proofs.Common.{ℕ, ◌≤◌, List, [], refl, subst}
+use Rattle.edge_base.specs.Edge.{Rose, Took}
 use Rattle.pack_disk.specs.Packs.{Packs}
-use Rattle.pack_store.specs.declared.rows.Row.{Row}
-use Rattle.pack_store.specs.Reading.{page}
-use Rattle.perkeep_top.specs.declared.refusal.Refusal.{Refusal}
-use Rattle.perkeep_top.specs.declared.refusal.Refusal.TheVariants as refusal
-use Rattle.perkeep_top.specs.Outputs.{blobs_of, size_line, listed}
-use Rattle.perkeep_top.specs.Stored.{Refuses}
+use Rattle.pack_disk.specs.Runs.{Stays}
+use Rattle.perkeep_top.specs.declared.status.Status.{Status}
+use Rattle.perkeep_top.specs.declared.status.Status.TheVariants as status
+use Rattle.perkeep_top.specs.Frame.{Ends}
+use Rattle.perkeep_top.specs.Outside.{Outside, World, world}
+use Rattle.perkeep_top.specs.Salvaged.{salvage_meaning, IsReport, IsReportFront, Writes, WritesFront, ComesWhileTelling}
+use Rattle.perkeep_top.proofs.Ending.{Begun, Far, Has, nothing_given, far_start, far_told, done, failed, no_memory, not_written}
 
-option_twice : {A B C : Type 0} (f : B → C) (h : A → B) (o : Option A) → option_map f (option_map h o) ≡ option_map (λ x. f (h x)) o
-option_twice f h None = refl
-option_twice f h (Some x) = refl
+module _ {D S K : Type 0} (o : Outside D S K)
+    (counts_now : (d : D) (t : ℕ) (c : Packs) → t ≤ o.disk.moment d → o.disk.images d c → o.disk.images_since d t c)
+    (only_now : (d : D) (c : Packs) → o.disk.images_since d (o.disk.moment d) c → o.disk.images d c)
+    (b : World D S K) (e : D) (k : K) (stays : Stays o.disk b.disk e) (later : o.disk.faults b.disk ≤ o.disk.faults e) (sink_later : o.sink.faults b.sink ≤ o.sink.faults k) where
+  abbrev run : Begun D S K
+  run = record { o = o; counts_now = counts_now; only_now = only_now; m = salvage_meaning; fit = refl; b = b }
 
-pub line_of_size : (told : Option Packs) (r : List ℕ) (size : Option ℕ) (result : Result (List ℕ) Refusal) → IfOk result (λ line. option_map (λ n. size_line (r, n)) size ≡ Some line)
-    → ForSome told (λ held. size ≡ option_map (λ (bytes : List ℕ). length bytes) (get (blobs_of held) r))
-    → IfOk result (λ line. ForSome told (λ held. option_map (λ (bytes : List ℕ). size_line (r, length bytes)) (get (blobs_of held) r) ≡ Some line))
-line_of_size told r size (Ok line) made same = λ held tells.
-    sym (option_twice (λ n. size_line (r, n)) (λ (bytes : List ℕ). length bytes) (get (blobs_of held) r)) ∙ ap (option_map (λ n. size_line (r, n))) (sym (same held tells)) ∙ made
-line_of_size told r size (Err e) made same = tt
+  abbrev here : World D S K
+  here = world e b.source k
 
-none_within : {A B : Type 0} (f : A → B) (o : Option A) → option_map f o ≡ None → o ≡ None
-none_within f None e = refl
-none_within f (Some x) e = absurd (cc e)
+  far : (bytes : List ℕ) → Took (o.sink.written b.sink) (o.sink.written k) bytes → Far run here [] bytes
+  far bytes took = far_told run refl b.disk e b.source b.sink k [] [] bytes (far_start run) stays later sink_later took
 
-pub absent_or_memory : (told : Option Packs) (r : List ℕ) (before now : ℕ) (size : Option ℕ) (result : Result (List ℕ) Refusal)
-    → IfErr result (λ e. (e ≡ refusal.NoMemory) ⊎ ((e ≡ refusal.Absent r) × (size ≡ None)))
-    → ForSome told (λ held. size ≡ option_map (λ (bytes : List ℕ). length bytes) (get (blobs_of held) r))
-    → IfErr result (Refuses (Some r) None told before now)
-absent_or_memory told r before now size (Ok line) why same = tt
-absent_or_memory told r before now size (Err e) why same = ⊎_elim
-    (λ is. subst (Refuses (Some r) None told before now) (sym is) tt)
-    (λ both. subst (Refuses (Some r) None told before now) (sym both.0) (refl, λ held tells. none_within (λ (bytes : List ℕ). length bytes) (get (blobs_of held) r) (sym (same held tells) ∙ both.1)))
-    why
+  has : Has run b.source nothing_given
+  has = record { read = (refl, refl); right = refl }
 
-pub lines_of_page : (told : Option Packs) (after : Option (List ℕ)) (limit : ℕ) (rows : List Row) {E : Type 0} (listing : Result (List (List ℕ × ℕ)) E) → IfOk listing (λ l. l ≡ page after limit rows)
-    → (result : Result (List ℕ) Refusal) → IfOk result (λ lines. IfOk listing (λ l. lines ≡ flat_map size_line l)) → OnOk result (IsOk listing)
-    → ForSome told (λ held. page after limit rows ≡ listed after limit (blobs_of held))
-    → IfOk result (λ lines. ForSome told (λ held. lines ≡ flat_map size_line (listed after limit (blobs_of held))))
-lines_of_page told after limit rows (Ok l) is (Ok lines) made ok same = λ held tells. made ∙ ap (flat_map size_line) (is ∙ same held tells)
-lines_of_page told after limit rows (Err e) is (Ok lines) made ok same = absurd (cc ok)
-lines_of_page told after limit rows listing is (Err e) made ok same = tt
+  pub told_all : Writes (IsReport (o.disk.packs b.disk)) (o.sink.written b.sink) (o.sink.written k) → Ends o salvage_meaning b here status.Done
+  told_all w = let so = far w.0 w.2 in done run here [] w.0 so.at.always so.packs so.held nothing_given (refl, refl) refl w.1 refl status.Done w.2
+
+  module _ (w : WritesFront (IsReport (o.disk.packs b.disk)) (o.sink.written b.sink) (o.sink.written k)) where
+    abbrev front : List ℕ
+    front = w.2.0
+
+    part : IsReportFront (o.disk.packs b.disk) front
+    part = (w.2.1, subst (IsReport (o.disk.packs b.disk)) w.2.2 w.1)
+
+    pub stopped : (end : Status) → ComesWhileTelling (Rose (o.sink.faults b.sink) (o.sink.faults k)) (Rose (o.disk.faults b.disk) (o.disk.faults e)) end → Ends o salvage_meaning b here end
+    stopped status.NoMemory why = no_memory run here [] front (far front w.2.3) nothing_given [] has refl part
+    stopped status.WriteFault why = not_written run here [] front (far front w.2.3) nothing_given [] has refl part refl why
+    stopped status.Disk why = failed run here front (far front w.2.3).at nothing_given has part why
+    stopped status.Done why = absurd why
+    stopped status.BadWords why = absurd why
+    stopped (status.Absent r) why = absurd why
+    stopped (status.BadInput fault) why = absurd why
+    stopped status.ReadFault why = absurd why
+    stopped (status.Full blobs pack) why = absurd why
+    stopped (status.Damaged want is) why = absurd why

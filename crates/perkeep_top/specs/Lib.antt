@@ -1,6 +1,16 @@
 pub mod Status
+pub mod Faults
+pub mod Limits
 pub mod Blobs
 pub mod Outputs
-pub mod Stored
+pub mod Outside
+pub mod Frame
+pub mod Steps
+pub mod Asking
+pub mod Put
+pub mod Get
+pub mod Stat
+pub mod ListRefs
+pub mod Search
 pub mod Salvaged
 pub mod Run

@@ -1,22 +1,13 @@
 -- What the commands write (docs/commands.md).
 use Rattle.std.specs.Prelude.{ℕ, ◌-◌, List, ◌++◌, length, map, filter, flat_map, take, replicate, codes, decimal, Option}
-use Rattle.std.specs.FinMap.{FinMap, entries}
-use Rattle.blobref.specs.Blobref.{ref_cmp, is_after}
-use Rattle.salvage_scan.specs.Arrivals.{content}
+use Rattle.std.specs.FinMap.{entries}
+use Rattle.blobref.specs.Blobref.{is_after}
 use Rattle.salvage_scan.specs.Salvage.{salvage, broken}
 use Rattle.salvage_scan.specs.Scan.{place_of, clean_of}
 use Rattle.salvage_scan.specs.declared.found.Found.{Found}
 use Rattle.salvage_scan.specs.declared.found.Clean.{Clean}
 use Rattle.salvage_scan.specs.declared.found.Clean.TheVariants.{Yes, No}
-use Rattle.pack_disk.specs.Packs.{Packs}
-
--- bytes under their refs
-abbrev pub Blobs : Type 0
-Blobs = FinMap ref_cmp (List ℕ)
-
--- the blobs of packs, each ref with the bytes of its first finding
-abbrev pub blobs_of : Packs → Blobs
-blobs_of held = content (entries held)
+use Rattle.pack_store.specs.Puts.{Blobs}
 
 -- a ref, and a line feed
 abbrev pub ref_line : List ℕ → List ℕ

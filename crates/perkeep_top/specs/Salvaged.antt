@@ -1,17 +1,40 @@
--- What is told of the packs of a disk (docs/commands.md).
-use Rattle.std.specs.Prelude.{◌≡◌, ℕ, List, ◌++◌, Option, Some}
+-- What `salvage` means: what is told of the packs of a disk (docs/commands.md).
+use Rattle.std.specs.Prelude.{◌≡◌, ℕ, true, List, [], ◌++◌, Option, None, Some}
 use Rattle.std.specs.Option.{ForSome}
 use Rattle.std.specs.FinMap.{entries, get}
 use Rattle.edge_base.specs.Edge.{Took, TookFront}
 use Rattle.pack_disk.specs.Packs.{Packs}
 use Rattle.pack_store.specs.Walk.{below, from_on}
+use Rattle.perkeep_top.specs.declared.status.InputFault.TheVariants.{TooBig}
 use Rattle.perkeep_top.specs.declared.status.Status.{Status}
 use Rattle.perkeep_top.specs.declared.status.Status.TheVariants as status
+use Rattle.perkeep_top.specs.Frame.{Meaning, reads_nothing}
 use Rattle.perkeep_top.specs.Outputs.{pack_report, report}
 
 -- the text tells of all packs
 abbrev pub IsReport : Option Packs → List ℕ → Type 0
 IsReport told text = ForSome told (λ held. text ≡ report (entries held))
+
+-- it is a front of such a text
+abbrev pub IsReportFront : Option Packs → List ℕ → Type 0
+IsReportFront told text = (rest : List ℕ) × IsReport told (text ++ rest)
+
+-- it writes as it goes, and the disk or memory may fail in the midst of it
+abbrev pub salvage_meaning : Meaning
+salvage_meaning = record {
+  opens = true;
+  input = reads_nothing;
+  bad = None;
+  too_long = TooBig;
+  wrong = λ input. None;
+  blobs = λ given. [];
+  IsOutput = λ given told bytes. IsReport told bytes;
+  streams = true;
+  IsPart = λ given told bytes. IsReportFront told bytes;
+  Refuses = λ given told bytes gone answer. ⊥;
+}
+
+-- ---- its steps
 
 -- the text tells of one pack
 abbrev pub IsPackReport : ℕ → Option Packs → List ℕ → Type 0
@@ -25,9 +48,8 @@ Writes IsText written written_now = (text : List ℕ) × IsText text × Took wri
 abbrev pub WritesFront : (List ℕ → Type 0) → Option (List ℕ) → Option (List ℕ) → Type 0
 WritesFront IsText written written_now = (text : List ℕ) × IsText text × TookFront written written_now text
 
--- when it ends so: the last two say that the count of faults of the sink or the disk rose
+-- when it stops: the last two say that the count of faults of the sink or the disk rose
 abbrev pub ComesWhileTelling : Type 0 → Type 0 → Status → Type 0
-ComesWhileTelling sink disk status.Done = Unit {0}
 ComesWhileTelling sink disk status.NoMemory = Unit {0}
 ComesWhileTelling sink disk status.WriteFault = sink
 ComesWhileTelling sink disk status.Disk = disk

@@ -7,11 +7,11 @@ ghost use Rattle.salvage_scan.specs.Scan.{LiesIn, bytes_at};
 ghost use Rattle.pack_store.specs.Archive.{count};
 ghost use Rattle.pack_store.specs.Reading.{StaysStill};
 ghost use Rattle.pack_store.specs.Rows.{arrivals_in};
-ghost use Rattle.perkeep_top.specs.Stored.{Refuses};
+ghost use Rattle.perkeep_top.specs.Search.{RefusesFacts};
+ghost use Rattle.perkeep_top.specs.Steps.{Finds};
 ghost use Rattle.perkeep_top.specs.Blobs.{pack_facts, blob_at, with_blob, with_blobs, HasRefsOf};
 
-use crate::asking::unread;
-use crate::refusal::Refusal;
+use crate::status::Status;
 use blobref::{NoMemory, Octets, Ref};
 use pack_disk::Disk;
 use pack_store::Store;
@@ -47,11 +47,11 @@ fn first_facts(alloc: Global, pack: &[u8], found: &[Found]) -> Result<FactList, 
 }
 
 /// The facts of the blobs of a store, each ref once.
-pub(crate) fn store_facts<D: Disk>(alloc: Global, store: &mut Store<D>) -> Result<FactList, Refusal>
+pub(crate) fn store_facts<D: Disk>(alloc: Global, store: &mut Store<D>) -> Result<FactList, Status>
     ensures facts { IfOk result (λ facts. ForSome (D.packs store.old.disk) (λ held. facts ≡ with_blobs [] (arrivals_in held store.old.rows))) }
     ensures distinct { IfOk result AreDistinct }
     ensures valid { IfOk result AreValid }
-    ensures refused { IfErr result (Refuses None None (D.packs store.old.disk) (D.faults store.old.disk) (D.faults store.new.disk)) }
+    ensures refused { IfErr result (Finds D.Disk store.old.disk store.new.disk (RefusesFacts (D.packs store.old.disk))) }
     ensures stays { StaysStill D.Disk store.old store.new }
     ensures later { D.faults store.old.disk ≤ D.faults store.new.disk }
 {
@@ -65,17 +65,17 @@ pub(crate) fn store_facts<D: Disk>(alloc: Global, store: &mut Store<D>) -> Resul
 }
 
 // The arrival of a number.
-fn arrival_at<D: Disk>(store: &mut Store<D>, number: u64) -> Result<(Ref, Octets), Refusal>
+fn arrival_at<D: Disk>(store: &mut Store<D>, number: u64) -> Result<(Ref, Octets), Status>
     requires { number < count store.old }
     ensures bytes { IfOk result (λ arrival. ForSome (D.packs store.old.disk) (λ held. slice_get (arrivals_in held store.old.rows) number ≡ Some arrival)) }
-    ensures refused { IfErr result (Refuses None None (D.packs store.old.disk) (D.faults store.old.disk) (D.faults store.new.disk)) }
+    ensures refused { IfErr result (Finds D.Disk store.old.disk store.new.disk (RefusesFacts (D.packs store.old.disk))) }
     ensures stays { StaysStill D.Disk store.old store.new }
     ensures later { D.faults store.old.disk ≤ D.faults store.new.disk }
 {
     match store.arrival(number) {
         Ok(Some(arrival)) => Ok(arrival),
         Ok(None) => unreachable!(),
-        Err(fault) => Err(unread(fault)),
+        Err(fault) => Err(Status::from(fault)),
     }
 }
 

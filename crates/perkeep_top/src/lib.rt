@@ -1,17 +1,14 @@
 //! The program, from its words to its bytes.
 #![tactic(auto)]
 
-mod asking;
 mod blobs;
+mod commands;
 mod lines;
-mod opening;
-mod putting;
-mod refusal;
 mod running;
-mod salvaging;
 mod search;
 mod status;
+mod steps;
 
 pub use blobs::pack_facts;
-pub use running::run;
+pub use running::{readers_put_nothing, run};
 pub use status::{InputFault, Status};

@@ -1,26 +1,17 @@
 //! Searches over facts.
-ghost use Rattle.std.specs.Prelude.{◌≡◌, ◌≢◌, ◌≤◌, ◌<◌, ◌++◌, ◌⊎◌, [], codes, IfOk, IfErr, OnOk, IsOk, Err, None};
-ghost use Rattle.std.specs.Option.{ForSome};
+ghost use Rattle.std.specs.Prelude.{◌≡◌, ◌≢◌, ◌<◌, ◌++◌, [], codes, IfOk};
 ghost use Rattle.std.specs.FinMap.{from_entries};
 ghost use Rattle.answer_text.specs.Search.{search_text};
 ghost use Rattle.claim_model.specs.Facts.{AreDistinct, AreValid};
-ghost use Rattle.search_query.specs.Queries.{value_query};
 ghost use Rattle.search_eval.specs.Answer.{answer};
-ghost use Rattle.pack_disk.specs.Runs.{Stays};
-ghost use Rattle.perkeep_top.specs.Blobs.{facts_of_content};
-ghost use Rattle.perkeep_top.specs.Outputs.{blobs_of};
-ghost use Rattle.perkeep_top.specs.Run.{pack_answer};
-ghost use Rattle.perkeep_top.specs.Stored.{search_line, Refuses};
+ghost use Rattle.perkeep_top.specs.Search.{pack_answer, search_line};
 
-use crate::blobs::{pack_facts, store_facts};
-use crate::opening::opened;
-use crate::refusal::Refusal;
+use crate::blobs::pack_facts;
 use answer_text::search_text;
 use blobref::{NoMemory, Octets, RefList};
 use claim_verify::Verifier;
 use edge_base::Steps;
 use index_look::Look;
-use pack_disk::Disk;
 use plain_index::{FactList, PlainIndex};
 use schema_date::When;
 use search_eval::answer;
@@ -30,7 +21,7 @@ use std::marker::Brand;
 use std::sync::ledger::{Blank, Ledger};
 
 /// The line that answers a search for an attribute's value over the blobs of a pack.
-#[tactic(auto, unfolding(crate::specs::Run::pack_answer))]
+#[tactic(auto, unfolding(crate::specs::Search::pack_answer))]
 pub(crate) fn pack_answer<V: Verifier>(
     alloc: Global,
     attr: &str,
@@ -45,52 +36,8 @@ pub(crate) fn pack_answer<V: Verifier>(
     search_line(alloc, facts, keys, attr, value, When::Always)
 }
 
-/// The line that answers a search for an attribute's value at a time over the blobs of the store that a disk holds.
-pub(crate) fn search<D: Disk, V: Verifier>(
-    alloc: Global,
-    disk: D,
-    keys: &V,
-    attr: &str,
-    value: &str,
-    at: When,
-) -> (D, Result<Octets, Refusal>)
-    requires { attr.now ≢ [] }
-    ensures line { IfOk result.1 (λ line. ForSome (D.packs disk) (λ held. line ≡ search_line (facts_of_content (blobs_of held)) (V.accepts keys.now) attr.now value.now at)) }
-    ensures refused { IfErr result.1 (Refuses None None (D.packs disk) (D.faults disk) (D.faults result.0)) }
-    ensures stays { Stays D.Disk disk result.0 }
-    ensures later { D.faults disk ≤ D.faults result.0 }
-{
-    let mut store = match opened(alloc, disk) {
-        Ok(store) => store,
-        Err((disk, refusal)) => return (disk, Err(refusal)),
-    };
-    let facts = store_facts(alloc, &mut store);
-    (
-        store.give_back(),
-        line_or_refusal(alloc, facts, keys, attr, value, at),
-    )
-}
-
-fn line_or_refusal<V: Verifier>(
-    alloc: Global,
-    facts: Result<FactList, Refusal>,
-    keys: &V,
-    attr: &str,
-    value: &str,
-    at: When,
-) -> Result<Octets, Refusal>
-    requires attr { attr.now ≢ [] }
-    requires distinct { IfOk facts AreDistinct }
-    requires valid { IfOk facts AreValid }
-    ensures line { IfOk result (λ line. IfOk facts (λ facts. line ≡ search_line (from_entries facts) (V.accepts keys.now) attr.now value.now at)) }
-    ensures ok { OnOk result (IsOk facts) }
-    ensures refused { IfErr result (λ refusal. (refusal ≡ Refusal.NoMemory) ⊎ (facts ≡ Err refusal)) }
-{
-    Ok(search_line(alloc, facts?, keys, attr, value, at)?)
-}
-
-// The line that answers a search for an attribute's value over facts.
-fn search_line<V: Verifier>(
+/// The line that answers a search for an attribute's value over facts.
+pub(crate) fn search_line<V: Verifier>(
     alloc: Global,
     facts: FactList,
     keys: &V,

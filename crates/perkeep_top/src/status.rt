@@ -2,7 +2,10 @@
 ghost use Rattle.std.specs.Prelude.{◌≡◌};
 ghost use Rattle.perkeep_top.specs.Status.{code, word};
 
-use blobref::Ref;
+use blobref::{NoMemory, Ref};
+use edge_base::{GetFault, PutFault};
+use pack_store::{OpenFault, PackFault};
+use perkeep_words::TextFault;
 
 /// What was wrong with what the words or the input say (`docs/commands.md`).
 #[derive(Clone, Copy, Debug, PartialEq, Eq)]
@@ -42,8 +45,6 @@ pub enum Status {
     Full { blobs: u64, pack: u32 },
     /// The bytes stored under a ref have another one.
     Damaged { want: Ref, is: Ref },
-    /// This part of the program isn't there yet.
-    NotBuilt,
 }
 
 impl Status {
@@ -62,7 +63,6 @@ impl Status {
             Status::Disk => 7,
             Status::Full { .. } => 9,
             Status::Damaged { .. } => 10,
-            Status::NotBuilt => 13,
         }
     }
 
@@ -81,7 +81,87 @@ impl Status {
             Status::Disk => "disk",
             Status::Full { .. } => "full",
             Status::Damaged { .. } => "damaged",
-            Status::NotBuilt => "not built",
+        }
+    }
+}
+
+impl From<NoMemory> for Status {
+    ghost use Rattle.perkeep_top.specs.declared.status.Status.TheVariants.{NoMemory as OutOfMemory};
+
+    ghost from_gives = { λ _ status. status ≡ OutOfMemory };
+
+    fn from(_error: NoMemory) -> Status {
+        Status::NoMemory
+    }
+}
+
+impl From<OpenFault> for Status {
+    ghost use Rattle.perkeep_top.specs.Faults.{open_status};
+
+    ghost from_gives = { λ fault status. status ≡ open_status fault };
+
+    fn from(fault: OpenFault) -> Status {
+        match fault {
+            OpenFault::Disk => Status::Disk,
+            OpenFault::NoMemory => Status::NoMemory,
+        }
+    }
+}
+
+impl From<PackFault> for Status {
+    ghost use Rattle.perkeep_top.specs.Faults.{pack_status};
+
+    ghost from_gives = { λ fault status. status ≡ pack_status fault };
+
+    fn from(fault: PackFault) -> Status {
+        match fault {
+            PackFault::Disk => Status::Disk,
+            PackFault::NoMemory => Status::NoMemory,
+        }
+    }
+}
+
+impl From<GetFault> for Status {
+    ghost use Rattle.perkeep_top.specs.Faults.{get_status};
+
+    ghost from_gives = { λ fault status. status ≡ get_status fault };
+
+    fn from(fault: GetFault) -> Status {
+        match fault {
+            GetFault::Disk => Status::Disk,
+            GetFault::Damaged { want, is } => Status::Damaged { want, is },
+            GetFault::NoMemory => Status::NoMemory,
+        }
+    }
+}
+
+impl From<PutFault> for Status {
+    ghost use Rattle.perkeep_top.specs.Faults.{put_status};
+
+    ghost from_gives = { λ fault status. status ≡ put_status fault };
+
+    fn from(fault: PutFault) -> Status {
+        match fault {
+            PutFault::TooBig { size } => Status::BadInput(InputFault::TooBig { size }),
+            PutFault::BadDigest { said, is } => Status::Damaged { want: said, is },
+            PutFault::Full { blobs, pack } => Status::Full { blobs, pack },
+            PutFault::Disk => Status::Disk,
+            PutFault::NoMemory => Status::NoMemory,
+        }
+    }
+}
+
+impl From<TextFault> for InputFault {
+    ghost use Rattle.perkeep_top.specs.Faults.{input_fault};
+
+    ghost from_gives = { λ fault input. input ≡ input_fault fault };
+
+    fn from(fault: TextFault) -> InputFault {
+        match fault {
+            TextFault::BadRef => InputFault::BadRef,
+            TextFault::BadDate => InputFault::BadDate,
+            TextFault::BadNumber => InputFault::BadNumber,
+            TextFault::BadName => InputFault::BadName,
         }
     }
 }

@@ -1,0 +1,21 @@
+-- What a command means that asks the store of a disk, and writes its answer at the end (docs/commands.md).
+use Rattle.std.specs.Prelude.{◌≡◌, ℕ, true, false, List, [], Option, None}
+use Rattle.pack_disk.specs.Packs.{Packs}
+use Rattle.perkeep_top.specs.declared.status.InputFault.TheVariants.{TooBig}
+use Rattle.perkeep_top.specs.declared.status.Status.{Status}
+use Rattle.perkeep_top.specs.Frame.{Meaning, reads_nothing}
+
+-- it reads no input and puts nothing; what it writes, and when it is refused, is by the packs
+abbrev pub asking : (Option Packs → List ℕ → Type 0) → (Option Packs → Status → Type 0) → Meaning
+asking IsAnswer Refuses = record {
+  opens = true;
+  input = reads_nothing;
+  bad = None;
+  too_long = TooBig;
+  wrong = λ input. None;
+  blobs = λ given. [];
+  IsOutput = λ given told bytes. IsAnswer told bytes;
+  streams = false;
+  IsPart = λ given told bytes. bytes ≡ [];
+  Refuses = λ given told bytes gone answer. Refuses told answer;
+}

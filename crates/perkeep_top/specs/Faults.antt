@@ -1,0 +1,42 @@
+-- The statuses that tell the faults of the crates below (docs/commands.md).
+use Rattle.edge_base.specs.declared.answers.GetFault.{GetFault}
+use Rattle.edge_base.specs.declared.answers.GetFault.TheVariants as get
+use Rattle.edge_base.specs.declared.answers.PutFault.{PutFault}
+use Rattle.edge_base.specs.declared.answers.PutFault.TheVariants as put
+use Rattle.pack_store.specs.declared.opening.OpenFault.{OpenFault}
+use Rattle.pack_store.specs.declared.opening.OpenFault.TheVariants as opening
+use Rattle.pack_store.specs.declared.whole.PackFault.{PackFault}
+use Rattle.pack_store.specs.declared.whole.PackFault.TheVariants as pack
+use Rattle.perkeep_words.specs.declared.kinds.TextFault.{TextFault}
+use Rattle.perkeep_words.specs.declared.kinds.TextFault.TheVariants as text
+use Rattle.perkeep_top.specs.declared.status.InputFault.{InputFault}
+use Rattle.perkeep_top.specs.declared.status.InputFault.TheVariants.{BadRef, BadDate, BadNumber, BadName, TooBig}
+use Rattle.perkeep_top.specs.declared.status.Status.{Status}
+use Rattle.perkeep_top.specs.declared.status.Status.TheVariants.{NoMemory, BadInput, Disk, Full, Damaged}
+
+abbrev pub open_status : OpenFault → Status
+open_status opening.Disk = Disk
+open_status opening.NoMemory = NoMemory
+
+abbrev pub pack_status : PackFault → Status
+pack_status pack.Disk = Disk
+pack_status pack.NoMemory = NoMemory
+
+abbrev pub get_status : GetFault → Status
+get_status get.Disk = Disk
+get_status (get.Damaged want is) = Damaged want is
+get_status get.NoMemory = NoMemory
+
+abbrev pub put_status : PutFault → Status
+put_status (put.TooBig size) = BadInput (TooBig size)
+put_status (put.BadDigest said is) = Damaged said is
+put_status (put.Full blobs pack) = Full blobs pack
+put_status put.Disk = Disk
+put_status put.NoMemory = NoMemory
+
+-- what is wrong with a text, as a fault of the input
+abbrev pub input_fault : TextFault → InputFault
+input_fault text.BadRef = BadRef
+input_fault text.BadDate = BadDate
+input_fault text.BadNumber = BadNumber
+input_fault text.BadName = BadName

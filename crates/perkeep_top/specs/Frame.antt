@@ -1,0 +1,192 @@
+-- What a command means, and how a run of it may end: the same for every command (docs/commands.md).
+use Rattle.std.specs.Prelude.{◌≡◌, ◌⊎◌, ◌≤◌, ◌<◌, ◌+◌, ℕ, Bool, true, false, List, [], ◌∷◌, ◌++◌, length, Option, None, Some, IfSome}
+use Rattle.std.specs.Option.{ForSome}
+use Rattle.edge_base.specs.Edge.{Rose, Gave, GaveAll, GaveFront, Took, TookFront}
+use Rattle.edge_base.specs.declared.edge.Source.{Ghosts as SourceGhosts}
+use Rattle.pack_disk.specs.Packs.{Packs}
+use Rattle.pack_disk.specs.Disk.{Tells}
+use Rattle.pack_disk.specs.Runs.{Stays}
+use Rattle.pack_store.specs.Packs.{KeepsAll}
+use Rattle.pack_store.specs.Puts.{PutsAll, HoldAll, IsFull, IsAtLimit}
+use Rattle.perkeep_top.specs.declared.status.InputFault.{InputFault}
+use Rattle.perkeep_top.specs.declared.status.Status.{Status}
+use Rattle.perkeep_top.specs.declared.status.Status.TheVariants as status
+use Rattle.perkeep_top.specs.Limits.{limits}
+use Rattle.perkeep_top.specs.Outside.{Outside, World}
+
+-- ---- what a command means
+
+-- whether it reads the source, and then when: before the store is opened, or as the store stands open; and at most how many bytes
+pub data Input : Type 0 where
+  reads_nothing : Input
+  reads_first : (most : ℕ) → Input
+  reads_later : (most : ℕ) → Input
+
+-- what came from the outside before the command's own calls on its store
+pub record Given : Type 0 where
+  -- what the source had left
+  pub input : List ℕ
+
+pub record Meaning : Type 1 where
+  -- whether it asks the disk
+  pub opens : Bool
+  pub input : Input
+  -- what is wrong with what the words say, if anything is that shows before anything is touched
+  pub bad : Option InputFault
+  -- how an input of that many bytes, one more than it may have, is told
+  pub too_long : ℕ → InputFault
+  -- what is wrong with an input that isn't too long, if anything is
+  pub wrong : List ℕ → Option InputFault
+  -- the blobs that it puts, in their order
+  pub blobs : Given → List (List ℕ)
+  -- what it writes, by what it is given and, where the disk tells them, the packs that it finds
+  pub IsOutput : Given → Option Packs → List ℕ → Type 0
+  -- whether it writes as it goes, and what it may have written where it is refused
+  pub streams : Bool
+  pub IsPart : Given → Option Packs → List ℕ → Type 0
+  -- when it is refused for what it finds, by what it has written and put by then, and its status
+  pub Refuses : Given → Option Packs → List ℕ → List (List ℕ) → Status → Type 0
+
+-- it puts nothing
+abbrev pub IsQuiet : Meaning → Type 0
+IsQuiet m = (given : Given) → m.blobs given ≡ []
+
+-- ---- what was read
+
+-- all that the source had left, at most so many bytes
+abbrev pub GaveWhole : ℕ → Option (List ℕ) → Option (List ℕ) → List ℕ → Type 0
+GaveWhole most left left_now input = (length input ≤ most) × GaveAll left left_now input
+
+-- what the source had left, of which it gave a front
+abbrev pub GaveSome : Option (List ℕ) → Option (List ℕ) → List ℕ → Type 0
+GaveSome left left_now input = (front : List ℕ) × Gave left left_now front × ForSome left (λ all. input ≡ all)
+
+-- the whole input
+abbrev pub ReadsAll : {S : Type 0} → SourceGhosts S → Input → S → S → List ℕ → Type 0
+ReadsAll g reads_nothing old new input = (new ≡ old) × (input ≡ [])
+ReadsAll g (reads_first most) old new input = GaveWhole most (g.left old) (g.left new) input
+ReadsAll g (reads_later most) old new input = GaveWhole most (g.left old) (g.left new) input
+
+-- the input of a refusal that stands behind the opening: where the store stands open as it is read, a front of it was read
+abbrev pub ReadsSome : {S : Type 0} → SourceGhosts S → Input → S → S → List ℕ → Type 0
+ReadsSome g reads_nothing old new input = (new ≡ old) × (input ≡ [])
+ReadsSome g (reads_first most) old new input = GaveWhole most (g.left old) (g.left new) input
+ReadsSome g (reads_later most) old new input = GaveSome (g.left old) (g.left new) input
+
+-- more bytes were left than may be read, and the source gave one more than that
+pub record IsTooBig (size most : ℕ) (left left_now : Option (List ℕ)) : Type 0 where
+  pub told : size ≡ most + 1
+  pub more : IfSome left (λ input. most < length input)
+  pub gave : GaveFront left left_now (most + 1)
+
+-- ---- the ends
+
+module _ {D S K : Type 0} (o : Outside D S K) (m : Meaning) (old new : World D S K) where
+  abbrev pub told : Option Packs
+  told = o.disk.packs old.disk
+
+  -- what stands whatever is answered
+  pub record Always : Type 0 where
+    -- a crash at any moment leaves what holds every ref that each image held before, and what was an image before where nothing is put
+    pub crash : KeepsAll o.disk old.disk new.disk
+    pub quiet : IsQuiet m → Stays o.disk old.disk new.disk
+    -- what the command doesn't ask is left alone
+    pub unopened : m.opens ≡ false → new.disk ≡ old.disk
+    pub unread : m.input ≡ reads_nothing → new.source ≡ old.source
+    -- no count of faults falls
+    pub disk_later : o.disk.faults old.disk ≤ o.disk.faults new.disk
+    pub source_later : o.source.faults old.source ≤ o.source.faults new.source
+    pub sink_later : o.sink.faults old.sink ≤ o.sink.faults new.sink
+
+  -- all was done, and what was written is such a text
+  pub record Finishes (Writes : List ℕ → Type 0) : Type 0 where
+    pub given : Given
+    pub bytes : List ℕ
+    pub fit : m.bad ≡ None
+    pub read : ReadsAll o.source m.input old.source new.source given.input
+    pub right : m.wrong given.input ≡ None
+    pub output : m.IsOutput given told bytes
+    pub put : Tells told (o.disk.packs new.disk) (PutsAll limits (m.blobs given))
+    pub held : HoldAll (o.disk.images new.disk) (m.blobs given)
+    pub wrote : Writes bytes
+
+  -- it was refused before it asked the disk: only the source was touched
+  pub record RefusedEarly (Why : Type 0) : Type 0 where
+    pub unasked : new.disk ≡ old.disk
+    pub unwritten : new.sink ≡ old.sink
+    pub why : Why
+
+  -- what was written by the time of a refusal: exactly these bytes, and the sink is left alone where nothing is written before the end
+  abbrev pub WritesSome : Bool → List ℕ → Type 0
+  WritesSome false bytes = new.sink ≡ old.sink
+  WritesSome true bytes = Took (o.sink.written old.sink) (o.sink.written new.sink) bytes
+
+  -- it was refused later: what it reads first was read and isn't wrong
+  pub record RefusedLate (Why : Given → List ℕ → Type 0) : Type 0 where
+    pub given : Given
+    pub bytes : List ℕ
+    pub fit : m.bad ≡ None
+    pub read : ReadsSome o.source m.input old.source new.source given.input
+    pub right : m.wrong given.input ≡ None
+    pub written : WritesSome m.streams bytes
+    pub part : m.IsPart given told bytes
+    pub why : Why given bytes
+
+  -- a front of the blobs was put, and no more
+  pub record PutsFront (Why : List (List ℕ) → List (List ℕ) → Type 0) (given : Given) : Type 0 where
+    pub blobs : List (List ℕ)
+    pub rest : List (List ℕ)
+    pub cut : m.blobs given ≡ blobs ++ rest
+    pub put : Tells told (o.disk.packs new.disk) (PutsAll limits blobs)
+    pub held : HoldAll (o.disk.images new.disk) blobs
+    pub why : Why blobs rest
+
+  -- a refusal of that kind with a cause that the given, what was written, what was put and what is left to put give
+  abbrev pub Stops : (Given → List ℕ → List (List ℕ) → List (List ℕ) → Type 0) → Type 0
+  Stops Why = RefusedLate (λ given bytes. PutsFront (Why given bytes) given)
+
+  -- the next blob is lacking, and there is no room for it
+  abbrev pub StopsFull : ℕ → ℕ → List (List ℕ) → Type 0
+  StopsFull blobs pack [] = ⊥
+  StopsFull blobs pack (next ∷ more) = IsAtLimit limits blobs pack × ForSome (o.disk.packs new.disk) (IsFull limits next blobs pack)
+
+  -- a fault of the reading, where the command reads
+  abbrev pub WhileReading : Input → (ℕ → Type 0) → Type 0
+  WhileReading reads_nothing Why = ⊥
+  WhileReading (reads_first most) Why = RefusedEarly ((m.bad ≡ None) × Why most)
+  WhileReading (reads_later most) Why = Stops (λ given bytes gone rest. Why most)
+
+  -- an input that is too long is told as such a fault
+  abbrev pub IsTooLong : InputFault → ℕ → Type 0
+  IsTooLong fault most = (size : ℕ) × (fault ≡ m.too_long size) × IsTooBig size most (o.source.left old.source) (o.source.left new.source)
+
+  -- an input that was read whole before the store is opened, and is wrong
+  abbrev pub WhenRead : Input → InputFault → Type 0
+  WhenRead (reads_first most) fault =
+      RefusedEarly ((m.bad ≡ None) × (input : List ℕ) × GaveWhole most (o.source.left old.source) (o.source.left new.source) input × (m.wrong input ≡ Some fault))
+  WhenRead _ fault = ⊥
+
+  -- why what the words or the input say can't be used
+  pub data Unusable (fault : InputFault) : Type 0 where
+    said_badly : m.bad ≡ Some fault → new ≡ old → Unusable fault
+    read_too_much : WhileReading m.input (IsTooLong fault) → Unusable fault
+    read_wrongly : WhenRead m.input fault → Unusable fault
+    found_unfit : Stops (λ given bytes gone rest. m.Refuses given told bytes gone (status.BadInput fault)) → Unusable fault
+
+  -- How it ends, by its status.
+  abbrev pub EndsBy : Status → Type 0
+  EndsBy status.Done = Finishes (Took (o.sink.written old.sink) (o.sink.written new.sink))
+  EndsBy status.WriteFault = Rose (o.sink.faults old.sink) (o.sink.faults new.sink)
+      × (Finishes (TookFront (o.sink.written old.sink) (o.sink.written new.sink)) ⊎ ((m.streams ≡ true) × Stops (λ given bytes gone rest. Unit {0})))
+  EndsBy status.NoMemory = RefusedEarly (Unit {0}) ⊎ Stops (λ given bytes gone rest. Unit {0})
+  EndsBy status.ReadFault = WhileReading m.input (λ most. Rose (o.source.faults old.source) (o.source.faults new.source))
+  EndsBy (status.BadInput fault) = Unusable fault
+  EndsBy status.Disk = RefusedLate (λ given bytes. Rose (o.disk.faults old.disk) (o.disk.faults new.disk))
+  EndsBy (status.Full blobs pack) = Stops (λ given bytes gone rest. StopsFull blobs pack rest)
+  EndsBy (status.Absent r) = Stops (λ given bytes gone rest. m.Refuses given told bytes gone (status.Absent r))
+  EndsBy (status.Damaged want is) = Stops (λ given bytes gone rest. m.Refuses given told bytes gone (status.Damaged want is))
+  EndsBy status.BadWords = ⊥
+
+  pub record Ends (answer : Status) : Type 0 where
+    pub always : Always
+    pub ends : EndsBy answer

@@ -1,0 +1,25 @@
+-- What `get` means (docs/commands.md).
+use Rattle.std.specs.Prelude.{◌≡◌, ℕ, List, Option, Some}
+use Rattle.std.specs.Option.{ForSome}
+use Rattle.std.specs.FinMap.{get}
+use Rattle.blobref.specs.Blobref.{IsOwnRef}
+use Rattle.pack_disk.specs.Packs.{Packs}
+use Rattle.pack_store.specs.Puts.{blobs_of}
+use Rattle.perkeep_top.specs.declared.status.Status.{Status}
+use Rattle.perkeep_top.specs.declared.status.Status.TheVariants as status
+use Rattle.perkeep_top.specs.Asking.{asking}
+use Rattle.perkeep_top.specs.Frame.{Meaning}
+use Rattle.perkeep_top.specs.Steps.{IsAbsent, IsDamage}
+
+-- the bytes of the ref, those that stand under it where the disk tells
+abbrev pub IsBlob : List ℕ → Option Packs → List ℕ → Type 0
+IsBlob r told bytes = IsOwnRef r bytes × ForSome told (λ held. get (blobs_of held) r ≡ Some bytes)
+
+-- the ref isn't there, or other bytes stand there on a disk that doesn't tell
+abbrev pub RefusesBlob : List ℕ → Option Packs → Status → Type 0
+RefusesBlob r told (status.Absent asked) = IsAbsent r told asked
+RefusesBlob r told (status.Damaged want is) = (want ≡ r) × IsDamage told want is
+RefusesBlob r told _ = ⊥
+
+abbrev pub get_meaning : List ℕ → Meaning
+get_meaning r = asking (IsBlob r) (RefusesBlob r)

@@ -1,0 +1,21 @@
+-- What `put` means (docs/commands.md).
+use Rattle.std.specs.Prelude.{◌≡◌, true, false, [], ◌∷◌, None}
+use Rattle.blobref.specs.Blobref.{ref_of}
+use Rattle.pack_format.specs.Header.{max_size}
+use Rattle.perkeep_top.specs.declared.status.InputFault.TheVariants.{TooBig}
+use Rattle.perkeep_top.specs.Frame.{Meaning, reads_first}
+use Rattle.perkeep_top.specs.Outputs.{ref_line}
+
+abbrev pub put_meaning : Meaning
+put_meaning = record {
+  opens = true;
+  input = reads_first max_size;
+  bad = None;
+  too_long = TooBig;
+  wrong = λ input. None;
+  blobs = λ given. given.input ∷ [];
+  IsOutput = λ given told bytes. bytes ≡ ref_line (ref_of given.input);
+  streams = false;
+  IsPart = λ given told bytes. bytes ≡ [];
+  Refuses = λ given told bytes gone answer. ⊥;
+}

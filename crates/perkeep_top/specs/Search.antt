@@ -1,0 +1,61 @@
+-- What `search` and `search-pack` mean (docs/commands.md).
+use Rattle.std.specs.Prelude.{◌≡◌, ℕ, false, List, [], ◌++◌, codes, Option, None}
+use Rattle.std.specs.Option.{ForSome}
+use Rattle.claim_model.specs.Facts.{Facts}
+use Rattle.claim_verify.specs.Verifier.{Accepts}
+use Rattle.schema_date.specs.declared.date.When.{When}
+use Rattle.schema_date.specs.declared.date.When.TheVariants.{Always}
+use Rattle.search_query.specs.Queries.{value_query}
+use Rattle.search_eval.specs.Answer.{answer_bytes}
+use Rattle.pack_disk.specs.Packs.{Packs}
+use Rattle.pack_store.specs.Puts.{blobs_of}
+use Rattle.perkeep_top.specs.declared.status.InputFault.TheVariants.{TooBig}
+use Rattle.perkeep_top.specs.declared.status.Status.{Status}
+use Rattle.perkeep_top.specs.declared.status.Status.TheVariants as status
+use Rattle.perkeep_top.specs.Asking.{asking}
+use Rattle.perkeep_top.specs.Blobs.{facts_of_content, pack_facts}
+use Rattle.perkeep_top.specs.Frame.{Meaning, reads_first}
+use Rattle.perkeep_top.specs.Steps.{IsDamage}
+
+-- the answer to a search for an attribute's value, and a line feed
+abbrev pub search_line : Facts → Accepts → (attr value : List ℕ) → When → List ℕ
+search_line facts accepts attr value at = answer_bytes facts accepts (value_query attr value at) ++ codes "\n"
+
+-- ---- over a store
+
+-- the answer over the facts of the blobs that stand there, where the disk tells
+abbrev pub IsAnswer : Accepts → (attr value : List ℕ) → When → Option Packs → List ℕ → Type 0
+IsAnswer accepts attr value at told bytes =
+    ForSome told (λ held. bytes ≡ search_line (facts_of_content (blobs_of held)) accepts attr value at)
+
+-- other bytes stand in place of a blob, on a disk that doesn't tell
+abbrev pub RefusesFacts : Option Packs → Status → Type 0
+RefusesFacts told (status.Damaged want is) = IsDamage told want is
+RefusesFacts told _ = ⊥
+
+abbrev pub search_meaning : Accepts → (attr value : List ℕ) → When → Meaning
+search_meaning accepts attr value at = asking (IsAnswer accepts attr value at) RefusesFacts
+
+-- ---- over one pack
+
+-- the most bytes that a pack may have that is searched: 2 ^ 30
+abbrev pub longest_pack : ℕ
+longest_pack = 1073741824
+
+-- the answer over the blobs salvaged from the pack
+unfoldable pub pack_answer : (attr value : List ℕ) → Accepts → List ℕ → List ℕ
+pack_answer attr value accepts pack = search_line (pack_facts pack) accepts attr value Always
+
+abbrev pub search_pack_meaning : Accepts → (attr value : List ℕ) → Meaning
+search_pack_meaning accepts attr value = record {
+  opens = false;
+  input = reads_first longest_pack;
+  bad = None;
+  too_long = TooBig;
+  wrong = λ input. None;
+  blobs = λ given. [];
+  IsOutput = λ given told bytes. bytes ≡ pack_answer attr value accepts given.input;
+  streams = false;
+  IsPart = λ given told bytes. bytes ≡ [];
+  Refuses = λ given told bytes gone answer. ⊥;
+}

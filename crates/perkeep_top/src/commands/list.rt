@@ -1,0 +1,54 @@
+//! `list DIR [--after REF] [--limit N]`
+ghost use Rattle.std.specs.Prelude.{◌≡◌, ◌≤◌, IfOk, IfErr, option_copied};
+ghost use Rattle.pack_store.specs.Puts.{Stands};
+ghost use Rattle.perkeep_top.specs.Outside.{outside, world};
+ghost use Rattle.perkeep_top.specs.Frame.{Ends};
+ghost use Rattle.perkeep_top.specs.Limits.{limits};
+ghost use Rattle.perkeep_top.specs.ListRefs.{list_meaning, IsListing};
+
+use crate::lines::size_lines;
+use crate::status::Status;
+use crate::steps::{opened, written};
+use blobref::{NoMemory, Octets, Ref};
+use edge_base::{Sink, Source};
+use pack_disk::Disk;
+use pack_store::Store;
+use std::alloc::Global;
+
+/// Writes a line for each of the refs greater than `after`, or for all where it is `None`, ascending, the first `limit` of them, each
+/// with its size.
+pub(crate) fn list<D: Disk, S: Source, K: Sink>(
+    alloc: Global,
+    after: Option<&Ref>,
+    limit: u32,
+    disk: D,
+    _source: &mut S,
+    sink: &mut K,
+) -> (D, Status)
+    ensures { Ends (outside D.Disk S.Source K.Sink) (list_meaning (option_copied after.entry) limit)
+        (world disk _source.old sink.old) (world result.0 _source.new sink.new) result.1 }
+{
+    let store = match opened(alloc, disk) {
+        Ok(store) => store,
+        Err(end) => return end,
+    };
+    match lines_of(alloc, &store, after, limit) {
+        Ok(lines) => (store.give_back(), written(lines.as_slice(), sink)),
+        Err(NoMemory) => (store.give_back(), Status::NoMemory),
+    }
+}
+
+// The lines of the blobs that stand in the store.
+fn lines_of<D: Disk>(
+    alloc: Global,
+    store: &Store<D>,
+    after: Option<&Ref>,
+    limit: u32,
+) -> Result<Octets, NoMemory>
+    requires { Stands D.Disk limits store.now }
+    ensures { IfOk result (IsListing (option_copied after.entry) limit (D.packs store.now.disk)) }
+{
+    store.arrivals_are_held();
+    let page = store.list(after, limit as usize)?;
+    size_lines(alloc, &page)
+}

@@ -1,0 +1,40 @@
+//! `search-pack A V`
+ghost use Rattle.std.specs.Prelude.{◌≢◌, []};
+ghost use Rattle.perkeep_top.specs.Outside.{outside, world};
+ghost use Rattle.perkeep_top.specs.Frame.{Ends};
+ghost use Rattle.perkeep_top.specs.Search.{search_pack_meaning};
+
+use crate::search::pack_answer;
+use crate::status::Status;
+use crate::steps::{read_input, written};
+use claim_verify::Verifier;
+use edge_base::{Sink, Source};
+use pack_disk::Disk;
+use std::alloc::Global;
+
+// The most bytes of a pack that is searched: 2 ^ 30.
+const LONGEST_PACK: usize = 1_073_741_824;
+
+/// Writes the answer to a search for an attribute's value, over the blobs salvaged from the pack that the source has left.
+pub(crate) fn search_pack<D: Disk, V: Verifier, S: Source, K: Sink>(
+    alloc: Global,
+    attr: &str,
+    value: &str,
+    keys: &V,
+    disk: D,
+    source: &mut S,
+    sink: &mut K,
+) -> (D, Status)
+    requires { attr.now ≢ [] }
+    ensures { Ends (outside D.Disk S.Source K.Sink) (search_pack_meaning (V.accepts keys.now) attr.now value.now)
+        (world disk source.old sink.old) (world result.0 source.new sink.new) result.1 }
+{
+    let pack = match read_input(alloc, source, LONGEST_PACK) {
+        Ok(pack) => pack,
+        Err(status) => return (disk, status),
+    };
+    match pack_answer(alloc, attr, value, keys, &pack) {
+        Ok(line) => (disk, written(line.as_slice(), sink)),
+        Err(_) => (disk, Status::NoMemory),
+    }
+}
