@@ -2,6 +2,7 @@
 ghost use Rattle.std.specs.Prelude.{◌≡◌, None};
 ghost use Rattle.edge_base.specs.Edge.{one_more};
 
+use crate::again;
 use edge_base::{Failed, Sink, Source};
 use std::io::{Read, Write};
 
@@ -24,7 +25,7 @@ impl<R: Read> Source for ReadSource<R> {
     ghost faults = { λ source. source.faults };
 
     fn read(&mut self, buf: &mut [u8]) -> Result<usize, Failed> {
-        match self.reader.read(buf) {
+        match again::read(&mut self.reader, buf) {
             Ok(n) => Ok(n),
             Err(_) => {
                 self.faults = after_fault(self.faults);
@@ -57,7 +58,7 @@ impl<W: Write> Sink for WriteSink<W> {
     ghost faults = { λ sink. sink.faults };
 
     fn write(&mut self, piece: &[u8]) -> Result<usize, Failed> {
-        match self.writer.write(piece) {
+        match again::write(&mut self.writer, piece) {
             Ok(n) if n > 0 || piece.is_empty() => Ok(n),
             _ => {
                 self.faults = after_fault(self.faults);

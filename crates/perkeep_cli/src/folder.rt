@@ -3,35 +3,66 @@ ghost use Rattle.std.specs.Prelude.{◌≡◌, ◌≤◌, length, IfOk, IfSome, 
 ghost use Rattle.edge_base.specs.Edge.{HasCause};
 ghost use Rattle.pack_disk.specs.Disk.{last_number};
 
+use crate::again::uninterrupted;
 use crate::edges::after_fault;
+use crate::listing::{least_from, pack_numbers};
+use crate::locking::lock_folder;
+use crate::pack_file::{Growing, Reading, fill};
 use edge_base::Failed;
 use pack_disk::Disk;
-use std::fs::{self, DirEntry, File};
-use std::io::{self, ErrorKind, Write};
-use std::os::unix::fs::FileExt;
+use std::collections::BTreeSet;
+use std::fs::File;
+use std::io::{self, ErrorKind};
 
-// Packs are numbered up to this.
-const LAST_NUMBER: u32 = 99_999;
+/// What a command does with a store.
+#[derive(Clone, Copy, PartialEq)]
+pub(crate) enum Access {
+    /// It reads. Nothing is made or locked.
+    Read,
+    /// It also writes, and is the only one that does. The folder is made where it isn't there.
+    Write,
+}
 
-/// The packs of a folder: its files `pack-NNNNN.blobs`. Files of other names are ignored. A folder that isn't there is a disk without
-/// packs; the first `make` makes it.
+/// The packs of a folder: its files `pack-NNNNN.blobs`. Files of other names are ignored. Which there are is looked up at
+/// the first call, at which a writer also locks the folder, until the disk is dropped. To a reader a folder that isn't
+/// there is a disk without packs.
 #[derive(Drop)]
 pub(crate) struct FolderDisk<'a> {
     rt: &'a HostRuntime,
-    folder: &'a str,
+    path: &'a str,
+    access: Access,
+    // Whether the first call was made, and what is known since: the folder, where it is there, and the numbers of its
+    // packs.
+    begun: bool,
+    folder: Option<File>,
+    numbers: BTreeSet<u32>,
     // Whether the names of the packs were made durable since the last pack was made.
     named: bool,
+    reading: Reading,
+    growing: Growing,
     faults: u64,
 }
 
 impl<'a> FolderDisk<'a> {
-    pub(crate) fn new(rt: &'a HostRuntime, folder: &'a str) -> FolderDisk<'a> {
+    pub(crate) fn new(rt: &'a HostRuntime, path: &'a str, access: Access) -> FolderDisk<'a> {
         FolderDisk {
             rt,
-            folder,
+            path,
+            access,
+            begun: false,
+            folder: None,
+            numbers: BTreeSet::new(rt.alloc()),
             named: false,
+            reading: Reading::none(),
+            growing: Growing::none(rt.alloc()),
             faults: 0,
         }
+    }
+
+    /// Cuts each pack back to the bytes that it had before something was added that wasn't synced, as well as may be. So
+    /// nobody takes for durable what only seems to stand.
+    pub(crate) fn retract(&mut self) {
+        self.growing.cut();
     }
 
     // What was done, where a failure is counted.
@@ -49,97 +80,132 @@ impl<'a> FolderDisk<'a> {
     }
 
     // The path of something in the folder.
-    fn path(&self, name: &str) -> io::Result<String> {
-        if self.folder.is_empty() {
+    fn path_to(&self, name: &str) -> io::Result<String> {
+        if self.path.is_empty() {
             return Err(io::Error::from(ErrorKind::NotFound));
         }
-        Ok(format!(in self.rt.alloc(); "{}/{name}", self.folder)?)
+        Ok(format!(in self.rt.alloc(); "{}/{name}", self.path)?)
     }
 
     fn pack_path(&self, pack: u32) -> io::Result<String> {
         let name = format!(in self.rt.alloc(); "pack-{pack:05}.blobs")?;
-        self.path(&name)
+        self.path_to(&name)
     }
 
-    // The least number of a pack, at or above `from`, of which there is a name in the folder.
-    fn least_from(&self, from: u32) -> io::Result<Option<u32>>
-        ensures range { IfOk result (λ o. IfSome o (λ n. (from ≤ n) × (n ≤ last_number))) }
+    // Opens the folder and looks its packs up, unless that was done.
+    fn begin(&mut self) -> io::Result<()>
+        ensures faults { self.new.faults ≡ self.old.faults }
     {
-        let folder = self.path("")?;
-        let entries = match fs::read_dir(self.rt, folder.as_str()) {
-            Ok(entries) => entries,
-            Err(error) if error.kind() == ErrorKind::NotFound => return Ok(None),
-            Err(error) => return Err(error),
-        };
-        let mut least = None;
-        for entry in entries {
-            least = nearer(least, number_of(entry)?, from);
+        if self.begun {
+            return Ok(());
         }
-        Ok(least)
-    }
-
-    fn length(&self, pack: u32) -> io::Result<u64> {
-        Ok(fs::metadata(self.rt, self.pack_path(pack)?)?.len())
-    }
-
-    // Puts the pack's bytes from a place on in front of the buffer, as many as there are and as there is room for.
-    fn fill(&self, pack: u32, at: u64, buf: &mut [u8]) -> io::Result<usize>
-        ensures bound { IfOk result (λ n. n ≤ length buf.old) }
-    {
-        let file = File::open(self.rt, self.pack_path(pack)?)?;
-        let mut filled = 0;
-        'pieces: while filled < buf.len() {
-            let n = file.read_at(&mut buf[filled..], at.saturating_add(filled as u64))?;
-            if n == 0 {
-                return Ok(filled);
-            }
-            filled += n;
+        let entered = self.path_to("")?;
+        if self.folder.is_none() {
+            self.folder = self.open_folder(&entered)?;
         }
-        Ok(filled)
-    }
-
-    // Makes the file of a pack, and before the first one the folder, where it isn't there. The folder's own name is durable before
-    // anything stands in it.
-    fn create(&self, pack: u32) -> io::Result<()> {
-        let path = self.pack_path(pack)?;
-        if pack == 0 {
-            self.create_folder()?;
-            self.sync_names("..")?;
+        if self.folder.is_some() {
+            self.numbers = uninterrupted(|| pack_numbers(self.rt, &entered))?;
         }
-        File::create_new(self.rt, path)?;
+        self.begun = true;
         Ok(())
     }
 
-    fn create_folder(&self) -> io::Result<()> {
-        match fs::create_dir(self.rt, self.folder) {
-            Err(error) if error.kind() != ErrorKind::AlreadyExists => Err(error),
-            _ => Ok(()),
+    fn open_folder(&self, entered: &str) -> io::Result<Option<File>> {
+        if self.access == Access::Write {
+            return Ok(Some(lock_folder(self.rt, self.path, entered)?));
+        }
+        match File::open(self.rt, entered) {
+            Ok(folder) => Ok(Some(folder)),
+            Err(error) if error.kind() == ErrorKind::NotFound => Ok(None),
+            Err(error) => Err(error),
+        }
+    }
+
+    fn next(&mut self, from: u32) -> io::Result<Option<u32>>
+        ensures range { IfOk result (λ o. IfSome o (λ n. (from ≤ n) × (n ≤ last_number))) }
+        ensures faults { self.new.faults ≡ self.old.faults }
+    {
+        self.begin()?;
+        Ok(least_from(&self.numbers, from))
+    }
+
+    fn length(&mut self, pack: u32) -> io::Result<u64>
+        ensures faults { self.new.faults ≡ self.old.faults }
+    {
+        self.begin()?;
+        let path = self.pack_path(pack)?;
+        let file = self.reading.file(self.rt, pack, &path)?;
+        Ok(uninterrupted(|| file.metadata())?.len())
+    }
+
+    fn bytes_at(&mut self, pack: u32, at: u64, buf: &mut [u8]) -> io::Result<usize>
+        ensures bound { IfOk result (λ n. n ≤ length buf.old) }
+        ensures faults { self.new.faults ≡ self.old.faults }
+    {
+        self.begin()?;
+        let path = self.pack_path(pack)?;
+        fill(self.reading.file(self.rt, pack, &path)?, at, buf)
+    }
+
+    // Makes the file of a pack. The folder's own name is durable before the first pack stands in it.
+    fn create(&mut self, pack: u32) -> io::Result<()>
+        ensures faults { self.new.faults ≡ self.old.faults }
+    {
+        self.begin()?;
+        if self.numbers.is_empty() {
+            self.sync_above()?;
+        }
+        let path = self.pack_path(pack)?;
+        self.named = false;
+        self.growing.make(self.rt, pack, &path)?;
+        self.numbers.insert(pack)?;
+        Ok(())
+    }
+
+    // Makes the folder's name durable in the one above. Whoever may not read that one didn't make the folder, and can't do
+    // more.
+    fn sync_above(&self) -> io::Result<()> {
+        match File::open(self.rt, self.path_to("..")?) {
+            Ok(above) => above.sync_all(),
+            Err(error) if error.kind() == ErrorKind::PermissionDenied => Ok(()),
+            Err(error) => Err(error),
         }
     }
 
     // Adds the bytes behind those of the pack.
-    fn add(&self, pack: u32, bytes: &[u8]) -> io::Result<()> {
-        let mut file = File::options()
-            .append(true)
-            .open(self.rt, self.pack_path(pack)?)?;
-        file.write_all(bytes)
+    fn add(&mut self, pack: u32, bytes: &[u8]) -> io::Result<()>
+        ensures faults { self.new.faults ≡ self.old.faults }
+    {
+        self.begin()?;
+        let path = self.pack_path(pack)?;
+        self.growing.add(self.rt, pack, &path, bytes)
     }
 
     // Makes the bytes of a pack durable, and the names of all.
     fn settle(&mut self, pack: u32) -> io::Result<()>
         ensures faults { self.new.faults ≡ self.old.faults }
     {
-        File::open(self.rt, self.pack_path(pack)?)?.sync_all()?;
-        if !self.named {
-            self.sync_names("")?;
-            self.named = true;
+        self.begin()?;
+        let path = self.pack_path(pack)?;
+        match self.growing.file(pack) {
+            Some(file) => file.sync_all()?,
+            None => self.reading.file(self.rt, pack, &path)?.sync_all()?,
         }
+        self.sync_names()?;
+        self.growing.forget(pack);
         Ok(())
     }
 
-    // Makes the names durable that stand in the folder, or in the one that this name leads to from there.
-    fn sync_names(&self, name: &str) -> io::Result<()> {
-        File::open(self.rt, self.path(name)?)?.sync_all()
+    // Makes the names durable that stand in the folder, unless they are.
+    fn sync_names(&mut self) -> io::Result<()>
+        ensures faults { self.new.faults ≡ self.old.faults }
+    {
+        match &self.folder {
+            Some(folder) if !self.named => folder.sync_all()?,
+            _ => (),
+        }
+        self.named = true;
+        Ok(())
     }
 }
 
@@ -166,7 +232,7 @@ impl<'a> Disk for FolderDisk<'a> {
     ghost only_now = { λ disk image is. is };
 
     fn packs(&mut self, from: u32) -> Result<Option<u32>, Failed> {
-        let least = self.least_from(from);
+        let least = self.next(from);
         self.counted(least)
     }
 
@@ -176,12 +242,11 @@ impl<'a> Disk for FolderDisk<'a> {
     }
 
     fn read(&mut self, pack: u32, at: u64, buf: &mut [u8]) -> Result<usize, Failed> {
-        let count = self.fill(pack, at, buf);
+        let count = self.bytes_at(pack, at, buf);
         self.counted(count)
     }
 
     fn make(&mut self, pack: u32) -> Result<(), Failed> {
-        self.named = false;
         let made = self.create(pack);
         self.counted(made)
     }
@@ -198,45 +263,5 @@ impl<'a> Disk for FolderDisk<'a> {
 
     fn faults(&self) -> u64 {
         self.faults
-    }
-}
-
-// The number of the pack that an entry of the folder is, if it is one. A name that is no text is none.
-fn number_of(entry: io::Result<DirEntry>) -> io::Result<Option<u32>>
-    ensures range { IfOk result (λ o. IfSome o (λ n. n ≤ last_number)) }
-{
-    match entry {
-        Ok(entry) => Ok(pack_number(entry.file_name())),
-        Err(error) if error.kind() == ErrorKind::InvalidFilename => Ok(None),
-        Err(error) => Err(error),
-    }
-}
-
-// The number in the name of a pack.
-fn pack_number(name: &str) -> Option<u32>
-    ensures range { IfSome result (λ n. n ≤ last_number) }
-{
-    let digits = name.strip_prefix("pack-")?.strip_suffix(".blobs")?;
-    if digits.len() != 5 || !digits.bytes().all(|b| b.is_ascii_digit()) {
-        return None;
-    }
-    let number = digits.parse().ok()?;
-    if number <= LAST_NUMBER {
-        Some(number)
-    } else {
-        None
-    }
-}
-
-// The lesser of two numbers, where there is a second one at or above `from`.
-fn nearer(least: Option<u32>, pack: Option<u32>, from: u32) -> Option<u32>
-    requires least { IfSome least (λ n. (from ≤ n) × (n ≤ last_number)) }
-    requires pack { IfSome pack (λ n. n ≤ last_number) }
-    ensures range { IfSome result (λ n. (from ≤ n) × (n ≤ last_number)) }
-{
-    match (least, pack) {
-        (None, Some(pack)) if pack >= from => Some(pack),
-        (Some(least), Some(pack)) if pack >= from => Some(pack.min(least)),
-        _ => least,
     }
 }

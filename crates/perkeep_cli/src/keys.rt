@@ -1,6 +1,7 @@
 //! The keyring in its file.
 use crate::edges::ReadSource;
 use crate::ending::Ending;
+use crate::pack_file::open_regular;
 use claim_verify::{Keyring, KeyringFault};
 use edge_base::{ReadAllError, read_all};
 use perkeep_top::Status;
@@ -17,7 +18,7 @@ pub(crate) fn read_keyring(rt: &HostRuntime, folder: &str) -> Result<Keyring, En
     let Ok(path) = format!(in rt.alloc(); "{folder}/keyring") else {
         return Err(Ending::Ran(Status::NoMemory));
     };
-    let file = match File::open(rt, path.as_str()) {
+    let file = match open_regular(rt, File::options().read(true), &path) {
         Ok(file) => file,
         Err(error) => {
             return match error.kind() {

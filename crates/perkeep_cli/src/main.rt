@@ -1,15 +1,21 @@
 //! The program: its words, the keyring, the folder of the store, standard input and standard output.
 #![tactic(auto)]
 
+mod again;
 mod edges;
 mod ending;
 mod folder;
 mod keys;
+mod listing;
+mod locking;
+mod pack_file;
+mod streams;
 
 use crate::edges::{ReadSource, WriteSink};
 use crate::ending::Ending;
-use crate::folder::FolderDisk;
+use crate::folder::{Access, FolderDisk};
 use crate::keys::read_keyring;
+use crate::streams::Closed;
 use blobref::{NoMemory, Text};
 use perkeep_top::{Status, run};
 use perkeep_words::{Line, places};
@@ -19,7 +25,10 @@ use std::io::ErrorKind;
 use std::process::ExitCode;
 
 fn main(rt: HostRuntime) -> ExitCode {
-    let ending = ending_of(&rt);
+    let ending = match Closed::take(&rt) {
+        Ok(_closed) => ending_of(&rt),
+        Err(_) => Ending::Ran(Status::WriteFault),
+    };
     if ending != Ending::Ran(Status::Done) {
         // Where this fails too nothing more can be told.
         let _ = rt.eprintln(format_args!("perkeep: {}", ending.word()));
@@ -33,18 +42,24 @@ fn ending_of(rt: &HostRuntime) -> Ending {
         Ok(words) => words,
         Err(status) => return Ending::Ran(status),
     };
-    if Line::read(&words).is_none() {
+    let Some(line) = Line::read(&words) else {
         return Ending::Ran(Status::BadWords);
-    }
+    };
     let folder = folder_named(&words);
     let keys = match read_keyring(rt, folder) {
         Ok(keys) => keys,
         Err(ending) => return ending,
     };
-    let disk = FolderDisk::new(rt, folder);
+    let access = if line.writes() {
+        Access::Write
+    } else {
+        Access::Read
+    };
+    let disk = FolderDisk::new(rt, folder, access);
     let mut source = ReadSource::new(rt.stdin());
     let mut sink = WriteSink::new(rt.stdout());
-    let (_disk, status) = run(rt.alloc(), &words, disk, &keys, &mut source, &mut sink);
+    let (mut disk, status) = run(rt.alloc(), &words, disk, &keys, &mut source, &mut sink);
+    disk.retract();
     Ending::Ran(status)
 }
 

@@ -1,0 +1,69 @@
+//! The folder of a store, locked for one writer.
+use crate::again::uninterrupted;
+use std::fs::{self, DirBuilder, File, TryLockError};
+use std::io::{self, ErrorKind};
+use std::os::unix::fs::{DirBuilderExt, MetadataExt};
+use std::path::Path;
+use std::thread;
+use std::time::Duration;
+
+// How often the lock is asked for, and how many milliseconds are waited after each time: ten seconds in all.
+const TRIES: u32 = 500;
+
+const PAUSE: u64 = 20;
+
+// Who may use a folder that is made: its owner alone.
+const OWNER_ONLY: u32 = 0o700;
+
+/// Opens the folder, which is made where it isn't there, and locks it. The lock lasts as long as the file is open. Another
+/// program's lock is waited for ten seconds. `entered` is a path that leads into the folder.
+pub(crate) fn lock_folder(rt: &HostRuntime, folder: &str, entered: &str) -> io::Result<File> {
+    let mut file = open_or_make(rt, folder, entered)?;
+    for _ in 0..TRIES {
+        match file.try_lock() {
+            Ok(()) if is_there(rt, &file, entered)? => return Ok(file),
+            Ok(()) => file = open_or_make(rt, folder, entered)?,
+            Err(TryLockError::WouldBlock) => thread::sleep(rt, Duration::from_millis(PAUSE)),
+            Err(TryLockError::Error(error)) => return Err(error),
+        }
+    }
+    Err(io::Error::from(ErrorKind::TimedOut))
+}
+
+// Whether a path still leads to the file.
+fn is_there(rt: &HostRuntime, file: &File, path: &str) -> io::Result<bool> {
+    let held = uninterrupted(|| file.metadata())?;
+    match uninterrupted(|| fs::metadata(rt, path)) {
+        Ok(found) => Ok(found.dev() == held.dev() && found.ino() == held.ino()),
+        Err(error) if error.kind() == ErrorKind::NotFound => Ok(false),
+        Err(error) => Err(error),
+    }
+}
+
+fn open_or_make(rt: &HostRuntime, folder: &str, entered: &str) -> io::Result<File> {
+    match File::open(rt, entered) {
+        Err(error) if error.kind() == ErrorKind::NotFound => {
+            make_folder(rt, folder)?;
+            File::open(rt, entered)
+        }
+        opened => opened,
+    }
+}
+
+// Makes the folder, unless another program just did, and makes its name durable in the one above. Where that one can't be
+// opened nothing is made.
+fn make_folder(rt: &HostRuntime, folder: &str) -> io::Result<()> {
+    let above = File::open(rt, path_above(folder))?;
+    match uninterrupted(|| DirBuilder::new().mode(OWNER_ONLY).create(rt, folder)) {
+        Ok(()) => above.sync_all(),
+        Err(error) if error.kind() == ErrorKind::AlreadyExists => Ok(()),
+        Err(error) => Err(error),
+    }
+}
+
+fn path_above(folder: &str) -> &str {
+    match Path::new(folder).parent() {
+        Some(above) if !above.as_str().is_empty() => above.as_str(),
+        _ => ".",
+    }
+}
