@@ -6,8 +6,8 @@ permanode, is read.
 """
 
 import hashlib
-import random
 
+import harness
 import reference
 import writing
 from reference import MARKER, ref_of
@@ -120,7 +120,7 @@ def damaged_packs():
 
 
 def junk_packs():
-    noise = random.Random(1)
+    noise = harness.chance("noise")
     pieces = [b"x", b"[", b"[[", b"]", b"\0" * 300, b"[sha224-", b"[x-", header(CLAIM)[:-1], header(CLAIM), header(KEY) + b"["]
     pieces += [noise.randbytes(noise.randrange(1, 500)) for _ in range(20)]
     pieces += [record(CLAIM)[:-1], record(CLAIM)[1:], record(NODE)[:100], b"[x-0 9999]", b"[x-0 16777216]" + b"." * 5000]
@@ -1148,12 +1148,12 @@ RANDOM_QUERIES = [(attribute, value) for attribute in RANDOM_ATTRIBUTES for valu
 
 
 def random_packs():
-    for seed, count, junk in [(1, 2_000, False), (2, 2_000, True), (3, 300, False), (4, 300, True)]:
-        chance = random.Random(seed)
+    for number, count, junk in [(1, 2_000, False), (2, 2_000, True), (3, 300, False), (4, 300, True)]:
+        chance = harness.chance("random packs", number)
         records = list(map(record, random_blobs(chance, count)))
         chance.shuffle(records)
         pieces = with_junk(chance, records) if junk else records
-        yield f"random pack {seed}", b"".join(pieces), KEYRING
+        yield f"random pack {number}", b"".join(pieces), KEYRING
 
 
 def random_blobs(chance, count):

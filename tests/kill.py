@@ -1,35 +1,30 @@
 """Kills the program while it puts blobs, and finds afterwards every blob whose ref was printed.
 
-    kill.py PROGRAM SEED KILLS
-
 A shell puts blobs of 1 byte to 300,000 bytes into a store, one after another, and its whole process group is killed by SIGKILL:
 after a random time, or as soon as a pack is seen to grow, and then some blobs are longer. The next shell goes on with the same
 store. A ref counts as printed once its whole line was read. After each kill the packs are compared with what must stand in them,
 and in the end each printed ref is asked for. As each start reads the whole store, the kills are shared out among a few stores.
 
 A kill can't show that a record was synced before its ref was printed: what a killed program has written, the kernel keeps. The
-group `syncs` of store.sh looks at that.
+group `syncs` of faults.sh looks at that.
 """
 
 import collections
 import concurrent.futures
 import math
 import os
-import pathlib
-import random
 import signal
 import subprocess
-import sys
-import tempfile
 import time
 
+import harness
 import reference
-from groups import Difference
+from harness import Difference, chance, compare
 from reference import pack_name, ref_of
-from search_pack import compare, compare_ending, finish
 
 LARGEST, LARGEST_WATCHED = 300_000, 1_048_576
 PUTS_A_ROUND = 5
+KILLS = int(os.environ.get("KILLS") or 200)
 STORES = 4
 AT_ONCE = 4
 SECONDS_TO_WATCH = 5
@@ -80,9 +75,10 @@ def size_of(file):
 class Killed:
     """A store whose puts are killed, what stands in it, and what was printed."""
 
-    def __init__(self, program, scratch, chance):
+    def __init__(self, program, chance):
         self.program = program
-        self.scratch = pathlib.Path(scratch)
+        self.scratch = program.new_path()
+        self.scratch.mkdir()
         self.store = self.scratch / "store"
         self.chance = chance
         self.packs = {}
@@ -101,7 +97,7 @@ class Killed:
         for file, blob in zip(files, blobs):
             file.write_bytes(blob)
         start = time.monotonic()
-        one = Round(self.program, self.store, files)
+        one = Round(self.program.path, self.store, files)
         self.wait(one, is_watched)
         lines, is_done = one.kill()
         if lines:
@@ -169,9 +165,8 @@ class Killed:
     # What is asked at the end
 
     def run(self, what, *words, source=b""):
-        process = subprocess.Popen([self.program, *words], stdin=subprocess.PIPE, stdout=subprocess.PIPE, stderr=subprocess.PIPE)
-        out, err = finish(what, process, source)
-        compare_ending(what, 0, process.returncode, err)
+        status, out, err = self.program.run(what, list(words), source)
+        harness.compare_ending(what, 0, status, err)
         return out
 
     def ask(self):
@@ -190,25 +185,19 @@ class Killed:
         compare("list", "its lines", reference.listing(blobs, limit=len(blobs)), lines)
 
 
-def main(program, seed, kills):
-    print(f"kill: seed {seed}", flush=True)
-    chance = random.Random(int(seed))
-    endings, printed, packs = collections.Counter(), 0, 0
-    for number in range(STORES):
-        with tempfile.TemporaryDirectory() as scratch:
-            killed = Killed(program, scratch, chance)
-            try:
-                for _ in range(number, int(kills), STORES):
-                    killed.one_round()
-                killed.ask()
-            except Difference as difference:
-                sys.exit(f"kill: store {number}: {difference}")
-        endings += killed.endings
-        printed += len(killed.printed)
-        packs += len(killed.packs)
-    told = ", ".join(f"{count} with {ending}" for ending, count in sorted(endings.items()))
-    print(f"kill: {kills} kills ({told}); all {printed} printed refs are there, in {packs} packs")
+def kills(program):
+    """Kills shared out among a few stores; each store is a check."""
+    return [lambda number=number: one_store(program, number) for number in range(STORES)]
+
+
+def one_store(program, number):
+    killed = Killed(program, chance("kills", number))
+    for _ in range(number, KILLS, STORES):
+        killed.one_round()
+    killed.ask()
+    told = ", ".join(f"{count} with {ending}" for ending, count in sorted(killed.endings.items()))
+    print(f"store {number}: {killed.endings.total()} kills ({told}); all {len(killed.printed)} printed refs are there", flush=True)
 
 
 if __name__ == "__main__":
-    main(*sys.argv[1:])
+    harness.main("kill.sh", [], [kills])

@@ -3,7 +3,8 @@
 Everything here is written from the pages of docs/ alone, to be read beside them: claims.md, commands.md, and of formats/ packs.md,
 blobrefs.md, schema.md, dates.md, keyring.md and answers.md. It is slow and plain on purpose. The tests compare the program with it.
 
-Bytes are `bytes`, refs and texts are `str`. A moment is a number of nanoseconds, and ALWAYS stands for no moment at all.
+Each constant names the page, and the part of it, that it is from. Bytes are `bytes`, refs and texts are `str`. A moment is a number of
+nanoseconds, and ALWAYS stands for no moment at all.
 """
 
 import datetime
@@ -15,16 +16,11 @@ from typing import NamedTuple, Optional
 import strict_json
 
 ALWAYS = None
-LARGEST_BLOB = 16_777_216
-LARGEST_SCHEMA_BLOB = 1_048_576
-LARGEST_PACK = 1_073_741_824
-LARGEST_KEYRING = 1_048_576
-MOST_BYTES_OF_A_FILE = 281_474_976_710_656
-MOST_ANSWERS = 1_000_000
 
 
-# Blobrefs (blobrefs.md)
+# Blobrefs
 
+# docs/formats/blobrefs.md
 REF = re.compile(r"sha224-[0-9a-f]{56}")
 
 
@@ -36,9 +32,12 @@ def is_ref(value):
     return isinstance(value, str) and REF.fullmatch(value) is not None
 
 
-# Packs (packs.md)
+# Packs
 
+# docs/formats/packs.md, "Records"
+LARGEST_BLOB = 16_777_216
 BLOB_HEADER = re.compile(rb"\[(sha224-[0-9a-f]{56}) (0|[1-9][0-9]{0,7})\]")
+# docs/formats/packs.md, "Deleted records"
 DELETED_HEADER = re.compile(rb"\[x{1,16}-0{1,128} (0|[1-9][0-9]{0,7})\]")
 
 
@@ -102,12 +101,18 @@ def content(found):
     return {one.ref: one.blob for one in found}
 
 
-# Stores: packs by their numbers (packs.md, commands.md)
+# Stores: packs by their numbers
 
+# docs/formats/packs.md, "Pack files"
 PACK_NAME = re.compile(r"pack-([0-9]{5})\.blobs")
+# docs/store.md, "Where a record goes": `pack_bytes`
 BYTES_OF_A_FULL_PACK = 536_870_912
+# docs/store.md, "Putting a blob": `last_pack`; the last number of five digits, docs/formats/packs.md, "Pack files"
 LAST_PACK = 99_999
+# docs/commands.md, "Words": the row of `list`
 ENTRIES_OF_A_LISTING = 1_000
+# docs/commands.md, "Input and order"
+LARGEST_PACK = 1_073_741_824
 
 
 class Full(Exception):
@@ -176,13 +181,16 @@ def salvage_text(packs):
     return "".join(lines).encode()
 
 
-# Dates (dates.md)
+# Dates
 
+# docs/formats/dates.md, "The text of a date"
 DATE = re.compile(
     r"([0-9]{4})-([0-9]{2})-([0-9]{2})T([0-9]{2}):([0-9]{2}):([0-9]{2})(?:\.([0-9]{1,9}))?(?:Z|([+-])([0-9]{2}):([0-9]{2}))"
 )
+# docs/formats/dates.md, at the beginning
 LEAST_MOMENT = -62_135_596_800 * 10**9
 GREATEST_MOMENT = 253_402_300_800 * 10**9 - 1
+# docs/formats/dates.md: the moment 0
 DAY_0 = datetime.date(1970, 1, 1).toordinal()
 
 
@@ -205,9 +213,11 @@ def moment_of(text):
     return moment if LEAST_MOMENT <= moment <= GREATEST_MOMENT else None
 
 
-# Keys and the keyring (keyring.md)
+# Keys and the keyring
 
-KEY_NAME = re.compile(rb"[a-z0-9-]{1,64}")
+# docs/commands.md, "Input and order"
+LARGEST_KEYRING = 1_048_576
+# docs/formats/keyring.md, "Name" and "Text"
 KEYRING_LINE = re.compile(rb"([a-z0-9-]{1,64}) ((?:[0-9a-f]{2}){1,128})")
 
 
@@ -236,7 +246,7 @@ def signature(secret, payload):
     return hmac.digest(secret, payload, "sha256")
 
 
-# Facts (schema.md)
+# Facts
 
 class Signed(NamedTuple):
     signer: str
@@ -258,7 +268,13 @@ class Fact(NamedTuple):
     value: Optional[str] = None
 
 
+# docs/formats/schema.md, "Kinds": the row of `Plain`
+LARGEST_SCHEMA_BLOB = 1_048_576
+# docs/formats/schema.md, "Part lists"
+MOST_BYTES_OF_A_FILE = 281_474_976_710_656
+# docs/formats/schema.md, "Kinds": the row of `Key`; docs/formats/keyring.md, "Name"
 KEY_BLOB = re.compile(rb"perkeep-hmac-sha256 ([a-z0-9-]{1,64})\n")
+# docs/formats/schema.md, "Signed blobs"
 MARKER = b',"camliSig":"'
 SIGNATURE_DIGITS = re.compile(r"[0-9a-f]{64}")
 
@@ -387,7 +403,11 @@ def signed_of(blob):
     return Signed(body["camliSigner"], payload, bytes.fromhex(digits)), body
 
 
-# What the blobs say together: which are ready, genuine and deleted, and which values stand
+# What the blobs say together: which are ready, genuine and deleted, and which values stand (docs/claims.md)
+
+# docs/search.md, "Queries": the limit of `Query::for_value`
+MOST_ANSWERS = 1_000_000
+
 
 class Archive:
     def __init__(self, blobs, keys):
@@ -479,7 +499,7 @@ class Archive:
         ][:MOST_ANSWERS]
 
 
-# Answers (answers.md)
+# Answers (docs/formats/answers.md)
 
 def search_text(refs):
     return b'{"blobs":[' + b",".join(b'{"blob":"' + ref.encode() + b'"}' for ref in refs) + b"]}"

@@ -1,31 +1,22 @@
 """Runs `perkeep search-pack` over many inputs, and compares standard output, standard error and the exit status byte by byte.
 
-    search_pack.py PROGRAM [GROUP..]
-
 Most inputs have an expected answer that is written down here, and the reference has to give it as well as the program. The random
 packs are compared with the reference alone.
 """
 
-import ctypes
-import hashlib
 import itertools
 import mmap
 import os
 import pathlib
-import random
-import resource
 import subprocess
-import sys
-import tempfile
 from typing import NamedTuple, Optional
 
+import harness
 import inputs
 import reference
-from groups import Difference, run_groups
+from harness import Difference, compare, compare_ending, finish, limited_to
 from writing import keyring_line, pack, record
 
-WORDS = {1: b"memory", 2: b"words", 3: b"absent", 4: b"input", 5: b"read", 6: b"write", 7: b"disk", 9: b"full", 10: b"damaged"}
-SECONDS = 100
 EXAMPLES = pathlib.Path(__file__).resolve().parent.parent / "examples"
 
 
@@ -59,66 +50,14 @@ def refused(what, status, words=("search-pack", "tag", "a"), source=b"", keyring
     return Case(what, tuple(words), source, keyring, status)
 
 
-# Running
-
-class Program:
-    """The program, and the working folders in which it finds its keyrings."""
-
-    def __init__(self, path, folder):
-        self.path = path
-        self.folder = pathlib.Path(folder)
-
-    def working_folder(self, keyring):
-        """A folder that holds the keyring, or none."""
-        name = "none" if keyring is None else hashlib.sha256(keyring).hexdigest()
-        folder = self.folder / name
-        folder.mkdir(exist_ok=True)
-        if keyring is not None and not (folder / "keyring").exists():
-            # Other runs may look for the file at the same time, so it comes whole.
-            with tempfile.NamedTemporaryFile(dir=self.folder, delete=False) as file:
-                file.write(keyring)
-            os.replace(file.name, folder / "keyring")
-        return folder
-
-    def start(self, words, folder, **streams):
-        return subprocess.Popen([self.path, *words], cwd=folder, stderr=subprocess.PIPE, **streams)
-
-    def check(self, case):
-        """Runs a case; Difference where it ends otherwise."""
-        if case.found is not None:
-            _, attribute, value = case.words
-            found = reference.archive_of(case.source, case.keyring or b"").holders(attribute, value)
-            compare(case.what, "refs found by the reference", case.found, found)
-        folder = self.working_folder(case.keyring)
-        process = self.start(case.words, folder, stdin=subprocess.PIPE, stdout=subprocess.PIPE)
-        out, err = finish(case.what, process, case.source)
-        compare_ending(case.what, case.status, process.returncode, err)
-        compare(case.what, "standard output", case.out, out)
-
-
-def finish(what, process, source=None):
-    """The output and the errors of a process."""
-    try:
-        return process.communicate(source, timeout=SECONDS)
-    except subprocess.TimeoutExpired:
-        process.kill()
-        process.communicate()
-        raise Difference(f"{what}: no end after {SECONDS} seconds") from None
-
-
-def compare_ending(what, status, is_status, err):
-    compare(what, "exit status", status, is_status)
-    compare(what, "standard error", b"" if status == 0 else b"perkeep: " + WORDS[status] + b"\n", err)
-
-
-def compare(what, side, expected, got):
-    if expected != got:
-        raise Difference(f"{what}: {side}\n  expected {short(expected)}\n  got      {short(got)}")
-
-
-def short(value):
-    written = repr(value)
-    return written if len(written) <= 400 else f"{written[:200]} .. {written[-150:]} ({len(value)} long)"
+def check_case(program, case):
+    """Runs a case; Difference where it ends otherwise."""
+    if case.found is not None:
+        _, attribute, value = case.words
+        found = reference.archive_of(case.source, case.keyring or b"").holders(attribute, value)
+        compare(case.what, "refs found by the reference", case.found, found)
+    folder = program.working_folder(case.keyring)
+    program.check(case.what, case.words, case.out, case.status, case.source, folder)
 
 
 # Groups of cases
@@ -289,34 +228,12 @@ def edges():
     return reading + [full, read_before_write, no_reader, closed, keyring_folder]
 
 
-def with_streams(program, what, line, status, source=os.devnull, sink=os.devnull, closed=None, folder=None):
-    """Runs the program with streams that are paths, or open files, or one of them closed; it has to end with the status."""
-    source = os.open(source, os.O_RDONLY) if not isinstance(source, int) else os.dup(source)
-    sink = os.open(sink, os.O_WRONLY) if not isinstance(sink, int) else os.dup(sink)
-    close = None if closed is None else lambda: os.close(closed)
-    folder = folder or program.working_folder(inputs.KEYRING)
-    try:
-        process = program.start(line, folder, stdin=source, stdout=sink, preexec_fn=close)
-    finally:
-        os.close(source)
-        os.close(sink)
-    _, err = finish(what, process)
-    compare_ending(what, status, process.returncode, err)
+def with_streams(program, what, line, status, folder=None, **streams):
+    harness.with_streams(program, what, line, status, folder=folder or program.working_folder(inputs.KEYRING), **streams)
 
 
 def with_broken_source(program, what, line, front, **streams):
-    """Runs the program with a standard input that gives some bytes, and whose next read fails; it has to end with status 5.
-
-    The input is memory of this process, in front of a page whose part of a file is gone.
-    """
-    room = -(-len(front) // mmap.PAGESIZE) * mmap.PAGESIZE
-    with tempfile.TemporaryFile() as file, open("/proc/self/mem", "rb", buffering=0) as memory:
-        file.truncate(room + mmap.PAGESIZE)
-        pages = mmap.mmap(file.fileno(), 0)
-        pages[room - len(front) : room] = front
-        file.truncate(room)
-        memory.seek(ctypes.addressof(ctypes.c_char.from_buffer(pages)) + room - len(front))
-        with_streams(program, what, line, 5, source=memory.fileno(), **streams)
+    harness.with_broken_source(program, what, line, front, folder=program.working_folder(inputs.KEYRING), **streams)
 
 
 def limits():
@@ -342,11 +259,6 @@ def limits():
 
 
 PIECE = 1_048_576
-
-
-def limited_to(mib):
-    """What limits a process that begins to so many MiB of memory."""
-    return lambda: resource.setrlimit(resource.RLIMIT_AS, (mib * PIECE, mib * PIECE))
 
 
 def poured(program, what, length, status, **streams):
@@ -375,15 +287,8 @@ def checks_of(program, group):
     """The checks of a group, as functions to be called."""
     if group in GROUPS_OF_CHECKS:
         return [lambda check=check: check(program) for check in group()]
-    return [lambda case=case: program.check(case) for case in group()]
-
-
-def main(path, *names):
-    with tempfile.TemporaryDirectory() as folder:
-        program = Program(path, folder)
-        total = run_groups(GROUPS, GROUPS_OF_CHECKS, lambda group: checks_of(program, group), names)
-    print(f"search-pack: {total} checks, no difference")
+    return [lambda case=case: check_case(program, case) for case in group()]
 
 
 if __name__ == "__main__":
-    main(*sys.argv[1:])
+    harness.main("search_pack.sh", GROUPS, GROUPS_OF_CHECKS, checks_of)

@@ -1,25 +1,20 @@
 """Runs the commands over a store of packs in real folders, and compares outputs, exit statuses and all bytes on the disk.
 
-    store.py PROGRAM [GROUP..]
-
 Here are the worked rows, puts of many blobs, listings and searches; store_refusals.py has what is refused, and store_packs.py
 what packs may look like. What is compared, and with what, is said in stores.py.
 """
 
 import itertools
-import random
 import subprocess
-import sys
-import tempfile
 
+import harness
 import inputs
 import reference
-from groups import Difference, run_groups
+from harness import Difference, chance, compare, compare_ending, finish
 from reference import ref_of
-from search_pack import compare, compare_ending, finish
-from store_packs import damaged, file_limits, flipped, memory_limits, numbers, removed, syncs, torn
-from store_refusals import folders, keyrings, streams, texts, words
-from stores import ABC, EMPTY, NOWHERE, NOTHING_FOUND, READING, Program, Store, check_search, ref_by_tool
+from store_packs import damaged, file_limits, flipped, memory_limits, numbers, removed, torn
+from store_refusals import folders, keyrings, modes, rights, special_files, streams, texts, words
+from stores import ABC, EMPTY, NOWHERE, NOTHING_FOUND, READING, Store, check_search, ref_by_tool
 from writing import deleted_record, header, pack, record
 
 
@@ -142,34 +137,34 @@ EDGES = (0, 1, 2, 66, 67, 68, 73, 74, 75, 156, 4095, 4096, 4097, 8192, 65535, 65
 
 
 def puts(program):
-    return [lambda seed=seed: many_puts(program, seed) for seed in range(STORES)]
+    return [lambda number=number: many_puts(program, number) for number in range(STORES)]
 
 
-def many_puts(program, seed):
+def many_puts(program, number):
     """Puts blobs of all sizes, some of them again, into a store that isn't there at first, and reads some of them."""
-    chance = random.Random(seed)
+    random, what = chance("puts", number), f"store {number}"
     store = Store(program)
     blobs = []
-    for number in range(PUTS):
-        blobs.append(random_blob(chance, blobs))
-        store.put(f"store {seed}, put {number} of {len(blobs[-1])} bytes", blobs[-1])
-    store.lists(f"store {seed}")
-    store.gets(f"store {seed}", [ref_of(blob) for blob in chance.sample(blobs, 8)] + [NOWHERE])
+    for place in range(PUTS):
+        blobs.append(random_blob(random, blobs))
+        store.put(f"{what}, put {place} of {len(blobs[-1])} bytes", blobs[-1])
+    store.lists(what)
+    store.gets(what, [ref_of(blob) for blob in random.sample(blobs, 8)] + [NOWHERE])
 
 
-def random_blob(chance, earlier):
-    kind = chance.randrange(20)
+def random_blob(random, earlier):
+    kind = random.randrange(20)
     if kind == 0 and earlier:
-        return chance.choice(earlier)
+        return random.choice(earlier)
     if kind == 1:
-        return record(chance.randbytes(chance.randrange(100)))
+        return record(random.randbytes(random.randrange(100)))
     if kind == 2:
-        return deleted_record(chance.randrange(100))
+        return deleted_record(random.randrange(100))
     if kind == 3:
-        return header(b"x" * 100) + chance.randbytes(9)
+        return header(b"x" * 100) + random.randbytes(9)
     if kind < 8:
-        return chance.randbytes(chance.choice(EDGES))
-    return chance.randbytes(chance.randrange(2_000))
+        return random.randbytes(random.choice(EDGES))
+    return random.randbytes(random.randrange(2_000))
 
 
 def large_blobs(program):
@@ -177,10 +172,10 @@ def large_blobs(program):
 
 
 def put_large_blobs(program):
-    chance = random.Random(99)
+    random = chance("large blobs")
     store = Store(program)
     sizes = [1 << 20, 5, reference.LARGEST_BLOB, (1 << 20) + 1, reference.LARGEST_BLOB - 1, 300, 0]
-    blobs = [chance.randbytes(size) for size in sizes]
+    blobs = [random.randbytes(size) for size in sizes]
     for blob in [*blobs, blobs[2]]:
         store.put(f"a blob of {len(blob)} bytes", blob)
     store.lists("large blobs")
@@ -260,7 +255,7 @@ def searches(program):
     moments += [lambda at=at, is_found=is_found: check_found(gone, at, is_found) for at, is_found in NODE_AT]
     forms = [lambda words=words: check_form(tagged, words) for words in SEARCH_WORDS]
     return moments + forms + [lambda: other_keyrings(program)] + [
-        check for seed in (11, 12) for check in random_searches(program, seed)
+        check for number in (11, 12) for check in random_searches(program, number)
     ]
 
 
@@ -336,17 +331,17 @@ MOMENTS = (
 )
 
 
-def random_searches(program, seed):
+def random_searches(program, number):
     """Schema blobs in random order, some of them put by the program."""
-    chance = random.Random(seed)
-    blobs = inputs.random_blobs(chance, 240)
-    chance.shuffle(blobs)
+    random = chance("searches", number)
+    blobs = inputs.random_blobs(random, 240)
+    random.shuffle(blobs)
     packs = {0: pack(*blobs[:90]), 1: pack(*blobs[80:150]) + b"[torn", 7: pack(*blobs[140:225])}
     store = Store(program, packs, {"keyring": inputs.KEYRING})
     for blob in blobs[225:]:
-        store.put(f"random blobs {seed}", blob)
+        store.put(f"random blobs {number}", blob)
     archive = reference.archive_of_store(store.packs, inputs.KEYRING)
-    queries = chance.sample(inputs.RANDOM_QUERIES, 5)
+    queries = random.sample(inputs.RANDOM_QUERIES, 5)
     return [
         lambda attribute=attribute, value=value, at=at: check_search(store, archive, attribute, value, at)
         for (attribute, value), at in itertools.product(queries, MOMENTS)
@@ -356,17 +351,14 @@ def random_searches(program, seed):
 # Running
 
 GROUPS = [rows, words, texts, keyrings, folders, listings, torn, flipped, damaged, numbers, puts, large_blobs, searches]
-# These run code between fork and exec, stop the program, or print, so nothing else runs beside them.
-ONE_AT_A_TIME = [streams, file_limits, memory_limits, removed, syncs]
+# These run code between fork and exec, stop the program, or look at the clock, so nothing else runs beside them.
+ONE_AT_A_TIME = [streams, file_limits, memory_limits, removed, rights, special_files, modes]
 
 
-def main(path, *names):
-    with tempfile.TemporaryDirectory() as scratch:
-        program = Program(path, scratch)
-        run_groups(GROUPS, ONE_AT_A_TIME, lambda group: group(program), names)
+def tell_starts(program):
     starts = ", ".join(f"{program.starts[name]} of {name}" for name in ("put", *READING))
-    print(f"store: no difference in {sum(program.starts.values())} starts ({starts})")
+    print(f"store: {sum(program.starts.values())} starts ({starts})")
 
 
 if __name__ == "__main__":
-    main(*sys.argv[1:])
+    harness.main("store.sh", GROUPS, ONE_AT_A_TIME, end=tell_starts)

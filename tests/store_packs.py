@@ -1,4 +1,4 @@
-"""Packs on the disk: which one a put goes to, packs that are torn or damaged, files that can't grow, little memory, and the order of syncs.
+"""Packs on the disk: which one a put goes to, packs that are torn or damaged, files that can't grow, and little memory.
 
 Each group is a function of the program, and answers its checks.
 """
@@ -6,9 +6,6 @@ Each group is a function of the program, and answers its checks.
 import collections
 import itertools
 import os
-import pathlib
-import random
-import re
 import resource
 import shutil
 import signal
@@ -17,9 +14,8 @@ import time
 
 import inputs
 import reference
-from groups import Difference
+from harness import chance, compare, compare_ending, finish, limited_to
 from reference import pack_name, ref_of
-from search_pack import compare, compare_ending, finish, limited_to
 from stores import ABC, CLEAN, TORN, Store, check_search, lines_of, look
 from writing import deleted_record, header, pack, record
 
@@ -169,7 +165,8 @@ def put_within_memory(program, packs, blob, mib):
     if mib <= SCANT or mib < AMPLE and status != 0:
         compare_ending(what, 1, status, err)
         compare(what, "standard output", b"", out)
-        compare(what, "the folder", before, look(store.path))
+        # The folder may have been made by then.
+        compare(what, "the folder", before, None if packs is None and store.files() == {} else look(store.path))
         return
     compare_ending(what, 0, status, err)
     store.packs = reference.put(store.packs, blob)
@@ -192,7 +189,7 @@ def read_within_memory(store, line):
 def removed(program):
     """Puts whose folder is removed while they run."""
     endings = collections.Counter()
-    moments = random.Random(20202)
+    moments = chance("removed")
     return [lambda: removed_after(program, moments.uniform(0, 0.2), endings) for _ in range(16)] + [
         lambda: print(f"removed: how puts ended whose folder was removed: {dict(sorted(endings.items()))}", flush=True)
     ]
@@ -239,7 +236,7 @@ def torn(program):
     cases += [({0: CLEAN, 4: mixed[:cut]}, (b"one", b"two"), cut) for cut in range(len(pack(b"one")), len(mixed), 3)]
     checks = [lambda case=case: survives(program, f"cut at {case[2]}", *case) for case in cases]
     schema = inputs.EXAMPLE + record(inputs.DELETE)
-    cuts = random.Random(5).sample(range(len(inputs.BEFORE_CLAIM), len(schema) + 1), 24)
+    cuts = chance("torn").sample(range(len(inputs.BEFORE_CLAIM), len(schema) + 1), 24)
     return checks + [lambda cut=cut: searched_when_torn(program, schema, cut) for cut in [len(inputs.EXAMPLE), *cuts]]
 
 
@@ -288,102 +285,3 @@ def put_beside(program, what, packs):
     store.lists(what)
     store.put(f"{what}, then a put", inputs.CLAIM)
     store.reads(f"{what}, then a put", "list", out=reference.listing(store.blobs()))
-
-
-# Syncs
-
-READS, WRITES = ("read", "readv", "pread64", "preadv"), ("write", "writev", "pwrite64", "pwritev")
-SYNCS, OPENS, MAKES = ("fsync", "fdatasync"), ("openat", "open", "creat"), ("mkdir", "mkdirat")
-TRACED = ",".join(READS + WRITES + SYNCS + OPENS + MAKES)
-CALL = re.compile(r"^(?:\d+ +)?([a-z0-9_]+)\((?:AT_FDCWD(?:<[^>]*>)?, )?(?:(\d+)<([^>]*)>|\"([^\"]*)\")(.*)$")
-
-
-def syncs(program):
-    """In which order the program writes, syncs and prints, by strace. A killed program can't show it: the kernel still writes."""
-    if not can_trace(program):
-        print("syncs: not tried, as strace isn't there or can't trace", flush=True)
-        return []
-    return [lambda check=check: check(program) for check in (put_is_synced, readers_sync, salvage_syncs_nothing)]
-
-
-def can_trace(program):
-    if not shutil.which("strace"):
-        return False
-    return subprocess.run(["strace", "-o", str(program.new_path()), "true"], stderr=subprocess.DEVNULL).returncode == 0
-
-
-def without_launcher(program):
-    """The built program behind the launcher, whose own calls would stand among those of a run."""
-    built = pathlib.Path(program.path).parent / "crates/perkeep_cli/out/perkeep_cli"
-    return str(built) if built.exists() else program.path
-
-
-def traced(program, what, words, source=b""):
-    """The calls of a run in order, each with its name, the number of its file (or None), a path, and the rest of its line."""
-    log = program.new_path()
-    program.starts[words[0]] += 1
-    command = ["strace", "-f", "-y", "-o", str(log), "-e", f"trace={TRACED}", without_launcher(program), *words]
-    status = subprocess.run(command, cwd=program.working, input=source, stdout=subprocess.PIPE).returncode
-    compare(what, "exit status", 0, status)
-    calls = filter(None, map(CALL.match, log.read_text(errors="replace").splitlines()))
-    return [(call[1], call[2] and int(call[2]), call[3] or call[4], call[5]) for call in calls]
-
-
-def places(calls, names, path=None, file=None):
-    """The places in a list of calls of those by name, on a path or a file's number."""
-    return [
-        place
-        for place, (name, number, where, _) in enumerate(calls)
-        if name in names and (path is None or where == str(path)) and (file is None or number == file)
-    ]
-
-
-def put_is_synced(program):
-    """The record is synced behind its last write and before the ref is printed; a new pack's and folder's names too."""
-    cases = {"a new folder": None, "a new pack": {}, "a pack that stands": {0: CLEAN}, "a torn pack": {0: TORN}}
-    for what, packs in cases.items():
-        store = Store(program, packs)
-        before, number = store.packs, reference.pack_for_the_next_record(store.packs)
-        store.packs = reference.put(store.packs, b"new")
-        calls = traced(program, what, store.words("put"), b"new")
-        store.check_files(what)
-        folder = store.path.resolve()
-        printed = places(calls, WRITES, file=1)[0]
-        written = places(calls, WRITES, folder / pack_name(number))[-1]
-        in_order(what, "the record's sync", written, places(calls, SYNCS, folder / pack_name(number)), printed)
-        if number not in before:
-            made = made_at(what, calls, OPENS, pack_name(number), "O_CREAT")
-            in_order(what, "the sync of the folder", made, places(calls, SYNCS, folder), printed)
-        if packs is None:
-            made = made_at(what, calls, MAKES, folder.name)
-            in_order(what, "the sync of the folder above", made, places(calls, SYNCS, folder.parent), printed)
-
-
-def made_at(what, calls, names, made, flag=""):
-    """The place at which a pack or a folder is made, which happens once."""
-    told = {place: "".join(calls[place][2:]) for place in places(calls, names)}
-    found = [place for place, words in told.items() if made in words and flag in words]
-    compare(what, f"times that {made} is made", 1, len(found))
-    return found[0]
-
-
-def in_order(what, side, first, between, last):
-    if not any(first < place < last for place in between):
-        raise Difference(f"{what}: {side} isn't where it must be: {between} between {first} and {last}")
-
-
-def readers_sync(program):
-    """Opening syncs every pack, also torn ones, before it is read, and writes to none."""
-    store = Store(program, {0: pack(b"abc"), 3: TORN, 4: b""})
-    for command in ("put", "get", "stat", "list", "search"):
-        calls = traced(program, command, lines_of(store.path)[command], b"abc")
-        for path in (store.path.resolve() / pack_name(number) for number in store.packs):
-            first_read = min(places(calls, READS, path) + places(calls, WRITES, file=1))
-            in_order(command, f"the sync of {path.name}", -1, places(calls, SYNCS, path), first_read)
-            compare(command, f"writes to {path.name}", [], places(calls, WRITES, path))
-
-
-def salvage_syncs_nothing(program):
-    store = Store(program, {0: pack(b"abc"), 3: TORN})
-    calls = traced(program, "salvage", store.words("salvage"))
-    compare("salvage", "syncs", [], places(calls, SYNCS))

@@ -6,12 +6,14 @@ Each group is a function of the program, and answers its checks.
 import itertools
 import os
 import pathlib
+import shutil
+import stat
 import subprocess
 
 import inputs
 import reference
+from harness import LeftOut, Program, compare, compare_ending, with_broken_source, with_streams
 from reference import pack_name, ref_of
-from search_pack import compare, compare_ending, with_broken_source, with_streams
 from stores import ABC, NOTHING_FOUND, READING, Store, lines_of, look
 from writing import pack, record
 
@@ -250,7 +252,7 @@ def which_is_first(program):
 # Folders
 
 def folders(program):
-    checks = (no_folder, made_folder, other_names, a_file, the_empty_text, no_parent, unwritable)
+    checks = (no_folder, made_folder, other_names, a_file, the_empty_text, no_parent, in_proc)
     return [lambda check=check: check(program) for check in checks] + [
         lambda number=number: pack_that_is_a_folder(program, number) for number in (0, 3)
     ]
@@ -345,19 +347,126 @@ def pack_that_is_a_folder(program, number):
         store.keeps(f"{command}, pack {number} is a folder", line, told, 7, source=b"new")
 
 
-def unwritable(program):
-    """Folders in which no file can be made."""
+def in_proc(program):
+    """A folder in which nothing can be made, whoever asks."""
     if pathlib.Path("/proc/self").exists():
         program.check("put into /proc", ["put", "/proc"], status=7, source=b"abc")
         program.check("put into a new folder of /proc", ["put", "/proc/perkeep-store"], status=7, source=b"abc")
         program.check("list of /proc", ["list", "/proc"])
-    if os.geteuid() == 0:
-        print("folders: a folder without the right to write isn't tried, as the script is root", flush=True)
-        return
-    store = Store(program, {0: pack(b"abc") + b"["})
-    store.path.chmod(0o555)
+
+
+# Rights
+
+NOBODY = 65_534
+
+
+def rights(program):
+    """Folders and packs that may not be written or read, by a program that isn't root's."""
+    with open(program.path, "rb") as file:
+        if os.geteuid() == 0 and file.read(4) != b"\x7fELF":
+            raise LeftOut("the script is root, and can't give a copy of its program to another user")
+    return [lambda check=check: check(Nobody(program)) for check in (new_pack_refused, new_folder_refused, pack_unread)]
+
+
+class Nobody(Program):
+    """A copy of the program that runs as another user, where this one is root."""
+
+    def __init__(self, program):
+        folder = program.new_path()
+        folder.mkdir()
+        shutil.copy(program.path, folder / "perkeep")
+        super().__init__(str(folder / "perkeep"), folder)
+        self.is_root = os.geteuid() == 0
+        if self.is_root:
+            program.folder.chmod(0o711)
+
+    def start(self, words, folder=None, **streams):
+        if self.is_root:
+            streams |= {"user": NOBODY, "group": NOBODY, "extra_groups": []}
+        return super().start(words, folder, **streams)
+
+    def store(self, packs, mode):
+        """A store of that user's, whose folder has a mode."""
+        store = Store(self, packs)
+        for path in [*store.path.iterdir(), store.path]:
+            if self.is_root:
+                os.chown(path, NOBODY, NOBODY)
+        store.path.chmod(mode)
+        return store
+
+
+def new_pack_refused(program):
+    store = program.store({0: pack(b"abc") + b"["}, 0o555)
     store.keeps("a new pack in a folder that can't be written", store.words("put"), status=7, source=b"new")
-    store.path.chmod(0o755)
+    store.gets("a folder that can't be written", [ABC])
+
+
+def new_folder_refused(program):
+    above = program.store({}, 0o555)
+    line = ["put", str(above.path / "store")]
+    above.keeps("a new folder in one that can't be written", line, status=7, source=b"new")
+
+
+def pack_unread(program):
+    store = program.store({0: pack(b"abc") + b"["}, 0o755)
     (store.path / pack_name(0)).chmod(0)
     for command, line in lines_of(store.path).items():
         store.keeps(f"{command}, a pack that can't be read", line, status=7, source=b"new")
+
+
+# Files that are no files, and modes
+
+SOON = 5
+
+
+def special_files(program):
+    """A pack that is a pipe or a folder is the disk's fault, and a keyring that is one a failed read, and nothing waits for a writer."""
+    checks = []
+    for number in (0, 3):
+        store = Store(program, {1: pack(b"abc")})
+        what = f"pack {number} is a pipe"
+        os.mkfifo(store.path / pack_name(number))
+        for command, line in lines_of(store.path).items():
+            told = TOLD_OF_ABC if command == "salvage" and number > 1 else b""
+            checks.append(lambda what=what, line=line, told=told: ends_soon(program, what, line, 7, told))
+    piped = Store(program, {0: pack(b"abc")})
+    os.mkfifo(piped.path / "keyring")
+    checks += [lambda line=line: ends_soon(program, "the keyring is a pipe", line, 5) for line in lines_of(piped.path).values()]
+    working = program.new_path()
+    working.mkdir()
+    os.mkfifo(working / "keyring")
+    line = ["search-pack", "tag", "a"]
+    return checks + [lambda: ends_soon(program, "the keyring is a pipe", line, 5, folder=working)]
+
+
+def ends_soon(program, what, line, status, out=b"", folder=None):
+    what = f"{what}: {line[0]}"
+    before = look(pathlib.Path(line[1])) if folder is None else None
+    program.check(what, line, out, status, b"new", folder, seconds=SOON)
+    if folder is None:
+        compare(what, "the folder", before, look(pathlib.Path(line[1])))
+
+
+def modes(program):
+    """What a put makes is the owner's alone; what stands keeps its mode."""
+    return [lambda mask=mask: made_with_modes(program, mask) for mask in (0o022, 0, 0o077)] + [lambda: kept_modes(program)]
+
+
+def made_with_modes(program, mask):
+    what, store = f"modes under {mask:03o}", Store(program)
+    status, _, err = program.run(what, store.words("put"), b"abc", preexec_fn=lambda: os.umask(mask))
+    compare_ending(what, 0, status, err)
+    compare(what, "modes", ("700", "600"), modes_of(store))
+
+
+def kept_modes(program):
+    what, store = "modes of what stands", Store(program, {0: pack(b"abc")})
+    store.path.chmod(0o750)
+    (store.path / pack_name(0)).chmod(0o640)
+    store.put(what, b"new")
+    compare(what, "modes", ("750", "640"), modes_of(store))
+
+
+def modes_of(store):
+    """The modes of a folder and of its first pack."""
+    return tuple(f"{stat.S_IMODE(path.stat().st_mode):o}" for path in (store.path, store.path / pack_name(0)))

@@ -1,19 +1,16 @@
-"""The program over real folders: runs it, and compares what it prints, how it ends and every byte that then stands.
+"""Stores in real folders: runs the program over them, and compares what it prints, how it ends and every byte that then stands.
 
 What has to be printed, and each byte of each pack, is the reference's. The refs that `put` prints are those of the tool sha224sum.
 Each command that only reads must leave the folder as it was, to the times of its files.
 """
 
-import collections
-import itertools
 import shutil
 import subprocess
 
 import inputs
 import reference
-import search_pack
+from harness import compare
 from reference import pack_name
-from search_pack import compare, compare_ending, finish
 from writing import pack
 
 READING = ("get", "stat", "list", "search", "salvage")
@@ -22,36 +19,6 @@ ABC = "sha224-23097d223405d8228642a477bda255b32aadbce4bda0b3f7e36c9da7"
 NOWHERE = inputs.ABSENT
 NOTHING_FOUND = b'{"blobs":[]}\n'
 CLEAN, TORN = pack(b"a blob"), pack(b"a blob") + b"[torn"
-
-
-class Program(search_pack.Program):
-    """The program. Its working folder holds no keyring that can be read: a store has its own."""
-
-    def __init__(self, path, scratch):
-        super().__init__(path, scratch)
-        self.working = self.working_folder(b"no keyring of a store")
-        self.numbers = itertools.count()
-        self.starts = collections.Counter()
-
-    def new_path(self):
-        """A path at which there is nothing yet."""
-        return self.folder / f"store-{next(self.numbers)}"
-
-    def start(self, words, folder, **streams):
-        self.starts[words[0] if words else ""] += 1
-        return super().start(words, folder, **streams)
-
-    def run(self, what, words, source=b"", folder=None, **streams):
-        """Runs the program to its end; answers its status, output and errors."""
-        folder = folder or self.working
-        process = self.start(words, folder, stdin=subprocess.PIPE, stdout=subprocess.PIPE, **streams)
-        out, err = finish(what, process, source)
-        return process.returncode, out, err
-
-    def check(self, what, words, out=b"", status=0, source=b"", folder=None):
-        is_status, is_out, err = self.run(what, words, source, folder)
-        compare_ending(what, status, is_status, err)
-        compare(what, "standard output", out, is_out)
 
 
 class Store:

@@ -10,6 +10,7 @@ number is a float.
 import math
 import re
 
+# docs/formats/schema.md, "JSON", as are all forms below
 DEEPEST = 127
 
 SPACE = re.compile(r"[ \t\n\r]*")

@@ -1,0 +1,175 @@
+"""Calls to the kernel that fail, and the order of writes, syncs and prints (docs/store.md, "Crashes"; docs/commands.md, "Exit statuses").
+
+First the calls of a put that succeeds are looked at; then the same put is run once for each of these calls, which fails. Whatever
+fails, the blobs of before stand, a ref that was printed is found and was durable when it was printed, and the next puts succeed.
+"""
+
+import os
+
+import harness
+import reference
+from harness import check, compare, compare_ending
+from reference import pack_name, ref_of
+from stores import CLEAN, TORN, Store, lines_of
+from tracing import CUTS, LISTS, LOCKS, LOOKS, MAKES, OPENS, READS, SYNCS, WRITES
+from tracing import in_order, made_at, need_strace, places, trace, traced
+from writing import pack
+
+BLOB = bytes(range(256)) * 2
+STORES = {
+    "a new folder": None,
+    "an empty folder": {},
+    "a pack that stands": {0: CLEAN},
+    "a torn pack": {0: TORN},
+    "several packs": {0: pack(b"one"), 2: TORN, 3: pack(b"two", b"three")},
+}
+
+
+# The order of syncs
+
+def syncs(program):
+    """In which order the program writes, syncs and prints. A killed program can't show it: the kernel still writes."""
+    need_strace(program)
+    orders = [lambda what=what: put_is_synced(program, what) for what in STORES]
+    return orders + [lambda check=check: check(program) for check in (readers_sync, salvage_syncs_nothing)]
+
+
+def put_is_synced(program, what):
+    store = Store(program, STORES[what])
+    before = store.packs
+    store.packs = reference.put(before, BLOB)
+    calls = traced(program, what, store.words("put"), BLOB)
+    store.check_files(what)
+    is_durable_when_printed(what, calls, store.path, reference.pack_for_the_next_record(before), before, STORES[what] is None)
+
+
+def is_durable_when_printed(what, calls, folder, number, packs, is_new):
+    """The record is synced by the file that it was written to, behind its last write and before the ref is printed; so are the names of
+    a new pack and of a new folder."""
+    path = folder / pack_name(number)
+    printed = places(calls, WRITES, file=1)[0]
+    written = [place for place in places(calls, WRITES, path) if place < printed]
+    check(f"{what}: nothing is written to {path.name} before the ref is printed", written)
+    file = calls[written[-1]].file
+    closed = [place for place in places(calls, ("close",), path, file) if place > written[-1]]
+    in_order(what, "the record's sync", written[-1], places(calls, SYNCS, path, file), min([printed, *closed]))
+    compare(what, f"writes to {path.name} behind the print", [], [place for place in places(calls, WRITES, path) if place > printed])
+    if number not in packs:
+        made = made_at(what, calls, OPENS, path, "O_CREAT")
+        in_order(what, "the sync of the folder", made, places(calls, SYNCS, folder) + spelled(calls, folder), printed)
+    if is_new:
+        made = made_at(what, calls, MAKES, folder)
+        in_order(what, "the sync of the folder above", made, places(calls, SYNCS, folder.parent), printed)
+
+
+def spelled(calls, folder):
+    """The places of the syncs of a folder whose path strace tells with a slash behind it."""
+    return places(calls, SYNCS, f"{folder}/")
+
+
+def readers_sync(program):
+    """Opening syncs every pack, also torn ones, before it is read, and writes to none."""
+    store = Store(program, {0: pack(b"abc"), 3: TORN, 4: b""})
+    for command in ("put", "get", "stat", "list", "search"):
+        calls = traced(program, command, lines_of(store.path)[command], b"abc")
+        for path in (store.path / pack_name(number) for number in store.packs):
+            first_read = min(places(calls, READS, path) + places(calls, WRITES, file=1))
+            in_order(command, f"the sync of {path.name}", -1, places(calls, SYNCS, path), first_read)
+            compare(command, f"writes to {path.name}", [], places(calls, WRITES, path))
+
+
+def salvage_syncs_nothing(program):
+    store = Store(program, {0: pack(b"abc"), 3: TORN})
+    calls = traced(program, "salvage", store.words("salvage"))
+    compare("salvage", "syncs", [], places(calls, SYNCS))
+
+
+# Calls that fail
+
+CHANGING = OPENS + MAKES + WRITES + SYNCS + CUTS
+FAILING = CHANGING + READS + LOCKS + LISTS + LOOKS
+
+
+def failing(program):
+    """Each call of a put in turn fails, once; the writes and syncs also from there on, and so that what they left can't be cut back."""
+    need_strace(program)
+    return [check for what in STORES for check in failing_calls(program, what)]
+
+
+def failing_calls(program, what):
+    store = Store(program, STORES[what])
+    calls = traced(program, what, store.words("put"), BLOB)
+    checks = []
+    for call in own_calls(calls, store.path):
+        if call.name not in FAILING:
+            continue
+        faults = [(f"{call.name}:error=EIO:when={call.number}",)]
+        if call.name in CHANGING:
+            faults.append((f"{call.name}:error=ENOSPC:when={call.number}",))
+        if call.name in WRITES + SYNCS:
+            faults.append((f"{call.name}:error=EIO:when={call.number}+",))
+            faults.append((f"{call.name}:error=ENOSPC:when={call.number}", *(f"{name}:error=EIO" for name in CUTS)))
+        where = os.path.relpath(call.path, store.path) if call.path.startswith("/") else call.path
+        checks += [lambda call=call, fault=fault, where=where: put_fails(program, what, call, fault, where) for fault in faults]
+    check(f"{what}: only {len(checks)} calls to make fail", len(checks) >= 10)
+    return checks
+
+
+def own_calls(calls, folder):
+    """The calls behind those of the loader, from the first one on that has to do with the store or standard input."""
+    first = next(place for place, call in enumerate(calls) if call.path.startswith(str(folder)) or call.file == 0)
+    return calls[first:]
+
+
+def put_fails(program, what, call, fault, where):
+    """A put with a call that fails: how it ends, what stands then, and that the next puts find it well."""
+    store = Store(program, STORES[what])
+    told = f"{what}, {' and '.join(fault)} ({where or 'no path'})"
+    before = dict(store.packs)
+    status, out, err, calls = trace(program, store.words("put"), BLOB, fault)
+    check(f"{told}: no call failed", any(one.is_injected() for one in calls))
+    expected = status if status in statuses_for(call) else statuses_for(call)[0]
+    # Where all writes fail the program can't tell its status.
+    compare_ending(told, expected, status, harness.told_of(expected) if fault[0].startswith("write") and not err else err)
+    compare(told, "standard output", ref_of(BLOB).encode() + b"\n" if status == 0 else b"", out)
+    store.packs = reference.packs_of(store.files())
+    stands(told, before, store.packs)
+    if status == 0:
+        number = reference.pack_for_the_next_record(before)
+        is_durable_when_printed(told, calls, store.path, number, before, STORES[what] is None)
+    if status in (0, 6):
+        compare(told, "the blob", BLOB, store.blobs().get(ref_of(BLOB)))
+    goes_on(told, store, before)
+
+
+def statuses_for(call):
+    """The statuses with which a put may end where a call fails: the likely one, and 0 where the call isn't needed."""
+    if call.file == 0 or call.path.endswith("/keyring"):
+        return (5, 0)
+    return (6, 0) if call.file == 1 else (7, 0)
+
+
+def stands(what, before, packs):
+    """The packs of before stand with their bytes, and at most one has more than it had, or is new."""
+    for number, content in before.items():
+        compare(what, f"what stood in pack {number}", content, packs.get(number, b"")[: len(content)])
+    grown = [number for number, content in packs.items() if len(content) > len(before.get(number, b"")) or number not in before]
+    check(f"{what}: packs {grown} have grown", len(grown) <= 1)
+
+
+def goes_on(what, store, before):
+    """The same blob and another one can be put then, and all are found."""
+    known = {**reference.arrivals(before)}
+    for blob in (BLOB, b"another blob"):
+        store.program.check(f"{what}, the put after it", store.words("put"), ref_of(blob).encode() + b"\n", source=blob)
+        known[ref_of(blob)] = blob
+    store.packs = reference.packs_of(store.files())
+    stands_all = store.blobs()
+    for ref, blob in known.items():
+        compare(what, f"{ref} in the packs", blob, stands_all.get(ref))
+        store.program.check(f"{what}, a get after it", store.words("get", ref), blob)
+    store.reads(f"{what}, a list after it", "list", out=reference.listing(stands_all))
+
+
+if __name__ == "__main__":
+    harness.main("faults.sh", [syncs, failing])
