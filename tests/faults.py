@@ -1,7 +1,9 @@
-"""Calls to the kernel that fail, and the order of writes, syncs and prints (docs/store.md, "Crashes"; docs/commands.md, "Exit statuses").
+"""Calls to the kernel that fail, and the order of writes, syncs and prints (docs/store.md, "Crashes";
+docs/commands.md, "Exit statuses").
 
-First the calls of a put that succeeds are looked at; then the same put is run once for each of these calls, which fails. Whatever
-fails, the blobs of before stand, a ref that was printed is found and was durable when it was printed, and the next puts succeed.
+First the calls of a put that succeeds are looked at; then the same put is run once for each of these calls, which
+fails. Whatever fails, the blobs of before stand, a ref that was printed is found and was durable when it was printed,
+and the next puts succeed.
 """
 
 import os
@@ -44,8 +46,8 @@ def put_is_synced(program, what):
 
 
 def is_durable_when_printed(what, calls, folder, number, packs, is_new):
-    """The record is synced by the file that it was written to, behind its last write and before the ref is printed; so are the names of
-    a new pack and of a new folder."""
+    """The record is synced by the file that it was written to, behind its last write and before the ref is printed;
+    so are the names of a new pack and of a new folder."""
     path = folder / pack_name(number)
     printed = places(calls, WRITES, file=1)[0]
     written = [place for place in places(calls, WRITES, path) if place < printed]
@@ -91,7 +93,8 @@ FAILING = CHANGING + READS + LOCKS + LISTS + LOOKS
 
 
 def failing(program):
-    """Each call of a put in turn fails, once; the writes and syncs also from there on, and so that what they left can't be cut back."""
+    """Each call of a put in turn fails, once; the writes and syncs also from there on, and so that what they left
+    can't be cut back."""
     need_strace(program)
     return [check for what in STORES for check in failing_calls(program, what)]
 

@@ -17,7 +17,6 @@ import mmap
 import os
 import pathlib
 import random
-import resource
 import shutil
 import subprocess
 import sys
@@ -97,9 +96,10 @@ class Program:
             os.replace(file.name, folder / "keyring")
         return folder
 
-    def start(self, words, folder=None, **streams):
+    def start(self, words, folder=None, front=(), **streams):
+        """Starts the program, by another one that it takes the place of where there are words in front."""
         self.starts[words[0] if words else ""] += 1
-        return subprocess.Popen([self.path, *words], cwd=folder or self.working, stderr=subprocess.PIPE, **streams)
+        return subprocess.Popen([*front, self.path, *words], cwd=folder or self.working, stderr=subprocess.PIPE, **streams)
 
     def run(self, what, words, source=b"", folder=None, seconds=SECONDS, **streams):
         """Runs the program to its end; answers its status, output and errors."""
@@ -125,12 +125,12 @@ def finish(what, process, source=None, seconds=SECONDS):
 
 
 def with_streams(program, what, line, status, source=os.devnull, sink=os.devnull, closed=None, folder=None):
-    """Runs the program with streams that are paths, or open files, or one of them closed; it has to end with the status."""
+    """Runs the program with streams that are paths, or open files, or one of them closed; it has to end with the
+    status."""
     source = os.open(source, os.O_RDONLY) if not isinstance(source, int) else os.dup(source)
     sink = os.open(sink, os.O_WRONLY) if not isinstance(sink, int) else os.dup(sink)
-    close = None if closed is None else lambda: os.close(closed)
     try:
-        process = program.start(line, folder, stdin=source, stdout=sink, preexec_fn=close)
+        process = program.start(line, folder, () if closed is None else without(closed), stdin=source, stdout=sink)
     finally:
         os.close(source)
         os.close(sink)
@@ -139,7 +139,8 @@ def with_streams(program, what, line, status, source=os.devnull, sink=os.devnull
 
 
 def with_broken_source(program, what, line, front, **streams):
-    """Runs the program with a standard input that gives some bytes, and whose next read fails; it has to end with status 5.
+    """Runs the program with a standard input that gives some bytes, and whose next read fails; it has to end with
+    status 5.
 
     The input is memory of this process, in front of a page whose part of a file is gone.
     """
@@ -153,9 +154,17 @@ def with_broken_source(program, what, line, front, **streams):
         with_streams(program, what, line, 5, source=memory.fileno(), **streams)
 
 
+# What stands in front of a program's words, where it is to start under some condition. (No code of Python's runs between a fork
+# and the program: that may hang where there are threads.)
+
 def limited_to(mib):
-    """What limits a process that begins to so many MiB of memory."""
-    return lambda: resource.setrlimit(resource.RLIMIT_AS, (mib << 20, mib << 20))
+    """So many MiB of memory."""
+    return ("prlimit", f"--as={mib << 20}")
+
+
+def without(stream):
+    """A standard stream, by its number, that is closed."""
+    return ("sh", "-c", f'exec "$@" {stream}>&-', "sh")
 
 
 # Running groups
@@ -224,14 +233,16 @@ class LeftOut(Exception):
 def main(script, groups, one_at_a_time=(), checks_of=None, end=None):
     """Runs the groups whose names are the words of the command line, or all where there is none, and ends.
 
-    A group is a function of the program that answers its checks, which are functions of nothing; or `checks_of` makes them of the
-    program and a group. Those of `one_at_a_time` run one after another, those of `groups` some at once. `end` is told the program.
+    A group is a function of the program that answers its checks, which are functions of nothing; or `checks_of` makes
+    them of the program and a group. Those of `one_at_a_time` run one after another, those of `groups` some at once.
+    `end` is told the program.
     """
     names = sys.argv[1:]
     known = [group.__name__ for group in [*groups, *one_at_a_time]]
     unknown = [name for name in names if name not in known]
     if unknown:
-        sys.exit(f"{script} has no group {unknown[0]}; it has {', '.join(known)}")
+        print(f"{script} has no group {unknown[0]}; it has {', '.join(known)}\n0 passed, 1 failed")
+        sys.exit(1)
     checks_of = checks_of or (lambda program, group: group(program))
     run = Run(script)
     scratch = tempfile.mkdtemp(prefix="perkeep-")

@@ -1,12 +1,13 @@
 """Kills the program while it puts blobs, and finds afterwards every blob whose ref was printed.
 
-A shell puts blobs of 1 byte to 300,000 bytes into a store, one after another, and its whole process group is killed by SIGKILL:
-after a random time, or as soon as a pack is seen to grow, and then some blobs are longer. The next shell goes on with the same
-store. A ref counts as printed once its whole line was read. After each kill the packs are compared with what must stand in them,
-and in the end each printed ref is asked for. As each start reads the whole store, the kills are shared out among a few stores.
+A shell puts blobs of 1 byte to 300,000 bytes into a store, one after another, and its whole process group is killed
+by SIGKILL: after a random time, or as soon as a pack is seen to grow, and then some blobs are longer. The next shell
+goes on with the same store. A ref counts as printed once its whole line was read. After each kill the packs are
+compared with what must stand in them, and in the end each printed ref is asked for. As each start reads the whole
+store, the kills are shared out among a few stores.
 
-A kill can't show that a record was synced before its ref was printed: what a killed program has written, the kernel keeps. The
-group `syncs` of faults.sh looks at that.
+A kill can't show that a record was synced before its ref was printed: what a killed program has written, the kernel
+keeps. The group `syncs` of faults.sh looks at that.
 """
 
 import collections
@@ -55,7 +56,8 @@ class Round:
         return os.waitid(os.P_PID, self.process.pid, os.WEXITED | os.WNOHANG | os.WNOWAIT) is not None
 
     def kill(self):
-        """Kills the shell and what it has started; answers the whole lines that were printed, and whether all puts were done."""
+        """Kills the shell and what it has started; answers the whole lines that were printed, and whether all puts
+        were done."""
         os.killpg(self.process.pid, signal.SIGKILL)
         out = self.process.stdout.read()
         status = self.process.wait()
@@ -105,7 +107,8 @@ class Killed:
         self.settle(blobs, lines, is_done)
 
     def random_blob(self, is_watched):
-        """Mostly a small blob. Where the write of it is watched, some are long, so that the kill comes within the write."""
+        """Mostly a small blob. Where the write of it is watched, some are long, so that the kill comes within the
+        write."""
         if is_watched and self.chance.random() < 0.25:
             return self.chance.randbytes(self.chance.randrange(LARGEST, LARGEST_WATCHED))
         return self.chance.randbytes(int(math.exp(self.chance.uniform(0, math.log(LARGEST)))))
@@ -135,7 +138,8 @@ class Killed:
         self.endings["all puts done" if is_done else unfinished] += 1
 
     def look(self, what):
-        """The refs of the records that were added, and what was left unfinished, if anything. All else must be as it was."""
+        """The refs of the records that were added, and what was left unfinished, if anything. All else must be as it
+        was."""
         packs = self.packs_there()
         growing = self.growing_pack()
         added, ending = [], None

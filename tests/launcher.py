@@ -1,7 +1,7 @@
 """The launcher ./perkeep: when it builds, what it says, and what it runs.
 
-Each check has a small tree with the launcher and the crates.txt of the repository, and a toolchain `rt` that only says that it builds:
-its program tells from which text of a source it was made. Nothing is proved here.
+Each check has a small tree with the launcher and the crates.txt of the repository, and a toolchain `rt` that only
+says that it builds: its program tells from which text of a source it was made. Nothing is proved here.
 """
 
 import itertools

@@ -2,8 +2,8 @@
 #
 #     tests/NAME.sh [GROUP..]
 #
-# Without a group all groups of the script are run. The last line is `N passed, M failed`, and the status is 0 where nothing failed. A
-# failure is told with the command that runs its group again.
+# Without a group all groups of the script are run. The last line is `N passed, M failed`, and the status is 0 where
+# nothing failed. A failure is told with the command that runs its group again.
 #
 #     PERKEEP=PATH   runs that program; else the launcher ./perkeep builds its own where needed, and that one is run
 #     SEED=N         makes other random choices

@@ -1,10 +1,11 @@
 """What the program's commands answer and store, worked out a second time.
 
-Everything here is written from the pages of docs/ alone, to be read beside them: claims.md, commands.md, and of formats/ packs.md,
-blobrefs.md, schema.md, dates.md, keyring.md and answers.md. It is slow and plain on purpose. The tests compare the program with it.
+Everything here is written from the pages of docs/ alone, to be read beside them: claims.md, commands.md, and of
+formats/ packs.md, blobrefs.md, schema.md, dates.md, keyring.md and answers.md. It is slow and plain on purpose. The
+tests compare the program with it.
 
-Each constant names the page, and the part of it, that it is from. Bytes are `bytes`, refs and texts are `str`. A moment is a number of
-nanoseconds, and ALWAYS stands for no moment at all.
+Each constant names the page, and the part of it, that it is from. Bytes are `bytes`, refs and texts are `str`. A
+moment is a number of nanoseconds, and ALWAYS stands for no moment at all.
 """
 
 import datetime
@@ -450,7 +451,8 @@ class Archive:
         return claims
 
     def deleted(self, ref, when):
-        """Whether a permanode or a claim is deleted: some delete claim on it counts at the moment and isn't deleted itself."""
+        """Whether a permanode or a claim is deleted: some delete claim on it counts at the moment and isn't deleted
+        itself."""
         if ref not in self.facts or self.facts[ref].kind not in ("Permanode", "Claim"):
             return False
         if (ref, when) not in self.known_deleted:

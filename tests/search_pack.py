@@ -253,7 +253,7 @@ def limits():
             raise Difference(f"a longer pack: {taken} bytes were taken, at most {most} should be")
 
     def no_memory(program):
-        poured(program, "a pack that doesn't fit into memory", 128 * PIECE, 1, preexec_fn=limited_to(64))
+        poured(program, "a pack that doesn't fit into memory", 128 * PIECE, 1, front=limited_to(64))
 
     return [greatest, one_byte_longer, longer, no_memory]
 

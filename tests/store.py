@@ -1,7 +1,8 @@
-"""Runs the commands over a store of packs in real folders, and compares outputs, exit statuses and all bytes on the disk.
+"""Runs the commands over a store of packs in real folders, and compares outputs, exit statuses and all bytes on the
+disk.
 
-Here are the worked rows, puts of many blobs, listings and searches; store_refusals.py has what is refused, and store_packs.py
-what packs may look like. What is compared, and with what, is said in stores.py.
+Here are the worked rows, puts of many blobs, listings and searches; store_refusals.py has what is refused, and
+store_packs.py what packs may look like. What is compared, and with what, is said in stores.py.
 """
 
 import itertools
@@ -304,7 +305,8 @@ def check_form(store, options):
 
 
 def other_keyrings(program):
-    """Values that begin with a hyphen or are empty, an attribute with an equals sign, and keyrings that are another one or missing."""
+    """Values that begin with a hyphen or are empty, an attribute with an equals sign, and keyrings that are another
+    one or missing."""
     for value in ("-a", "", "--", "a=b", "\u00e4"):
         source, found = inputs.pack_with_value("tag", value)
         store = Store(program, {0: source}, {"keyring": inputs.KEYRING})

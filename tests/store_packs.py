@@ -6,7 +6,6 @@ Each group is a function of the program, and answers its checks.
 import collections
 import itertools
 import os
-import resource
 import shutil
 import signal
 import subprocess
@@ -106,7 +105,8 @@ def salvage_of_full_pack(length, number):
 # Files that can't grow
 
 def file_limits(program):
-    """Puts under a limit of the length of files, as on a disk that is full: with the signal of the limit ignored, and not."""
+    """Puts under a limit of the length of files, as on a disk that is full: with the signal of the limit ignored, and
+    not."""
     endings = collections.Counter()
     checks = []
     for handler in (signal.SIG_IGN, signal.SIG_DFL):
@@ -122,12 +122,9 @@ def within(program, packs, room, handler, endings):
     what = f"room for {room} bytes beside {packs and sorted(packs)}"
     into = reference.pack_for_the_next_record(store.packs)
     limit = len(store.packs.get(into, b"")) + room
-
-    def limited():
-        signal.signal(signal.SIGXFSZ, handler)
-        resource.setrlimit(resource.RLIMIT_FSIZE, (limit, limit))
-
-    status, out, err = program.run(what, store.words("put"), blob, preexec_fn=limited)
+    heeds = 'trap "" XFSZ; ' if handler == signal.SIG_IGN else ""
+    limited = ("sh", "-c", f'{heeds}exec prlimit --fsize={limit} "$@"', "sh")
+    status, out, err = program.run(what, store.words("put"), blob, front=limited)
     if room < len(record(blob)):
         killed = handler == signal.SIG_DFL and status == -signal.SIGXFSZ
         if not killed:
@@ -148,7 +145,8 @@ SCANT, AMPLE = 12, 256
 
 
 def memory_limits(program):
-    """Commands with so many MiB of memory, about the longest blob, which has 16: they fail where it can't fit, and leave all as it was."""
+    """Commands with so many MiB of memory, about the longest blob, which has 16: they fail where it can't fit, and
+    leave all as it was."""
     longest = bytes(reference.LARGEST_BLOB)
     checks = [
         lambda packs=packs, mib=mib: put_within_memory(program, packs, longest, mib)
@@ -161,7 +159,7 @@ def memory_limits(program):
 def put_within_memory(program, packs, blob, mib):
     store, what = Store(program, packs), f"a put within {mib} MiB beside {packs and sorted(packs)}"
     before = look(store.path)
-    status, out, err = program.run(what, store.words("put"), blob, preexec_fn=limited_to(mib))
+    status, out, err = program.run(what, store.words("put"), blob, front=limited_to(mib))
     if mib <= SCANT or mib < AMPLE and status != 0:
         compare_ending(what, 1, status, err)
         compare(what, "standard output", b"", out)
@@ -178,7 +176,7 @@ def read_within_memory(store, line):
     """A store whose pack doesn't fit can't be opened."""
     what = f"{line[0]} within {SCANT} MiB"
     before = look(store.path)
-    status, out, err = store.program.run(what, line, b"new", preexec_fn=limited_to(SCANT))
+    status, out, err = store.program.run(what, line, b"new", front=limited_to(SCANT))
     compare_ending(what, 1, status, err)
     compare(what, "standard output", b"", out)
     compare(what, "the folder", before, look(store.path))
@@ -196,7 +194,8 @@ def removed(program):
 
 
 def removed_after(program, moment, endings):
-    """The folder goes while a put opens its packs or writes: the disk's fault, or a ref whose blob stands if a folder does."""
+    """The folder goes while a put opens its packs or writes: the disk's fault, or a ref whose blob stands if a folder
+    does."""
     store = Store(program, {number: pack(bytes([number]) * 1_048_576) for number in range(16)})
     what = f"the folder is removed after {moment:.3f} seconds"
     source = program.new_path()

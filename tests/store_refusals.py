@@ -12,7 +12,7 @@ import subprocess
 
 import inputs
 import reference
-from harness import LeftOut, Program, compare, compare_ending, with_broken_source, with_streams
+from harness import LeftOut, Program, compare, compare_ending, with_broken_source, with_streams, without
 from reference import pack_name, ref_of
 from stores import ABC, NOTHING_FOUND, READING, Store, lines_of, look
 from writing import pack, record
@@ -223,8 +223,8 @@ def closed_errors(program):
     source = program.new_path()
     source.write_bytes(b"kept")
     with open(source, "rb") as stdin, open("/dev/full", "wb") as stdout:
-        words = [program.path, *store.words("put")]
-        status = subprocess.run(words, cwd=program.working, stdin=stdin, stdout=stdout, preexec_fn=lambda: os.close(2)).returncode
+        words = [*without(2), program.path, *store.words("put")]
+        status = subprocess.run(words, cwd=program.working, stdin=stdin, stdout=stdout).returncode
     compare("standard error is closed", "exit status", 6, status)
     store.packs = reference.put(store.packs, b"kept")
     store.check_files("standard error is closed")
@@ -420,7 +420,8 @@ SOON = 5
 
 
 def special_files(program):
-    """A pack that is a pipe or a folder is the disk's fault, and a keyring that is one a failed read, and nothing waits for a writer."""
+    """A pack that is a pipe or a folder is the disk's fault, and a keyring that is one a failed read, and nothing
+    waits for a writer."""
     checks = []
     for number in (0, 3):
         store = Store(program, {1: pack(b"abc")})
@@ -454,7 +455,7 @@ def modes(program):
 
 def made_with_modes(program, mask):
     what, store = f"modes under {mask:03o}", Store(program)
-    status, _, err = program.run(what, store.words("put"), b"abc", preexec_fn=lambda: os.umask(mask))
+    status, _, err = program.run(what, store.words("put"), b"abc", umask=mask)
     compare_ending(what, 0, status, err)
     compare(what, "modes", ("700", "600"), modes_of(store))
 

@@ -1,7 +1,8 @@
-"""Stores in real folders: runs the program over them, and compares what it prints, how it ends and every byte that then stands.
+"""Stores in real folders: runs the program over them, and compares what it prints, how it ends and every byte that
+then stands.
 
-What has to be printed, and each byte of each pack, is the reference's. The refs that `put` prints are those of the tool sha224sum.
-Each command that only reads must leave the folder as it was, to the times of its files.
+What has to be printed, and each byte of each pack, is the reference's. The refs that `put` prints are those of the
+tool sha224sum. Each command that only reads must leave the folder as it was, to the times of its files.
 """
 
 import shutil

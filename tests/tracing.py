@@ -1,4 +1,5 @@
-"""The calls to the kernel that the program makes, by strace: in which order they come, and what happens where one of them fails."""
+"""The calls to the kernel that the program makes, by strace: in which order they come, and what happens where one of
+them fails."""
 
 import re
 import shutil
@@ -20,7 +21,8 @@ ERROR = re.compile(r"\) += -1 ([A-Z0-9]+)")
 
 
 class Call(NamedTuple):
-    """A call: the how-manieth of its name it is, the number of its file and the path, if any, its words, and its error, if it failed."""
+    """A call: the how-manieth of its name it is, the number of its file and the path, if any, its words, and its
+    error, if it failed."""
 
     name: str
     number: int
@@ -43,7 +45,8 @@ def need_strace(program):
 
 
 def trace(program, words, source=b"", faults=()):
-    """Runs the program, with calls that fail as strace's words say; answers its status, output, errors and calls in order."""
+    """Runs the program, with calls that fail as strace's words say; answers its status, output, errors and calls in
+    order."""
     log = program.new_path()
     program.starts[words[0]] += 1
     command = ["strace", "-f", "-y", "-s", "0", "-o", str(log), "-e", "trace=" + ",".join("?" + name for name in TRACED)]

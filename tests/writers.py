@@ -1,7 +1,8 @@
-"""Many programs over one folder at once: writers beside writers, of which some are killed, readers beside a writer, and a locked folder.
+"""Many programs over one folder at once: writers beside writers, of which some are killed, readers beside a writer,
+and a locked folder.
 
-One writer works at a time: a put waits for the lock of the folder, about ten seconds at most. Readers wait for nobody. A blob counts as
-acknowledged once its put has printed its ref and ended.
+One writer works at a time: a put waits for the lock of the folder, about ten seconds at most. Readers wait for
+nobody. A blob counts as acknowledged once its put has printed its ref and ended.
 """
 
 import concurrent.futures
@@ -27,7 +28,8 @@ SECONDS_OF_WAITING = 10
 
 
 def at_once(tasks, workers):
-    """Runs tasks, so many at a time; answers what they gave, in their order. The first difference is raised once all have ended."""
+    """Runs tasks, so many at a time; answers what they gave, in their order. The first difference is raised once all
+    have ended."""
     with concurrent.futures.ThreadPoolExecutor(workers) as pool:
         return [done.result() for done in [pool.submit(task) for task in tasks]]
 
@@ -48,7 +50,8 @@ def found_in(what, store, blobs):
 # Writers beside writers
 
 def writers(program):
-    """Puts by several programs at a time into a folder that isn't there: all end well, none is lost, none stands twice, no pack is torn."""
+    """Puts by several programs at a time into a folder that isn't there: all end well, none is lost, none stands
+    twice, no pack is torn."""
     return [lambda turn=turn: put_side_by_side(program, turn) for turn in range(2)]
 
 
@@ -70,7 +73,8 @@ def put_side_by_side(program, turn):
 
 
 def killed_writers(program):
-    """The same with a tenth of the programs killed: each ref that was printed is found, and those that weren't killed end well."""
+    """The same with a tenth of the programs killed: each ref that was printed is found, and those that weren't killed
+    end well."""
     return [lambda turn=turn: put_and_kill(program, turn) for turn in range(2)]
 
 
@@ -104,7 +108,8 @@ def put_and_kill(program, turn):
 # Readers beside a writer
 
 class Beside:
-    """A store that grows by a writer while others read: what was acknowledged, and which permanodes have a tag by that."""
+    """A store that grows by a writer while others read: what was acknowledged, and which permanodes have a tag by
+    that."""
 
     def __init__(self, program):
         self.program = program
@@ -158,7 +163,8 @@ class Beside:
 
 
 def readers(program):
-    """Each answers with all that was acknowledged when it began, and nothing that never was, while a hundred blobs are put."""
+    """Each answers with all that was acknowledged when it began, and nothing that never was, while a hundred blobs
+    are put."""
     return [lambda: read_beside(program)]
 
 
@@ -189,7 +195,8 @@ class Locked:
 
 
 def locked(program):
-    """A put waits for the lock, two seconds as well as not at all, and gives up after about ten; who reads doesn't wait."""
+    """A put waits for the lock, two seconds as well as not at all, and gives up after about ten; who reads doesn't
+    wait."""
     return [lambda check=check: check(program) for check in (waits_too_long, waits_and_puts, reads_on)]
 
 
@@ -205,7 +212,7 @@ def waits_too_long(program):
         program.check(what, store.words("put"), status=7, source=b"new")
         seconds = time.monotonic() - start
     compare(what, "the folder", before, look(store.path))
-    check(f"{what}: the put waited {seconds:.1f} seconds", SECONDS_OF_WAITING - 1 <= seconds <= SECONDS_OF_WAITING + 5)
+    check(f"{what}: the put waited {seconds:.1f} seconds", SECONDS_OF_WAITING - 1 <= seconds <= 2 * SECONDS_OF_WAITING)
     store.put(f"{what}, until it isn't", b"new")
 
 
