@@ -106,7 +106,7 @@ def content(found):
 
 # docs/formats/packs.md, "Pack files"
 PACK_NAME = re.compile(r"pack-([0-9]{5})\.blobs")
-# docs/store.md, "Where a record goes": `pack_bytes`
+# docs/formats/packs.md, "The limits of a store"
 BYTES_OF_A_FULL_PACK = 536_870_912
 # docs/store.md, "Putting a blob": `last_pack`; the last number of five digits, docs/formats/packs.md, "Pack files"
 LAST_PACK = 99_999
