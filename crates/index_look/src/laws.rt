@@ -10,13 +10,14 @@ ghost use Rattle.index_look.specs.Look.{permanode_after};
 
 use crate::look::Look;
 
-/// Two indexes over the same facts, whose keys accept the same, give the same answers, whichever way each is kept: what the calls
-/// of `Look` answer is the same for both.
+/// Two indexes over the same facts, whose keys accept the same, give the same answers, whichever way each is kept:
+/// what the calls of `Look` answer is the same for both.
 pub fn equal_maps_give_equal_answers<A: Look, B: Look>(a: &A, b: &B)
     requires facts { A.facts a.now ≡ B.facts b.now }
     requires accepts { A.accepts a.now ≡ B.accepts b.now }
     ensures fact_of { (r : List ℕ) → ready_fact (A.facts a.now) r ≡ ready_fact (B.facts b.now) r }
-    ensures is_permanode { (r : List ℕ) → is_genuine_permanode (A.facts a.now) (A.accepts a.now) r ≡ is_genuine_permanode (B.facts b.now) (B.accepts b.now) r }
+    ensures is_permanode { (r : List ℕ) → is_genuine_permanode (A.facts a.now) (A.accepts a.now) r
+        ≡ is_genuine_permanode (B.facts b.now) (B.accepts b.now) r }
     ensures permanode_after { (after : Option (List ℕ))
         → permanode_after (A.facts a.now) (A.accepts a.now) after ≡ permanode_after (B.facts b.now) (B.accepts b.now) after }
     ensures deleted { (when : When) (r : List ℕ)

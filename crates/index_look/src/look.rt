@@ -15,8 +15,9 @@ use schema_date::{Date, When};
 use schema_fact::Fact;
 use std::sync::ledger::Ledger;
 
-/// An index over facts under their refs, and what its keys accept. Whatever way it is kept, its answers are those of the
-/// definitions over these two (`docs/claims.md`). `steps` counts the look-ups of rows and the steps from one row to the next.
+/// An index over facts under their refs, and what its keys accept. Whatever way it is kept, its answers are those of
+/// the definitions over these two (`docs/claims.md`). `steps` counts the look-ups of rows and the steps from one row
+/// to the next.
 pub trait Look {
     /// The facts, under their refs.
     ghost facts: { Self → Facts };
@@ -57,13 +58,14 @@ pub trait Look {
     fn last_change<L: Ledger>(&self, p: &Ref, when: &When, steps: &mut Steps<L>) -> Option<Date>
         ensures { result ≡ last_change (facts self.now) (accepts self.now) when.now p.now };
 
-    /// The size of a file: the sum of the sizes of its parts. `None` exactly where the ref isn't a file that is ready and all of whose
-    /// parts stand in their origins.
+    /// The size of a file: the sum of the sizes of its parts. `None` exactly where the ref isn't a file that is ready
+    /// and all of whose parts stand in their origins.
     fn file_size<L: Ledger>(&self, r: &Ref, steps: &mut Steps<L>) -> Option<u64>
         ensures { result ≡ file_size (facts self.now) r.now };
 
-    /// The genuine permanodes not deleted that have the value of the attribute, by claims of every date, ascending. Where the index is
-    /// quick and there are n of them, it takes at most 6 (1 + n) steps, whatever it answers. `NoMemory` comes only where no memory is left.
+    /// The genuine permanodes not deleted that have the value of the attribute, by claims of every date, ascending.
+    /// Where the index is quick and there are n of them, it takes at most 6 (1 + n) steps, whatever it answers.
+    /// `NoMemory` comes only where no memory is left.
     fn holders<L: Ledger>(
         &self,
         attr: &str,
@@ -71,10 +73,11 @@ pub trait Look {
         steps: &mut Steps<L>,
     ) -> Result<RefList, NoMemory>
         ensures value { IfOk result (λ refs. refs ≡ holders (facts self.now) (accepts self.now) attr.now value.now) }
-        ensures ticks { quick self.now → steps.new ≤ steps.old + 6 * (1 + length (holders (facts self.now) (accepts self.now) attr.now value.now)) };
+        ensures ticks { quick self.now → steps.new ≤ steps.old + 6 *
+            (1 + length (holders (facts self.now) (accepts self.now) attr.now value.now)) };
 
-    /// The genuine permanodes not deleted at that time that have the child's text among their values of `camliMember` at that
-    /// time, ascending. `NoMemory` comes only where no memory is left.
+    /// The genuine permanodes not deleted at that time that have the child's text among their values of `camliMember`
+    /// at that time, ascending. `NoMemory` comes only where no memory is left.
     fn parents<L: Ledger>(
         &self,
         child: &Ref,

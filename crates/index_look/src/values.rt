@@ -15,8 +15,8 @@ use schema_fact::What;
 use std::alloc::Global;
 use std::sync::ledger::Ledger;
 
-/// The values of the attribute of a permanode after the claims of these moments, one after another. One look-up for each. `NoMemory` comes only where
-/// no memory is left.
+/// The values of the attribute of a permanode after the claims of these moments, one after another. One look-up for
+/// each. `NoMemory` comes only where no memory is left.
 pub fn folded<T: FactTable, L: Ledger>(
     alloc: Global,
     table: &T,
@@ -25,7 +25,8 @@ pub fn folded<T: FactTable, L: Ledger>(
     attr: &str,
     steps: &mut Steps<L>,
 ) -> Result<TextList, NoMemory>
-    ensures { IfOk result (λ texts. texts ≡ fold (λ found m. apply_said p.now attr.now found (said (T.facts table.now) m.1)) [] moments.now) }
+    ensures { IfOk result (λ texts. texts ≡ fold (λ found m. apply_said p.now attr.now found
+        (said (T.facts table.now) m.1)) [] moments.now) }
 {
     let mut found = Vec::new(alloc);
     for (_, r) in moments {
@@ -43,7 +44,8 @@ fn apply_said<'a, T: FactTable, L: Ledger>(
     attr: &str,
     steps: &mut Steps<L>,
 ) -> Result<(), NoMemory>
-    ensures { OnOk result (map (λ t. t.now) found.new.items ≡ apply_said p.now attr.now (map (λ t. t.now) found.old.items) (said (T.facts table.now) r.now)) }
+    ensures { OnOk result (map (λ t. t.now) found.new.items ≡ apply_said p.now attr.now
+        (map (λ t. t.now) found.old.items) (said (T.facts table.now) r.now)) }
 {
     match said(table, r, steps) {
         Some(what) => apply(found, p, what, attr),
@@ -64,7 +66,8 @@ fn said<'a, T: FactTable, L: Ledger>(
 
 // What a claim makes of the values of the attribute of the permanode.
 fn apply<'a>(found: &mut Vec<&'a Text>, p: &Ref, what: &'a What, attr: &str) -> Result<(), NoMemory>
-    ensures { OnOk result (map (λ t. t.now) found.new.items ≡ apply p.now attr.now (map (λ t. t.now) found.old.items) what.now) }
+    ensures { OnOk result (map (λ t. t.now) found.new.items ≡ apply p.now attr.now
+        (map (λ t. t.now) found.old.items) what.now) }
 {
     match what {
         What::Set {
@@ -92,7 +95,8 @@ fn apply<'a>(found: &mut Vec<&'a Text>, p: &Ref, what: &'a What, attr: &str) -> 
 
 // Takes out each value that is equal, and with the empty text all.
 fn remove(found: &mut Vec<&Text>, value: &str)
-    ensures { map (λ t. t.now) found.new.items ≡ (if length value.now == 0 then [] else filter (λ v. not (bytes_eq v value.now)) (map (λ t. t.now) found.old.items)) }
+    ensures { map (λ t. t.now) found.new.items ≡ (if length value.now == 0 then [] else filter
+        (λ v. not (bytes_eq v value.now)) (map (λ t. t.now) found.old.items)) }
 {
     if value.is_empty() {
         found.clear();

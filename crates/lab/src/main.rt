@@ -1,4 +1,5 @@
-//! The yardsticks of `bench/`, in one program: `lab WORD` measures what the word names over standard input, and prints one line.
+//! The yardsticks of `bench/`, in one program: `lab WORD` measures what the word names over standard input, and
+//! prints one line.
 //!
 //! It is no part of the archive's program. It ends with that program's exit statuses.
 #![tactic(auto)]

@@ -1,4 +1,5 @@
-//! What is measured, and the word for each. One yardstick more is a variant of `Yardstick`, its word, and the function that makes its line.
+//! What is measured, and the word for each. One yardstick more is a variant of `Yardstick`, its word, and the
+//! function that makes its line.
 
 use blobref::{NoMemory, Ref};
 use salvage_scan::{Clean, scan};

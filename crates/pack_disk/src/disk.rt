@@ -10,8 +10,9 @@ use edge_base::Failed;
 
 /// Where packs are kept, under their numbers from 0 to 99,999 (`docs/formats/packs.md`).
 ///
-/// Clauses on what it holds stand where the disk tells that, and clauses on images only for those it has: a disk that doesn't tell
-/// has none. Each call that fails raises the count of faults by one, or leaves it at the last value of its type.
+/// Clauses on what it holds stand where the disk tells that, and clauses on images only for those it has: a disk that
+/// doesn't tell has none. Each call that fails raises the count of faults by one, or leaves it at the last value of
+/// its type.
 pub trait Disk {
     /// The bytes of each pack, where the disk tells them.
     ghost packs: { Self → Option Packs };
@@ -34,57 +35,69 @@ pub trait Disk {
         ensures range { IfOk result (λ o. IfSome o (λ n. (from ≤ n) × (n ≤ last_number))) }
         ensures told { packs self.new ≡ packs self.old }
         ensures crash { NoNew (images self.old) (images self.new) }
-        ensures time { Elapses (moment self.old) (moment self.new) (images_since self.old) (images_since self.new) (images self.new) }
+        ensures time { Elapses (moment self.old) (moment self.new) (images_since self.old) (images_since self.new)
+            (images self.new) }
         ensures cause { HasCause (faults self.old) (faults self.new) result };
 
     /// How many bytes a pack has.
     fn size(&mut self, pack: u32) -> Result<u64, Failed>
         requires { ForSome (packs self.old) (λ held. IsSome (get held pack)) }
-        ensures size { IfOk result (λ n. ForSome (packs self.old) (λ held. (bytes : List ℕ) → get held pack ≡ Some bytes → n ≡ length bytes)) }
+        ensures size { IfOk result (λ n. ForSome (packs self.old)
+            (λ held. (bytes : List ℕ) → get held pack ≡ Some bytes → n ≡ length bytes)) }
         ensures told { packs self.new ≡ packs self.old }
         ensures crash { NoNew (images self.old) (images self.new) }
-        ensures time { Elapses (moment self.old) (moment self.new) (images_since self.old) (images_since self.new) (images self.new) }
+        ensures time { Elapses (moment self.old) (moment self.new) (images_since self.old) (images_since self.new)
+            (images self.new) }
         ensures cause { HasCause (faults self.old) (faults self.new) result };
 
-    /// Puts the pack's bytes from the place `at` on in front of the buffer, and says how many. Fewer than the buffer has room for
-    /// are all that the pack has from there on.
+    /// Puts the pack's bytes from the place `at` on in front of the buffer, and says how many. Fewer than the buffer
+    /// has room for are all that the pack has from there on.
     fn read(&mut self, pack: u32, at: u64, buf: &mut [u8]) -> Result<usize, Failed>
         requires { ForSome (packs self.old) (λ held. IsSome (get held pack)) }
         ensures bound { IfOk result (λ n. n ≤ length buf.old) }
-        ensures bytes { IfOk result (λ n. ForSome (packs self.old) (λ held. (bytes : List ℕ) → get held pack ≡ Some bytes → ReadAt bytes at (length buf.old) n buf.new)) }
+        ensures bytes { IfOk result (λ n. ForSome (packs self.old)
+            (λ held. (bytes : List ℕ) → get held pack ≡ Some bytes → ReadAt bytes at (length buf.old) n buf.new)) }
         ensures told { packs self.new ≡ packs self.old }
         ensures crash { NoNew (images self.old) (images self.new) }
-        ensures time { Elapses (moment self.old) (moment self.new) (images_since self.old) (images_since self.new) (images self.new) }
+        ensures time { Elapses (moment self.old) (moment self.new) (images_since self.old) (images_since self.new)
+            (images self.new) }
         ensures cause { HasCause (faults self.old) (faults self.new) result };
 
-    /// Makes an empty pack. A crash may leave it missing until it was synced. After a failure it may be there without bytes, or not.
+    /// Makes an empty pack. A crash may leave it missing until it was synced. After a failure it may be there without
+    /// bytes, or not.
     fn make(&mut self, pack: u32) -> Result<(), Failed>
         requires number { pack ≤ last_number }
         requires absent { ForSome (packs self.old) (λ held. get held pack ≡ None) }
         ensures told { Tells (packs self.old) (packs self.new) (Makes pack) }
-        ensures made { OnOk result (Tells (packs self.old) (packs self.new) (λ before now. now ≡ insert before pack [])) }
+        ensures made { OnOk result (Tells (packs self.old) (packs self.new)
+            (λ before now. now ≡ insert before pack [])) }
         ensures crash { Follows (Makes pack) (images self.old) (images self.new) }
-        ensures time { Elapses (moment self.old) (moment self.new) (images_since self.old) (images_since self.new) (images self.new) }
+        ensures time { Elapses (moment self.old) (moment self.new) (images_since self.old) (images_since self.new)
+            (images self.new) }
         ensures cause { HasCause (faults self.old) (faults self.new) result };
 
-    /// Adds bytes to a pack. Until it is synced a crash may leave any bytes there, or none. After a failure any bytes may have been
-    /// added.
+    /// Adds bytes to a pack. Until it is synced a crash may leave any bytes there, or none. After a failure any bytes
+    /// may have been added.
     fn append(&mut self, pack: u32, bytes: &[u8]) -> Result<(), Failed>
         requires { ForSome (packs self.old) (λ held. IsSome (get held pack)) }
-        ensures told { Tells (packs self.old) (packs self.new) (λ before now. SameOthers pack before now × IsSome (get now pack)) }
+        ensures told { Tells (packs self.old) (packs self.new)
+            (λ before now. SameOthers pack before now × IsSome (get now pack)) }
         ensures appended { OnOk result (Tells (packs self.old) (packs self.new) (λ before now.
             (had : List ℕ) → get before pack ≡ Some had → get now pack ≡ Some (had ++ bytes.now))) }
         ensures crash { Follows (Extends pack) (images self.old) (images self.new) }
-        ensures time { Elapses (moment self.old) (moment self.new) (images_since self.old) (images_since self.new) (images self.new) }
+        ensures time { Elapses (moment self.old) (moment self.new) (images_since self.old) (images_since self.new)
+            (images self.new) }
         ensures cause { HasCause (faults self.old) (faults self.new) result };
 
     /// Makes a pack durable: after it the pack, its name and all its bytes stand in every image.
     fn sync(&mut self, pack: u32) -> Result<(), Failed>
         requires { ForSome (packs self.old) (λ held. IsSome (get held pack)) }
-        ensures durable { OnOk result (ForSome (packs self.old) (λ held. (image : Packs) → images self.new image → get image pack ≡ get held pack)) }
+        ensures durable { OnOk result (ForSome (packs self.old)
+            (λ held. (image : Packs) → images self.new image → get image pack ≡ get held pack)) }
         ensures told { packs self.new ≡ packs self.old }
         ensures crash { NoNew (images self.old) (images self.new) }
-        ensures time { Elapses (moment self.old) (moment self.new) (images_since self.old) (images_since self.new) (images self.new) }
+        ensures time { Elapses (moment self.old) (moment self.new) (images_since self.old) (images_since self.new)
+            (images self.new) }
         ensures cause { HasCause (faults self.old) (faults self.new) result };
 
     /// How often a call has failed. A count at the last value of its type stays there.
@@ -98,7 +111,8 @@ pub trait Disk {
     ghost tells: { (disk : Self) (image : Packs) → images disk image → (held : Packs) × (packs disk ≡ Some held) };
 
     /// This moment is one of those since an earlier one.
-    ghost counts_now: { (disk : Self) (t : ℕ) (image : Packs) → t ≤ moment disk → images disk image → images_since disk t image };
+    ghost counts_now: { (disk : Self) (t : ℕ) (image : Packs) → t ≤ moment disk → images disk image
+        → images_since disk t image };
 
     /// Since this moment there is no other.
     ghost only_now: { (disk : Self) (image : Packs) → images_since disk (moment disk) image → images disk image };

@@ -115,7 +115,8 @@ impl History {
     /// What a crash leaves of the packs, by a choice, as what a disk begins with.
     pub fn crash(&self, choice: u64) -> Result<History, NoMemory>
         ensures fresh { IfOk result (λ image. image.done ≡ []) }
-        ensures left { IfOk result (λ image. (n : ℕ) → at_number image.start n ≡ option_and_then (left choice) (state self.now n)) }
+        ensures left { IfOk result (λ image. (n : ℕ) → at_number image.start n ≡ option_and_then (left choice)
+            (state self.now n)) }
     {
         let image = self.image(choice)?;
         Ok(History {
@@ -128,8 +129,10 @@ impl History {
 
     // What a crash leaves of each pack.
     fn image(&self, choice: u64) -> Result<Image, NoMemory>
-        ensures left { IfOk result (λ image. (n : ℕ) → at_number image.start.entries n ≡ option_and_then (left choice) (state self.now n)) }
-        ensures held { IfOk result (λ image. (n : ℕ) → at_number image.held.entries n ≡ option_map begun (at_number image.start.entries n)) }
+        ensures left { IfOk result (λ image. (n : ℕ) → at_number image.start.entries n ≡ option_and_then (left choice)
+            (state self.now n)) }
+        ensures held { IfOk result (λ image. (n : ℕ) → at_number image.held.entries n ≡ option_map begun
+            (at_number image.start.entries n)) }
         ensures numbers { IfOk result (λ image. (n : ℕ) → last_number < n → at_number image.start.entries n ≡ None) }
     {
         let mut image = Image::empty(self.alloc);

@@ -37,7 +37,8 @@ impl Image {
         pack: &Pack,
         choice: u64,
     ) -> Result<(), NoMemory>
-        ensures { OnOk result (Keeps choice number pack.now self.old.start.entries self.new.start.entries self.old.held.entries self.new.held.entries) }
+        ensures { OnOk result (Keeps choice number pack.now self.old.start.entries self.new.start.entries
+            self.old.held.entries self.new.held.entries) }
     {
         match pack.left(alloc, choice)? {
             Some(remains) => self.put(alloc, number, remains),
@@ -47,8 +48,10 @@ impl Image {
 
     // Puts a pack in place of the one with this number, if there is one.
     fn put(&mut self, alloc: Global, number: u32, remains: Remains) -> Result<(), NoMemory>
-        ensures start { OnOk result ((n : ℕ) → at_number self.new.start.entries n ≡ if n == number then Some remains else at_number self.old.start.entries n) }
-        ensures held { OnOk result ((n : ℕ) → at_number self.new.held.entries n ≡ if n == number then Some (begun remains) else at_number self.old.held.entries n) }
+        ensures start { OnOk result ((n : ℕ) → at_number self.new.start.entries n
+            ≡ if n == number then Some remains else at_number self.old.start.entries n) }
+        ensures held { OnOk result ((n : ℕ) → at_number self.new.held.entries n ≡ if n == number then Some
+            (begun remains) else at_number self.old.held.entries n) }
     {
         let pack = Pack::begin(alloc, &remains)?;
         self.start.insert(number, remains)?;

@@ -17,8 +17,8 @@ use blobref::NoMemory;
 use edge_base::{CallList, Calls, Failed};
 use std::alloc::Global;
 
-/// A disk in memory (`docs/formats/packs.md`, "Disks and crashes"). A contract sees the calls that were done since it began, with the
-/// packs that it began with, and which of its calls fail.
+/// A disk in memory (`docs/formats/packs.md`, "Disks and crashes"). A contract sees the calls that were done since it
+/// began, with the packs that it began with, and which of its calls fail.
 #[derive(Drop)]
 pub struct MemDisk {
     alloc: Global,
@@ -27,8 +27,8 @@ pub struct MemDisk {
 }
 
 impl MemDisk {
-    /// A disk without packs. Its calls are counted from 0, `faults` left out. Those whose numbers are in the list fail, and so does each
-    /// from the number `stop` on. A call that fails changes nothing.
+    /// A disk without packs. Its calls are counted from 0, `faults` left out. Those whose numbers are in the list
+    /// fail, and so does each from the number `stop` on. A call that fails changes nothing.
     pub fn empty(alloc: Global, fails: CallList, stop: u64) -> MemDisk
         ensures past { result.history ≡ no_past }
         ensures calls { result.calls ≡ no_calls fails (Some stop) }
@@ -40,8 +40,8 @@ impl MemDisk {
         }
     }
 
-    /// What a crash leaves of this disk, as the disk that is opened next. The bytes of each pack at its last sync stay, and the choice modulo
-    /// 8 says what stays of its tail, the bytes since then:
+    /// What a crash leaves of this disk, as the disk that is opened next. The bytes of each pack at its last sync
+    /// stay, and the choice modulo 8 says what stays of its tail, the bytes since then:
     ///
     /// - 0: all of it. The disk reads as before.
     /// - 1: nothing, and of a pack that was never synced not even the pack.
@@ -52,15 +52,17 @@ impl MemDisk {
     /// - 6: as many bytes, others, by the choice.
     /// - 7: as many bytes, the first of them, as far as there is room, a header of a blob of 16,777,216 bytes.
     ///
-    /// Of the new disk is durable what was durable before: what stays of a tail may be lost in the next crash, and so may a pack that was
-    /// never synced, until they are synced. So each image of it is one of this disk. Its calls are counted from 0, and none is to fail
-    /// before the number 18,446,744,073,709,551,615.
-    /// `NoMemory` may come in place of any answer.
+    /// Of the new disk is durable what was durable before: what stays of a tail may be lost in the next crash, and so
+    /// may a pack that was never synced, until they are synced. So each image of it is one of this disk. Its calls
+    /// are counted from 0, and none is to fail before the number 18,446,744,073,709,551,615. `NoMemory` may come in
+    /// place of any answer.
     pub fn crash(self, choice: u64) -> Result<MemDisk, NoMemory>
         ensures image { IfOk result (λ disk. IsImage (state self.history) (told disk.history)) }
         ensures crash { IfOk result (λ disk. NoNew (IsImage (state self.history)) (IsImage (state disk.history))) }
-        ensures left { IfOk result (λ disk. (n : ℕ) → get (told disk.history) n ≡ option_map all_bytes (option_and_then (left choice) (state self.history n))) }
-        ensures durable { IfOk result (λ disk. (n : ℕ) → state disk.history n ≡ option_map begun (option_and_then (left choice) (state self.history n))) }
+        ensures left { IfOk result (λ disk. (n : ℕ) → get (told disk.history) n ≡ option_map all_bytes
+            (option_and_then (left choice) (state self.history n))) }
+        ensures durable { IfOk result (λ disk. (n : ℕ) → state disk.history n ≡ option_map begun
+            (option_and_then (left choice) (state self.history n))) }
         ensures past { IfOk result (λ disk. disk.history.done ≡ []) }
         ensures calls { IfOk result (λ disk. disk.calls ≡ no_calls [] (Some (2 ^ 64 - 1))) }
     {
@@ -130,7 +132,8 @@ impl Disk for MemDisk {
     /// How many bytes a pack has. It fails exactly where its number is one of those that fail.
     fn size(&mut self, pack: u32) -> Result<u64, Failed>
         requires { ForSome (Some (told self.old.history)) (λ held. IsSome (get held pack)) }
-        ensures size { IfOk result (λ n. ForSome (Some (told self.old.history)) (λ held. (bytes : List ℕ) → get held pack ≡ Some bytes → n ≡ length bytes)) }
+        ensures size { IfOk result (λ n. ForSome (Some (told self.old.history))
+            (λ held. (bytes : List ℕ) → get held pack ≡ Some bytes → n ≡ length bytes)) }
         ensures told { Some (told self.new.history) ≡ Some (told self.old.history) }
         ensures crash { NoNew (IsImage (state self.old.history)) (IsImage (state self.new.history)) }
         ensures time { Passes self.old.history self.new.history }
@@ -143,12 +146,13 @@ impl Disk for MemDisk {
         Ok(self.history.bytes(pack).len() as u64)
     }
 
-    /// Copies a pack's bytes from the place on, as many as the buffer has room for; from a place behind the end there are none. It fails
-    /// exactly where its number is one of those that fail.
+    /// Copies a pack's bytes from the place on, as many as the buffer has room for; from a place behind the end there
+    /// are none. It fails exactly where its number is one of those that fail.
     fn read(&mut self, pack: u32, at: u64, buf: &mut [u8]) -> Result<usize, Failed>
         requires { ForSome (Some (told self.old.history)) (λ held. IsSome (get held pack)) }
         ensures bound { IfOk result (λ n. n ≤ length buf.old) }
-        ensures bytes { IfOk result (λ n. ForSome (Some (told self.old.history)) (λ held. (bytes : List ℕ) → get held pack ≡ Some bytes → ReadAt bytes at (length buf.old) n buf.new)) }
+        ensures bytes { IfOk result (λ n. ForSome (Some (told self.old.history))
+            (λ held. (bytes : List ℕ) → get held pack ≡ Some bytes → ReadAt bytes at (length buf.old) n buf.new)) }
         ensures told { Some (told self.new.history) ≡ Some (told self.old.history) }
         ensures crash { NoNew (IsImage (state self.old.history)) (IsImage (state self.new.history)) }
         ensures time { Passes self.old.history self.new.history }
@@ -161,12 +165,14 @@ impl Disk for MemDisk {
         Ok(copy_from(self.history.bytes(pack), at, buf))
     }
 
-    /// Makes an empty pack. It fails where its number is one of those that fail or no memory was left, and then changes nothing.
+    /// Makes an empty pack. It fails where its number is one of those that fail or no memory was left, and then
+    /// changes nothing.
     fn make(&mut self, pack: u32) -> Result<(), Failed>
         requires number { pack ≤ last_number }
         requires absent { ForSome (Some (told self.old.history)) (λ held. get held pack ≡ None) }
         ensures told { Tells (Some (told self.old.history)) (Some (told self.new.history)) (Makes pack) }
-        ensures made { OnOk result (Tells (Some (told self.old.history)) (Some (told self.new.history)) (λ before now. now ≡ insert before pack [])) }
+        ensures made { OnOk result (Tells (Some (told self.old.history)) (Some (told self.new.history))
+            (λ before now. now ≡ insert before pack [])) }
         ensures crash { Follows (Makes pack) (IsImage (state self.old.history)) (IsImage (state self.new.history)) }
         ensures time { Passes self.old.history self.new.history }
         ensures cause { HasCause self.old.calls.faults self.new.calls.faults result }
@@ -179,11 +185,14 @@ impl Disk for MemDisk {
         self.counted(done)
     }
 
-    /// Adds bytes to a pack. It fails where its number is one of those that fail or no memory was left, and then changes nothing.
+    /// Adds bytes to a pack. It fails where its number is one of those that fail or no memory was left, and then
+    /// changes nothing.
     fn append(&mut self, pack: u32, bytes: &[u8]) -> Result<(), Failed>
         requires { ForSome (Some (told self.old.history)) (λ held. IsSome (get held pack)) }
-        ensures told { Tells (Some (told self.old.history)) (Some (told self.new.history)) (λ before now. SameOthers pack before now × IsSome (get now pack)) }
-        ensures appended { OnOk result (Tells (Some (told self.old.history)) (Some (told self.new.history)) (λ before now.
+        ensures told { Tells (Some (told self.old.history)) (Some (told self.new.history))
+            (λ before now. SameOthers pack before now × IsSome (get now pack)) }
+        ensures appended { OnOk result (Tells (Some (told self.old.history)) (Some (told self.new.history))
+            (λ before now.
             (had : List ℕ) → get before pack ≡ Some had → get now pack ≡ Some (had ++ bytes.now))) }
         ensures crash { Follows (Extends pack) (IsImage (state self.old.history)) (IsImage (state self.new.history)) }
         ensures time { Passes self.old.history self.new.history }
@@ -197,10 +206,12 @@ impl Disk for MemDisk {
         self.counted(done)
     }
 
-    /// Makes a pack durable. It fails where its number is one of those that fail or no memory was left, and then changes nothing.
+    /// Makes a pack durable. It fails where its number is one of those that fail or no memory was left, and then
+    /// changes nothing.
     fn sync(&mut self, pack: u32) -> Result<(), Failed>
         requires { ForSome (Some (told self.old.history)) (λ held. IsSome (get held pack)) }
-        ensures durable { OnOk result (ForSome (Some (told self.old.history)) (λ held. (image : Packs) → IsImage (state self.new.history) image → get image pack ≡ get held pack)) }
+        ensures durable { OnOk result (ForSome (Some (told self.old.history))
+            (λ held. (image : Packs) → IsImage (state self.new.history) image → get image pack ≡ get held pack)) }
         ensures told { Some (told self.new.history) ≡ Some (told self.old.history) }
         ensures crash { NoNew (IsImage (state self.old.history)) (IsImage (state self.new.history)) }
         ensures time { Passes self.old.history self.new.history }

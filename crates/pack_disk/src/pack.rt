@@ -9,7 +9,8 @@ use blobref::{NoMemory, Octets};
 use std::alloc::Global;
 use std::marker::Model;
 
-/// The bytes of a pack, and how many of them were there at the last sync. It never gets shorter, so its length is the greatest.
+/// The bytes of a pack, and how many of them were there at the last sync. It never gets shorter, so its length is the
+/// greatest.
 #[derive(Drop)]
 pub struct Pack {
     bytes: Vec<u8>,

@@ -1,9 +1,10 @@
 //! The answers of an index over any table of facts and its keys, straight from their definitions (`docs/claims.md`).
 //!
-//! These functions keep nothing from one call to the next, and take memory only where their answer is a list. Their costs are given for
-//! a table of n facts, in look-ups and steps of the table. Whether a blob is ready costs two steps for each path from it through what it
-//! depends on, where a ref that several parts of a file have counts once. So a chain of blobs costs its length, and blobs that are
-//! shared again and again, as by files made of files, can cost a power of their depth: an index that is kept doesn't.
+//! These functions keep nothing from one call to the next, and take memory only where their answer is a list. Their
+//! costs are given for a table of n facts, in look-ups and steps of the table. Whether a blob is ready costs two
+//! steps for each path from it through what it depends on, where a ref that several parts of a file have counts once.
+//! So a chain of blobs costs its length, and blobs that are shared again and again, as by files made of files, can
+//! cost a power of their depth: an index that is kept doesn't.
 ghost use Rattle.std.specs.Prelude.{◌≡◌, ◌++◌, ◌∷◌, [], IfOk, OnOk, filter, option_copied};
 ghost use Rattle.claim_model.specs.Claims.{has_value, holders, last_change, parents, values};
 ghost use Rattle.claim_model.specs.Deleted.{is_deleted, live_permanodes};
@@ -56,8 +57,8 @@ pub fn is_permanode<T: FactTable, V: Verifier, L: Ledger>(
     is_genuine_permanode(table, keys, r, steps)
 }
 
-/// The least genuine permanode greater than `after`, or of all where `after` is `None`. It walks over the facts up to that one, and asks
-/// of each permanode whether it is ready and signed.
+/// The least genuine permanode greater than `after`, or of all where `after` is `None`. It walks over the facts up to
+/// that one, and asks of each permanode whether it is ready and signed.
 pub fn permanode_after<T: FactTable, V: Verifier, L: Ledger>(
     table: &T,
     keys: &V,
@@ -76,9 +77,9 @@ pub fn permanode_after<T: FactTable, V: Verifier, L: Ledger>(
     None
 }
 
-/// Whether the blob is deleted at that time. It walks over all facts for the blob, and again for each genuine delete claim that it comes
-/// to, and asks of each of these claims whether it is ready and signed; none is looked at twice. The stack grows with the longest chain
-/// of deletions of deletions.
+/// Whether the blob is deleted at that time. It walks over all facts for the blob, and again for each genuine delete
+/// claim that it comes to, and asks of each of these claims whether it is ready and signed; none is looked at twice.
+/// The stack grows with the longest chain of deletions of deletions.
 pub fn deleted<T: FactTable, V: Verifier, L: Ledger>(
     table: &T,
     keys: &V,
@@ -91,8 +92,9 @@ pub fn deleted<T: FactTable, V: Verifier, L: Ledger>(
     is_deleted(table, keys, r, when, steps)
 }
 
-/// The values of an attribute of a permanode at that time. It walks over all facts, asks of each attribute claim on the permanode
-/// whether it is genuine and not deleted, and sorts those that count. `NoMemory` comes only where no memory is left.
+/// The values of an attribute of a permanode at that time. It walks over all facts, asks of each attribute claim on
+/// the permanode whether it is genuine and not deleted, and sorts those that count. `NoMemory` comes only where no
+/// memory is left.
 pub fn values<T: FactTable, V: Verifier, L: Ledger>(
     alloc: Global,
     table: &T,
@@ -107,8 +109,8 @@ pub fn values<T: FactTable, V: Verifier, L: Ledger>(
     values_of(alloc, table, keys, p, attr, when, steps)
 }
 
-/// The date of the last counted change of a permanode at that time, and `None` exactly where nothing is counted. It walks as `values`
-/// does.
+/// The date of the last counted change of a permanode at that time, and `None` exactly where nothing is counted. It
+/// walks as `values` does.
 pub fn last_change<T: FactTable, V: Verifier, L: Ledger>(
     table: &T,
     keys: &V,
@@ -124,9 +126,9 @@ pub fn last_change<T: FactTable, V: Verifier, L: Ledger>(
     latest(table, keys, p, when, steps).map(|last| last.0)
 }
 
-/// The size of a file: the sum of the sizes of its parts. `None` exactly where the ref isn't a file that is ready and all of whose parts
-/// stand in their origins. The keys are not asked. It comes to a tree within once for each part that names it, along each path, and asks
-/// of it each time whether it is ready.
+/// The size of a file: the sum of the sizes of its parts. `None` exactly where the ref isn't a file that is ready and
+/// all of whose parts stand in their origins. The keys are not asked. It comes to a tree within once for each part
+/// that names it, along each path, and asks of it each time whether it is ready.
 pub fn file_size<T: FactTable, V: Verifier, L: Ledger>(
     table: &T,
     _keys: &V,
@@ -144,8 +146,9 @@ pub fn file_size<T: FactTable, V: Verifier, L: Ledger>(
     }
 }
 
-/// The genuine permanodes not deleted that have the value of the attribute, by claims of every date, ascending. It walks over all facts,
-/// and asks each genuine permanode for its values. `NoMemory` comes only where no memory is left.
+/// The genuine permanodes not deleted that have the value of the attribute, by claims of every date, ascending. It
+/// walks over all facts, and asks each genuine permanode for its values. `NoMemory` comes only where no memory is
+/// left.
 pub fn holders<T: FactTable, V: Verifier, L: Ledger>(
     alloc: Global,
     table: &T,
@@ -167,8 +170,8 @@ pub fn holders<T: FactTable, V: Verifier, L: Ledger>(
     )
 }
 
-/// The genuine permanodes not deleted at that time that have the child's text among their values of `camliMember` at that time,
-/// ascending. It walks as `holders` does. `NoMemory` comes only where no memory is left.
+/// The genuine permanodes not deleted at that time that have the child's text among their values of `camliMember` at
+/// that time, ascending. It walks as `holders` does. `NoMemory` comes only where no memory is left.
 pub fn parents<T: FactTable, V: Verifier, L: Ledger>(
     alloc: Global,
     table: &T,
@@ -225,7 +228,8 @@ fn keep_holder<T: FactTable, V: Verifier, L: Ledger>(
     when: &When,
     steps: &mut Steps<L>,
 ) -> Result<(), NoMemory>
-    ensures { OnOk result (found.new ≡ found.old ++ filter (is_holder (T.facts table.now) (V.accepts keys.now) when.now attr.now value.now) (r.now ∷ [])) }
+    ensures { OnOk result (found.new ≡ found.old ++ filter
+        (is_holder (T.facts table.now) (V.accepts keys.now) when.now attr.now value.now) (r.now ∷ [])) }
 {
     if is_holder(alloc, table, keys, r, attr, value, when, steps)? {
         found.push(*r)?;
@@ -244,7 +248,8 @@ fn is_holder<T: FactTable, V: Verifier, L: Ledger>(
     when: &When,
     steps: &mut Steps<L>,
 ) -> Result<bool, NoMemory>
-    ensures { IfOk result (λ holds. holds ≡ is_holder (T.facts table.now) (V.accepts keys.now) when.now attr.now value.now r.now) }
+    ensures { IfOk result (λ holds. holds ≡ is_holder (T.facts table.now)
+        (V.accepts keys.now) when.now attr.now value.now r.now) }
 {
     if !is_genuine_permanode(table, keys, r, steps) || is_deleted(table, keys, r, when, steps) {
         return Ok(false);

@@ -90,7 +90,8 @@ fn moments<T: FactTable, V: Verifier, L: Ledger>(
     when: &When,
     steps: &mut Steps<L>,
 ) -> Result<Vec<(Date, Ref)>, NoMemory>
-    ensures { IfOk result (λ moments. moments.items ≡ finite.keys (counted_claims (T.facts table.now) (V.accepts keys.now) when.now p.now)) }
+    ensures { IfOk result (λ moments. moments.items ≡ finite.keys
+        (counted_claims (T.facts table.now) (V.accepts keys.now) when.now p.now)) }
 {
     if !is_genuine_permanode(table, keys, p, steps) {
         return Ok(Vec::new(alloc));
@@ -126,7 +127,8 @@ pub(crate) fn has_value<T: FactTable, V: Verifier, L: Ledger>(
     when: &When,
     steps: &mut Steps<L>,
 ) -> Result<bool, NoMemory>
-    ensures { IfOk result (λ has. has ≡ has_value (T.facts table.now) (V.accepts keys.now) when.now attr.now value.now p.now) }
+    ensures { IfOk result (λ has. has ≡ has_value (T.facts table.now)
+        (V.accepts keys.now) when.now attr.now value.now p.now) }
 {
     let texts = values_of(alloc, table, keys, p, attr, when, steps)?;
     Ok(is_among(value, texts.as_slice()))
@@ -140,7 +142,8 @@ pub(crate) fn latest<T: FactTable, V: Verifier, L: Ledger>(
     when: &When,
     steps: &mut Steps<L>,
 ) -> Option<(Date, Ref)>
-    ensures { result ≡ latest (filter_map (standing_moment (T.facts table.now) (V.accepts keys.now) when.now p.now) (finite.entries (T.facts table.now))) }
+    ensures { result ≡ latest (filter_map (standing_moment (T.facts table.now) (V.accepts keys.now) when.now p.now)
+        (finite.entries (T.facts table.now))) }
 {
     let mut last = None;
     let mut place = None;

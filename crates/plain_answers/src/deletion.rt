@@ -25,8 +25,8 @@ pub(crate) fn is_deleted<T: FactTable, V: Verifier, L: Ledger>(
     deleted_within(table, keys, x, when, None, steps)
 }
 
-// Whether the blob is deleted, where deletions of deletions are looked at as deep as there are facts behind `after`. Each claim has
-// one target, so none is looked at twice.
+// Whether the blob is deleted, where deletions of deletions are looked at as deep as there are facts behind `after`.
+// Each claim has one target, so none is looked at twice.
 fn deleted_within<T: FactTable, V: Verifier, L: Ledger>(
     table: &T,
     keys: &V,
@@ -35,7 +35,8 @@ fn deleted_within<T: FactTable, V: Verifier, L: Ledger>(
     after: Option<&Ref>,
     steps: &mut Steps<L>,
 ) -> bool
-    ensures { result ≡ deleted_within (T.facts table.now) (V.accepts keys.now) when.now (number_after (T.facts table.now) (option_copied after.entry)) x.now }
+    ensures { result ≡ deleted_within (T.facts table.now) (V.accepts keys.now) when.now
+        (number_after (T.facts table.now) (option_copied after.entry)) x.now }
 {
     let Some(next) = table.fact_after(after, steps) else {
         return false;

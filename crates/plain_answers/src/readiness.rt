@@ -24,7 +24,8 @@ pub(crate) fn is_ready<T: FactTable, L: Ledger>(table: &T, r: &Ref, steps: &mut 
     ready_within(table, None, r, steps)
 }
 
-// Whether r stands in the round whose number is that of the facts behind `after`: so the table itself counts how deep to look.
+// Whether r stands in the round whose number is that of the facts behind `after`: so the table itself counts how deep
+// to look.
 #[cycle(ready)]
 fn ready_within<T: FactTable, L: Ledger>(
     table: &T,
@@ -50,7 +51,8 @@ fn all_ready<T: FactTable, L: Ledger>(
     fact: &Fact,
     steps: &mut Steps<L>,
 ) -> bool
-    ensures { result ≡ list_all (round (T.facts table.now) (number_after (T.facts table.now) (Some after.now))) (dependencies fact.now) }
+    ensures { result ≡ list_all (round (T.facts table.now) (number_after (T.facts table.now) (Some after.now)))
+        (dependencies fact.now) }
 {
     match &fact.kind {
         Kind::File { parts, .. } | Kind::Bytes(parts) => {
@@ -74,7 +76,8 @@ fn parts_ready<T: FactTable, L: Ledger>(
     parts: &[Part],
     steps: &mut Steps<L>,
 ) -> bool
-    ensures { result ≡ list_all (round (T.facts table.now) (number_after (T.facts table.now) (Some after.now))) (part_refs parts.now) }
+    ensures { result ≡ list_all (round (T.facts table.now) (number_after (T.facts table.now) (Some after.now)))
+        (part_refs parts.now) }
 {
     for i in 0..parts.len() {
         if let Some(r) = new_ref(&parts[..i], &parts[i]) {
@@ -93,7 +96,8 @@ fn target_ready<T: FactTable, L: Ledger>(
     what: &What,
     steps: &mut Steps<L>,
 ) -> bool
-    ensures { result ≡ list_all (round (T.facts table.now) (number_after (T.facts table.now) (Some after.now))) (target_of what.now) }
+    ensures { result ≡ list_all (round (T.facts table.now) (number_after (T.facts table.now) (Some after.now)))
+        (target_of what.now) }
 {
     match what {
         What::Delete { target } => ready_within(table, Some(after), target, steps),

@@ -35,7 +35,8 @@ fn sound_within<T: FactTable, L: Ledger>(
     r: &Ref,
     steps: &mut Steps<L>,
 ) -> bool
-    ensures { result ≡ sound_within (T.facts table.now) (number_after (T.facts table.now) (option_copied after.entry)) r.now }
+    ensures { result ≡ sound_within (T.facts table.now)
+        (number_after (T.facts table.now) (option_copied after.entry)) r.now }
 {
     let Some(next) = table.fact_after(after, steps) else {
         return false;
@@ -55,7 +56,8 @@ fn parts_fit<T: FactTable, L: Ledger>(
     steps: &mut Steps<L>,
 ) -> bool
     requires { IsValid fact.now }
-    ensures { result ≡ parts_fit (T.facts table.now) (sound_within (T.facts table.now) (number_after (T.facts table.now) (Some after.now))) fact.now }
+    ensures { result ≡ parts_fit (T.facts table.now) (sound_within (T.facts table.now)
+        (number_after (T.facts table.now) (Some after.now))) fact.now }
 {
     match tree_parts(&fact.kind) {
         Some(parts) => all_fit(table, after, parts.as_slice(), steps),
@@ -71,7 +73,8 @@ fn all_fit<T: FactTable, L: Ledger>(
     steps: &mut Steps<L>,
 ) -> bool
     requires { All IsShortPart parts.now }
-    ensures { result ≡ list_all (part_fits (T.facts table.now) (sound_within (T.facts table.now) (number_after (T.facts table.now) (Some after.now)))) parts.now }
+    ensures { result ≡ list_all (part_fits (T.facts table.now)
+        (sound_within (T.facts table.now) (number_after (T.facts table.now) (Some after.now)))) parts.now }
 {
     for part in parts {
         if !part_fits(table, after, part, steps) {
@@ -89,7 +92,8 @@ fn part_fits<T: FactTable, L: Ledger>(
     steps: &mut Steps<L>,
 ) -> bool
     requires { IsShortPart part.now }
-    ensures { result ≡ part_fits (T.facts table.now) (sound_within (T.facts table.now) (number_after (T.facts table.now) (Some after.now))) part.now }
+    ensures { result ≡ part_fits (T.facts table.now) (sound_within (T.facts table.now)
+        (number_after (T.facts table.now) (Some after.now))) part.now }
 {
     let end = part_end(part);
     match &part.origin {

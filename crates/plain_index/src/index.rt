@@ -34,8 +34,8 @@ use std::alloc::Global;
 use std::marker::Model;
 use std::sync::ledger::Ledger;
 
-/// An index that is computed at once out of all facts, and keeps them in the order of their refs. A contract sees the map of the
-/// facts, and the keys.
+/// An index that is computed at once out of all facts, and keeps them in the order of their refs. A contract sees the
+/// map of the facts, and the keys.
 ///
 /// Costs are given for n facts. A look-up of a ref is a binary search, of at most 1 + log n comparisons.
 #[derive(Drop)]
@@ -68,12 +68,12 @@ impl<V: Verifier> Model for PlainIndex<V> {
 }
 
 impl<V: Verifier> PlainIndex<V> {
-    /// The index over the facts, whatever their order. It keeps the allocator, and takes all its memory from it. `NoMemory` comes
-    /// only where no memory is left.
+    /// The index over the facts, whatever their order. It keeps the allocator, and takes all its memory from it.
+    /// `NoMemory` comes only where no memory is left.
     ///
-    /// It sorts the facts and the claims, in n log n steps, asks the keys once for each permanode and claim that is ready, and
-    /// goes over all facts in rounds, as many as the longest chain of dependencies has links and two more at most; a round looks
-    /// each dependency up once.
+    /// It sorts the facts and the claims, in n log n steps, asks the keys once for each permanode and claim that is
+    /// ready, and goes over all facts in rounds, as many as the longest chain of dependencies has links and two more
+    /// at most; a round looks each dependency up once.
     pub fn build(alloc: Global, facts: FactList, keys: V) -> Result<PlainIndex<V>, NoMemory>
     where
         V: Drop,
@@ -178,8 +178,8 @@ impl<V: Verifier> PlainIndex<V> {
         }
     }
 
-    // Whether the blob is deleted, where deletions of deletions are looked at so deep. Each claim has one target, so none is looked
-    // at twice.
+    // Whether the blob is deleted, where deletions of deletions are looked at so deep. Each claim has one target, so
+    // none is looked at twice.
     fn deleted_within<L: Ledger>(
         &self,
         x: &Ref,
@@ -208,7 +208,8 @@ impl<V: Verifier> PlainIndex<V> {
         r: &Ref,
         steps: &mut Steps<L>,
     ) -> Option<(Date, Ref)>
-        ensures { result ≡ option_map (λ c. c.0) (counted_claim self.now.0 (V.accepts self.now.1) when.now p.now r.now) }
+        ensures { result ≡ option_map (λ c. c.0) (counted_claim self.now.0
+            (V.accepts self.now.1) when.now p.now r.now) }
     {
         if self.deleted(r, when, steps) {
             return None;
@@ -259,7 +260,8 @@ impl<V: Verifier> PlainIndex<V> {
         when: &When,
         steps: &mut Steps<L>,
     ) -> Result<Vec<(Date, Ref)>, NoMemory>
-        ensures { IfOk result (λ moments. moments.items ≡ finite.keys (counted_claims self.now.0 (V.accepts self.now.1) when.now p.now)) }
+        ensures { IfOk result (λ moments. moments.items ≡ finite.keys
+            (counted_claims self.now.0 (V.accepts self.now.1) when.now p.now)) }
     {
         if !self.is_permanode(p, steps) {
             return Ok(Vec::new(self.alloc));
@@ -271,7 +273,9 @@ impl<V: Verifier> PlainIndex<V> {
 
     // The latest moment of a counted claim on a genuine permanode.
     fn latest<L: Ledger>(&self, p: &Ref, when: &When, steps: &mut Steps<L>) -> Option<(Date, Ref)>
-        ensures { result ≡ latest (filter_map (λ c. option_map (λ d. d.0) (counted_claim self.now.0 (V.accepts self.now.1) when.now p.now c.1)) (claims_about self.now.0 (V.accepts self.now.1) p.now)) }
+        ensures { result ≡ latest (filter_map (λ c. option_map (λ d. d.0)
+            (counted_claim self.now.0 (V.accepts self.now.1) when.now p.now c.1))
+            (claims_about self.now.0 (V.accepts self.now.1) p.now)) }
     {
         let claims = self.claims_about(p);
         let mut last = None;
@@ -345,13 +349,14 @@ impl<V: Verifier> Look for PlainIndex<V> {
         first_after(self.permanodes(), after)
     }
 
-    /// It looks at the claims about the ref, and about each delete claim that it comes to, with two look-ups and two binary
-    /// searches each. The stack grows with the longest chain of deletions of deletions.
+    /// It looks at the claims about the ref, and about each delete claim that it comes to, with two look-ups and two
+    /// binary searches each. The stack grows with the longest chain of deletions of deletions.
     fn deleted<L: Ledger>(&self, r: &Ref, when: &When, steps: &mut Steps<L>) -> bool {
         self.deleted_within(r, when, self.len(), steps)
     }
 
-    /// It looks at the claims about the permanode alone, asks for each whether it is deleted, and sorts those that count.
+    /// It looks at the claims about the permanode alone, asks for each whether it is deleted, and sorts those that
+    /// count.
     fn values<L: Ledger>(
         &self,
         p: &Ref,

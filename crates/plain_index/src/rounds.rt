@@ -11,8 +11,8 @@ use blobref::{NoMemory, Ref};
 use schema_fact::{Fact, Kind, Part, What};
 use std::alloc::Global;
 
-// Which of the facts are ready. There are as many rounds as the longest chain of dependencies has links, and one more; each looks
-// every dependency up once.
+// Which of the facts are ready. There are as many rounds as the longest chain of dependencies has links, and one
+// more; each looks every dependency up once.
 pub(crate) fn ready(alloc: Global, facts: &[(Ref, Fact)]) -> Result<Vec<bool>, NoMemory>
     requires { IsAscending facts.now }
     ensures { IfOk result (λ truths.

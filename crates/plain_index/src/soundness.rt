@@ -28,8 +28,8 @@ pub(crate) fn sizes(alloc: Global, facts: &[(Ref, Fact)]) -> Result<Vec<Option<u
     Ok(sizes)
 }
 
-// Which of the facts are sound trees, given which are ready. There are as many rounds as trees stand in one another, and one more;
-// each looks every part's origin up once.
+// Which of the facts are sound trees, given which are ready. There are as many rounds as trees stand in one another,
+// and one more; each looks every part's origin up once.
 pub(crate) fn sound(
     alloc: Global,
     facts: &[(Ref, Fact)],

@@ -15,8 +15,9 @@ use search_query::Query;
 use std::alloc::Global;
 use std::sync::ledger::Ledger;
 
-/// The refs that the query asks for, in its order, at most its limit (`docs/search.md`). `NoMemory` comes only where no
-/// memory is left. It asks for each genuine permanode whether it is deleted, and for its values; `steps` counts the steps of the index.
+/// The refs that the query asks for, in its order, at most its limit (`docs/search.md`). `NoMemory` comes only where
+/// no memory is left. It asks for each genuine permanode whether it is deleted, and for its values; `steps` counts
+/// the steps of the index.
 pub fn answer<K: Look, L: Ledger>(
     alloc: Global,
     look: &K,
@@ -57,7 +58,8 @@ fn keep_found<K: Look, L: Ledger>(
     p: Ref,
     steps: &mut Steps<L>,
 ) -> Result<(), NoMemory>
-    ensures { OnOk result (kept.new ≡ kept.old ++ filter (is_found (K.facts look.now) (K.accepts look.now) query.now) (p ∷ [])) }
+    ensures { OnOk result (kept.new ≡ kept.old ++ filter (is_found (K.facts look.now) (K.accepts look.now) query.now)
+        (p ∷ [])) }
 {
     if is_found(look, query, &p, steps)? {
         kept.push(p)?;

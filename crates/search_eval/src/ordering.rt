@@ -23,7 +23,8 @@ pub(crate) fn in_order<K: Look, L: Ledger>(
     steps: &mut Steps<L>,
 ) -> Result<RefList, NoMemory>
     requires { IsStrictlySortedBy ref_cmp refs }
-    ensures { IfOk result (λ ordered. ordered ≡ in_order query.now.sort (last_change (K.facts look.now) (K.accepts look.now) query.now.at) refs) }
+    ensures { IfOk result (λ ordered. ordered ≡ in_order query.now.sort
+        (last_change (K.facts look.now) (K.accepts look.now) query.now.at) refs) }
 {
     match query.sort {
         Sort::Ref => Ok(refs),
@@ -41,7 +42,8 @@ fn rising<K: Look, L: Ledger>(
     steps: &mut Steps<L>,
 ) -> Result<RefList, NoMemory>
     requires { IsStrictlySortedBy ref_cmp refs.now }
-    ensures { IfOk result (λ ordered. ordered ≡ refs_by rising_cmp (dated (last_change (K.facts look.now) (K.accepts look.now) when.now) refs.now)) }
+    ensures { IfOk result (λ ordered. ordered ≡ refs_by rising_cmp
+        (dated (last_change (K.facts look.now) (K.accepts look.now) when.now) refs.now)) }
 {
     let mut dated = dated(alloc, look, when, refs, steps)?;
     dated.sort()?;
@@ -57,7 +59,8 @@ fn falling<K: Look, L: Ledger>(
     steps: &mut Steps<L>,
 ) -> Result<RefList, NoMemory>
     requires { IsStrictlySortedBy ref_cmp refs.now }
-    ensures { IfOk result (λ ordered. ordered ≡ refs_by falling_cmp (dated (last_change (K.facts look.now) (K.accepts look.now) when.now) refs.now)) }
+    ensures { IfOk result (λ ordered. ordered ≡ refs_by falling_cmp
+        (dated (last_change (K.facts look.now) (K.accepts look.now) when.now) refs.now)) }
 {
     let mut dated = dated(alloc, look, when, refs, steps)?;
     dated.sort_by_key(|entry| (Reverse(entry.0), entry.1))?;
@@ -72,7 +75,8 @@ fn dated<K: Look, L: Ledger>(
     refs: &[Ref],
     steps: &mut Steps<L>,
 ) -> Result<Vec<(Option<Date>, Ref)>, NoMemory>
-    ensures { IfOk result (λ dates. dates.items ≡ dated (last_change (K.facts look.now) (K.accepts look.now) when.now) refs.now) }
+    ensures { IfOk result (λ dates. dates.items ≡ dated
+        (last_change (K.facts look.now) (K.accepts look.now) when.now) refs.now) }
 {
     let mut dated = Vec::new(alloc);
     for r in refs {

@@ -42,7 +42,8 @@ pub struct Query {
 }
 
 impl Query {
-    /// The query for the permanodes whose attribute has the value at that time: at most 1,000,000, ascending by blobref.
+    /// The query for the permanodes whose attribute has the value at that time: at most 1,000,000, ascending by
+    /// blobref.
     pub fn for_value(alloc: Global, attr: &str, value: &str, at: When) -> Result<Query, NoMemory>
         requires { attr.now ≢ [] }
         ensures asked { IfOk result (λ query. query ≡ value_query attr.now value.now at) }

@@ -123,7 +123,8 @@ fn crashes_leave_what_is_durable(rt: HostRuntime) -> Result<(), Failed> {
     Ok(())
 }
 
-// Whether a crash that takes all that isn't durable, after another one, leaves pack 2 as it was synced, and no other pack.
+// Whether a crash that takes all that isn't durable, after another one, leaves pack 2 as it was synced, and no other
+// pack.
 fn leaves_durable(alloc: Global, first: u64) -> Result<bool, Failed> {
     let Ok(disk) = written(alloc)?.crash(first) else {
         return Err(Failed);

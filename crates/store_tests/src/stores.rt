@@ -238,7 +238,8 @@ fn blobs_have_a_greatest_size(rt: HostRuntime) -> Result<(), Fail> {
     Ok(())
 }
 
-// Whether a store on this one pack has `abc` alone, puts the next record into a new pack, and leaves the other as it was.
+// Whether a store on this one pack has `abc` alone, puts the next record into a new pack, and leaves the other as it
+// was.
 fn leaves(alloc: Global, torn: &[u8]) -> Result<bool, Fail> {
     let empty = named(EMPTY);
     let mut store = opened(alloc, written(alloc, torn)?, WIDE)?;
@@ -338,7 +339,8 @@ fn stores_are_full(rt: HostRuntime) -> Result<(), Fail> {
     Ok(())
 }
 
-// Opens a store on a disk, puts each digit, lists those that were acknowledged, also as there before, and gives the disk back.
+// Opens a store on a disk, puts each digit, lists those that were acknowledged, also as there before, and gives the
+// disk back.
 fn put_digits(
     alloc: Global,
     disk: MemDisk,
@@ -380,8 +382,8 @@ fn outlives(alloc: Global, stop: u64, choice: u64, want: usize) -> Result<bool, 
     Ok(acknowledged.len() == want && goes_on(&mut store, acknowledged.as_slice()))
 }
 
-// How many digits are acknowledged by a disk that stops at its call 0, 1, .. 25. The first call is `packs`. Each digit takes `append` and
-// `sync`, and before those of the first, fourth, seventh and tenth comes `make`.
+// How many digits are acknowledged by a disk that stops at its call 0, 1, .. 25. The first call is `packs`. Each
+// digit takes `append` and `sync`, and before those of the first, fourth, seventh and tenth comes `make`.
 const ACKNOWLEDGED: &[usize; 26] = &[
     0, 0, 0, 0, 1, 1, 2, 2, 3, 3, 3, 4, 4, 5, 5, 6, 6, 6, 7, 7, 8, 8, 9, 9, 9, 10,
 ];
@@ -399,8 +401,8 @@ fn acknowledged_blobs_outlive_crashes(rt: HostRuntime) -> Result<(), Fail> {
     Ok(())
 }
 
-// Whether all digits are acknowledged after a disk stopped at a call and a crash, and are there after a second crash that takes all that
-// isn't durable.
+// Whether all digits are acknowledged after a disk stopped at a call and a crash, and are there after a second crash
+// that takes all that isn't durable.
 fn outlives_twice(alloc: Global, stop: u64, choice: u64) -> Result<bool, Fail> {
     let mut acknowledged = RefList::empty(alloc);
     let disk = MemDisk::empty(alloc, CallList::empty(alloc), stop);
