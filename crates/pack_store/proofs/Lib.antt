@@ -17,3 +17,4 @@ pub mod LastPack
 pub mod Blobs
 pub mod Runs
 pub mod PutRuns
+pub mod StoreShelf

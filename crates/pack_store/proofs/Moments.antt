@@ -1,10 +1,11 @@
 -- What every image since a moment holds, over a run of calls.
-use Rattle.std.proofs.Common.{◌≡◌, inl, inr, ⊎_elim, ℕ, ◌≤◌, List, true, Option, Some, None, Result, Ok, Err, OnOk, is_err, false, refl, subst, arith, ◌∙◌}
+use Rattle.std.proofs.Common.{◌≡◌, inl, inr, ⊎_elim, ℕ, ◌≤◌, List, true, Option, Some, None, Result, Ok, Err, OnOk, is_err, false, refl, subst, arith}
 use Rattle.pack_disk.specs.Packs.{Packs}
 use Rattle.pack_disk.specs.declared.disk.Disk.{Ghosts}
 use Rattle.pack_disk.specs.Disk.{Extends, Makes, Follows, NoNew, Elapses, Tells}
 use Rattle.pack_disk.specs.Runs.{Stays}
 use Rattle.pack_store.specs.Packs.{holds, CleanIn, HeldByAll, KeepsAll}
+pub use Rattle.pack_store.specs.RunLaws.{keeps_itself, keeps_then, held_after, stays_itself, stays_images, stays_then}
 use Rattle.pack_store.proofs.Held.{extends_keeps, makes_keeps}
 
 pub some_packs : (x y : Packs) → Some x ≡ Some y → x ≡ y
@@ -16,10 +17,6 @@ module _ {D : Type 0} (g : Ghosts D)
   abbrev Keeps : D → D → Type 0
   Keeps old new = KeepsAll g old new
 
-  -- no call
-  pub keeps_itself : (d : D) → Keeps d d
-  keeps_itself d = record { later = omega arith; each = λ c since r held. held c (only_now d c since); before = λ t c le since. inl since }
-
   -- one call
   pub keeps_by_call : (old new : D) → Elapses (g.moment old) (g.moment new) (g.images_since old) (g.images_since new) (g.images new)
       → ((c : Packs) → g.images new c → (r : List ℕ) → HeldByAll (g.images old) r → holds r c ≡ true) → Keeps old new
@@ -28,20 +25,6 @@ module _ {D : Type 0} (g : Ghosts D)
     each = λ c since r held. ⊎_elim (λ was. held c (only_now old c was)) (λ is. now c is r held) (time.nothing_else (g.moment old) c (omega arith) since);
     before = λ t c le since. ⊎_elim inl (λ is. inr (now c is)) (time.nothing_else t c le since);
   }
-
-  -- one run after another
-  pub keeps_then : (a b c : D) → Keeps a b → Keeps b c → Keeps a c
-  keeps_then a b c first second =
-      let held_on : (r : List ℕ) → HeldByAll (g.images a) r → HeldByAll (g.images b) r = λ r held x is. first.each x (counts_now b (g.moment a) x first.later is) r held in
-      record {
-        later = omega (arith, first.later, second.later);
-        each = λ x since r held. ⊎_elim (λ was. first.each x was r held) (λ kept. kept r (held_on r held)) (second.before (g.moment a) x first.later since);
-        before = λ t x le since. ⊎_elim (first.before t x le) (λ kept. inr (λ r held. kept r (held_on r held))) (second.before t x (omega (arith, le, first.later)) since);
-      }
-
-  -- what each image held at the start, each image at the end holds
-  pub held_after : (old new : D) → Keeps old new → (r : List ℕ) → HeldByAll (g.images old) r → HeldByAll (g.images new) r
-  held_after old new keeps r held x is = keeps.each x (counts_now new (g.moment old) x keeps.later is) r held
 
   -- ---- the calls
 
@@ -87,9 +70,6 @@ module _ {D : Type 0} (g : Ghosts D)
   abbrev Stay : D → D → Type 0
   Stay old new = Stays g old new
 
-  pub stays_itself : (d : D) → Stay d d
-  stays_itself d = record { told = refl; since = record { later = omega arith; each = λ c since. only_now d c since; before = λ t c le since. inl since } }
-
   pub stays_by_call : (old new : D) → g.packs new ≡ g.packs old → Elapses (g.moment old) (g.moment new) (g.images_since old) (g.images_since new) (g.images new)
       → NoNew (g.images old) (g.images new) → Stay old new
   stays_by_call old new told time crash = record {
@@ -98,19 +78,6 @@ module _ {D : Type 0} (g : Ghosts D)
       later = time.later;
       each = λ c since. ⊎_elim (λ was. only_now old c was) (crash c) (time.nothing_else (g.moment old) c (omega arith) since);
       before = λ t c le since. ⊎_elim inl (λ is. inr (crash c is)) (time.nothing_else t c le since);
-    };
-  }
-
-  pub stays_images : (old new : D) → Stay old new → (c : Packs) → g.images new c → g.images old c
-  stays_images old new stays c is = stays.since.each c (counts_now new (g.moment old) c stays.since.later is)
-
-  pub stays_then : (a b c : D) → Stay a b → Stay b c → Stay a c
-  stays_then a b c first second = record {
-    told = second.told ∙ first.told;
-    since = record {
-      later = omega (arith, first.since.later, second.since.later);
-      each = λ x since. ⊎_elim (first.since.each x) (stays_images a b first x) (second.since.before (g.moment a) x first.since.later since);
-      before = λ t x le since. ⊎_elim (first.since.before t x le) (λ is. inr (stays_images a b first x is)) (second.since.before t x (omega (arith, le, first.since.later)) since);
     };
   }
 

@@ -27,7 +27,7 @@ use Rattle.pack_store.specs.Puts.{blobs_of, has_blob, is_full_on, target_on, Put
 use Rattle.pack_store.specs.Reading.{StaysStill}
 use Rattle.pack_store.proofs.Blobs.{get-blobs, has_number, none_of_some}
 use Rattle.pack_store.proofs.Moments.{tells_before, stays_keeps}
-use Rattle.pack_store.proofs.Runs.{told_nothing, told_one, puts_nothing}
+use Rattle.pack_store.specs.RunLaws.{told_nothing, told_one, puts_nothing}
 
 abbrev PutAnswer : Type 0
 PutAnswer = Result Answer PutFault
@@ -38,13 +38,13 @@ abbrev settled_by : Bool → Option ℕ → Bool → ℕ → ℕ → ℕ → Opt
 settled_by long number full size blobs pack =
     cond long (Some (Err (fault.TooBig size))) (option_or (option_map (λ (n : ℕ). Ok (put.Already n)) number) (cond full (Some (Err (fault.Full blobs pack))) None))
 
-stored_when : (long : Bool) (number : Option ℕ) (full : Bool) (size blobs pack next n : ℕ) → Answers (settled_by long number full size blobs pack) next (Ok (put.Stored n)) → (is_some number ≡ false) × (full ≡ false)
+pub stored_when : (long : Bool) (number : Option ℕ) (full : Bool) (size blobs pack next n : ℕ) → Answers (settled_by long number full size blobs pack) next (Ok (put.Stored n)) → (is_some number ≡ false) × (full ≡ false)
 stored_when true number full size blobs pack next n a = absurd (cc a)
 stored_when false (Some m) full size blobs pack next n a = absurd (cc a)
 stored_when false None true size blobs pack next n a = absurd (cc a)
 stored_when false None false size blobs pack next n a = (refl, refl)
 
-already_when : (long : Bool) (number : Option ℕ) (full : Bool) (size blobs pack next n : ℕ) → Answers (settled_by long number full size blobs pack) next (Ok (put.Already n)) → is_some number ≡ true
+pub already_when : (long : Bool) (number : Option ℕ) (full : Bool) (size blobs pack next n : ℕ) → Answers (settled_by long number full size blobs pack) next (Ok (put.Already n)) → is_some number ≡ true
 already_when true number full size blobs pack next n a = absurd (cc a)
 already_when false (Some m) full size blobs pack next n a = refl
 already_when false None true size blobs pack next n a = absurd (cc a)
@@ -190,6 +190,7 @@ module _ {D : Type 0} (g : Ghosts D) (limits : Limits)
       current = λ held tells. ap (λ t. t.current) still.value ∙ h.current held (sym still.stays.told ∙ tells);
     };
     packs = λ _. subst (λ p. Tells (g.packs s.disk) p (PutsAll limits [])) (sym still.stays.told) (told_nothing limits (g.packs s.disk));
+    same_limits = ap (λ t. t.limits) still.value;
   }
 
   module _ (s new : Archive D) (bytes : List ℕ) (puts_last : PutsLast g) where
@@ -210,6 +211,7 @@ module _ {D : Type 0} (g : Ghosts D) (limits : Limits)
         held = (held, tt);
         stands = λ h. stored_stands g limits s new bytes puts_last h small n a l;
         packs = λ h. told_one limits (g.packs s.disk) (g.packs new.disk) bytes (stored_packs g limits s new bytes puts_last h small n a l);
+        same_limits = ap (λ t. t.limits) l.value;
       }
       kept (put.Already n) a l held = record {
         crash = crash;
@@ -217,6 +219,7 @@ module _ {D : Type 0} (g : Ghosts D) (limits : Limits)
         held = (held, tt);
         stands = λ h. subst (Stands g limits) (sym l) h;
         packs = λ h. told_one limits (g.packs s.disk) (g.packs new.disk) bytes (stood_packs g limits s new bytes puts_last h n a l);
+        same_limits = ap (λ t. t.limits) l;
       }
 
       refused : (e : PutFault) → Answered (Err e) → Leaves g s new (ref_of bytes) bytes (Err e) → (◌≡◌ {A = PutAnswer} (Err e) (Err fault.Disk) → Rose (g.faults s.disk) (g.faults new.disk))

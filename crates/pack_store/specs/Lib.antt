@@ -11,3 +11,5 @@ pub mod PutsLast
 pub mod Content
 pub mod Lives
 pub mod Puts
+pub mod StoreShelf
+pub mod RunLaws

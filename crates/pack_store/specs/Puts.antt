@@ -1,9 +1,10 @@
 -- What blobs that are put make of packs, and when no more can be put (docs/store.md).
 use Rattle.std.specs.Prelude.{◌≡◌, ◌⊎◌, ◌||◌, ◌&&◌, ◌≤◌, ◌<◌, ℕ, ◌-◌, Bool, true, false, List, [], ◌∷◌, length, nat_le, nat_lt, Result, Ok, Err}
 use Rattle.std.specs.Option.{ForSome, is_some}
-use Rattle.std.specs.FinMap.{FinMap, entries, get, insert}
-use Rattle.blobref.specs.Blobref.{ref_cmp, ref_of}
+use Rattle.std.specs.FinMap.{entries, get, insert}
+use Rattle.blobref.specs.Blobref.{ref_of}
 use Rattle.edge_base.specs.Edge.{Rose}
+pub use Rattle.edge_base.specs.Shelf.{Blobs}
 use Rattle.edge_base.specs.declared.answers.Put.{Put}
 use Rattle.edge_base.specs.declared.answers.PutFault.{PutFault}
 use Rattle.edge_base.specs.declared.answers.PutFault.TheVariants as fault
@@ -19,10 +20,6 @@ use Rattle.pack_store.specs.Archive.{Archive, is_filled}
 use Rattle.pack_store.specs.Opening.{IsOpened, next_of, current_of}
 use Rattle.pack_store.specs.Packs.{HeldByAll, KeepsAll}
 use Rattle.pack_store.specs.Putting.{pack_of}
-
--- bytes under their refs
-abbrev pub Blobs : Type 0
-Blobs = FinMap ref_cmp (List ℕ)
 
 -- the blobs of packs, each ref with the bytes of its first finding
 abbrev pub blobs_of : Packs → Blobs
@@ -93,6 +90,7 @@ pub record PutsBlobs {D : Type 0} (g : Ghosts D) (limits : Limits) (old : Archiv
   pub held : HoldAll (g.images new.disk) blobs
   pub stands : Stands g limits old → Stands g limits new
   pub packs : Stands g limits old → Tells (g.packs old.disk) (g.packs new.disk) (PutsAll limits blobs)
+  pub same_limits : new.limits ≡ old.limits
 
 -- a store that is as its disk says has no room for the blob
 abbrev pub HasNoRoom : {D : Type 0} → Ghosts D → Limits → Archive D → List ℕ → ℕ → ℕ → Type 0

@@ -14,7 +14,8 @@ use blobref::Ref;
 use edge_base::Failed;
 use pack_disk::Disk;
 
-// Where the next record goes: a pack, its length in bytes, whether it has still to be made, and the number of the next pack then.
+// Where the next record goes: a pack, its length in bytes, whether it has still to be made, and the number of the
+// next pack then.
 #[derive(Clone, Copy)]
 pub(crate) struct End {
     pub(crate) pack: u32,
@@ -23,7 +24,8 @@ pub(crate) struct End {
     pub(crate) next: u32,
 }
 
-// Adds the record of a blob under its ref, to a pack that is made first where it has to be, and syncs it. No other pack changes.
+// Adds the record of a blob under its ref, to a pack that is made first where it has to be, and syncs it. No other
+// pack changes.
 pub(crate) fn write_blob<D: Disk>(
     disk: &mut D,
     end: End,
@@ -47,7 +49,8 @@ pub(crate) fn write_blob<D: Disk>(
     add_record(disk, end.pack, end.size, r, bytes, text)
 }
 
-// Makes the pack where it has to be. At Ok it is there, as long as it is said to be, and clean in each image that has it.
+// Makes the pack where it has to be. At Ok it is there, as long as it is said to be, and clean in each image that has
+// it.
 fn ready_pack<D: Disk>(disk: &mut D, end: End) -> Result<(), Failed>
     requires ready { IsReady D.Disk disk.old end.pack end.size end.is_new }
     ensures told { Tells (D.packs disk.old) (D.packs disk.new) (SameOthers end.pack) }
@@ -80,8 +83,8 @@ fn make_pack<D: Disk>(disk: &mut D, pack: u32) -> Result<(), Failed>
     disk.make(pack)
 }
 
-// Adds the record of a blob under its ref to a pack that is clean and has this length, and syncs it. At Ok it is clean again, and every image has
-// the blob.
+// Adds the record of a blob under its ref to a pack that is clean and has this length, and syncs it. At Ok it is
+// clean again, and every image has the blob.
 fn add_record<D: Disk>(
     disk: &mut D,
     pack: u32,

@@ -12,6 +12,7 @@ mod putting;
 mod reading;
 mod records;
 mod rows;
+mod shelf;
 mod store;
 mod whole;
 
@@ -20,5 +21,6 @@ pub use limits::Limits;
 pub use opened_laws::puts_last;
 pub use opening::OpenFault;
 pub use rows::{Current, Row};
+pub use shelf::content_stands;
 pub use store::Store;
 pub use whole::{PackFault, PackScan, scan_pack};

@@ -14,8 +14,8 @@ use std::collections::BTreeMap;
 use std::ops::Bound;
 
 impl<D: Disk> Store<D> {
-    /// The refs that are greater than `after`, or all where it is `None`, ascending, the first `limit` of them, each with the size of its
-    /// blob in bytes (`docs/store.md`). Where no memory is left nothing has changed.
+    /// The refs that are greater than `after`, or all where it is `None`, ascending, the first `limit` of them, each
+    /// with the size of its blob in bytes (`docs/store.md`). Where no memory is left nothing has changed.
     pub fn list(&self, after: Option<&Ref>, limit: usize) -> Result<Listing, NoMemory>
         ensures { IfOk result (λ listing. listing ≡ page (option_copied after.entry) limit self.now.rows) }
     {

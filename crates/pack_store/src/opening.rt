@@ -57,10 +57,11 @@ impl From<PackFault> for OpenFault {
 }
 
 impl<D: Disk> Store<D> {
-    /// Opens the store that a disk holds (`docs/store.md`). For each pack in order it syncs, and then reads it whole. Nothing
-    /// is made and nothing added. Where the disk tells its packs, the store has their arrivals, and goes on behind the last pack
-    /// where that is clean. Whatever is answered, a crash at any moment leaves an image of the disk that was handed in. `Disk` comes
-    /// only where the disk's count of faults rose. After an error the disk is handed back.
+    /// Opens the store that a disk holds (`docs/store.md`). For each pack in order it syncs, and then reads it whole.
+    /// Nothing is made and nothing added. Where the disk tells its packs, the store has their arrivals, and goes on
+    /// behind the last pack where that is clean. Whatever is answered, a crash at any moment leaves an image of the
+    /// disk that was handed in. `Disk` comes only where the disk's count of faults rose. After an error the disk is
+    /// handed back.
     pub fn open_on(alloc: Global, disk: D, limits: Limits) -> Result<Store<D>, (D, OpenFault)>
         requires last_pack { limits.last_pack ≤ last_number }
         requires pack_bytes { limits.pack_bytes ≤ 2 ^ 63 }
@@ -106,8 +107,10 @@ struct Loaded {
 
 // Takes in each pack in order.
 fn load<D: Disk>(alloc: Global, disk: &mut D) -> Result<Loaded, OpenFault>
-    ensures opened { IfOk result (λ l. (limits : Limits) → IsOpened D.Disk disk.old limits (record { rows = l.rows.items; limits = limits; next = l.next; current = l.current; disk = disk.new })) }
-    ensures sound { IfOk result (λ l. (limits : Limits) → AreLimits limits → IsSound D.Disk l.places (record { rows = l.rows.items; limits = limits; next = l.next; current = l.current; disk = disk.new })) }
+    ensures opened { IfOk result (λ l. (limits : Limits) → IsOpened D.Disk disk.old limits
+        (record { rows = l.rows.items; limits = limits; next = l.next; current = l.current; disk = disk.new })) }
+    ensures sound { IfOk result (λ l. (limits : Limits) → AreLimits limits → IsSound D.Disk l.places
+        (record { rows = l.rows.items; limits = limits; next = l.next; current = l.current; disk = disk.new })) }
     ensures stays { Stays D.Disk disk.old disk.new }
     ensures failed { result ≡ Err OpenFault.Disk → Rose (D.faults disk.old) (D.faults disk.new) }
     ensures later { D.faults disk.old ≤ D.faults disk.new }
@@ -143,12 +146,16 @@ fn take_pack<D: Disk>(
 ) -> Result<Option<Current>, OpenFault>
     requires there { ForSome (D.packs disk.old) (λ held. IsSome (get held pack)) }
     requires placed { IsPlaced places.old rows.old.items }
-    ensures rows { OnOk result (ForSome (D.packs disk.old) (λ held. (bytes : List ℕ) → get held pack ≡ Some bytes → rows.new.items ≡ take_pack rows.old.items pack bytes)) }
+    ensures rows { OnOk result (ForSome (D.packs disk.old)
+        (λ held. (bytes : List ℕ) → get held pack ≡ Some bytes → rows.new.items
+        ≡ take_pack rows.old.items pack bytes)) }
     ensures placed { OnOk result (IsPlaced places.new rows.new.items) }
     ensures blobs { OnOk result (All IsOfBlob rows.old.items → All IsOfBlob rows.new.items) }
-    ensures clean { IfOk result (λ current. ForSome (D.packs disk.old) (λ held. (bytes : List ℕ) → get held pack ≡ Some bytes → current ≡ current_if_clean (pack, bytes))) }
+    ensures clean { IfOk result (λ current. ForSome (D.packs disk.old)
+        (λ held. (bytes : List ℕ) → get held pack ≡ Some bytes → current ≡ current_if_clean (pack, bytes))) }
     ensures number { IfOk result (λ current. IfSome current (λ c. c.pack ≡ pack)) }
-    ensures stands { OnOk result (ForSome (D.packs disk.old) (λ held. (image : Packs) → D.images disk.new image → get image pack ≡ get held pack)) }
+    ensures stands { OnOk result (ForSome (D.packs disk.old)
+        (λ held. (image : Packs) → D.images disk.new image → get image pack ≡ get held pack)) }
     ensures stays { Stays D.Disk disk.old disk.new }
     ensures failed { result ≡ Err OpenFault.Disk → Rose (D.faults disk.old) (D.faults disk.new) }
     ensures later { D.faults disk.old ≤ D.faults disk.new }

@@ -21,14 +21,15 @@ use pack_disk::Disk;
 use pack_format::MAX_SIZE;
 
 impl<D: Disk> Store<D> {
-    /// Stores a blob under the ref that is said (`docs/store.md`). The refusals are tried in this order, each exactly where it
-    /// applies: `TooBig` where it has more than 16,777,216 bytes; `BadDigest` where its ref, under the digest that the said one names, isn't the said one, and carries both; `Already`
-    /// where its ref has arrived; `Full` where there are as many blobs as there may be, or a new pack is needed and there is none to
-    /// be had. Then `NoMemory` may come. After each of these the store and its disk are as they were. `Disk` comes only where the
-    /// disk's count of faults rose: the arrivals are as they were, and the pack is never appended to again. At `Stored` the blob is
-    /// the next arrival, and its record was appended to the current pack, or to the next one where a new one is needed, and synced.
-    /// At `Ok` every image of the disk holds it. Whatever is answered, a crash at any moment leaves what holds every ref that each
-    /// image held before.
+    /// Stores a blob under the ref that is said (`docs/store.md`). The refusals are tried in this order, each exactly
+    /// where it applies: `TooBig` where it has more than 16,777,216 bytes; `BadDigest` where its ref, under the
+    /// digest that the said one names, isn't the said one, and carries both; `Already` where its ref has arrived;
+    /// `Full` where there are as many blobs as there may be, or a new pack is needed and there is none to be had.
+    /// Then `NoMemory` may come. After each of these the store and its disk are as they were. `Disk` comes only where
+    /// the disk's count of faults rose: the arrivals are as they were, and the pack is never appended to again. At
+    /// `Stored` the blob is the next arrival, and its record was appended to the current pack, or to the next one
+    /// where a new one is needed, and synced. At `Ok` every image of the disk holds it. Whatever is answered, a crash
+    /// at any moment leaves what holds every ref that each image held before.
     pub fn put(&mut self, said: &Ref, bytes: &[u8]) -> Result<Put, PutFault>
         ensures answer { Answers (settled self.old said.now bytes.now) (count self.old) result }
         ensures leaves { Leaves D.Disk self.old self.new said.now bytes.now result }

@@ -11,9 +11,9 @@ use pack_disk::Disk;
 use std::alloc::Global;
 use std::marker::Model;
 
-/// Blobs in packs on a disk (`docs/store.md`). A contract sees where each blob stands, in order of arrival, the limits, the
-/// number of the next pack, the pack to which the next record may be added, and the disk. As long as the store stands, every image
-/// of its disk holds each blob that has arrived.
+/// Blobs in packs on a disk (`docs/store.md`). A contract sees where each blob stands, in order of arrival, the
+/// limits, the number of the next pack, the pack to which the next record may be added, and the disk. As long as the
+/// store stands, every image of its disk holds each blob that has arrived.
 #[derive(Drop)]
 pub struct Store<D: Disk> {
     pub(crate) alloc: Global,
@@ -78,9 +78,10 @@ impl<D: Disk> Store<D> {
         self.disk.faults()
     }
 
-    /// Each arrival is of some bytes, at most 16,777,216 of them, under their own ref and with their number as its size. Every image of
-    /// the disk holds each. Where the disk tells its packs, the bytes are those that it has there, and no pack has the next number or a
-    /// greater one. The current pack is the last one, and clean in every image.
+    /// Each arrival is of some bytes, at most 16,777,216 of them, under their own ref and with their number as its
+    /// size. Every image of the disk holds each. Where the disk tells its packs, the bytes are those that it has
+    /// there, and no pack has the next number or a greater one. The current pack is the last one, and clean in every
+    /// image.
     pub fn arrivals_are_held(&self)
         ensures { AreHeld D.Disk self.now }
     {

@@ -41,9 +41,9 @@ pub struct PackScan {
     pub size: u64,
 }
 
-/// Reads a pack and salvages it (`docs/formats/packs.md`). Nothing is synced and nothing is changed. What is answered is the scan of some
-/// bytes, and where the disk tells its packs, of exactly those that it tells. `Disk` comes only where the disk's count of faults rose.
-/// It takes as much memory as the pack has bytes, and time as a scan does.
+/// Reads a pack and salvages it (`docs/formats/packs.md`). Nothing is synced and nothing is changed. What is answered
+/// is the scan of some bytes, and where the disk tells its packs, of exactly those that it tells. `Disk` comes only
+/// where the disk's count of faults rose. It takes as much memory as the pack has bytes, and time as a scan does.
 pub fn scan_pack<D: Disk>(alloc: Global, disk: &mut D, pack: u32) -> Result<PackScan, PackFault>
     requires there { ForSome (D.packs disk.old) (λ held. IsSome (get held pack)) }
     ensures scanned { IfOk result (IsScan (D.packs disk.old) pack) }
