@@ -1,9 +1,10 @@
 //! Laws of written JSON texts.
 ghost use Rattle.json_laws.specs.Written.{ObjectsAreRead, ObjectsNest, MembersAreFound, PairsAreFound, ObjectsAreUtf8, ListsAreRead, ListsNest, ListsAreUtf8, TextsAreRead, TextsAreUtf8, NumbersAreRead, TruthsAreRead, TruthsAreUtf8, SpaceMayFollow};
-ghost use Rattle.json_laws.specs.Signing.{SignaturesAreRead, SignaturesAreUtf8, PayloadsEnd};
+ghost use Rattle.json_laws.specs.Signing.{SignaturesAreRead, SignaturesAreUtf8, SignedAreObjects, PayloadsEnd};
 
-/// An object that is written pair by pair is read as the object of its pairs (`docs/formats/schema.md`): under each key
-/// stands the value of the last pair with that key, so each pair is found where the keys are distinct. It nests one deeper than its values. Its text is UTF-8 where the keys and the values' texts are.
+/// An object that is written pair by pair is read as the object of its pairs (`docs/formats/schema.md`): under each
+/// key stands the value of the last pair with that key, so each pair is found where the keys are distinct. It nests
+/// one deeper than its values. Its text is UTF-8 where the keys and the values' texts are.
 pub fn objects_are_read()
     ensures value { ObjectsAreRead }
     ensures nest { ObjectsNest }
@@ -20,7 +21,8 @@ pub fn lists_are_read()
     ensures utf8 { ListsAreUtf8 }
 {}
 
-/// The JSON string that is written for a text is read as that text (`docs/formats/schema.md`). It is UTF-8 where the text is.
+/// The JSON string that is written for a text is read as that text (`docs/formats/schema.md`). It is UTF-8 where the
+/// text is.
 pub fn texts_are_read()
     ensures value { TextsAreRead }
     ensures utf8 { TextsAreUtf8 }
@@ -43,14 +45,16 @@ pub fn space_may_follow()
 {}
 
 /// The text of a signature, with a brace before it, is read as the object whose one key `camliSig` holds the digits
-/// (`docs/formats/schema.md`). It is UTF-8.
+/// (`docs/formats/schema.md`). It is UTF-8. Behind the payload of an object with a pair and a comma it ends the
+/// object of the payload's pairs and the signature.
 pub fn signatures_are_read()
     ensures value { SignaturesAreRead }
     ensures utf8 { SignaturesAreUtf8 }
+    ensures whole { SignedAreObjects }
 {}
 
-/// The last marker of a blob that was written as a payload, a comma and the text of a signature stands where the payload
-/// ends, whatever the payload holds (`docs/formats/schema.md`).
+/// The last marker of a blob that was written as a payload, a comma and the text of a signature stands where the
+/// payload ends, whatever the payload holds (`docs/formats/schema.md`).
 pub fn payloads_end()
     ensures { PayloadsEnd }
 {}

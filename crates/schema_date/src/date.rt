@@ -3,14 +3,15 @@ ghost use Rattle.std.specs.Prelude.{◌≡◌, ◌≤◌, ◌<◌, ◌^◌, true
 ghost use Rattle.schema_date.specs.Dates.{date_of, are_digits, digits_in, number, day_of, day_in, clock_of, clock_in, seconds_in, zone_in, fraction_in, rest_in, time_in, date_in, is_digit};
 ghost use Rattle.schema_date.specs.DateTexts.{IsDateText};
 ghost use Rattle.std.specs.List.{take_while};
+ghost use Rattle.std.specs.Str.{IsUtf8};
 ghost use Rattle.jiff.specs.Words.{IsEpochDay, IsWithin};
 
 use crate::date_text::{DateText, written_date};
 use jiff::civil;
 use std::marker::Model;
 
-/// A moment, as a number of nanoseconds from 1970-01-01T00:00:00Z on, without leap seconds (`docs/formats/dates.md`). A contract
-/// sees it as that number.
+/// A moment, as a number of nanoseconds from 1970-01-01T00:00:00Z on, without leap seconds (`docs/formats/dates.md`).
+/// A contract sees it as that number.
 #[derive(Clone, Copy, PartialEq, Eq, PartialOrd, Ord)]
 pub struct Date {
     nanoseconds: i128,
@@ -69,11 +70,12 @@ impl Date {
         time_in(day_in(&text[..10])?, text)
     }
 
-    /// The text of the date, in UTC with `Z`: the fraction is left out where it is zero, and else its last digit isn't zero
-    /// (`docs/formats/dates.md`). `Date::read` of it gives this date. It takes no memory.
+    /// The text of the date, in UTC with `Z`: the fraction is left out where it is zero, and else its last digit
+    /// isn't zero (`docs/formats/dates.md`). `Date::read` of it gives this date. It takes no memory.
     pub fn text(&self) -> DateText
         ensures text { IsDateText self.now result }
         ensures read { date_in result ≡ Some self.now }
+        ensures utf8 { IsUtf8 result }
     {
         written_date(self.nanoseconds)
     }

@@ -3,6 +3,7 @@ pub mod Opened
 pub mod Fronts
 pub mod Joined
 pub mod Signed
+pub mod Changes
 pub mod Json
 pub mod KeyBlobs
 pub mod ValidFacts

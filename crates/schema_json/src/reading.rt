@@ -17,8 +17,8 @@ use std::alloc::Global;
 
 const LONGEST_SCHEMA: usize = 1_048_576;
 
-/// What the blob of these bytes says (`docs/formats/schema.md`). The fact is valid: its part list, if it has one, meets the limits
-/// on offsets, sizes and their sum. The only error is want of memory.
+/// What the blob of these bytes says (`docs/formats/schema.md`). The fact is valid: its part list, if it has one,
+/// meets the limits on offsets, sizes and their sum. The only error is want of memory.
 #[tactic(auto, unfolding(crate::specs::Facts::fact_of))]
 pub fn fact(alloc: Global, bytes: &[u8]) -> Result<Fact, NoMemory>
     ensures value { IfOk result (λ found. found ≡ fact_of bytes.now) }
