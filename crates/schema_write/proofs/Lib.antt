@@ -1,0 +1,9 @@
+pub mod Texts
+pub mod Objects
+pub mod PartsRead
+pub mod SignedRead
+pub mod ClaimsRead
+pub mod PartsWritten
+pub mod ClaimsWritten
+pub mod Drafted
+pub mod Lengths

@@ -1,0 +1,3 @@
+pub mod Blobs
+pub mod Laws
+pub mod Drafts
