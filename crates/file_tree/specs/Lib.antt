@@ -1,0 +1,4 @@
+pub mod Walk
+pub mod Reading
+pub mod Bytes
+pub mod Laws

@@ -1,0 +1,12 @@
+//! Files as trees of blobs, read to a sink.
+#![tactic(auto)]
+
+mod fault;
+mod laws;
+mod opening;
+mod reading;
+mod zeros;
+
+pub use fault::FileFault;
+pub use laws::sound_files_are_read;
+pub use reading::read_file;
