@@ -4,13 +4,14 @@ use Rattle.std.specs.List.{slice_get}
 use Rattle.std.proofs.lemmas.Bool.{and_parts, leb-true, ltb-true}
 use Rattle.std.proofs.lemmas.Slice.Eq.{bytes_eq-Decides}
 use Rattle.blobref.specs.Blobref.{is_blobref}
+use Rattle.claim_verify.specs.KeyName.{is_key_name}
 use Rattle.perkeep_words.specs.Parts.{Part}
 use Rattle.perkeep_words.specs.Kinds.{is_right, wrong, fault_of}
 use Rattle.perkeep_words.specs.Forms.{OptionForm, Form, texts_at, count_at, position_at, text_of, kind_in, is_needed, kind_of, are_of, has_positions, is_spared, is_given, are_given, has_form, faults}
 use Rattle.perkeep_words.specs.Table.{form_of}
 use Rattle.perkeep_words.specs.Reading.{LineSeen, IsRight, NeedsAt, NeedsOption}
 use Rattle.perkeep_words.specs.declared.kinds.TextKind.{TextKind}
-use Rattle.perkeep_words.specs.declared.kinds.TextKind.TheVariants.{Blobref, Name}
+use Rattle.perkeep_words.specs.declared.kinds.TextKind.TheVariants.{Blobref, Name, Key}
 use Rattle.perkeep_words.specs.declared.kinds.TextFault.{TextFault}
 
 neither : (a : Option TextFault) (b : List TextFault) → option_to_list a ++ b ≡ [] → (a ≡ None) × (b ≡ [])
@@ -151,3 +152,7 @@ position_filled line place right needs = filled (position_at place line.1) (righ
 pub option_filled : (line : LineSeen) (option : List ℕ) → IsRight line → NeedsOption line option Name
     → text_of option line.1 ≢ []
 option_filled line option right needs = filled (text_of option line.1) (right_option line option Name right needs)
+
+pub option_is_key : (line : LineSeen) (option : List ℕ) → IsRight line → NeedsOption line option Key
+    → is_key_name (text_of option line.1) ≡ true
+option_is_key line option right needs = right_option line option Key right needs

@@ -1,9 +1,11 @@
 -- What a text of a line has to be (docs/commands.md).
 use Rattle.std.specs.Prelude.{◌&&◌, ◌||◌, ℕ, Bool, true, false, not, if◌then◌else◌, List, length, nat_le, Option, Some, None, is_some}
 use Rattle.blobref.specs.Blobref.{is_blobref}
+use Rattle.claim_verify.specs.KeyName.{is_key_name}
 use Rattle.schema_date.specs.Dates.{are_digits, number, date_in}
+use Rattle.perkeep_words.specs.Changes.{change_in}
 use Rattle.perkeep_words.specs.declared.kinds.TextKind.{TextKind}
-use Rattle.perkeep_words.specs.declared.kinds.TextKind.TheVariants.{Dir, Any, Blobref, Date, Name, Number}
+use Rattle.perkeep_words.specs.declared.kinds.TextKind.TheVariants.{Dir, Any, Blobref, Date, Name, Key, Change, Number}
 use Rattle.perkeep_words.specs.declared.kinds.TextFault.{TextFault}
 use Rattle.perkeep_words.specs.declared.kinds.TextFault.TheVariants.{BadRef, BadDate, BadNumber, BadName}
 
@@ -22,6 +24,8 @@ is_right Any text = true
 is_right Blobref text = is_blobref text
 is_right Date text = is_some (date_in text)
 is_right Name text = nat_le 1 (length text)
+is_right Key text = is_key_name text
+is_right Change text = is_some (change_in text)
 is_right (Number least most) text = is_some (number_within least most text)
 
 -- whether words with another text are no line at all; where not, they are a line in which a text is wrong
@@ -31,6 +35,8 @@ is_of_line Any = false
 is_of_line Blobref = false
 is_of_line Date = false
 is_of_line Name = false
+is_of_line Key = false
+is_of_line Change = true
 is_of_line (Number least most) = false
 
 -- what is told of a text that isn't right
@@ -38,6 +44,7 @@ abbrev pub wrong : TextKind → TextFault
 wrong Blobref = BadRef
 wrong Date = BadDate
 wrong Name = BadName
+wrong Key = BadName
 wrong _ = BadNumber
 
 -- whether there is such a part, and its text is right if it is judged with the line

@@ -1,5 +1,6 @@
 pub mod Words
 pub mod Parts
+pub mod Changes
 pub mod Kinds
 pub mod Forms
 pub mod Seen

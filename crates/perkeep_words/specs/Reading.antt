@@ -6,9 +6,12 @@ use Rattle.schema_date.specs.Dates.{date_in}
 use Rattle.schema_date.specs.declared.date.When.{When}
 use Rattle.schema_date.specs.declared.date.When.TheVariants.{Always, At}
 use Rattle.perkeep_words.specs.Parts.{Part, HasParts, start, are_parts, parts_from}
+use Rattle.perkeep_words.specs.Changes.{change_in}
 use Rattle.perkeep_words.specs.Kinds.{number_within}
 use Rattle.perkeep_words.specs.Forms.{has_form, first_fault, position_at, value_of, text_of, kind_in, is_needed}
 use Rattle.perkeep_words.specs.Table.{form_of, limit_max, name_of}
+use Rattle.perkeep_words.specs.declared.change.Change.{Change}
+use Rattle.perkeep_words.specs.declared.change.Change.TheVariants.{Del}
 use Rattle.perkeep_words.specs.declared.kinds.TextKind.{TextKind}
 use Rattle.perkeep_words.specs.declared.kinds.TextFault.{TextFault}
 use Rattle.perkeep_words.specs.declared.table.CommandName.{CommandName}
@@ -56,6 +59,10 @@ abbrev pub NeedsOption : LineSeen → List ℕ → TextKind → Type 0
 NeedsOption line option kind =
     (is_needed (form_of line.0).options option ≡ true) × (kind_in (form_of line.0).options option ≡ Some kind)
 
+-- the change that a position names, and `Del` where it names none, as in no line
+abbrev pub change_at : ℕ → List Part → Change
+change_at place parts = unwrap_or (change_in (position_at place parts)) Del
+
 -- the ref that an option gives, if it is given
 abbrev pub ref_of : List ℕ → List Part → Option (List ℕ)
 ref_of option parts = option_and_then blobref_in (value_of option parts)
@@ -82,6 +89,12 @@ command_at name.Search parts =
     (when_of (codes "at") parts)
 command_at name.Salvage parts = command.Salvage (position_at 0 parts)
 command_at name.SearchPack parts = command.SearchPack (position_at 0 parts) (position_at 1 parts)
+command_at name.Permanode parts = command.Permanode (position_at 0 parts) (text_of (codes "key") parts)
+command_at name.Claim parts =
+    command.Claim (position_at 0 parts) (change_at 1 parts) (position_at 2 parts) (position_at 3 parts)
+    (position_at 4 parts) (text_of (codes "key") parts)
+command_at name.Delete parts = command.Delete (position_at 0 parts) (position_at 1 parts) (text_of (codes "key") parts)
+command_at name.GetFile parts = command.GetFile (position_at 0 parts) (position_at 1 parts)
 
 abbrev pub unless_wrong : Option TextFault → Command → Result Command TextFault
 unless_wrong None command = Ok command

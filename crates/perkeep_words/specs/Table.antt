@@ -2,9 +2,9 @@
 use Rattle.std.specs.Prelude.{ℕ, Bool, true, false, if◌then◌else◌, List, [], ◌∷◌, Option, Some, None, bytes_eq, codes}
 use Rattle.perkeep_words.specs.Forms.{OptionForm, Form, begins_at_dir}
 use Rattle.perkeep_words.specs.declared.kinds.TextKind.{TextKind}
-use Rattle.perkeep_words.specs.declared.kinds.TextKind.TheVariants.{Dir, Any, Blobref, Date, Name, Number}
+use Rattle.perkeep_words.specs.declared.kinds.TextKind.TheVariants.{Dir, Any, Blobref, Date, Name, Key, Change, Number}
 use Rattle.perkeep_words.specs.declared.table.CommandName.{CommandName}
-use Rattle.perkeep_words.specs.declared.table.CommandName.TheVariants.{Put, Get, Stat, List as ListBlobs, Search, Salvage, SearchPack}
+use Rattle.perkeep_words.specs.declared.table.CommandName.TheVariants.{Put, Get, Stat, List as ListBlobs, Search, Salvage, SearchPack, Permanode, Claim, Delete, GetFile}
 
 -- its name, whether it may change the store, its positions, how many are needed, what spares the others, its options
 abbrev pub row : List ℕ → Bool → List TextKind → ℕ → Option (ℕ × List ℕ) → List OptionForm → Form
@@ -20,7 +20,7 @@ row name writes positions needed spared options = record {
 abbrev may : List ℕ → TextKind → OptionForm
 may name kind = record { name = name; kind = kind; needed = false }
 
-abbrev must : List ℕ → TextKind → OptionForm
+abbrev pub must : List ℕ → TextKind → OptionForm
 must name kind = record { name = name; kind = kind; needed = true }
 
 -- the greatest number of refs that a line of `list` asks for
@@ -37,9 +37,15 @@ form_of Search = row (codes "search") false (Dir ∷ []) 1 None
     (must (codes "attr") Name ∷ must (codes "value") Any ∷ may (codes "at") Date ∷ [])
 form_of Salvage = row (codes "salvage") false (Dir ∷ []) 1 None []
 form_of SearchPack = row (codes "search-pack") false (Name ∷ Any ∷ []) 2 None []
+form_of Permanode = row (codes "permanode") true (Dir ∷ []) 1 None (must (codes "key") Key ∷ [])
+form_of Claim = row (codes "claim") true (Dir ∷ Change ∷ Blobref ∷ Name ∷ Any ∷ []) 4 (Some (1, codes "del"))
+    (must (codes "key") Key ∷ [])
+form_of Delete = row (codes "delete") true (Dir ∷ Blobref ∷ []) 2 None (must (codes "key") Key ∷ [])
+form_of GetFile = row (codes "get-file") false (Dir ∷ Blobref ∷ []) 2 None []
 
 abbrev pub commands : List CommandName
-commands = Put ∷ Get ∷ Stat ∷ ListBlobs ∷ Search ∷ Salvage ∷ SearchPack ∷ []
+commands = Put ∷ Get ∷ Stat ∷ ListBlobs ∷ Search ∷ Salvage ∷ SearchPack ∷ Permanode ∷ Claim ∷ Delete ∷ GetFile
+    ∷ []
 
 -- the first of these that a word names
 abbrev pub named_in : List CommandName → List ℕ → Option CommandName

@@ -3,7 +3,9 @@ ghost use Rattle.std.specs.Prelude.{◌≡◌, ◌<◌, ◌^◌, true, length, S
 ghost use Rattle.schema_date.specs.Dates.{are_digits, number};
 ghost use Rattle.perkeep_words.specs.Kinds.{within, number_within, is_right, is_of_line, wrong, fits_kind, fault_of};
 
+use crate::change::Change;
 use blobref::Ref;
+use claim_verify::KeyName;
 use schema_date::Date;
 
 /// What a text of a line has to be.
@@ -19,6 +21,10 @@ pub enum TextKind {
     Date,
     /// A text that isn't empty.
     Name,
+    /// The name of a key.
+    Key,
+    /// The word for a change. Words with another one are no line.
+    Change,
     /// A number from the first to the second one.
     Number(u32, u32),
 }
@@ -32,7 +38,7 @@ pub enum TextFault {
     BadDate,
     /// It should be a number, of those that may stand there.
     BadNumber,
-    /// It should be a name, and is empty.
+    /// It should be a name, and is empty; or the name of a key, and can't be one.
     BadName,
 }
 
@@ -45,6 +51,8 @@ impl TextKind {
             TextKind::Blobref => Ref::read(text.as_bytes()).is_some(),
             TextKind::Date => Date::read(text.as_bytes()).is_some(),
             TextKind::Name => !text.is_empty(),
+            TextKind::Key => KeyName::read(text.as_bytes()).is_some(),
+            TextKind::Change => Change::read(text).is_some(),
             TextKind::Number(least, most) => number_within(least, most, text).is_some(),
         }
     }
@@ -59,7 +67,9 @@ impl TextKind {
             | TextKind::Blobref
             | TextKind::Date
             | TextKind::Name
+            | TextKind::Key
             | TextKind::Number(..) => false,
+            TextKind::Change => true,
         }
     }
 
@@ -69,7 +79,7 @@ impl TextKind {
         match self {
             TextKind::Blobref => TextFault::BadRef,
             TextKind::Date => TextFault::BadDate,
-            TextKind::Name => TextFault::BadName,
+            TextKind::Name | TextKind::Key => TextFault::BadName,
             _ => TextFault::BadNumber,
         }
     }

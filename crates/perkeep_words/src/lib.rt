@@ -1,6 +1,7 @@
 //! The command line: which words are which command.
 #![tactic(auto)]
 
+mod change;
 mod finding;
 mod forms;
 mod kinds;
@@ -10,6 +11,7 @@ mod reading;
 mod table;
 mod words;
 
+pub use change::Change;
 pub use finding::places;
 pub use kinds::TextFault;
 pub use parts::parts_agree;

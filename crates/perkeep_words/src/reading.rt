@@ -1,17 +1,20 @@
 //! Lines, and the commands that they are (docs/commands.md).
 ghost use Rattle.std.specs.Prelude.{◌≡◌, true};
 ghost use Rattle.blobref.specs.Blobref.{is_blobref};
+ghost use Rattle.claim_verify.specs.KeyName.{is_key_name};
 ghost use Rattle.perkeep_words.specs.Parts.{start, parts_from};
 ghost use Rattle.perkeep_words.specs.Forms.{position_at, text_of};
 ghost use Rattle.perkeep_words.specs.Table.{writes_of};
-ghost use Rattle.perkeep_words.specs.Reading.{line_of, command_at, command_in, ref_of, number_of, when_of, NeedsAt, NeedsOption, ReadingsAgree};
-ghost use Rattle.perkeep_words.specs.declared.kinds.TextKind.TheVariants.{Blobref, Name};
+ghost use Rattle.perkeep_words.specs.Reading.{line_of, command_at, command_in, change_at, ref_of, number_of, when_of, NeedsAt, NeedsOption, ReadingsAgree};
+ghost use Rattle.perkeep_words.specs.declared.kinds.TextKind.TheVariants.{Blobref, Name, Key};
 
+use crate::change::Change;
 use crate::forms::{nth, position};
 use crate::kinds::{TextFault, number_within};
 use crate::table::{CommandName, LIMIT_MAX};
 use crate::words::{Filled, Word};
 use blobref::{Ref, Text};
+use claim_verify::KeyName;
 use schema_date::{Date, When};
 use std::marker::Model;
 
@@ -53,6 +56,31 @@ pub enum Command<'a> {
     SearchPack {
         attr: Filled<'a>,
         value: Word<'a>,
+    },
+    /// `permanode DIR --key NAME`
+    Permanode {
+        dir: Word<'a>,
+        key: KeyName,
+    },
+    /// `claim DIR KIND REF ATTR [VALUE] --key NAME`. `value` is empty where VALUE is left out, as it may be for `del`.
+    Claim {
+        dir: Word<'a>,
+        kind: Change,
+        r: Ref,
+        attr: Filled<'a>,
+        value: Word<'a>,
+        key: KeyName,
+    },
+    /// `delete DIR REF --key NAME`
+    Delete {
+        dir: Word<'a>,
+        r: Ref,
+        key: KeyName,
+    },
+    /// `get-file DIR REF`
+    GetFile {
+        dir: Word<'a>,
+        r: Ref,
     },
 }
 
@@ -164,6 +192,27 @@ fn command_at<'a>(line: &RightLine<'a>) -> Command<'a>
             attr: line.filled(0),
             value: line.word(1),
         },
+        CommandName::Permanode => Command::Permanode {
+            dir,
+            key: line.key_option("key"),
+        },
+        CommandName::Claim => Command::Claim {
+            dir,
+            kind: line.change(1),
+            r: line.blobref(2),
+            attr: line.filled(3),
+            value: line.word(4),
+            key: line.key_option("key"),
+        },
+        CommandName::Delete => Command::Delete {
+            dir,
+            r: line.blobref(1),
+            key: line.key_option("key"),
+        },
+        CommandName::GetFile => Command::GetFile {
+            dir,
+            r: line.blobref(1),
+        },
     }
 }
 
@@ -174,7 +223,7 @@ impl<'a> RightLine<'a> {
         self.name
     }
 
-    // The position at a place.
+    // The position at a place, and the empty text where it is left out.
     fn word(&self, place: usize) -> Word<'a>
         ensures { result ≡ position_at place self.now.1 }
     {
@@ -197,6 +246,13 @@ impl<'a> RightLine<'a> {
         Filled::of(position(self.behind, place))
     }
 
+    // The change that a position names.
+    fn change(&self, place: usize) -> Change
+        ensures { result ≡ change_at place self.now.1 }
+    {
+        Change::read(position(self.behind, place)).unwrap_or(Change::Del)
+    }
+
     // The value of an option that has to be given.
     fn word_option(&self, option: &str) -> Word<'a>
         ensures { result ≡ text_of option.now self.now.1 }
@@ -210,6 +266,14 @@ impl<'a> RightLine<'a> {
         ensures { result ≡ text_of option.now self.now.1 }
     {
         Filled::of(value(self.behind, option))
+    }
+
+    // The value of an option that has to be given, and is the name of a key.
+    fn key_option(&self, option: &str) -> KeyName
+        requires { NeedsOption self.now option.now Key }
+        ensures { result ≡ text_of option.now self.now.1 }
+    {
+        key_name(value(self.behind, option))
     }
 
     fn ref_option(&self, option: &str) -> Option<Ref>
@@ -256,6 +320,17 @@ fn blobref(text: &str) -> Ref
 {
     match Ref::read(text.as_bytes()) {
         Some(r) => r,
+        None => unreachable!(),
+    }
+}
+
+// A text that is the name of a key.
+fn key_name(text: &str) -> KeyName
+    requires { is_key_name text.now ≡ true }
+    ensures { result ≡ text.now }
+{
+    match KeyName::read(text.as_bytes()) {
+        Some(name) => name,
         None => unreachable!(),
     }
 }

@@ -1,8 +1,8 @@
 //! The commands, and the form of each one's lines.
-ghost use Rattle.std.specs.Prelude.{◌≡◌, ◌∷◌, [], false, length, None};
-ghost use Rattle.perkeep_words.specs.Table.{row, form_of, named_in, name_of};
+ghost use Rattle.std.specs.Prelude.{◌≡◌, ◌∷◌, [], true, false, length, None, codes};
+ghost use Rattle.perkeep_words.specs.Table.{row, must, form_of, named_in, name_of};
 ghost use Rattle.perkeep_words.specs.Seen.{options_seen};
-ghost use Rattle.perkeep_words.specs.declared.kinds.TextKind.TheVariants.{Dir};
+ghost use Rattle.perkeep_words.specs.declared.kinds.TextKind.TheVariants.{Dir, Key};
 
 use crate::forms::{Form, OptionForm};
 use crate::kinds::TextKind;
@@ -17,9 +17,13 @@ pub enum CommandName {
     Search,
     Salvage,
     SearchPack,
+    Permanode,
+    Claim,
+    Delete,
+    GetFile,
 }
 
-const COMMANDS: [CommandName; 7] = [
+const COMMANDS: [CommandName; 11] = [
     CommandName::Put,
     CommandName::Get,
     CommandName::Stat,
@@ -27,6 +31,10 @@ const COMMANDS: [CommandName; 7] = [
     CommandName::Search,
     CommandName::Salvage,
     CommandName::SearchPack,
+    CommandName::Permanode,
+    CommandName::Claim,
+    CommandName::Delete,
+    CommandName::GetFile,
 ];
 
 /// The greatest number of refs that a line of `list` asks for.
@@ -63,6 +71,12 @@ const SEARCH_OPTIONS: &[OptionForm] = &[
     },
 ];
 
+const KEY_OPTION: &[OptionForm] = &[OptionForm {
+    name: "key",
+    kind: TextKind::Key,
+    needed: true,
+}];
+
 impl CommandName {
     /// The command that a word names.
     pub fn of(word: &str) -> Option<CommandName>
@@ -76,16 +90,30 @@ impl CommandName {
         ensures { result ≡ form_of self }
     {
         match self {
-            CommandName::Put => Form {
-                writes: true,
-                ..plain("put", &[TextKind::Dir])
-            },
+            CommandName::Put => writing("put", &[TextKind::Dir]),
             CommandName::Get => plain("get", &[TextKind::Dir, TextKind::Blobref]),
             CommandName::Stat => plain("stat", &[TextKind::Dir, TextKind::Blobref]),
             CommandName::List => with_options("list", LIST_OPTIONS),
             CommandName::Search => with_options("search", SEARCH_OPTIONS),
             CommandName::Salvage => plain("salvage", &[TextKind::Dir]),
             CommandName::SearchPack => plain("search-pack", &[TextKind::Name, TextKind::Any]),
+            CommandName::Permanode => signed("permanode", &[TextKind::Dir]),
+            CommandName::Claim => Form {
+                needed: 4,
+                spared: Some((1, "del")),
+                ..signed(
+                    "claim",
+                    &[
+                        TextKind::Dir,
+                        TextKind::Change,
+                        TextKind::Blobref,
+                        TextKind::Name,
+                        TextKind::Any,
+                    ],
+                )
+            },
+            CommandName::Delete => signed("delete", &[TextKind::Dir, TextKind::Blobref]),
+            CommandName::GetFile => plain("get-file", &[TextKind::Dir, TextKind::Blobref]),
         }
     }
 }
@@ -101,6 +129,27 @@ fn plain(name: &'static str, positions: &'static [TextKind]) -> Form
         needed: positions.len(),
         spared: None,
         options: &[],
+    }
+}
+
+// Positions alone, all of them needed, of a command that may change the store.
+fn writing(name: &'static str, positions: &'static [TextKind]) -> Form
+    ensures { result ≡ row name.now true positions.now (length positions.now) None [] }
+{
+    Form {
+        writes: true,
+        ..plain(name, positions)
+    }
+}
+
+// Positions, all of them needed, and the key, of a command that may change the store.
+fn signed(name: &'static str, positions: &'static [TextKind]) -> Form
+    ensures { result
+        ≡ row name.now true positions.now (length positions.now) None (must (codes "key") Key ∷ []) }
+{
+    Form {
+        options: KEY_OPTION,
+        ..writing(name, positions)
     }
 }
 
