@@ -1,6 +1,6 @@
 //! The outside as sources and sinks. They don't tell what they hold, and count their failures.
-ghost use Rattle.std.specs.Prelude.{◌≡◌, None};
-ghost use Rattle.edge_base.specs.Edge.{one_more};
+ghost use Rattle.std.specs.Prelude.{◌≡◌, IfOk, None, Ok};
+ghost use Rattle.edge_base.specs.Edge.{one_more, HasCause};
 
 use crate::again;
 use edge_base::{Failed, Sink, Source};
@@ -25,13 +25,7 @@ impl<R: Read> Source for ReadSource<R> {
     ghost faults = { λ source. source.faults };
 
     fn read(&mut self, buf: &mut [u8]) -> Result<usize, Failed> {
-        match again::read(&mut self.reader, buf) {
-            Ok(n) => Ok(n),
-            Err(_) => {
-                self.faults = after_fault(self.faults);
-                Err(Failed)
-            }
-        }
+        counted(again::read(&mut self.reader, buf), &mut self.faults)
     }
 
     fn faults(&self) -> u64 {
@@ -72,8 +66,22 @@ impl<W: Write> Sink for WriteSink<W> {
     }
 }
 
+/// What a call gave, where a failure is counted.
+pub(crate) fn counted<T: Drop, E: Drop>(done: Result<T, E>, faults: &mut u64) -> Result<T, Failed>
+    ensures value { IfOk result (λ value. done ≡ Ok value) }
+    ensures cause { HasCause faults.old faults.new result }
+{
+    match done {
+        Ok(value) => Ok(value),
+        Err(_) => {
+            *faults = after_fault(*faults);
+            Err(Failed)
+        }
+    }
+}
+
 // A count of faults after one more. At the last value of its type it stays.
-pub(crate) fn after_fault(faults: u64) -> u64
+fn after_fault(faults: u64) -> u64
     ensures { result ≡ one_more faults }
 {
     faults.saturating_add(1)

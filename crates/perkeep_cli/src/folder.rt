@@ -1,10 +1,9 @@
 //! The packs of a folder as a disk (`docs/formats/packs.md`). It doesn't tell what it holds, and counts its failures.
-ghost use Rattle.std.specs.Prelude.{◌≡◌, ◌≤◌, length, IfOk, IfSome, Ok};
-ghost use Rattle.edge_base.specs.Edge.{HasCause};
+ghost use Rattle.std.specs.Prelude.{◌≡◌, ◌≤◌, length, IfOk, IfSome};
 ghost use Rattle.pack_disk.specs.Disk.{last_number};
 
 use crate::again::uninterrupted;
-use crate::edges::after_fault;
+use crate::edges::counted;
 use crate::listing::{least_from, pack_numbers};
 use crate::locking::lock_folder;
 use crate::pack_file::{Growing, Reading, fill};
@@ -23,9 +22,9 @@ pub(crate) enum Access {
     Write,
 }
 
-/// The packs of a folder: its files `pack-NNNNN.blobs`. Files of other names are ignored. Which there are is looked up at
-/// the first call, at which a writer also locks the folder, until the disk is dropped. To a reader a folder that isn't
-/// there is a disk without packs.
+/// The packs of a folder: its files `pack-NNNNN.blobs`. Files of other names are ignored. Which there are is looked
+/// up at the first call, at which a writer also locks the folder, until the disk is dropped. To a reader a folder
+/// that isn't there is a disk without packs.
 #[derive(Drop)]
 pub(crate) struct FolderDisk<'a> {
     rt: &'a HostRuntime,
@@ -59,24 +58,10 @@ impl<'a> FolderDisk<'a> {
         }
     }
 
-    /// Cuts each pack back to the bytes that it had before something was added that wasn't synced, as well as may be. So
-    /// nobody takes for durable what only seems to stand.
+    /// Cuts each pack back to the bytes that it had before something was added that wasn't synced, as well as may be.
+    /// So nobody takes for durable what only seems to stand.
     pub(crate) fn retract(&mut self) {
         self.growing.cut();
-    }
-
-    // What was done, where a failure is counted.
-    fn counted<T: Drop>(&mut self, done: io::Result<T>) -> Result<T, Failed>
-        ensures value { IfOk result (λ value. done ≡ Ok value) }
-        ensures cause { HasCause self.old.faults self.new.faults result }
-    {
-        match done {
-            Ok(value) => Ok(value),
-            Err(_) => {
-                self.faults = after_fault(self.faults);
-                Err(Failed)
-            }
-        }
     }
 
     // The path of something in the folder.
@@ -162,8 +147,8 @@ impl<'a> FolderDisk<'a> {
         Ok(())
     }
 
-    // Makes the folder's name durable in the one above. Whoever may not read that one didn't make the folder, and can't do
-    // more.
+    // Makes the folder's name durable in the one above. Whoever may not read that one didn't make the folder, and
+    // can't do more.
     fn sync_above(&self) -> io::Result<()> {
         match File::open(self.rt, self.path_to("..")?) {
             Ok(above) => above.sync_all(),
@@ -233,32 +218,32 @@ impl<'a> Disk for FolderDisk<'a> {
 
     fn packs(&mut self, from: u32) -> Result<Option<u32>, Failed> {
         let least = self.next(from);
-        self.counted(least)
+        counted(least, &mut self.faults)
     }
 
     fn size(&mut self, pack: u32) -> Result<u64, Failed> {
         let size = self.length(pack);
-        self.counted(size)
+        counted(size, &mut self.faults)
     }
 
     fn read(&mut self, pack: u32, at: u64, buf: &mut [u8]) -> Result<usize, Failed> {
         let count = self.bytes_at(pack, at, buf);
-        self.counted(count)
+        counted(count, &mut self.faults)
     }
 
     fn make(&mut self, pack: u32) -> Result<(), Failed> {
         let made = self.create(pack);
-        self.counted(made)
+        counted(made, &mut self.faults)
     }
 
     fn append(&mut self, pack: u32, bytes: &[u8]) -> Result<(), Failed> {
         let added = self.add(pack, bytes);
-        self.counted(added)
+        counted(added, &mut self.faults)
     }
 
     fn sync(&mut self, pack: u32) -> Result<(), Failed> {
         let settled = self.settle(pack);
-        self.counted(settled)
+        counted(settled, &mut self.faults)
     }
 
     fn faults(&self) -> u64 {

@@ -15,8 +15,8 @@ const PAUSE: u64 = 20;
 // Who may use a folder that is made: its owner alone.
 const OWNER_ONLY: u32 = 0o700;
 
-/// Opens the folder, which is made where it isn't there, and locks it. The lock lasts as long as the file is open. Another
-/// program's lock is waited for ten seconds. `entered` is a path that leads into the folder.
+/// Opens the folder, which is made where it isn't there, and locks it. The lock lasts as long as the file is open.
+/// Another program's lock is waited for ten seconds. `entered` is a path that leads into the folder.
 pub(crate) fn lock_folder(rt: &HostRuntime, folder: &str, entered: &str) -> io::Result<File> {
     let mut file = open_or_make(rt, folder, entered)?;
     for _ in 0..TRIES {
@@ -50,8 +50,8 @@ fn open_or_make(rt: &HostRuntime, folder: &str, entered: &str) -> io::Result<Fil
     }
 }
 
-// Makes the folder, unless another program just did, and makes its name durable in the one above. Where that one can't be
-// opened nothing is made.
+// Makes the folder, unless another program just did, and makes its name durable in the one above. Where that one
+// can't be opened nothing is made.
 fn make_folder(rt: &HostRuntime, folder: &str) -> io::Result<()> {
     let above = File::open(rt, path_above(folder))?;
     match uninterrupted(|| DirBuilder::new().mode(OWNER_ONLY).create(rt, folder)) {

@@ -5,6 +5,7 @@ mod again;
 mod edges;
 mod ending;
 mod folder;
+mod hand;
 mod keys;
 mod listing;
 mod locking;
@@ -14,6 +15,7 @@ mod streams;
 use crate::edges::{ReadSource, WriteSink};
 use crate::ending::Ending;
 use crate::folder::{Access, FolderDisk};
+use crate::hand::{SystemClock, SystemDice};
 use crate::keys::read_keyring;
 use crate::streams::Closed;
 use blobref::{NoMemory, Text};
@@ -58,7 +60,18 @@ fn ending_of(rt: &HostRuntime) -> Ending {
     let disk = FolderDisk::new(rt, folder, access);
     let mut source = ReadSource::new(rt.stdin());
     let mut sink = WriteSink::new(rt.stdout());
-    let (mut disk, status) = run(rt.alloc(), &words, disk, &keys, &mut source, &mut sink);
+    let mut clock = SystemClock::new(rt);
+    let mut dice = SystemDice::new(rt);
+    let (mut disk, status) = run(
+        rt.alloc(),
+        &words,
+        disk,
+        &keys,
+        &mut source,
+        &mut sink,
+        &mut clock,
+        &mut dice,
+    );
     disk.retract();
     Ending::Ran(status)
 }

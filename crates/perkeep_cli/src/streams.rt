@@ -22,8 +22,8 @@ impl Closed {
     }
 }
 
-// Takes the place of a stream where it is closed and those before it are open: the system gives a file the first place that
-// is free. A folder can neither be read nor written.
+// Takes the place of a stream where it is closed and those before it are open: the system gives a file the first
+// place that is free. A folder can neither be read nor written.
 fn taken(rt: &HostRuntime, stream: BorrowedFd<'_>) -> io::Result<Option<File>> {
     match stream.try_clone_to_owned() {
         Ok(_) => Ok(None),

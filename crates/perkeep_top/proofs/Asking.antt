@@ -9,25 +9,25 @@ use Rattle.perkeep_top.specs.Outside.{Outside, World, world}
 use Rattle.perkeep_top.specs.Steps.{Finds, NeverRefuses, Writes}
 use Rattle.perkeep_top.proofs.Ending.{Begun, Far, Has, nothing_given, far_start, far_asked, refused, finished}
 
-module _ {D S K : Type 0} (o : Outside D S K)
+module _ {D S K C R : Type 0} (o : Outside D S K C R)
     (counts_now : (d : D) (t : ℕ) (c : Packs) → t ≤ o.disk.moment d → o.disk.images d c → o.disk.images_since d t c)
     (only_now : (d : D) (c : Packs) → o.disk.images_since d (o.disk.moment d) c → o.disk.images d c)
-    (IsAnswer : Option Packs → List ℕ → Type 0) (Refuses : Option Packs → Status → Type 0) (b : World D S K) where
-  abbrev run : Begun D S K
+    (IsAnswer : Option Packs → List ℕ → Type 0) (Refuses : Option Packs → Status → Type 0) (b : World D S K C R) where
+  abbrev run : Begun D S K C R
   run = record { o = o; counts_now = counts_now; only_now = only_now; m = asking IsAnswer Refuses; fit = refl; b = b }
 
   abbrev EndsAt : D → K → Status → Type 0
-  EndsAt e k end = Ends o (asking IsAnswer Refuses) b (world e b.source k) end
+  EndsAt e k end = Ends o (asking IsAnswer Refuses) b (world e b.source k b.clock b.dice) end
 
   has : Has run b.source nothing_given
-  has = record { read = (refl, refl); right = refl }
+  has = record { read = (refl, refl); right = refl; drawn = (λ e. absurd (cc e), λ e. absurd (cc e)) }
 
   -- the store wasn't opened
   pub not_opened : (e : D) → Stays o.disk b.disk e → o.disk.faults b.disk ≤ o.disk.faults e → (end : Status) → Finds o.disk b.disk e NeverRefuses end → EndsAt e b.sink end
   not_opened e stays later end why = refused run refl b.disk e b.source (far_start run) stays later nothing_given has refl NeverRefuses (λ end w. absurd w) end why
 
   module _ (d : D) (opened : Stays o.disk b.disk d) (opened_later : o.disk.faults b.disk ≤ o.disk.faults d) (e : D) (stays : Stays o.disk d e) (later : o.disk.faults d ≤ o.disk.faults e) where
-    open_far : Far run (world d b.source b.sink) [] []
+    open_far : Far run (world d b.source b.sink b.clock b.dice) [] []
     open_far = far_asked run refl b.disk d b.source (far_start run) opened opened_later
 
     -- what was asked of it was refused
@@ -37,5 +37,5 @@ module _ {D S K : Type 0} (o : Outside D S K)
 
     -- the answer was written, or not
     pub answered : (bytes : List ℕ) → IsAnswer (o.disk.packs d) bytes → (k : K) (end : Status) → Writes o.sink b.sink k bytes end → o.sink.faults b.sink ≤ o.sink.faults k → EndsAt e k end
-    answered bytes is k end writes sink_later = finished run e b.source [] (far_asked run refl d e b.source open_far stays later) k nothing_given bytes (refl, refl) refl
+    answered bytes is k end writes sink_later = finished run e b.source [] (far_asked run refl d e b.source open_far stays later) k nothing_given bytes has.drawn (refl, refl) refl
         (subst (λ told. IsAnswer told bytes) opened.told is) refl end writes sink_later

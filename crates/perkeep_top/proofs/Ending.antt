@@ -1,5 +1,5 @@
 -- How far a run has come, and how it ends from there: the same for every command.
-use Rattle.std.proofs.Common.{◌≡◌, inl, inr, ℕ, ◌≤◌, Bool, true, false, Option, None, Some, Err, List, [], ◌∷◌, ◌++◌, length, refl, sym, ap, subst, ◌∙◌, arith}
+use Rattle.std.proofs.Common.{◌≡◌, ◌⊎◌, inl, inr, ℕ, pos, ◌≤◌, Bool, true, false, Option, None, Some, Err, List, [], ◌∷◌, ◌++◌, length, refl, sym, ap, subst, ◌∙◌, arith}
 use Rattle.std.proofs.lemmas.List.{append-nil}
 use Rattle.edge_base.specs.Edge.{Rose, Took, TookFront}
 use Rattle.edge_base.specs.declared.answers.PutFault.{PutFault}
@@ -11,16 +11,19 @@ use Rattle.pack_disk.specs.Runs.{Stays}
 use Rattle.pack_disk.specs.declared.disk.Disk.{Ghosts as DiskGhosts}
 use Rattle.edge_base.specs.declared.edge.Source.{Ghosts as SourceGhosts}
 use Rattle.edge_base.specs.declared.edge.Sink.{Ghosts as SinkGhosts}
+use Rattle.edge_base.specs.declared.hand.Clock.{Ghosts as ClockGhosts}
+use Rattle.edge_base.specs.declared.hand.Dice.{Ghosts as DiceGhosts}
 use Rattle.pack_store.specs.Archive.{Archive}
 use Rattle.pack_store.specs.Packs.{KeepsAll}
 use Rattle.pack_store.specs.Puts.{PutsAll, HoldAll, Stands, PutsBlobs, PutLeaves}
 use Rattle.pack_store.proofs.Moments.{keeps_itself, keeps_then, held_after, stays_itself, stays_then, stays_keeps}
 use Rattle.pack_store.proofs.Runs.{puts_join, told_join, told_nothing, hold_join, hold_on}
-use Rattle.perkeep_top.specs.declared.status.InputFault.TheVariants.{BadRef, BadDate, BadNumber, BadName, TooBig}
+use Rattle.perkeep_top.specs.declared.status.InputFault.{InputFault}
+use Rattle.perkeep_top.specs.declared.status.InputFault.TheVariants.{BadRef, BadDate, BadNumber, BadName, TooBig, NotAFile, Short, Deep, NoKey, TooLong}
 use Rattle.perkeep_top.specs.declared.status.Status.{Status}
 use Rattle.perkeep_top.specs.declared.status.Status.TheVariants as status
 use Rattle.perkeep_top.specs.Faults.{put_status}
-use Rattle.perkeep_top.specs.Frame.{reads_nothing, reads_first, RefusedEarly, Meaning, Given, IsQuiet, ReadsAll, ReadsSome, Always, Finishes, WritesSome, Stops, StopsFull, WhileReading, IsTooLong, read_too_much, EndsBy, Ends}
+use Rattle.perkeep_top.specs.Frame.{reads_nothing, reads_first, RefusedEarly, Meaning, Given, IsDrawn, IsQuiet, ReadsAll, ReadsSome, Always, Finishes, WritesSome, Stops, StopsFull, WhileReading, IsTooLong, read_too_much, found_unfit, said_badly, EndsBy, Ends}
 use Rattle.perkeep_top.specs.Limits.{limits}
 use Rattle.perkeep_top.specs.Outside.{Outside, World, world}
 use Rattle.perkeep_top.specs.Steps.{RefusesInput, Finds, Writes}
@@ -33,26 +36,54 @@ took_nothing (Some h) = ap Some (sym (append-nil h))
 pub later_rose : (before between now : ℕ) → before ≤ between → Rose between now → Rose before now
 later_rose before between now le rose = omega (arith, le, rose)
 
-abbrev pub nothing_given : Given
-nothing_given = record { input = [] }
-
+-- where nothing is drawn
 abbrev pub given_input : List ℕ → Given
-given_input input = record { input = input }
+given_input input = record { input = input; date = pos 0; date_text = []; random = [] }
+
+abbrev pub nothing_given : Given
+nothing_given = given_input []
 
 -- a run of a command: the laws of its disk, its meaning, which has nothing bad in its words, and the world before
-pub record Begun (D S K : Type 0) : Type 1 where
-  pub o : Outside D S K
+pub record Begun (D S K C R : Type 0) : Type 1 where
+  pub o : Outside D S K C R
   pub counts_now : (d : D) (t : ℕ) (c : Packs) → t ≤ o.disk.moment d → o.disk.images d c → o.disk.images_since d t c
   pub only_now : (d : D) (c : Packs) → o.disk.images_since d (o.disk.moment d) c → o.disk.images d c
   pub m : Meaning
   pub fit : m.bad ≡ None
-  pub b : World D S K
+  pub b : World D S K C R
 
-abbrev pub begun : {D S K : Type 0} (o : Outside D S K) → ((d : D) (t : ℕ) (c : Packs) → t ≤ o.disk.moment d → o.disk.images d c → o.disk.images_since d t c)
-    → ((d : D) (c : Packs) → o.disk.images_since d (o.disk.moment d) c → o.disk.images d c) → (m : Meaning) → m.bad ≡ None → World D S K → Begun D S K
+abbrev pub begun : {D S K C R : Type 0} (o : Outside D S K C R) → ((d : D) (t : ℕ) (c : Packs) → t ≤ o.disk.moment d → o.disk.images d c → o.disk.images_since d t c)
+    → ((d : D) (c : Packs) → o.disk.images_since d (o.disk.moment d) c → o.disk.images d c) → (m : Meaning) → m.bad ≡ None → World D S K C R → Begun D S K C R
 begun o counts_now only_now m fit b = record { o = o; counts_now = counts_now; only_now = only_now; m = m; fit = fit; b = b }
 
-module _ {D S K : Type 0} (run : Begun D S K) where
+-- nothing was touched
+module _ {D S K C R : Type 0} (o : Outside D S K C R)
+    (counts_now : (d : D) (t : ℕ) (c : Packs) → t ≤ o.disk.moment d → o.disk.images d c → o.disk.images_since d t c)
+    (only_now : (d : D) (c : Packs) → o.disk.images_since d (o.disk.moment d) c → o.disk.images d c) (m : Meaning) (b : World D S K C R) where
+  untouched : Always o m b b
+  untouched = record {
+    crash = keeps_itself o.disk counts_now only_now b.disk;
+    quiet = λ _. stays_itself o.disk counts_now only_now b.disk;
+    unopened = λ _. refl;
+    unread = λ _. refl;
+    untimed = λ _. refl;
+    undiced = λ _. refl;
+    disk_later = omega arith;
+    source_later = omega arith;
+    sink_later = omega arith;
+    clock_later = omega arith;
+    dice_later = omega arith;
+  }
+
+  -- what the words say can't be used
+  pub bad_words : (fault : InputFault) → m.bad ≡ Some fault → Ends o m b b (status.BadInput fault)
+  bad_words fault bad = record { always = untouched; ends = said_badly bad refl }
+
+  -- out of memory before anything was done
+  pub memory_first : Ends o m b b status.NoMemory
+  memory_first = record { always = untouched; ends = inl (record { unasked = refl; unwritten = refl; why = tt }) }
+
+module _ {D S K C R : Type 0} (run : Begun D S K C R) where
   abbrev disk : DiskGhosts D
   disk = run.o.disk
 
@@ -62,22 +93,28 @@ module _ {D S K : Type 0} (run : Begun D S K) where
   abbrev sink : SinkGhosts K
   sink = run.o.sink
 
+  abbrev clock : ClockGhosts C
+  clock = run.o.clock
+
+  abbrev dice : DiceGhosts R
+  dice = run.o.dice
+
   abbrev m : Meaning
   m = run.m
 
-  abbrev b : World D S K
+  abbrev b : World D S K C R
   b = run.b
 
-  abbrev EndsAs : World D S K → Status → Type 0
+  abbrev EndsAs : World D S K C R → Status → Type 0
   EndsAs now end = Ends run.o m b now end
 
   -- it has come here, and has written these bytes
-  pub record At (now : World D S K) (bytes : List ℕ) : Type 0 where
+  pub record At (now : World D S K C R) (bytes : List ℕ) : Type 0 where
     pub always : Always run.o m b now
     pub wrote : WritesSome run.o m b now m.streams bytes
 
   -- and it has put these blobs, and nothing else
-  pub record Far (now : World D S K) (blobs : List (List ℕ)) (bytes : List ℕ) : Type 0 where
+  pub record Far (now : World D S K C R) (blobs : List (List ℕ)) (bytes : List ℕ) : Type 0 where
     pub at : At now bytes
     pub packs : Tells (disk.packs b.disk) (disk.packs now.disk) (PutsAll limits blobs)
     pub held : HoldAll (disk.images now.disk) blobs
@@ -86,6 +123,7 @@ module _ {D S K : Type 0} (run : Begun D S K) where
   pub record Has (s : S) (given : Given) : Type 0 where
     pub read : ReadsSome source m.input b.source s given.input
     pub right : m.wrong given.input ≡ None
+    pub drawn : IsDrawn m given
 
   stays_same : (d : D) → Stays disk d d
   stays_same d = stays_itself disk run.counts_now run.only_now d
@@ -93,12 +131,12 @@ module _ {D S K : Type 0} (run : Begun D S K) where
   keeps_of : (d e : D) → Stays disk d e → KeepsAll disk d e
   keeps_of d e stays = stays_keeps disk run.counts_now run.only_now d e stays
 
-  wrote_nothing : (streams : Bool) (d : D) (s : S) → WritesSome run.o m b (world d s b.sink) streams []
+  wrote_nothing : (streams : Bool) (d : D) (s : S) → WritesSome run.o m b (world d s b.sink b.clock b.dice) streams []
   wrote_nothing false d s = refl
   wrote_nothing true d s = took_nothing (sink.written b.sink)
 
   -- nothing was asked of the disk
-  pub far_read : (s : S) → (m.input ≡ reads_nothing → s ≡ b.source) → source.faults b.source ≤ source.faults s → Far (world b.disk s b.sink) [] []
+  pub far_read : (s : S) → (m.input ≡ reads_nothing → s ≡ b.source) → source.faults b.source ≤ source.faults s → Far (world b.disk s b.sink b.clock b.dice) [] []
   far_read s alone later = record {
     at = record {
       always = record {
@@ -109,6 +147,10 @@ module _ {D S K : Type 0} (run : Begun D S K) where
         disk_later = omega arith;
         source_later = later;
         sink_later = omega arith;
+        untimed = λ _. refl;
+        undiced = λ _. refl;
+        clock_later = omega arith;
+        dice_later = omega arith;
       };
       wrote = wrote_nothing m.streams b.disk s;
     };
@@ -120,56 +162,95 @@ module _ {D S K : Type 0} (run : Begun D S K) where
   far_start = far_read b.source (λ _. refl) (omega arith)
 
   -- out of memory before the disk was asked
-  pub early_memory : (s : S) → Far (world b.disk s b.sink) [] [] → EndsAs (world b.disk s b.sink) status.NoMemory
+  pub early_memory : (s : S) → Far (world b.disk s b.sink b.clock b.dice) [] [] → EndsAs (world b.disk s b.sink b.clock b.dice) status.NoMemory
   early_memory s far = record { always = far.at.always; ends = inl (record { unasked = refl; unwritten = refl; why = tt }) }
+
+  -- the clock and the dice were asked, where they are
+  pub far_drawn : (s : S) (watch : C) (cup : R) → Far (world b.disk s b.sink b.clock b.dice) [] [] → (m.draws_time ≡ false → watch ≡ b.clock) → (m.draws_random ≡ false → cup ≡ b.dice)
+      → clock.faults b.clock ≤ clock.faults watch → dice.faults b.dice ≤ dice.faults cup → Far (world b.disk s b.sink watch cup) [] []
+  far_drawn s watch cup far untimed undiced clock_later dice_later = record {
+    at = record {
+      always = record {
+        crash = far.at.always.crash;
+        quiet = far.at.always.quiet;
+        unopened = far.at.always.unopened;
+        unread = far.at.always.unread;
+        untimed = untimed;
+        undiced = undiced;
+        disk_later = far.at.always.disk_later;
+        source_later = far.at.always.source_later;
+        sink_later = far.at.always.sink_later;
+        clock_later = clock_later;
+        dice_later = dice_later;
+      };
+      wrote = far.at.wrote;
+    };
+    packs = far.packs;
+    held = far.held;
+  }
+
+  -- one of them failed, before the disk was asked
+  pub not_drawn : (s : S) (watch : C) (cup : R) → Far (world b.disk s b.sink watch cup) [] [] → (input : List ℕ) → ReadsSome source m.input b.source s input → m.wrong input ≡ None
+      → ((m.draws_time ≡ true) × Rose (clock.faults b.clock) (clock.faults watch)) ⊎ ((m.draws_random ≡ true) × Rose (dice.faults b.dice) (dice.faults cup)) → EndsAs (world b.disk s b.sink watch cup) status.HandFault
+  not_drawn s watch cup far input read right rose = record {
+    always = far.at.always;
+    ends = record { unasked = refl; unwritten = refl; why = record { input = input; fit = run.fit; read = read; right = right; rose = rose } };
+  }
 
   -- ---- a step: the objects before and after it
 
   -- what a step over them leaves of what always holds
-  pub record Steps (now next : World D S K) : Type 0 where
+  pub record Steps (now next : World D S K C R) : Type 0 where
     pub disk_later : disk.faults now.disk ≤ disk.faults next.disk
     pub source_later : source.faults now.source ≤ source.faults next.source
     pub sink_later : sink.faults now.sink ≤ sink.faults next.sink
     pub crash : KeepsAll disk now.disk next.disk
     pub quiet : IsQuiet m → Stays disk now.disk next.disk
     pub unread : m.input ≡ reads_nothing → next.source ≡ now.source
+    pub untimed : next.clock ≡ now.clock
+    pub undiced : next.dice ≡ now.dice
 
   module _ (opens : m.opens ≡ true) where
-    pub always_then : (now next : World D S K) → Always run.o m b now → Steps now next → Always run.o m b next
+    pub always_then : (now next : World D S K C R) → Always run.o m b now → Steps now next → Always run.o m b next
     always_then now next always step = record {
       crash = keeps_then disk run.counts_now run.only_now b.disk now.disk next.disk always.crash step.crash;
       quiet = λ q. stays_then disk run.counts_now run.only_now b.disk now.disk next.disk (always.quiet q) (step.quiet q);
       unopened = λ e. absurd (cc (opens, e));
       unread = λ e. step.unread e ∙ always.unread e;
+      untimed = λ e. step.untimed ∙ always.untimed e;
+      undiced = λ e. step.undiced ∙ always.undiced e;
       disk_later = omega (arith, always.disk_later, step.disk_later);
       source_later = omega (arith, always.source_later, step.source_later);
       sink_later = omega (arith, always.sink_later, step.sink_later);
+      clock_later = subst (λ x. clock.faults b.clock ≤ clock.faults x) (sym step.untimed) always.clock_later;
+      dice_later = subst (λ x. dice.faults b.dice ≤ dice.faults x) (sym step.undiced) always.dice_later;
     }
 
+  module _ {watch : C} {cup : R} (opens : m.opens ≡ true) where
     -- the disk is asked, and nothing changes there, as the sink is written or not
-    pub far_told : (d e : D) (s : S) (k l : K) (blobs : List (List ℕ)) (bytes written : List ℕ) → Far (world d s k) blobs bytes → Stays disk d e → disk.faults d ≤ disk.faults e → sink.faults k ≤ sink.faults l
-        → WritesSome run.o m b (world e s l) m.streams written → Far (world e s l) blobs written
+    pub far_told : (d e : D) (s : S) (k l : K) (blobs : List (List ℕ)) (bytes written : List ℕ) → Far (world d s k watch cup) blobs bytes → Stays disk d e → disk.faults d ≤ disk.faults e → sink.faults k ≤ sink.faults l
+        → WritesSome run.o m b (world e s l watch cup) m.streams written → Far (world e s l watch cup) blobs written
     far_told d e s k l blobs bytes written far stays later sink_later wrote = record {
       at = record {
-        always = always_then (world d s k) (world e s l) far.at.always
-            (record { disk_later = later; source_later = omega arith; sink_later = sink_later; crash = keeps_of d e stays; quiet = λ _. stays; unread = λ _. refl });
+        always = always_then opens (world d s k watch cup) (world e s l watch cup) far.at.always
+            (record { disk_later = later; source_later = omega arith; sink_later = sink_later; crash = keeps_of d e stays; quiet = λ _. stays; unread = λ _. refl; untimed = refl; undiced = refl });
         wrote = wrote;
       };
       packs = subst (λ p. Tells (disk.packs b.disk) p (PutsAll limits blobs)) (sym stays.told) far.packs;
       held = hold_on (disk.images d) (disk.images e) (held_after disk run.counts_now run.only_now d e (keeps_of d e stays)) blobs far.held;
     }
 
-    pub far_asked : (d e : D) (s : S) → Far (world d s b.sink) [] [] → Stays disk d e → disk.faults d ≤ disk.faults e → Far (world e s b.sink) [] []
+    pub far_asked : (d e : D) (s : S) → Far (world d s b.sink watch cup) [] [] → Stays disk d e → disk.faults d ≤ disk.faults e → Far (world e s b.sink watch cup) [] []
     far_asked d e s far stays later = far_told d e s b.sink b.sink [] [] [] far stays later (omega arith) (wrote_nothing m.streams e s)
 
     -- blobs are put, as the source is read or not and the sink written or not
-    pub far_puts : (old new : Archive D) (s t : S) (k l : K) (blobs more : List (List ℕ)) (bytes written : List ℕ) → Far (world old.disk s k) blobs bytes → Stands disk limits old → PutsBlobs disk limits old more new
+    pub far_puts : (old new : Archive D) (s t : S) (k l : K) (blobs more : List (List ℕ)) (bytes written : List ℕ) → Far (world old.disk s k watch cup) blobs bytes → Stands disk limits old → PutsBlobs disk limits old more new
         → (IsQuiet m → more ≡ []) → disk.faults old.disk ≤ disk.faults new.disk → source.faults s ≤ source.faults t → sink.faults k ≤ sink.faults l → (m.input ≡ reads_nothing → t ≡ s)
-        → WritesSome run.o m b (world new.disk t l) m.streams written → Far (world new.disk t l) (blobs ++ more) written
+        → WritesSome run.o m b (world new.disk t l watch cup) m.streams written → Far (world new.disk t l watch cup) (blobs ++ more) written
     far_puts old new s t k l blobs more bytes written far stands puts quiet later source_later sink_later alone wrote = record {
       at = record {
-        always = always_then (world old.disk s k) (world new.disk t l) far.at.always
-            (record { disk_later = later; source_later = source_later; sink_later = sink_later; crash = puts.crash; quiet = λ q. puts.still (quiet q); unread = alone });
+        always = always_then opens (world old.disk s k watch cup) (world new.disk t l watch cup) far.at.always
+            (record { disk_later = later; source_later = source_later; sink_later = sink_later; crash = puts.crash; quiet = λ q. puts.still (quiet q); unread = alone; untimed = refl; undiced = refl });
         wrote = wrote;
       };
       packs = told_join (disk.packs b.disk) (disk.packs old.disk) (disk.packs new.disk) (PutsAll limits blobs) (PutsAll limits more) (PutsAll limits (blobs ++ more)) far.packs (puts.packs stands) (puts_join limits blobs more);
@@ -179,21 +260,22 @@ module _ {D S K : Type 0} (run : Begun D S K) where
 
   -- ---- the ends
 
-  module _ (now : World D S K) (bytes : List ℕ) (at : At now bytes) (given : Given) (has : Has now.source given) (part : m.IsPart given (disk.packs b.disk) bytes) where
+  module _ (now : World D S K C R) (bytes : List ℕ) (at : At now bytes) (given : Given) (has : Has now.source given) (part : m.IsPart given (disk.packs b.disk) bytes) where
     -- the disk failed by now
     pub failed : Rose (disk.faults b.disk) (disk.faults now.disk) → EndsAs now status.Disk
     failed rose = record {
       always = at.always;
-      ends = record { given = given; bytes = bytes; fit = run.fit; read = has.read; right = has.right; written = at.wrote; part = part; why = rose };
+      ends = record { given = given; bytes = bytes; fit = run.fit; drawn = has.drawn; read = has.read; right = has.right; written = at.wrote; part = part; why = rose };
     }
 
-  module _ (now : World D S K) (blobs : List (List ℕ)) (bytes : List ℕ) (far : Far now blobs bytes) (given : Given) (rest : List (List ℕ)) (has : Has now.source given) (cut : m.blobs given ≡ blobs ++ rest)
+  module _ (now : World D S K C R) (blobs : List (List ℕ)) (bytes : List ℕ) (far : Far now blobs bytes) (given : Given) (rest : List (List ℕ)) (has : Has now.source given) (cut : m.blobs given ≡ blobs ++ rest)
       (part : m.IsPart given (disk.packs b.disk) bytes) where
     pub stops : (Why : Given → List ℕ → List (List ℕ) → List (List ℕ) → Type 0) → Why given bytes blobs rest → Stops run.o m b now Why
     stops Why why = record {
       given = given;
       bytes = bytes;
       fit = run.fit;
+      drawn = has.drawn;
       read = has.read;
       right = has.right;
       written = far.at.wrote;
@@ -214,20 +296,28 @@ module _ {D S K : Type 0} (run : Begun D S K) where
     pub absent : (r : List ℕ) → m.Refuses given (disk.packs b.disk) bytes blobs (status.Absent r) → EndsAs now (status.Absent r)
     absent r why = record { always = far.at.always; ends = stops (λ given bytes gone rest. m.Refuses given (disk.packs b.disk) bytes gone (status.Absent r)) why }
 
+    -- what was found can't be used
+    pub unfit : (fault : InputFault) → m.Refuses given (disk.packs b.disk) bytes blobs (status.BadInput fault) → EndsAs now (status.BadInput fault)
+    unfit fault why = record {
+      always = far.at.always;
+      ends = found_unfit (stops (λ given bytes gone rest. m.Refuses given (disk.packs b.disk) bytes gone (status.BadInput fault)) why);
+    }
+
     pub damaged : (want is : List ℕ) → m.Refuses given (disk.packs b.disk) bytes blobs (status.Damaged want is) → EndsAs now (status.Damaged want is)
     damaged want is why = record { always = far.at.always; ends = stops (λ given bytes gone rest. m.Refuses given (disk.packs b.disk) bytes gone (status.Damaged want is)) why }
 
   -- all was put and, where it streams, written
-  pub done : (now : World D S K) (blobs : List (List ℕ)) (bytes : List ℕ) → Always run.o m b now → Tells (disk.packs b.disk) (disk.packs now.disk) (PutsAll limits blobs) → HoldAll (disk.images now.disk) blobs
-      → (given : Given) → ReadsAll source m.input b.source now.source given.input → m.wrong given.input ≡ None → m.IsOutput given (disk.packs b.disk) bytes → m.blobs given ≡ blobs
+  pub done : (now : World D S K C R) (blobs : List (List ℕ)) (bytes : List ℕ) → Always run.o m b now → Tells (disk.packs b.disk) (disk.packs now.disk) (PutsAll limits blobs) → HoldAll (disk.images now.disk) blobs
+      → (given : Given) → IsDrawn m given → ReadsAll source m.input b.source now.source given.input → m.wrong given.input ≡ None → m.IsOutput given (disk.packs b.disk) bytes → m.blobs given ≡ blobs
       → (end : Status) → Writes sink b.sink now.sink bytes end → EndsAs now end
-  done now blobs bytes always packs held given read right output all end writes = record { always = always; ends = by end writes }
+  done now blobs bytes always packs held given drawn read right output all end writes = record { always = always; ends = by end writes }
     where
       finishes : (Wrote : List ℕ → Type 0) → Wrote bytes → Finishes run.o m b now Wrote
       finishes Wrote wrote = record {
         given = given;
         bytes = bytes;
         fit = run.fit;
+        drawn = drawn;
         read = read;
         right = right;
         output = output;
@@ -241,6 +331,7 @@ module _ {D S K : Type 0} (run : Begun D S K) where
       by status.WriteFault w = (w.0, inl (finishes (TookFront (sink.written b.sink) (sink.written now.sink)) w.1))
       by status.NoMemory w = absurd w
       by status.BadWords w = absurd w
+      by status.HandFault w = absurd w
       by (status.Absent r) w = absurd w
       by (status.BadInput fault) w = absurd w
       by status.ReadFault w = absurd w
@@ -249,66 +340,71 @@ module _ {D S K : Type 0} (run : Begun D S K) where
       by (status.Damaged want is) w = absurd w
 
   -- what is written stands at the end alone
-  pub finished : (d : D) (s : S) (blobs : List (List ℕ)) → Far (world d s b.sink) blobs [] → (k : K) (given : Given) (bytes : List ℕ) → ReadsAll source m.input b.source s given.input → m.wrong given.input ≡ None
-      → m.IsOutput given (disk.packs b.disk) bytes → m.blobs given ≡ blobs → (end : Status) → Writes sink b.sink k bytes end → sink.faults b.sink ≤ sink.faults k → EndsAs (world d s k) end
-  finished d s blobs far k given bytes read right output all end writes later = done (world d s k) blobs bytes (record {
+  pub finished : {watch : C} {cup : R} (d : D) (s : S) (blobs : List (List ℕ)) → Far (world d s b.sink watch cup) blobs [] → (k : K) (given : Given) (bytes : List ℕ) → IsDrawn m given → ReadsAll source m.input b.source s given.input → m.wrong given.input ≡ None
+      → m.IsOutput given (disk.packs b.disk) bytes → m.blobs given ≡ blobs → (end : Status) → Writes sink b.sink k bytes end → sink.faults b.sink ≤ sink.faults k → EndsAs (world d s k watch cup) end
+  finished {watch = watch} {cup = cup} d s blobs far k given bytes drawn read right output all end writes later = done (world d s k watch cup) blobs bytes (record {
     crash = far.at.always.crash;
     quiet = far.at.always.quiet;
     unopened = far.at.always.unopened;
     unread = far.at.always.unread;
+    untimed = far.at.always.untimed;
+    undiced = far.at.always.undiced;
     disk_later = far.at.always.disk_later;
     source_later = far.at.always.source_later;
     sink_later = later;
-  }) far.packs far.held given read right output all end writes
+    clock_later = far.at.always.clock_later;
+    dice_later = far.at.always.dice_later;
+  }) far.packs far.held given drawn read right output all end writes
 
   -- what was asked of the disk, with nothing put or written so far, was refused
-  pub refused : m.opens ≡ true → (d e : D) (s : S) → Far (world d s b.sink) [] [] → Stays disk d e → disk.faults d ≤ disk.faults e → (given : Given) → Has s given → m.IsPart given (disk.packs b.disk) []
-      → (Why : Status → Type 0) → ((end : Status) → Why end → m.Refuses given (disk.packs b.disk) [] [] end) → (end : Status) → Finds disk d e Why end → EndsAs (world e s b.sink) end
-  refused opens d e s far stays later given has part Why tells end why = by end why
+  pub refused : {watch : C} {cup : R} → m.opens ≡ true → (d e : D) (s : S) → Far (world d s b.sink watch cup) [] [] → Stays disk d e → disk.faults d ≤ disk.faults e → (given : Given) → Has s given → m.IsPart given (disk.packs b.disk) []
+      → (Why : Status → Type 0) → ((end : Status) → Why end → m.Refuses given (disk.packs b.disk) [] [] end) → (end : Status) → Finds disk d e Why end → EndsAs (world e s b.sink watch cup) end
+  refused {watch = watch} {cup = cup} opens d e s far stays later given has part Why tells end why = by end why
     where
-      so : Far (world e s b.sink) [] []
+      so : Far (world e s b.sink watch cup) [] []
       so = far_asked opens d e s far stays later
 
-      by : (end : Status) → Finds disk d e Why end → EndsAs (world e s b.sink) end
-      by status.Disk w = failed (world e s b.sink) [] so.at given has part (later_rose (disk.faults b.disk) (disk.faults d) (disk.faults e) far.at.always.disk_later w)
-      by status.NoMemory w = no_memory (world e s b.sink) [] [] so given (m.blobs given) has refl part
-      by (status.Absent r) w = absent (world e s b.sink) [] [] so given (m.blobs given) has refl part r (tells (status.Absent r) w)
-      by (status.Damaged want is) w = damaged (world e s b.sink) [] [] so given (m.blobs given) has refl part want is (tells (status.Damaged want is) w)
+      by : (end : Status) → Finds disk d e Why end → EndsAs (world e s b.sink watch cup) end
+      by status.Disk w = failed (world e s b.sink watch cup) [] so.at given has part (later_rose (disk.faults b.disk) (disk.faults d) (disk.faults e) far.at.always.disk_later w)
+      by status.NoMemory w = no_memory (world e s b.sink watch cup) [] [] so given (m.blobs given) has refl part
+      by (status.Absent r) w = absent (world e s b.sink watch cup) [] [] so given (m.blobs given) has refl part r (tells (status.Absent r) w)
+      by (status.Damaged want is) w = damaged (world e s b.sink watch cup) [] [] so given (m.blobs given) has refl part want is (tells (status.Damaged want is) w)
       by status.ReadFault w = absurd w
       by (status.BadInput fault) w = absurd w
       by status.Done w = absurd w
       by status.WriteFault w = absurd w
       by status.BadWords w = absurd w
+      by status.HandFault w = absurd w
       by (status.Full blobs pack) w = absurd w
 
   -- ---- one blob that is put, and an input that isn't read before the opening
 
-  module _ (opens : m.opens ≡ true) (puts_some : IsQuiet m → ⊥) (old new : Archive D) (s : S) (k : K) (blobs : List (List ℕ)) (bytes : List ℕ) (far : Far (world old.disk s k) blobs bytes) (stands : Stands disk limits old)
-      (crash : KeepsAll disk old.disk new.disk) (later : disk.faults old.disk ≤ disk.faults new.disk) (wrote : WritesSome run.o m b (world new.disk s k) m.streams bytes) where
-    pub far_put : (more : List (List ℕ)) → PutsBlobs disk limits old more new → Far (world new.disk s k) (blobs ++ more) bytes
+  module _ {watch : C} {cup : R} (opens : m.opens ≡ true) (puts_some : IsQuiet m → ⊥) (old new : Archive D) (s : S) (k : K) (blobs : List (List ℕ)) (bytes : List ℕ) (far : Far (world old.disk s k watch cup) blobs bytes) (stands : Stands disk limits old)
+      (crash : KeepsAll disk old.disk new.disk) (later : disk.faults old.disk ≤ disk.faults new.disk) (wrote : WritesSome run.o m b (world new.disk s k watch cup) m.streams bytes) where
+    pub far_put : (more : List (List ℕ)) → PutsBlobs disk limits old more new → Far (world new.disk s k watch cup) (blobs ++ more) bytes
     far_put more puts = far_puts opens old new s s k k blobs more bytes bytes far stands puts (λ q. absurd (puts_some q)) later (omega arith) (omega arith) (λ _. refl) wrote
 
-    far_same : PutsBlobs disk limits old [] new → Far (world new.disk s k) blobs bytes
-    far_same puts = subst (λ l. Far (world new.disk s k) l bytes) (append-nil blobs) (far_put [] puts)
+    far_same : PutsBlobs disk limits old [] new → Far (world new.disk s k watch cup) blobs bytes
+    far_same puts = subst (λ l. Far (world new.disk s k watch cup) l bytes) (append-nil blobs) (far_put [] puts)
 
     pub not_put : (given : Given) (next : List ℕ) (more : List (List ℕ)) → Has s given → m.blobs given ≡ blobs ++ next ∷ more → m.IsPart given (disk.packs b.disk) bytes → length next ≤ max_size
-        → (e : PutFault) → PutLeaves disk limits old new next (Err e) → EndsAs (world new.disk s k) (put_status e)
+        → (e : PutFault) → PutLeaves disk limits old new next (Err e) → EndsAs (world new.disk s k watch cup) (put_status e)
     not_put given next more has cut part small (put.TooBig size) w = absurd (omega (arith, w.1, w.2, small))
     not_put given next more has cut part small (put.BadDigest said is) w = absurd w
-    not_put given next more has cut part small (put.Full count pack) w = full (world new.disk s k) blobs bytes (far_same w.0) given (next ∷ more) has cut part count pack (w.1 (w.0.stands stands))
-    not_put given next more has cut part small put.Disk w = failed (world new.disk s k) bytes (record {
-      always = always_then opens (world old.disk s k) (world new.disk s k) far.at.always
-          (record { disk_later = later; source_later = omega arith; sink_later = omega arith; crash = crash; quiet = λ q. absurd (puts_some q); unread = λ _. refl });
+    not_put given next more has cut part small (put.Full count pack) w = full (world new.disk s k watch cup) blobs bytes (far_same w.0) given (next ∷ more) has cut part count pack (w.1 (w.0.stands stands))
+    not_put given next more has cut part small put.Disk w = failed (world new.disk s k watch cup) bytes (record {
+      always = always_then opens (world old.disk s k watch cup) (world new.disk s k watch cup) far.at.always
+          (record { disk_later = later; source_later = omega arith; sink_later = omega arith; crash = crash; quiet = λ q. absurd (puts_some q); unread = λ _. refl; untimed = refl; undiced = refl });
       wrote = wrote;
     }) given has part (later_rose (disk.faults b.disk) (disk.faults old.disk) (disk.faults new.disk) far.at.always.disk_later w)
-    not_put given next more has cut part small put.NoMemory w = no_memory (world new.disk s k) blobs bytes (far_same w) given (next ∷ more) has cut part
+    not_put given next more has cut part small put.NoMemory w = no_memory (world new.disk s k watch cup) blobs bytes (far_same w) given (next ∷ more) has cut part
 
-  pub unread_first : (most : ℕ) → m.input ≡ reads_first most → ((size : ℕ) → m.too_long size ≡ TooBig size) → (s : S) → Far (world b.disk s b.sink) [] [] → (end : Status) → RefusesInput source most b.source s end
-      → EndsAs (world b.disk s b.sink) end
+  pub unread_first : (most : ℕ) → m.input ≡ reads_first most → ((size : ℕ) → m.too_long size ≡ TooBig size) → (s : S) → Far (world b.disk s b.sink b.clock b.dice) [] [] → (end : Status) → RefusesInput source most b.source s end
+      → EndsAs (world b.disk s b.sink b.clock b.dice) end
   unread_first most reads told s far end why = record { always = far.at.always; ends = by end why }
     where
-      here : World D S K
-      here = world b.disk s b.sink
+      here : World D S K C R
+      here = world b.disk s b.sink b.clock b.dice
 
       early : (Why : Type 0) → Why → RefusedEarly run.o m b here Why
       early Why why = record { unasked = refl; unwritten = refl; why = why }
@@ -324,9 +420,15 @@ module _ {D S K : Type 0} (run : Begun D S K) where
       by (status.BadInput BadDate) w = absurd w
       by (status.BadInput BadNumber) w = absurd w
       by (status.BadInput BadName) w = absurd w
+      by (status.BadInput (NotAFile r)) w = absurd w
+      by (status.BadInput (Short r has wants)) w = absurd w
+      by (status.BadInput (Deep r)) w = absurd w
+      by (status.BadInput NoKey) w = absurd w
+      by (status.BadInput (TooLong len)) w = absurd w
       by status.Done w = absurd w
       by status.WriteFault w = absurd w
       by status.BadWords w = absurd w
+      by status.HandFault w = absurd w
       by (status.Absent r) w = absurd w
       by status.Disk w = absurd w
       by (status.Full blobs pack) w = absurd w

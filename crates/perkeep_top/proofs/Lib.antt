@@ -7,3 +7,5 @@ pub mod Telling
 pub mod Searching
 pub mod Sizes
 pub mod Asking
+pub mod Walked
+pub mod Noting

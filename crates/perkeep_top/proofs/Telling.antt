@@ -10,24 +10,24 @@ use Rattle.perkeep_top.specs.Outside.{Outside, World, world}
 use Rattle.perkeep_top.specs.Salvaged.{salvage_meaning, IsReport, IsReportFront, Writes, WritesFront, ComesWhileTelling}
 use Rattle.perkeep_top.proofs.Ending.{Begun, Far, Has, nothing_given, far_start, far_told, done, failed, no_memory, not_written}
 
-module _ {D S K : Type 0} (o : Outside D S K)
+module _ {D S K C R : Type 0} (o : Outside D S K C R)
     (counts_now : (d : D) (t : ℕ) (c : Packs) → t ≤ o.disk.moment d → o.disk.images d c → o.disk.images_since d t c)
     (only_now : (d : D) (c : Packs) → o.disk.images_since d (o.disk.moment d) c → o.disk.images d c)
-    (b : World D S K) (e : D) (k : K) (stays : Stays o.disk b.disk e) (later : o.disk.faults b.disk ≤ o.disk.faults e) (sink_later : o.sink.faults b.sink ≤ o.sink.faults k) where
-  abbrev run : Begun D S K
+    (b : World D S K C R) (e : D) (k : K) (stays : Stays o.disk b.disk e) (later : o.disk.faults b.disk ≤ o.disk.faults e) (sink_later : o.sink.faults b.sink ≤ o.sink.faults k) where
+  abbrev run : Begun D S K C R
   run = record { o = o; counts_now = counts_now; only_now = only_now; m = salvage_meaning; fit = refl; b = b }
 
-  abbrev here : World D S K
-  here = world e b.source k
+  abbrev here : World D S K C R
+  here = world e b.source k b.clock b.dice
 
   far : (bytes : List ℕ) → Took (o.sink.written b.sink) (o.sink.written k) bytes → Far run here [] bytes
   far bytes took = far_told run refl b.disk e b.source b.sink k [] [] bytes (far_start run) stays later sink_later took
 
   has : Has run b.source nothing_given
-  has = record { read = (refl, refl); right = refl }
+  has = record { read = (refl, refl); right = refl; drawn = (λ e. absurd (cc e), λ e. absurd (cc e)) }
 
   pub told_all : Writes (IsReport (o.disk.packs b.disk)) (o.sink.written b.sink) (o.sink.written k) → Ends o salvage_meaning b here status.Done
-  told_all w = let so = far w.0 w.2 in done run here [] w.0 so.at.always so.packs so.held nothing_given (refl, refl) refl w.1 refl status.Done w.2
+  told_all w = let so = far w.0 w.2 in done run here [] w.0 so.at.always so.packs so.held nothing_given has.drawn (refl, refl) refl w.1 refl status.Done w.2
 
   module _ (w : WritesFront (IsReport (o.disk.packs b.disk)) (o.sink.written b.sink) (o.sink.written k)) where
     abbrev front : List ℕ
@@ -42,6 +42,7 @@ module _ {D S K : Type 0} (o : Outside D S K)
     stopped status.Disk why = failed run here front (far front w.2.3).at nothing_given has part why
     stopped status.Done why = absurd why
     stopped status.BadWords why = absurd why
+    stopped status.HandFault why = absurd why
     stopped (status.Absent r) why = absurd why
     stopped (status.BadInput fault) why = absurd why
     stopped status.ReadFault why = absurd why

@@ -10,6 +10,8 @@ abbrev pub asking : (Option Packs → List ℕ → Type 0) → (Option Packs →
 asking IsAnswer Refuses = record {
   opens = true;
   input = reads_nothing;
+  draws_time = false;
+  draws_random = false;
   bad = None;
   too_long = TooBig;
   wrong = λ input. None;

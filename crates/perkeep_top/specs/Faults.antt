@@ -7,12 +7,16 @@ use Rattle.pack_store.specs.declared.opening.OpenFault.{OpenFault}
 use Rattle.pack_store.specs.declared.opening.OpenFault.TheVariants as opening
 use Rattle.pack_store.specs.declared.whole.PackFault.{PackFault}
 use Rattle.pack_store.specs.declared.whole.PackFault.TheVariants as pack
+use Rattle.schema_write.specs.declared.draft.DraftFault.{DraftFault}
+use Rattle.schema_write.specs.declared.draft.DraftFault.TheVariants as draft
 use Rattle.perkeep_words.specs.declared.kinds.TextFault.{TextFault}
 use Rattle.perkeep_words.specs.declared.kinds.TextFault.TheVariants as text
 use Rattle.perkeep_top.specs.declared.status.InputFault.{InputFault}
-use Rattle.perkeep_top.specs.declared.status.InputFault.TheVariants.{BadRef, BadDate, BadNumber, BadName, TooBig}
+use Rattle.file_tree.specs.declared.fault.FileFault.{FileFault}
+use Rattle.file_tree.specs.declared.fault.FileFault.TheVariants as file
+use Rattle.perkeep_top.specs.declared.status.InputFault.TheVariants.{BadRef, BadDate, BadNumber, BadName, TooBig, NotAFile, Short, Deep, TooLong}
 use Rattle.perkeep_top.specs.declared.status.Status.{Status}
-use Rattle.perkeep_top.specs.declared.status.Status.TheVariants.{NoMemory, BadInput, Disk, Full, Damaged}
+use Rattle.perkeep_top.specs.declared.status.Status.TheVariants.{NoMemory, BadInput, Disk, Full, Damaged, Absent, WriteFault}
 
 abbrev pub open_status : OpenFault → Status
 open_status opening.Disk = Disk
@@ -33,6 +37,19 @@ put_status (put.BadDigest said is) = Damaged said is
 put_status (put.Full blobs pack) = Full blobs pack
 put_status put.Disk = Disk
 put_status put.NoMemory = NoMemory
+
+abbrev pub file_status : FileFault → Status
+file_status (file.Absent r) = Absent r
+file_status (file.NotAFile r) = BadInput (NotAFile r)
+file_status (file.Short r has wants) = BadInput (Short r has wants)
+file_status (file.Deep r) = BadInput (Deep r)
+file_status file.WriteFault = WriteFault
+file_status (file.Get fault) = get_status fault
+file_status file.NoMemory = NoMemory
+
+abbrev pub draft_status : DraftFault → Status
+draft_status (draft.TooLong len) = BadInput (TooLong len)
+draft_status draft.NoMemory = NoMemory
 
 -- what is wrong with a text, as a fault of the input
 abbrev pub input_fault : TextFault → InputFault

@@ -1,6 +1,9 @@
 -- What a command means, and how a run of it may end: the same for every command (docs/commands.md).
-use Rattle.std.specs.Prelude.{◌≡◌, ◌⊎◌, ◌≤◌, ◌<◌, ◌+◌, ℕ, Bool, true, false, List, [], ◌∷◌, ◌++◌, length, Option, None, Some, IfSome}
+use Rattle.std.specs.Prelude.{◌≡◌, ◌⊎◌, ◌≤◌, ◌<◌, ◌+◌, ℕ, ℤ, Bool, true, false, List, [], ◌∷◌, ◌++◌, length, Option, None, Some, IfSome}
 use Rattle.std.specs.Option.{ForSome}
+use Rattle.schema_date.specs.Dates.{IsInRange}
+use Rattle.schema_write.specs.Laws.{AreBytes}
+use Rattle.schema_date.specs.DateTexts.{IsDateText}
 use Rattle.edge_base.specs.Edge.{Rose, Gave, GaveAll, GaveFront, Took, TookFront}
 use Rattle.edge_base.specs.declared.edge.Source.{Ghosts as SourceGhosts}
 use Rattle.pack_disk.specs.Packs.{Packs}
@@ -26,11 +29,18 @@ pub data Input : Type 0 where
 pub record Given : Type 0 where
   -- what the source had left
   pub input : List ℕ
+  -- the time that the clock told, its written text, and the random bytes that the dice gave
+  pub date : ℤ
+  pub date_text : List ℕ
+  pub random : List ℕ
 
 pub record Meaning : Type 1 where
   -- whether it asks the disk
   pub opens : Bool
   pub input : Input
+  -- whether it asks the clock and the dice
+  pub draws_time : Bool
+  pub draws_random : Bool
   -- what is wrong with what the words say, if anything is that shows before anything is touched
   pub bad : Option InputFault
   -- how an input of that many bytes, one more than it may have, is told
@@ -46,6 +56,11 @@ pub record Meaning : Type 1 where
   pub IsPart : Given → Option Packs → List ℕ → Type 0
   -- when it is refused for what it finds, by what it has written and put by then, and its status
   pub Refuses : Given → Option Packs → List ℕ → List (List ℕ) → Status → Type 0
+
+-- where they are drawn, the time is one that a date can tell, and the random bytes are sixteen
+abbrev pub IsDrawn : Meaning → Given → Type 0
+IsDrawn m given = (m.draws_time ≡ true → IsInRange given.date × IsDateText given.date given.date_text)
+    × (m.draws_random ≡ true → AreBytes 16 given.random)
 
 -- it puts nothing
 abbrev pub IsQuiet : Meaning → Type 0
@@ -81,7 +96,7 @@ pub record IsTooBig (size most : ℕ) (left left_now : Option (List ℕ)) : Type
 
 -- ---- the ends
 
-module _ {D S K : Type 0} (o : Outside D S K) (m : Meaning) (old new : World D S K) where
+module _ {D S K C R : Type 0} (o : Outside D S K C R) (m : Meaning) (old new : World D S K C R) where
   abbrev pub told : Option Packs
   told = o.disk.packs old.disk
 
@@ -93,16 +108,21 @@ module _ {D S K : Type 0} (o : Outside D S K) (m : Meaning) (old new : World D S
     -- what the command doesn't ask is left alone
     pub unopened : m.opens ≡ false → new.disk ≡ old.disk
     pub unread : m.input ≡ reads_nothing → new.source ≡ old.source
+    pub untimed : m.draws_time ≡ false → new.clock ≡ old.clock
+    pub undiced : m.draws_random ≡ false → new.dice ≡ old.dice
     -- no count of faults falls
     pub disk_later : o.disk.faults old.disk ≤ o.disk.faults new.disk
     pub source_later : o.source.faults old.source ≤ o.source.faults new.source
     pub sink_later : o.sink.faults old.sink ≤ o.sink.faults new.sink
+    pub clock_later : o.clock.faults old.clock ≤ o.clock.faults new.clock
+    pub dice_later : o.dice.faults old.dice ≤ o.dice.faults new.dice
 
   -- all was done, and what was written is such a text
   pub record Finishes (Writes : List ℕ → Type 0) : Type 0 where
     pub given : Given
     pub bytes : List ℕ
     pub fit : m.bad ≡ None
+    pub drawn : IsDrawn m given
     pub read : ReadsAll o.source m.input old.source new.source given.input
     pub right : m.wrong given.input ≡ None
     pub output : m.IsOutput given told bytes
@@ -126,6 +146,7 @@ module _ {D S K : Type 0} (o : Outside D S K) (m : Meaning) (old new : World D S
     pub given : Given
     pub bytes : List ℕ
     pub fit : m.bad ≡ None
+    pub drawn : IsDrawn m given
     pub read : ReadsSome o.source m.input old.source new.source given.input
     pub right : m.wrong given.input ≡ None
     pub written : WritesSome m.streams bytes
@@ -173,6 +194,15 @@ module _ {D S K : Type 0} (o : Outside D S K) (m : Meaning) (old new : World D S
     read_wrongly : WhenRead m.input fault → Unusable fault
     found_unfit : Stops (λ given bytes gone rest. m.Refuses given told bytes gone (status.BadInput fault)) → Unusable fault
 
+  -- the clock or the dice failed, where they are asked; what is read first was read, and isn't wrong
+  pub record WhileDrawing : Type 0 where
+    pub input : List ℕ
+    pub fit : m.bad ≡ None
+    pub read : ReadsSome o.source m.input old.source new.source input
+    pub right : m.wrong input ≡ None
+    pub rose : ((m.draws_time ≡ true) × Rose (o.clock.faults old.clock) (o.clock.faults new.clock))
+        ⊎ ((m.draws_random ≡ true) × Rose (o.dice.faults old.dice) (o.dice.faults new.dice))
+
   -- How it ends, by its status.
   abbrev pub EndsBy : Status → Type 0
   EndsBy status.Done = Finishes (Took (o.sink.written old.sink) (o.sink.written new.sink))
@@ -181,6 +211,7 @@ module _ {D S K : Type 0} (o : Outside D S K) (m : Meaning) (old new : World D S
   EndsBy status.NoMemory = RefusedEarly (Unit {0}) ⊎ Stops (λ given bytes gone rest. Unit {0})
   EndsBy status.ReadFault = WhileReading m.input (λ most. Rose (o.source.faults old.source) (o.source.faults new.source))
   EndsBy (status.BadInput fault) = Unusable fault
+  EndsBy status.HandFault = RefusedEarly WhileDrawing
   EndsBy status.Disk = RefusedLate (λ given bytes. Rose (o.disk.faults old.disk) (o.disk.faults new.disk))
   EndsBy (status.Full blobs pack) = Stops (λ given bytes gone rest. StopsFull blobs pack rest)
   EndsBy (status.Absent r) = Stops (λ given bytes gone rest. m.Refuses given told bytes gone (status.Absent r))

@@ -9,6 +9,8 @@ pub mod Steps
 pub mod Asking
 pub mod Put
 pub mod Get
+pub mod GetFile
+pub mod Notes
 pub mod Stat
 pub mod ListRefs
 pub mod Search

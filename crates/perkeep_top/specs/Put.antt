@@ -10,6 +10,8 @@ abbrev pub put_meaning : Meaning
 put_meaning = record {
   opens = true;
   input = reads_first max_size;
+  draws_time = false;
+  draws_random = false;
   bad = None;
   too_long = TooBig;
   wrong = λ input. None;

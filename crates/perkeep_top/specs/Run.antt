@@ -1,9 +1,9 @@
 -- What a run does, by its words (docs/commands.md).
 use Rattle.std.specs.Prelude.{◌≡◌, false, Option, None, Some, Result, Ok, Err}
-use Rattle.claim_verify.specs.Verifier.{Accepts}
 use Rattle.perkeep_words.specs.Reading.{LineSeen, command_at}
 use Rattle.perkeep_words.specs.Table.{writes_of}
 use Rattle.perkeep_words.specs.declared.kinds.TextFault.{TextFault}
+use Rattle.schema_fact.specs.declared.kinds.What.TheVariants.{Delete}
 use Rattle.perkeep_words.specs.declared.reading.Command.{Command}
 use Rattle.perkeep_words.specs.declared.reading.Command.TheVariants as command
 use Rattle.perkeep_top.specs.declared.status.Status.{Status}
@@ -11,6 +11,8 @@ use Rattle.perkeep_top.specs.declared.status.Status.TheVariants.{BadWords, BadIn
 use Rattle.perkeep_top.specs.Faults.{input_fault}
 use Rattle.perkeep_top.specs.Frame.{Meaning, IsQuiet, Ends}
 use Rattle.perkeep_top.specs.Get.{get_meaning}
+use Rattle.perkeep_top.specs.GetFile.{get_file_meaning}
+use Rattle.perkeep_top.specs.Notes.{Keys, permanode_meaning, claim_meaning, what_of}
 use Rattle.perkeep_top.specs.ListRefs.{list_meaning}
 use Rattle.perkeep_top.specs.Outside.{Outside, World}
 use Rattle.perkeep_top.specs.Put.{put_meaning}
@@ -19,21 +21,25 @@ use Rattle.perkeep_top.specs.Search.{search_meaning, search_pack_meaning}
 use Rattle.perkeep_top.specs.Stat.{stat_meaning}
 
 -- what each command means, under the keys that accept these signatures
-abbrev pub meaning_of : Accepts → Command → Meaning
-meaning_of accepts (command.Put dir) = put_meaning
-meaning_of accepts (command.Get dir r) = get_meaning r
-meaning_of accepts (command.Stat dir r) = stat_meaning r
-meaning_of accepts (command.List dir after limit) = list_meaning after limit
-meaning_of accepts (command.Search dir attr value at) = search_meaning accepts attr value at
-meaning_of accepts (command.Salvage dir) = salvage_meaning
-meaning_of accepts (command.SearchPack attr value) = search_pack_meaning accepts attr value
+abbrev pub meaning_of : Keys → Command → Meaning
+meaning_of keys (command.Put dir) = put_meaning
+meaning_of keys (command.Get dir r) = get_meaning r
+meaning_of keys (command.Stat dir r) = stat_meaning r
+meaning_of keys (command.List dir after limit) = list_meaning after limit
+meaning_of keys (command.Search dir attr value at) = search_meaning keys.accepts attr value at
+meaning_of keys (command.Salvage dir) = salvage_meaning
+meaning_of keys (command.Permanode dir name) = permanode_meaning keys name
+meaning_of keys (command.Claim dir kind r attr value name) = claim_meaning keys name (what_of kind r attr value)
+meaning_of keys (command.Delete dir r name) = claim_meaning keys name (Delete r)
+meaning_of keys (command.GetFile dir r) = get_file_meaning r
+meaning_of keys (command.SearchPack attr value) = search_pack_meaning keys.accepts attr value
 
 -- how a run ends: at words that are no line, at a text that is wrong, and else by the command's meaning
-abbrev pub Runs : {D S K : Type 0} → Outside D S K → Accepts → Option (Result Command TextFault) → World D S K → World D S K → Status → Type 0
-Runs o accepts None old new answer = (answer ≡ BadWords) × (new ≡ old)
-Runs o accepts (Some (Err fault)) old new answer = (answer ≡ BadInput (input_fault fault)) × (new ≡ old)
-Runs o accepts (Some (Ok asked)) old new answer = Ends o (meaning_of accepts asked) old new answer
+abbrev pub Runs : {D S K C R : Type 0} → Outside D S K C R → Keys → Option (Result Command TextFault) → World D S K C R → World D S K C R → Status → Type 0
+Runs o keys None old new answer = (answer ≡ BadWords) × (new ≡ old)
+Runs o keys (Some (Err fault)) old new answer = (answer ≡ BadInput (input_fault fault)) × (new ≡ old)
+Runs o keys (Some (Ok asked)) old new answer = Ends o (meaning_of keys asked) old new answer
 
 -- a command whose line is said not to write puts nothing
 abbrev pub ReadersPutNothing : Type 0
-ReadersPutNothing = (accepts : Accepts) (line : LineSeen) → writes_of line.0 ≡ false → IsQuiet (meaning_of accepts (command_at line.0 line.1))
+ReadersPutNothing = (keys : Keys) (line : LineSeen) → writes_of line.0 ≡ false → IsQuiet (meaning_of keys (command_at line.0 line.1))

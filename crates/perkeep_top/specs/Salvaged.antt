@@ -1,5 +1,5 @@
 -- What `salvage` means: what is told of the packs of a disk (docs/commands.md).
-use Rattle.std.specs.Prelude.{◌≡◌, ℕ, true, List, [], ◌++◌, Option, None, Some}
+use Rattle.std.specs.Prelude.{◌≡◌, ℕ, true, false, List, [], ◌++◌, Option, None, Some}
 use Rattle.std.specs.Option.{ForSome}
 use Rattle.std.specs.FinMap.{entries, get}
 use Rattle.edge_base.specs.Edge.{Took, TookFront}
@@ -24,6 +24,8 @@ abbrev pub salvage_meaning : Meaning
 salvage_meaning = record {
   opens = true;
   input = reads_nothing;
+  draws_time = false;
+  draws_random = false;
   bad = None;
   too_long = TooBig;
   wrong = λ input. None;

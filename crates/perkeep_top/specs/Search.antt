@@ -50,6 +50,8 @@ abbrev pub search_pack_meaning : Accepts → (attr value : List ℕ) → Meaning
 search_pack_meaning accepts attr value = record {
   opens = false;
   input = reads_first longest_pack;
+  draws_time = false;
+  draws_random = false;
   bad = None;
   too_long = TooBig;
   wrong = λ input. None;

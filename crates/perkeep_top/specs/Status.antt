@@ -1,7 +1,7 @@
 -- The exit statuses (docs/commands.md).
 use Rattle.std.specs.Prelude.{ℕ, List, codes}
 use Rattle.perkeep_top.specs.declared.status.Status.{Status}
-use Rattle.perkeep_top.specs.declared.status.Status.TheVariants.{Done, NoMemory, BadWords, Absent, BadInput, ReadFault, WriteFault, Disk, Full, Damaged}
+use Rattle.perkeep_top.specs.declared.status.Status.TheVariants.{Done, NoMemory, BadWords, Absent, BadInput, ReadFault, WriteFault, Disk, Full, Damaged, HandFault}
 
 -- the exit status of the process
 abbrev pub code : Status → ℕ
@@ -15,6 +15,7 @@ code WriteFault = 6
 code Disk = 7
 code (Full blobs pack) = 9
 code (Damaged want is) = 10
+code HandFault = 12
 
 -- the word that is printed on standard error
 abbrev pub word : Status → List ℕ
@@ -28,3 +29,4 @@ word WriteFault = codes "write"
 word Disk = codes "disk"
 word (Full blobs pack) = codes "full"
 word (Damaged want is) = codes "damaged"
+word HandFault = codes "hand"

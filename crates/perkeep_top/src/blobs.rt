@@ -21,8 +21,9 @@ use schema_json::fact;
 use std::alloc::Global;
 use std::collections::BTreeSet;
 
-/// The facts of the blobs that are salvaged from a pack, each ref once: the first finding of a ref counts, and later ones
-/// are passed over (`docs/formats/packs.md`, `docs/formats/schema.md`). `NoMemory` comes only where no memory is left.
+/// The facts of the blobs that are salvaged from a pack, each ref once: the first finding of a ref counts, and later
+/// ones are passed over (`docs/formats/packs.md`, `docs/formats/schema.md`). `NoMemory` comes only where no memory is
+/// left.
 #[tactic(auto, using(crate::proofs::Gathering::gathered_facts, crate::proofs::Gathering::gathered_distinct, crate::proofs::Gathering::gathered_valid))]
 pub fn pack_facts(alloc: Global, pack: &[u8]) -> Result<FactList, NoMemory>
     ensures facts { IfOk result (λ facts. from_entries facts ≡ pack_facts pack.now) }
@@ -48,10 +49,12 @@ fn first_facts(alloc: Global, pack: &[u8], found: &[Found]) -> Result<FactList, 
 
 /// The facts of the blobs of a store, each ref once.
 pub(crate) fn store_facts<D: Disk>(alloc: Global, store: &mut Store<D>) -> Result<FactList, Status>
-    ensures facts { IfOk result (λ facts. ForSome (D.packs store.old.disk) (λ held. facts ≡ with_blobs [] (arrivals_in held store.old.rows))) }
+    ensures facts { IfOk result (λ facts. ForSome (D.packs store.old.disk)
+        (λ held. facts ≡ with_blobs [] (arrivals_in held store.old.rows))) }
     ensures distinct { IfOk result AreDistinct }
     ensures valid { IfOk result AreValid }
-    ensures refused { IfErr result (Finds D.Disk store.old.disk store.new.disk (RefusesFacts (D.packs store.old.disk))) }
+    ensures refused { IfErr result (Finds D.Disk store.old.disk store.new.disk
+        (RefusesFacts (D.packs store.old.disk))) }
     ensures stays { StaysStill D.Disk store.old store.new }
     ensures later { D.faults store.old.disk ≤ D.faults store.new.disk }
 {
@@ -67,8 +70,10 @@ pub(crate) fn store_facts<D: Disk>(alloc: Global, store: &mut Store<D>) -> Resul
 // The arrival of a number.
 fn arrival_at<D: Disk>(store: &mut Store<D>, number: u64) -> Result<(Ref, Octets), Status>
     requires { number < count store.old }
-    ensures bytes { IfOk result (λ arrival. ForSome (D.packs store.old.disk) (λ held. slice_get (arrivals_in held store.old.rows) number ≡ Some arrival)) }
-    ensures refused { IfErr result (Finds D.Disk store.old.disk store.new.disk (RefusesFacts (D.packs store.old.disk))) }
+    ensures bytes { IfOk result (λ arrival. ForSome (D.packs store.old.disk)
+        (λ held. slice_get (arrivals_in held store.old.rows) number ≡ Some arrival)) }
+    ensures refused { IfErr result (Finds D.Disk store.old.disk store.new.disk
+        (RefusesFacts (D.packs store.old.disk))) }
     ensures stays { StaysStill D.Disk store.old store.new }
     ensures later { D.faults store.old.disk ≤ D.faults store.new.disk }
 {

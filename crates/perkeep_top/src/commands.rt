@@ -1,7 +1,10 @@
-//! The commands, each a function whose clause is what it means in `specs/`. Each is given all objects of the outside, also those that
-//! it leaves alone.
+//! The commands, each a function whose clause is what it means in `specs/`. Each is given all objects of the outside,
+//! also those that it leaves alone.
+pub(crate) mod claim;
 pub(crate) mod get;
+pub(crate) mod get_file;
 pub(crate) mod list;
+pub(crate) mod permanode;
 pub(crate) mod put;
 pub(crate) mod salvage;
 pub(crate) mod search;

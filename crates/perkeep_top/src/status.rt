@@ -4,11 +4,13 @@ ghost use Rattle.perkeep_top.specs.Status.{code, word};
 
 use blobref::{NoMemory, Ref};
 use edge_base::{GetFault, PutFault};
+use file_tree::FileFault;
 use pack_store::{OpenFault, PackFault};
 use perkeep_words::TextFault;
+use schema_write::DraftFault;
 
 /// What was wrong with what the words or the input say (`docs/commands.md`).
-#[derive(Clone, Copy, Debug, PartialEq, Eq)]
+#[derive(Clone, Copy, PartialEq, Eq)]
 pub enum InputFault {
     /// A text that should be a blobref is none.
     BadRef,
@@ -20,6 +22,16 @@ pub enum InputFault {
     BadName,
     /// The input is longer than it may be. It was read up to this number of bytes, and no further.
     TooBig { size: u64 },
+    /// The blob of this ref should be a file, or within one a file or bytes blob, and is something else.
+    NotAFile { r: Ref },
+    /// A part of a file wants the blob or tree of this ref to have at least `wants` bytes, and it has fewer.
+    Short { r: Ref, has: u64, wants: u64 },
+    /// The tree of this ref stands within 64 others.
+    Deep { r: Ref },
+    /// The keyring doesn't hold the key.
+    NoKey,
+    /// A text is too long for its blob, which would have this number of bytes.
+    TooLong { len: u64 },
 }
 
 /// How a run ended (`docs/commands.md`).
@@ -41,6 +53,8 @@ pub enum Status {
     WriteFault,
     /// The disk failed.
     Disk,
+    /// The clock or the source of random bytes failed.
+    HandFault,
     /// The store is full: it has so many blobs, and its last pack has this number, 0 where it has none.
     Full { blobs: u64, pack: u32 },
     /// The bytes stored under a ref have another one.
@@ -63,6 +77,7 @@ impl Status {
             Status::Disk => 7,
             Status::Full { .. } => 9,
             Status::Damaged { .. } => 10,
+            Status::HandFault => 12,
         }
     }
 
@@ -81,6 +96,7 @@ impl Status {
             Status::Disk => "disk",
             Status::Full { .. } => "full",
             Status::Damaged { .. } => "damaged",
+            Status::HandFault => "hand",
         }
     }
 }
@@ -162,6 +178,39 @@ impl From<TextFault> for InputFault {
             TextFault::BadDate => InputFault::BadDate,
             TextFault::BadNumber => InputFault::BadNumber,
             TextFault::BadName => InputFault::BadName,
+        }
+    }
+}
+
+impl From<FileFault> for Status {
+    ghost use Rattle.perkeep_top.specs.Faults.{file_status};
+
+    ghost from_gives = { λ fault status. status ≡ file_status fault };
+
+    fn from(fault: FileFault) -> Status {
+        match fault {
+            FileFault::Absent { r } => Status::Absent { r },
+            FileFault::NotAFile { r } => Status::BadInput(InputFault::NotAFile { r }),
+            FileFault::Short { r, has, wants } => {
+                Status::BadInput(InputFault::Short { r, has, wants })
+            }
+            FileFault::Deep { r } => Status::BadInput(InputFault::Deep { r }),
+            FileFault::WriteFault => Status::WriteFault,
+            FileFault::Get(fault) => Status::from(fault),
+            FileFault::NoMemory => Status::NoMemory,
+        }
+    }
+}
+
+impl From<DraftFault> for Status {
+    ghost use Rattle.perkeep_top.specs.Faults.{draft_status};
+
+    ghost from_gives = { λ fault status. status ≡ draft_status fault };
+
+    fn from(fault: DraftFault) -> Status {
+        match fault {
+            DraftFault::TooLong { len } => Status::BadInput(InputFault::TooLong { len }),
+            DraftFault::NoMemory => Status::NoMemory,
         }
     }
 }

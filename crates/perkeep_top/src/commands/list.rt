@@ -10,23 +10,26 @@ use crate::lines::size_lines;
 use crate::status::Status;
 use crate::steps::{opened, written};
 use blobref::{NoMemory, Octets, Ref};
-use edge_base::{Sink, Source};
+use edge_base::{Clock, Dice, Sink, Source};
 use pack_disk::Disk;
 use pack_store::Store;
 use std::alloc::Global;
 
-/// Writes a line for each of the refs greater than `after`, or for all where it is `None`, ascending, the first `limit` of them, each
-/// with its size.
-pub(crate) fn list<D: Disk, S: Source, K: Sink>(
+/// Writes a line for each of the refs greater than `after`, or for all where it is `None`, ascending, the first
+/// `limit` of them, each with its size.
+pub(crate) fn list<D: Disk, S: Source, K: Sink, C: Clock, R: Dice>(
     alloc: Global,
     after: Option<&Ref>,
     limit: u32,
     disk: D,
     _source: &mut S,
     sink: &mut K,
+    _clock: &mut C,
+    _dice: &mut R,
 ) -> (D, Status)
-    ensures { Ends (outside D.Disk S.Source K.Sink) (list_meaning (option_copied after.entry) limit)
-        (world disk _source.old sink.old) (world result.0 _source.new sink.new) result.1 }
+    ensures { Ends (outside D.Disk S.Source K.Sink C.Clock R.Dice) (list_meaning (option_copied after.entry) limit)
+        (world disk _source.old sink.old _clock.old _dice.old)
+        (world result.0 _source.new sink.new _clock.new _dice.new) result.1 }
 {
     let store = match opened(alloc, disk) {
         Ok(store) => store,

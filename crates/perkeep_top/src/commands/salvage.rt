@@ -10,20 +10,23 @@ ghost use Rattle.perkeep_top.specs.Salvaged.{salvage_meaning, IsReport, IsPackRe
 
 use crate::lines::report_of;
 use crate::status::Status;
-use edge_base::{Failed, Sink, Source, write_all};
+use edge_base::{Clock, Dice, Failed, Sink, Source, write_all};
 use pack_disk::Disk;
 use pack_store::scan_pack;
 use std::alloc::Global;
 
 /// Writes what each pack of the disk holds, pack by pack. Nothing is made, added or synced.
-pub(crate) fn salvage<D: Disk, S: Source, K: Sink>(
+pub(crate) fn salvage<D: Disk, S: Source, K: Sink, C: Clock, R: Dice>(
     alloc: Global,
     mut disk: D,
     _source: &mut S,
     sink: &mut K,
+    _clock: &mut C,
+    _dice: &mut R,
 ) -> (D, Status)
-    ensures { Ends (outside D.Disk S.Source K.Sink) salvage_meaning
-        (world disk _source.old sink.old) (world result.0 _source.new sink.new) result.1 }
+    ensures { Ends (outside D.Disk S.Source K.Sink C.Clock R.Dice) salvage_meaning
+        (world disk _source.old sink.old _clock.old _dice.old)
+        (world result.0 _source.new sink.new _clock.new _dice.new) result.1 }
 {
     match tell_packs(alloc, &mut disk, sink) {
         Ok(()) => (disk, Status::Done),
@@ -35,7 +38,8 @@ pub(crate) fn salvage<D: Disk, S: Source, K: Sink>(
 fn tell_packs<D: Disk, K: Sink>(alloc: Global, disk: &mut D, sink: &mut K) -> Result<(), Status>
     ensures done { OnOk result (Writes (IsReport (D.packs disk.old)) (K.written sink.old) (K.written sink.new)) }
     ensures part { OnErr result (WritesFront (IsReport (D.packs disk.old)) (K.written sink.old) (K.written sink.new)) }
-    ensures comes { IfErr result (ComesWhileTelling (Rose (K.faults sink.old) (K.faults sink.new)) (Rose (D.faults disk.old) (D.faults disk.new))) }
+    ensures comes { IfErr result (ComesWhileTelling (Rose (K.faults sink.old) (K.faults sink.new))
+        (Rose (D.faults disk.old) (D.faults disk.new))) }
     ensures stays { Stays D.Disk disk.old disk.new }
     ensures disk_later { D.faults disk.old ≤ D.faults disk.new }
     ensures sink_later { K.faults sink.old ≤ K.faults sink.new }
@@ -64,9 +68,12 @@ fn tell_pack<D: Disk, K: Sink>(
     sink: &mut K,
 ) -> Result<(), Status>
     requires there { ForSome (D.packs disk.old) (λ held. IsSome (get held pack)) }
-    ensures done { OnOk result (Writes (IsPackReport pack (D.packs disk.old)) (K.written sink.old) (K.written sink.new)) }
-    ensures part { OnErr result (WritesFront (IsPackReport pack (D.packs disk.old)) (K.written sink.old) (K.written sink.new)) }
-    ensures comes { IfErr result (ComesWhileTelling (Rose (K.faults sink.old) (K.faults sink.new)) (Rose (D.faults disk.old) (D.faults disk.new))) }
+    ensures done { OnOk result (Writes (IsPackReport pack (D.packs disk.old)) (K.written sink.old)
+        (K.written sink.new)) }
+    ensures part { OnErr result (WritesFront (IsPackReport pack (D.packs disk.old)) (K.written sink.old)
+        (K.written sink.new)) }
+    ensures comes { IfErr result (ComesWhileTelling (Rose (K.faults sink.old) (K.faults sink.new))
+        (Rose (D.faults disk.old) (D.faults disk.new))) }
     ensures stays { Stays D.Disk disk.old disk.new }
     ensures disk_later { D.faults disk.old ≤ D.faults disk.new }
     ensures sink_later { K.faults sink.old ≤ K.faults sink.new }

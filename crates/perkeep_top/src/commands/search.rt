@@ -15,14 +15,14 @@ use crate::status::Status;
 use crate::steps::{opened, written};
 use blobref::Octets;
 use claim_verify::Verifier;
-use edge_base::{Sink, Source};
+use edge_base::{Clock, Dice, Sink, Source};
 use pack_disk::Disk;
 use pack_store::Store;
 use schema_date::When;
 use std::alloc::Global;
 
 /// Writes the answer to a search for an attribute's value at a time, over the blobs of the store.
-pub(crate) fn search<D: Disk, V: Verifier, S: Source, K: Sink>(
+pub(crate) fn search<D: Disk, V: Verifier, S: Source, K: Sink, C: Clock, R: Dice>(
     alloc: Global,
     attr: &str,
     value: &str,
@@ -31,10 +31,14 @@ pub(crate) fn search<D: Disk, V: Verifier, S: Source, K: Sink>(
     disk: D,
     _source: &mut S,
     sink: &mut K,
+    _clock: &mut C,
+    _dice: &mut R,
 ) -> (D, Status)
     requires { attr.now ≢ [] }
-    ensures { Ends (outside D.Disk S.Source K.Sink) (search_meaning (V.accepts keys.now) attr.now value.now at)
-        (world disk _source.old sink.old) (world result.0 _source.new sink.new) result.1 }
+    ensures { Ends (outside D.Disk S.Source K.Sink C.Clock R.Dice)
+        (search_meaning (V.accepts keys.now) attr.now value.now at)
+        (world disk _source.old sink.old _clock.old _dice.old)
+        (world result.0 _source.new sink.new _clock.new _dice.new) result.1 }
 {
     let mut store = match opened(alloc, disk) {
         Ok(store) => store,
@@ -58,7 +62,8 @@ fn answer_line<D: Disk, V: Verifier>(
     requires stands { Stands D.Disk limits store.old }
     requires attr { attr.now ≢ [] }
     ensures line { IfOk result (IsAnswer (V.accepts keys.now) attr.now value.now at (D.packs store.old.disk)) }
-    ensures refused { IfErr result (Finds D.Disk store.old.disk store.new.disk (RefusesFacts (D.packs store.old.disk))) }
+    ensures refused { IfErr result (Finds D.Disk store.old.disk store.new.disk
+        (RefusesFacts (D.packs store.old.disk))) }
     ensures still { StaysStill D.Disk store.old store.new }
     ensures later { D.faults store.old.disk ≤ D.faults store.new.disk }
 {

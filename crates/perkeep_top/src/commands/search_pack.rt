@@ -8,15 +8,16 @@ use crate::search::pack_answer;
 use crate::status::Status;
 use crate::steps::{read_input, written};
 use claim_verify::Verifier;
-use edge_base::{Sink, Source};
+use edge_base::{Clock, Dice, Sink, Source};
 use pack_disk::Disk;
 use std::alloc::Global;
 
 // The most bytes of a pack that is searched: 2 ^ 30.
 const LONGEST_PACK: usize = 1_073_741_824;
 
-/// Writes the answer to a search for an attribute's value, over the blobs salvaged from the pack that the source has left.
-pub(crate) fn search_pack<D: Disk, V: Verifier, S: Source, K: Sink>(
+/// Writes the answer to a search for an attribute's value, over the blobs salvaged from the pack that the source has
+/// left.
+pub(crate) fn search_pack<D: Disk, V: Verifier, S: Source, K: Sink, C: Clock, R: Dice>(
     alloc: Global,
     attr: &str,
     value: &str,
@@ -24,10 +25,14 @@ pub(crate) fn search_pack<D: Disk, V: Verifier, S: Source, K: Sink>(
     disk: D,
     source: &mut S,
     sink: &mut K,
+    _clock: &mut C,
+    _dice: &mut R,
 ) -> (D, Status)
     requires { attr.now ≢ [] }
-    ensures { Ends (outside D.Disk S.Source K.Sink) (search_pack_meaning (V.accepts keys.now) attr.now value.now)
-        (world disk source.old sink.old) (world result.0 source.new sink.new) result.1 }
+    ensures { Ends (outside D.Disk S.Source K.Sink C.Clock R.Dice)
+        (search_pack_meaning (V.accepts keys.now) attr.now value.now)
+        (world disk source.old sink.old _clock.old _dice.old)
+        (world result.0 source.new sink.new _clock.new _dice.new) result.1 }
 {
     let pack = match read_input(alloc, source, LONGEST_PACK) {
         Ok(pack) => pack,

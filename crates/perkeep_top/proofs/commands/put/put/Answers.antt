@@ -12,38 +12,38 @@ use Rattle.perkeep_top.proofs.commands.put.put.Goals as goal
 
 pub returns-in-Err : goal.returns-in-Err
 returns-in-Err g c =
-    let run = begun (outside g.D.Disk g.S.Source g.K.Sink) g.met.D.Disk.counts_now g.met.D.Disk.only_now put_meaning refl (world c.args.disk c.args.source.now c.args.sink.now) in
+    let run = begun (outside g.D.Disk g.S.Source g.K.Sink g.C.Clock g.R.Dice) g.met.D.Disk.counts_now g.met.D.Disk.only_now put_meaning refl (world c.args.disk c.args.source.now c.args.sink.now c.args._clock.now c.args._dice.now) in
     unread_first run max_size refl (λ size. refl) c.read_input.new.source (far_read run c.read_input.new.source (λ e. absurd (cc e)) c.in-Err.ensures.later) c.in-Err.status c.in-Err.ensures.refused
 
 pub returns-in_default : goal.returns-in_default
 returns-in_default g c =
-    let run = begun (outside g.D.Disk g.S.Source g.K.Sink) g.met.D.Disk.counts_now g.met.D.Disk.only_now put_meaning refl (world c.args.disk c.args.source.now c.args.sink.now) in
+    let run = begun (outside g.D.Disk g.S.Source g.K.Sink g.C.Clock g.R.Dice) g.met.D.Disk.counts_now g.met.D.Disk.only_now put_meaning refl (world c.args.disk c.args.source.now c.args.sink.now c.args._clock.now c.args._dice.now) in
     early_memory run c.read_input.new.source (far_read run c.read_input.new.source (λ e. absurd (cc e)) c.in-Ok.ensures.later)
 
 pub returns-in-Err-opened : goal.returns-in-Err-opened
 returns-in-Err-opened g c =
-    let run = begun (outside g.D.Disk g.S.Source g.K.Sink) g.met.D.Disk.counts_now g.met.D.Disk.only_now put_meaning refl (world c.args.disk c.args.source.now c.args.sink.now) in
+    let run = begun (outside g.D.Disk g.S.Source g.K.Sink g.C.Clock g.R.Dice) g.met.D.Disk.counts_now g.met.D.Disk.only_now put_meaning refl (world c.args.disk c.args.source.now c.args.sink.now c.args._clock.now c.args._dice.now) in
     let read = far_read run c.read_input.new.source (λ e. absurd (cc e)) c.in-Ok.ensures.later in
     refused run refl c.args.disk c.in-Err-opened.end.0 c.read_input.new.source read c.in-Err-opened.ensures.stays_err c.in-Err-opened.ensures.later_err (given_input c.in-Ok.bytes.items)
-    (record { read = c.in-Ok.ensures.read; right = refl }) refl NeverRefuses (λ end w. absurd w) c.in-Err-opened.end.1 c.in-Err-opened.ensures.refused
+    (record { read = c.in-Ok.ensures.read; right = refl; drawn = (λ e. absurd (cc e), λ e. absurd (cc e)) }) refl NeverRefuses (λ end w. absurd w) c.in-Err-opened.end.1 c.in-Err-opened.ensures.refused
 
 pub returns-in-Ok-put_blob : goal.returns-in-Ok-put_blob
 returns-in-Ok-put_blob g c =
-    let run = begun (outside g.D.Disk g.S.Source g.K.Sink) g.met.D.Disk.counts_now g.met.D.Disk.only_now put_meaning refl (world c.args.disk c.args.source.now c.args.sink.now) in
+    let run = begun (outside g.D.Disk g.S.Source g.K.Sink g.C.Clock g.R.Dice) g.met.D.Disk.counts_now g.met.D.Disk.only_now put_meaning refl (world c.args.disk c.args.source.now c.args.sink.now c.args._clock.now c.args._dice.now) in
     let read = far_read run c.read_input.new.source (λ e. absurd (cc e)) c.in-Ok.ensures.later in
     let so = far_asked run refl c.args.disk c.in-Ok-opened.store.disk c.read_input.new.source read c.in-Ok-opened.ensures.stays c.in-Ok-opened.ensures.later in
     let done = far_put run refl (λ q. cc (q (given_input []))) c.in-Ok-opened.store c.put_blob.new.store c.read_input.new.source c.args.sink.now [] [] so c.in-Ok-opened.ensures.stands c.in-Ok-put_blob.ensures.keeps c.in-Ok-put_blob.ensures.later refl
     (c.in-Ok.bytes.items ∷ []) (subst (λ (x : List ℕ). PutsBlobs g.D.Disk limits c.in-Ok-opened.store (x ∷ []) c.put_blob.new.store) c.deref-2.ensures.value c.in-Ok-put_blob.ensures.leaves) in
     rw c.give_back.ensures (
     finished run c.put_blob.new.store.disk c.read_input.new.source _ done c.written.new.sink (given_input c.in-Ok.bytes.items) c.as_slice.result.now
-    c.in-Ok.ensures.read refl (c.as_slice.ensures ∙ c.in-Ok-ref_line.ensures ∙ ap ref_line c.of-r.ensures ∙ ap (λ (x : List ℕ). ref_line (ref_of x)) c.deref.ensures.value) refl c.written.result c.written.ensures.wrote c.written.ensures.later)
+    (λ e. absurd (cc e), λ e. absurd (cc e)) c.in-Ok.ensures.read refl (c.as_slice.ensures ∙ c.in-Ok-ref_line.ensures ∙ ap ref_line c.of-r.ensures ∙ ap (λ (x : List ℕ). ref_line (ref_of x)) c.deref.ensures.value) refl c.written.result c.written.ensures.wrote c.written.ensures.later)
 
 pub returns : goal.returns
 returns g c =
-    let run = begun (outside g.D.Disk g.S.Source g.K.Sink) g.met.D.Disk.counts_now g.met.D.Disk.only_now put_meaning refl (world c.args.disk c.args.source.now c.args.sink.now) in
+    let run = begun (outside g.D.Disk g.S.Source g.K.Sink g.C.Clock g.R.Dice) g.met.D.Disk.counts_now g.met.D.Disk.only_now put_meaning refl (world c.args.disk c.args.source.now c.args.sink.now c.args._clock.now c.args._dice.now) in
     let read = far_read run c.read_input.new.source (λ e. absurd (cc e)) c.in-Ok.ensures.later in
     let so = far_asked run refl c.args.disk c.in-Ok-opened.store.disk c.read_input.new.source read c.in-Ok-opened.ensures.stays c.in-Ok-opened.ensures.later in
     rw (c.give_back-in-Err-put_blob.ensures, c.from.ensures) (
     not_put run refl (λ q. cc (q (given_input []))) c.in-Ok-opened.store c.put_blob.new.store c.read_input.new.source c.args.sink.now [] [] so c.in-Ok-opened.ensures.stands c.in-Err-put_blob.ensures.keeps c.in-Err-put_blob.ensures.later refl
-    (given_input c.in-Ok.bytes.items) c.in-Ok.bytes.items [] (record { read = c.in-Ok.ensures.read; right = refl }) refl refl c.in-Ok.ensures.read.0 c.in-Err-put_blob.fault
+    (given_input c.in-Ok.bytes.items) c.in-Ok.bytes.items [] (record { read = c.in-Ok.ensures.read; right = refl; drawn = (λ e. absurd (cc e), λ e. absurd (cc e)) }) refl refl c.in-Ok.ensures.read.0 c.in-Err-put_blob.fault
     (subst (λ (x : List ℕ). PutLeaves g.D.Disk limits c.in-Ok-opened.store c.put_blob.new.store x (Err c.in-Err-put_blob.fault)) c.deref-2.ensures.value c.in-Err-put_blob.ensures.leaves))

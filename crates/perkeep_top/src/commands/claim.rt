@@ -1,0 +1,105 @@
+//! `claim DIR KIND REF ATTR [VALUE] --key NAME` and `delete DIR REF --key NAME`
+ghost use Rattle.perkeep_top.specs.Outside.{outside, world};
+ghost use Rattle.perkeep_top.specs.Frame.{Ends};
+ghost use Rattle.std.specs.Prelude.{◌≡◌, IfOk};
+ghost use Rattle.perkeep_top.specs.Notes.{claim_meaning, keys_of, what_of};
+
+use crate::notes::{date_of, is_held, signed_note};
+use crate::status::{InputFault, Status};
+use crate::steps::{opened, put_blob, written};
+use blobref::{NoMemory, Ref, Text};
+use claim_verify::{KeyName, Signer};
+use edge_base::{Clock, Dice, Failed, Sink, Source};
+use pack_disk::Disk;
+use perkeep_words::Change;
+use schema_fact::What;
+use schema_write::{claim_payload, key_blob};
+use std::alloc::Global;
+
+/// `claim`: a change of an attribute's values.
+pub(crate) fn change<D: Disk, V: Signer, S: Source, K: Sink, C: Clock, R: Dice>(
+    alloc: Global,
+    kind: Change,
+    r: &Ref,
+    attr: &str,
+    value: &str,
+    name: &KeyName,
+    keys: &V,
+    disk: D,
+    source: &mut S,
+    sink: &mut K,
+    clock: &mut C,
+    dice: &mut R,
+) -> (D, Status)
+    ensures { Ends (outside D.Disk S.Source K.Sink C.Clock R.Dice)
+        (claim_meaning (keys_of (V.holds keys.now) (V.seals keys.now) (V.accepts keys.now)) name.now
+        (what_of kind r.now attr.now value.now)) (world disk source.old sink.old clock.old dice.old)
+        (world result.0 source.new sink.new clock.new dice.new) result.1 }
+{
+    match what_of(alloc, kind, r, attr, value) {
+        Ok(what) => claim(alloc, &what, name, keys, disk, source, sink, clock, dice),
+        Err(NoMemory) => (disk, Status::NoMemory),
+    }
+}
+
+fn what_of(alloc: Global, kind: Change, r: &Ref, attr: &str, value: &str) -> Result<What, NoMemory>
+    ensures { IfOk result (λ what. what ≡ what_of kind r.now attr.now value.now) }
+{
+    let on = *r;
+    let attr = Text::copy(alloc, attr)?;
+    let value = Text::copy(alloc, value)?;
+    Ok(match kind {
+        Change::Set => What::Set { on, attr, value },
+        Change::Add => What::Add { on, attr, value },
+        Change::Del => What::Del { on, attr, value },
+    })
+}
+
+/// Stores the blob of a key and a claim of this time that it signed and that says this, and writes the line of the
+/// claim's ref.
+pub(crate) fn claim<D: Disk, V: Signer, S: Source, K: Sink, C: Clock, R: Dice>(
+    alloc: Global,
+    what: &What,
+    name: &KeyName,
+    keys: &V,
+    disk: D,
+    _source: &mut S,
+    sink: &mut K,
+    clock: &mut C,
+    _dice: &mut R,
+) -> (D, Status)
+    ensures { Ends (outside D.Disk S.Source K.Sink C.Clock R.Dice)
+        (claim_meaning (keys_of (V.holds keys.now) (V.seals keys.now) (V.accepts keys.now)) name.now what.now)
+        (world disk _source.old sink.old clock.old _dice.old)
+        (world result.0 _source.new sink.new clock.new _dice.new) result.1 }
+{
+    if !is_held(keys, name) {
+        return (disk, Status::BadInput(InputFault::NoKey));
+    }
+    let date = match date_of(clock) {
+        Ok(date) => date,
+        Err(Failed) => return (disk, Status::HandFault),
+    };
+    let mut store = match opened(alloc, disk) {
+        Ok(store) => store,
+        Err(end) => return end,
+    };
+    let Ok(key) = key_blob(alloc, name) else {
+        return (store.give_back(), Status::NoMemory);
+    };
+    let signer = Ref::of(key.as_slice());
+    let payload = match claim_payload(alloc, &signer, &date, what) {
+        Ok(payload) => payload,
+        Err(fault) => return (store.give_back(), Status::from(fault)),
+    };
+    let Ok(note) = signed_note(alloc, keys, name, key, signer, payload.as_slice()) else {
+        return (store.give_back(), Status::NoMemory);
+    };
+    match put_blob(&mut store, &note.signer, note.key.as_slice()) {
+        Ok(_) => match put_blob(&mut store, &note.r, note.blob.as_slice()) {
+            Ok(_) => (store.give_back(), written(note.line.as_slice(), sink)),
+            Err(fault) => (store.give_back(), Status::from(fault)),
+        },
+        Err(fault) => (store.give_back(), Status::from(fault)),
+    }
+}
