@@ -104,18 +104,23 @@ def failing_calls(program, what):
     calls = traced(program, what, store.words("put"), BLOB)
     checks = []
     for call in own_calls(calls, store.path):
-        if call.name not in FAILING:
-            continue
-        faults = [(f"{call.name}:error=EIO:when={call.number}",)]
-        if call.name in CHANGING:
-            faults.append((f"{call.name}:error=ENOSPC:when={call.number}",))
-        if call.name in WRITES + SYNCS:
-            faults.append((f"{call.name}:error=EIO:when={call.number}+",))
-            faults.append((f"{call.name}:error=ENOSPC:when={call.number}", *(f"{name}:error=EIO" for name in CUTS)))
         where = os.path.relpath(call.path, store.path) if call.path.startswith("/") else call.path
-        checks += [lambda call=call, fault=fault, where=where: put_fails(program, what, call, fault, where) for fault in faults]
+        checks += [lambda call=call, fault=fault, where=where: put_fails(program, what, call, fault, where) for fault in faults_of(call)]
     check(f"{what}: only {len(checks)} calls to make fail", len(checks) >= 10)
     return checks
+
+
+def faults_of(call):
+    """The faults, by strace's words, that a call is tried with."""
+    if call.name not in FAILING:
+        return []
+    faults = [(f"{call.name}:error=EIO:when={call.number}",)]
+    if call.name in CHANGING:
+        faults.append((f"{call.name}:error=ENOSPC:when={call.number}",))
+    if call.name in WRITES + SYNCS:
+        faults.append((f"{call.name}:error=EIO:when={call.number}+",))
+        faults.append((f"{call.name}:error=ENOSPC:when={call.number}", *(f"{name}:error=EIO" for name in CUTS)))
+    return faults
 
 
 def own_calls(calls, folder):
@@ -129,20 +134,27 @@ def put_fails(program, what, call, fault, where):
     store = Store(program, STORES[what])
     told = f"{what}, {' and '.join(fault)} ({where or 'no path'})"
     before = dict(store.packs)
-    status, out, err, calls = trace(program, store.words("put"), BLOB, fault)
-    check(f"{told}: no call failed", any(one.is_injected() for one in calls))
-    expected = status if status in statuses_for(call) else statuses_for(call)[0]
-    # Where all writes fail the program can't tell its status.
-    compare_ending(told, expected, status, harness.told_of(expected) if fault[0].startswith("write") and not err else err)
+    status, out, calls = ends_with_fault(told, store, store.words("put"), BLOB, call, fault)
     compare(told, "standard output", ref_of(BLOB).encode() + b"\n" if status == 0 else b"", out)
-    store.packs = reference.packs_of(store.files())
-    stands(told, before, store.packs)
     if status == 0:
         number = reference.pack_for_the_next_record(before)
         is_durable_when_printed(told, calls, store.path, number, before, STORES[what] is None)
     if status in (0, 6):
         compare(told, "the blob", BLOB, store.blobs().get(ref_of(BLOB)))
     goes_on(told, store, before)
+
+
+def ends_with_fault(what, store, words, source, call, fault):
+    """Runs the program with a call that fails; answers its status, output and calls. What stood before stands."""
+    before = dict(store.packs)
+    status, out, err, calls = trace(store.program, words, source, fault)
+    check(f"{what}: no call failed", any(one.is_injected() for one in calls))
+    expected = status if status in statuses_for(call) else statuses_for(call)[0]
+    # Where all writes fail the program can't tell its status.
+    compare_ending(what, expected, status, harness.told_of(expected) if fault[0].startswith("write") and not err else err)
+    store.packs = reference.packs_of(store.files())
+    stands(what, before, store.packs)
+    return status, out, calls
 
 
 def statuses_for(call):

@@ -1,8 +1,8 @@
 """What the program's commands answer and store, worked out a second time.
 
-Everything here is written from the pages of docs/ alone, to be read beside them: claims.md, commands.md, and of
-formats/ packs.md, blobrefs.md, schema.md, dates.md, keyring.md and answers.md. It is slow and plain on purpose. The
-tests compare the program with it.
+Everything here is written from the pages of docs/ alone, to be read beside them: claims.md, commands.md, files.md, and
+of formats/ packs.md, blobrefs.md, schema.md, dates.md, keyring.md and answers.md. It is slow and plain on purpose. The
+tests compare the program with it. What is written, blob by blob, is in writing.py.
 
 Each constant names the page, and the part of it, that it is from. Bytes are `bytes`, refs and texts are `str`. A
 moment is a number of nanoseconds, and ALWAYS stands for no moment at all.
@@ -214,6 +214,13 @@ def moment_of(text):
     return moment if LEAST_MOMENT <= moment <= GREATEST_MOMENT else None
 
 
+def date_text(moment):
+    """The text that is written for a moment (docs/formats/dates.md, "The written text")."""
+    seconds, nanoseconds = divmod(moment, 10**9)
+    time = datetime.datetime(1970, 1, 1) + datetime.timedelta(seconds=seconds)
+    return time.isoformat() + f".{nanoseconds:09}".rstrip("0").rstrip(".") + "Z"
+
+
 # Keys and the keyring
 
 # docs/commands.md, "Input and order"
@@ -255,6 +262,15 @@ class Signed(NamedTuple):
     signature: bytes
 
 
+class Part(NamedTuple):
+    """So many bytes, from an offset on, of what stands under a ref, or so many zeros."""
+
+    size: int
+    offset: int
+    blob: Optional[str]
+    tree: Optional[str]
+
+
 class Fact(NamedTuple):
     """What a blob says. Fields that its kind doesn't have are None."""
 
@@ -267,6 +283,7 @@ class Fact(NamedTuple):
     target: Optional[str] = None
     attribute: Optional[str] = None
     value: Optional[str] = None
+    parts: Optional[tuple] = None
 
 
 # docs/formats/schema.md, "Kinds": the row of `Plain`
@@ -319,13 +336,14 @@ def is_version_1(body):
 
 def file_fact(body):
     name = body.get("fileName", "")
-    refs = part_refs(body.get("parts"))
-    return Fact("File", refs, name) if isinstance(name, str) and refs is not None else None
+    parts = part_list(body.get("parts"))
+    good = isinstance(name, str) and parts is not None
+    return Fact("File", part_refs(parts), name, parts=parts) if good else None
 
 
 def bytes_fact(body):
-    refs = part_refs(body.get("parts"))
-    return Fact("Bytes", refs) if refs is not None else None
+    parts = part_list(body.get("parts"))
+    return Fact("Bytes", part_refs(parts), parts=parts) if parts is not None else None
 
 
 def directory_fact(body):
@@ -340,23 +358,28 @@ def static_set_fact(body):
 
 
 def part_refs(parts):
-    """The refs of a part list, as they come; None where it is no part list."""
-    if not isinstance(parts, list):
+    """The refs of parts, as they come."""
+    return tuple(ref for part in parts for ref in (part.blob, part.tree) if ref is not None)
+
+
+def part_list(items):
+    """The parts of a part list; None where it is none."""
+    if not isinstance(items, list):
         return None
-    refs = []
+    parts = []
     total = 0
-    for part in parts:
-        if not isinstance(part, dict):
+    for item in items:
+        if not isinstance(item, dict):
             return None
-        size, offset = part.get("size"), part.get("offset", 0)
-        origins = [part[key] for key in ("blobRef", "bytesRef") if key in part]
+        size, offset = item.get("size"), item.get("offset", 0)
+        origins = [item[key] for key in ("blobRef", "bytesRef") if key in item]
         if not (is_whole(size) and is_whole(offset) and len(origins) <= 1 and all(map(is_ref, origins))):
             return None
         total += size
         if max(total, offset) > MOST_BYTES_OF_A_FILE:
             return None
-        refs += origins
-    return tuple(refs)
+        parts.append(Part(size, offset, item.get("blobRef"), item.get("bytesRef")))
+    return tuple(parts)
 
 
 def permanode_fact(blob):
@@ -520,3 +543,77 @@ def search_pack(pack, keyring, attribute, value):
 def archive_of_store(packs, keyring):
     """The archive of a store under the text of its keyring."""
     return Archive(arrivals(packs), read_keyring(keyring))
+
+
+# Files (docs/files.md)
+
+# "Reading a file": the file itself is the first of so many trees within one another
+MOST_TREES = 64
+
+
+class Refused(Exception):
+    """Why a file has no more bytes that can be read: the exit status of docs/commands.md."""
+
+    def __init__(self, status):
+        super().__init__(status)
+        self.status = status
+
+
+def read_file(blobs, ref):
+    """The bytes of a file among blobs by their refs, up to where they can't be read, and the exit status."""
+    pieces = []
+    try:
+        for piece in file_pieces(blobs, ref):
+            pieces.append(piece)
+    except Refused as why:
+        return b"".join(pieces), why.status
+    return b"".join(pieces), 0
+
+
+def file_pieces(blobs, ref):
+    parts = parts_under(blobs, ref, ("File",))
+    yield from pieces_of(blobs, parts, 0, size_of(parts), 1)
+
+
+def parts_under(blobs, ref, kinds):
+    if ref not in blobs:
+        raise Refused(3)
+    fact = fact_of(blobs[ref])
+    if fact.kind not in kinds:
+        raise Refused(4)
+    return fact.parts
+
+
+def size_of(parts):
+    return sum(part.size for part in parts)
+
+
+def pieces_of(blobs, parts, start, count, trees):
+    """So many bytes of parts, from a place on; a part of which no byte is asked isn't looked at."""
+    for part in parts:
+        passed = min(start, part.size)
+        asked = min(part.size - passed, count)
+        if asked > 0:
+            yield from part_pieces(blobs, part, part.offset + passed, asked, trees)
+        start -= passed
+        count -= asked
+
+
+def part_pieces(blobs, part, at, count, trees):
+    """So many bytes of a part within so many trees, from a place of its origin on."""
+    end = part.offset + part.size
+    if part.tree is not None:
+        if trees == MOST_TREES:
+            raise Refused(4)
+        parts = parts_under(blobs, part.tree, ("File", "Bytes"))
+        if size_of(parts) < end:
+            raise Refused(4)
+        yield from pieces_of(blobs, parts, at, count, trees + 1)
+    elif part.blob is None:
+        yield bytes(count)
+    elif part.blob not in blobs:
+        raise Refused(3)
+    elif len(blobs[part.blob]) < end:
+        raise Refused(4)
+    else:
+        yield blobs[part.blob][at : at + count]

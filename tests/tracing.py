@@ -12,7 +12,7 @@ OPENS, MAKES = ("openat", "open", "creat"), ("mkdir", "mkdirat")
 READS, WRITES = ("read", "readv", "pread64", "preadv"), ("write", "writev", "pwrite64", "pwritev")
 SYNCS, LOCKS, CUTS = ("fsync", "fdatasync"), ("flock",), ("ftruncate",)
 LISTS, LOOKS = ("getdents64", "getdents"), ("fstat", "stat", "lstat", "newfstatat", "statx", "lseek")
-TRACED = OPENS + MAKES + READS + WRITES + SYNCS + LOCKS + CUTS + LISTS + LOOKS + ("close",)
+TRACED = OPENS + MAKES + READS + WRITES + SYNCS + LOCKS + CUTS + LISTS + LOOKS + ("close", "getrandom")
 
 LINE = re.compile(r"^(?:\d+ +)?([a-z0-9_]+)\((.*)$")
 FILE = re.compile(r"(\d+)<([^>]*)>(?:, \"([^\"]+)\")?")

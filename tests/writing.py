@@ -3,8 +3,6 @@
 The tests and the benches make their inputs with it.
 """
 
-import json
-
 from reference import MARKER, ref_of, signature
 
 NAME = "jefe"
@@ -12,9 +10,14 @@ SECRET = b"Jefe"
 RANDOM = "00112233445566778899aabbccddeeff"
 
 
+# docs/formats/schema.md, "Written objects"
+ESCAPES = {'"': '\\"', "\\": "\\\\", "\b": "\\b", "\t": "\\t", "\n": "\\n", "\f": "\\f", "\r": "\\r"}
+ESCAPES = str.maketrans({chr(code): f"\\u{code:04x}" for code in range(32)} | ESCAPES)
+
+
 def text(value):
-    """The JSON of a text, with its quotes, or of a list of texts."""
-    return json.dumps(value, ensure_ascii=False, separators=(",", ":"))
+    """The JSON string of a text, with its quotes."""
+    return '"' + value.translate(ESCAPES) + '"'
 
 
 # Keys and signatures
@@ -95,7 +98,7 @@ def directory(name, entries):
 
 
 def static_set(members):
-    return f'{{"camliVersion":1,"camliType":"static-set","members":{text(list(members))}}}\n'.encode()
+    return f'{{"camliVersion":1,"camliType":"static-set","members":[{",".join(map(text, members))}]}}\n'.encode()
 
 
 # Packs
