@@ -1,0 +1,6 @@
+pub mod Cuts
+pub mod Sizes
+pub mod Source
+pub mod Filling
+pub mod Drafting
+pub mod Chunks

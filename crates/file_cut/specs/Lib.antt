@@ -1,0 +1,5 @@
+pub mod Cutting
+pub mod Source
+pub mod Laws
+pub mod Drafts
+pub mod Writing

@@ -1,0 +1,13 @@
+//! Files are cut into blobs, which are kept one after the other.
+#![tactic(auto)]
+
+mod draft;
+mod fault;
+mod laws;
+mod pieces;
+mod writing;
+
+pub use fault::CutFault;
+pub use laws::{blobs_in_order, written_is_source};
+pub use pieces::read_piece;
+pub use writing::write_file;

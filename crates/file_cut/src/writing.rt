@@ -1,0 +1,146 @@
+//! A source is cut into chunks, which are put as they are read.
+ghost use Rattle.std.specs.Prelude.{◌≡◌, ◌≤◌, ◌<◌, ℕ, List, length, Err, IfOk, IfErr};
+ghost use Rattle.blobref.specs.Blobref.{ref_of};
+ghost use Rattle.edge_base.specs.Edge.{GaveAll};
+ghost use Rattle.file_cut.specs.declared.fault.CutFault.TheVariants as fault;
+ghost use Rattle.file_cut.specs.Cutting.{cut, below_file, blobs_from, own_from};
+ghost use Rattle.file_cut.specs.Drafts.{IsPut, Puts};
+ghost use Rattle.file_cut.specs.Writing.{AreSizes, Unwritten, Written, NotWritten, unput, longest_name};
+
+use crate::draft::{Draft, put_end, put_next};
+use crate::fault::CutFault;
+use crate::pieces::read_piece;
+use blobref::Ref;
+use edge_base::{PutFault, Shelf, Source};
+use schema_fact::PartList;
+use std::alloc::{AllocError, Global};
+
+// How many bytes a chunk has, and how many chunks a run.
+const CHUNK: usize = 1_048_576;
+
+const RUN: usize = 4_096;
+
+// The most bytes of a file, and of its name.
+const LONGEST_FILE: u64 = 17_592_186_044_416;
+
+const LONGEST_NAME: usize = 4_096;
+
+/// Cuts a source into the blobs of a file of this name, puts them as they are read (`docs/files.md`), and answers the
+/// ref of the file's own blob, which is the last one.
+///
+/// `NameTooLong` comes exactly above 4,096 bytes, before anything is read. `TooLong` comes only where the source had
+/// more than 17,592,186,044,416 bytes, and where that is so `Ok` never comes. `ReadFault` comes only where its count of
+/// faults rose, and `Put` for the shelf's refusal of the blob that was next, never with `TooBig`: no blob has more than
+/// 1,048,576 bytes. After each of these and `NoMemory` a front of the file's blobs was put, and nothing else; after
+/// `Put(Disk)` the shelf holds such a front.
+///
+/// It holds one chunk, and at most 8,192 parts.
+pub fn write_file<S: Source, B: Shelf>(
+    alloc: Global,
+    name: &str,
+    source: &mut S,
+    shelf: &mut B,
+) -> Result<Ref, CutFault>
+    ensures ok { IfOk result (Written S.Source B.Shelf name.now source.old source.new shelf.old shelf.new) }
+    ensures err { IfErr result (NotWritten S.Source B.Shelf name.now source.old source.new shelf.old shelf.new) }
+    ensures named { longest_name < length name.now → result ≡ Err (fault.NameTooLong (length name.now)) }
+    ensures later { S.faults source.old ≤ S.faults source.new }
+{
+    if name.len() > LONGEST_NAME {
+        return Err(CutFault::NameTooLong {
+            len: name.len() as u64,
+        });
+    }
+    let Ok(mut space) = zeros(alloc, CHUNK) else {
+        return Err(CutFault::NoMemory);
+    };
+    let buf = space.as_mut_slice();
+    write_cut(alloc, name, source, shelf, buf, RUN, LONGEST_FILE)
+}
+
+// So many zero bytes.
+fn zeros(alloc: Global, len: usize) -> Result<Vec<u8>, AllocError>
+    ensures { IfOk result (λ bytes. length bytes.items ≡ len) }
+{
+    vec![in alloc; 0; len]
+}
+
+// Writes a file with chunks as long as the buffer, runs of so many, and at most so many bytes.
+fn write_cut<S: Source, B: Shelf>(
+    alloc: Global,
+    name: &str,
+    source: &mut S,
+    shelf: &mut B,
+    buf: &mut [u8],
+    full: usize,
+    most: u64,
+) -> Result<Ref, CutFault>
+    requires sizes { AreSizes (length buf.old) full most }
+    requires named { length name.now ≤ longest_name }
+    ensures ok { IfOk result (λ r. (bytes : List ℕ) × GaveAll (S.left source.old) (S.left source.new) bytes
+        × (length bytes ≤ most)
+        × Puts B.Shelf shelf.old (blobs_from full name.now (cut (length buf.old) bytes)) shelf.new
+        × (r ≡ ref_of (own_from full name.now (cut (length buf.old) bytes)))) }
+    ensures err { IfErr result (λ fault. Unwritten S.Source B.Shelf most
+        (λ input. blobs_from full name.now (cut (length buf.old) input))
+        source.old source.new shelf.old shelf.new fault) }
+    ensures later { S.faults source.old ≤ S.faults source.new }
+{
+    let mut draft = put_chunks(alloc, source, shelf, buf, full, most)?;
+    match put_end(alloc, name, shelf, &mut draft, full) {
+        Ok(r) => Ok(r),
+        Err(fault) => Err(unput(fault)),
+    }
+}
+
+// Puts the chunks of a source, each as it is read, as long as the buffer but for the last one.
+fn put_chunks<S: Source, B: Shelf>(
+    alloc: Global,
+    source: &mut S,
+    shelf: &mut B,
+    buf: &mut [u8],
+    full: usize,
+    most: u64,
+) -> Result<Draft, CutFault>
+    requires { AreSizes (length buf.old) full most }
+    ensures ok { IfOk result (λ draft. (bytes : List ℕ) × GaveAll (S.left source.old) (S.left source.new) bytes
+        × (length bytes ≤ most) × IsPut B.Shelf full shelf.old shelf.new draft (cut (length buf.old) bytes)) }
+    ensures err { IfErr result (λ fault. Unwritten S.Source B.Shelf most
+        (λ input. below_file full (cut (length buf.old) input))
+        source.old source.new shelf.old shelf.new fault) }
+    ensures later { S.faults source.old ≤ S.faults source.new }
+{
+    let mut draft = Draft {
+        run: PartList::empty(alloc),
+        runs: PartList::empty(alloc),
+    };
+    let mut left = most;
+    'chunks: loop {
+        let Ok(n) = read_piece(source, buf) else {
+            return Err(CutFault::ReadFault);
+        };
+        if n == 0 {
+            return Ok(draft);
+        }
+        if n as u64 > left {
+            return Err(CutFault::TooLong);
+        }
+        if let Err(fault) = put_next(alloc, shelf, &mut draft, &buf[..n], full) {
+            return Err(unput(fault));
+        }
+        if n < buf.len() {
+            return Ok(draft);
+        }
+        left -= n as u64;
+    }
+}
+
+// A shelf's refusal as a file's.
+fn unput(fault: PutFault) -> CutFault
+    ensures { result ≡ unput fault }
+{
+    match fault {
+        PutFault::NoMemory => CutFault::NoMemory,
+        fault => CutFault::Put(fault),
+    }
+}
