@@ -4,7 +4,7 @@ use Rattle.perkeep_words.specs.Forms.{OptionForm, Form, begins_at_dir}
 use Rattle.perkeep_words.specs.declared.kinds.TextKind.{TextKind}
 use Rattle.perkeep_words.specs.declared.kinds.TextKind.TheVariants.{Dir, Any, Blobref, Date, Name, Key, Change, Number}
 use Rattle.perkeep_words.specs.declared.table.CommandName.{CommandName}
-use Rattle.perkeep_words.specs.declared.table.CommandName.TheVariants.{Put, Get, Stat, List as ListBlobs, Search, Salvage, SearchPack, Permanode, Claim, Delete, GetFile}
+use Rattle.perkeep_words.specs.declared.table.CommandName.TheVariants.{Put, Get, Stat, List as ListBlobs, Search, Salvage, SearchPack, Permanode, Claim, Delete, PutFile, GetFile}
 
 -- its name, whether it may change the store, its positions, how many are needed, what spares the others, its options
 abbrev pub row : List ℕ → Bool → List TextKind → ℕ → Option (ℕ × List ℕ) → List OptionForm → Form
@@ -41,11 +41,12 @@ form_of Permanode = row (codes "permanode") true (Dir ∷ []) 1 None (must (code
 form_of Claim = row (codes "claim") true (Dir ∷ Change ∷ Blobref ∷ Name ∷ Any ∷ []) 4 (Some (1, codes "del"))
     (must (codes "key") Key ∷ [])
 form_of Delete = row (codes "delete") true (Dir ∷ Blobref ∷ []) 2 None (must (codes "key") Key ∷ [])
+form_of PutFile = row (codes "put-file") true (Dir ∷ Any ∷ []) 2 None []
 form_of GetFile = row (codes "get-file") false (Dir ∷ Blobref ∷ []) 2 None []
 
 abbrev pub commands : List CommandName
-commands = Put ∷ Get ∷ Stat ∷ ListBlobs ∷ Search ∷ Salvage ∷ SearchPack ∷ Permanode ∷ Claim ∷ Delete ∷ GetFile
-    ∷ []
+commands = Put ∷ Get ∷ Stat ∷ ListBlobs ∷ Search ∷ Salvage ∷ SearchPack ∷ Permanode ∷ Claim ∷ Delete ∷ PutFile
+    ∷ GetFile ∷ []
 
 -- the first of these that a word names
 abbrev pub named_in : List CommandName → List ℕ → Option CommandName

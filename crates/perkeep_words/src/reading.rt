@@ -77,6 +77,11 @@ pub enum Command<'a> {
         r: Ref,
         key: KeyName,
     },
+    /// `put-file DIR NAME`
+    PutFile {
+        dir: Word<'a>,
+        name: Word<'a>,
+    },
     /// `get-file DIR REF`
     GetFile {
         dir: Word<'a>,
@@ -208,6 +213,10 @@ fn command_at<'a>(line: &RightLine<'a>) -> Command<'a>
             dir,
             r: line.blobref(1),
             key: line.key_option("key"),
+        },
+        CommandName::PutFile => Command::PutFile {
+            dir,
+            name: line.word(1),
         },
         CommandName::GetFile => Command::GetFile {
             dir,

@@ -20,10 +20,11 @@ pub enum CommandName {
     Permanode,
     Claim,
     Delete,
+    PutFile,
     GetFile,
 }
 
-const COMMANDS: [CommandName; 11] = [
+const COMMANDS: [CommandName; 12] = [
     CommandName::Put,
     CommandName::Get,
     CommandName::Stat,
@@ -34,6 +35,7 @@ const COMMANDS: [CommandName; 11] = [
     CommandName::Permanode,
     CommandName::Claim,
     CommandName::Delete,
+    CommandName::PutFile,
     CommandName::GetFile,
 ];
 
@@ -113,6 +115,7 @@ impl CommandName {
                 )
             },
             CommandName::Delete => signed("delete", &[TextKind::Dir, TextKind::Blobref]),
+            CommandName::PutFile => writing("put-file", &[TextKind::Dir, TextKind::Any]),
             CommandName::GetFile => plain("get-file", &[TextKind::Dir, TextKind::Blobref]),
         }
     }
