@@ -20,10 +20,11 @@ const CHUNK: usize = 1_048_576;
 
 const RUN: usize = 4_096;
 
-// The most bytes of a file, and of its name.
-const LONGEST_FILE: u64 = 17_592_186_044_416;
+/// The most bytes of a file (`docs/files.md`).
+pub const LONGEST_FILE: u64 = 17_592_186_044_416;
 
-const LONGEST_NAME: usize = 4_096;
+/// The most bytes of a file's name (`docs/files.md`).
+pub const LONGEST_NAME: usize = 4_096;
 
 /// Cuts a source into the blobs of a file of this name, puts them as they are read (`docs/files.md`), and answers the
 /// ref of the file's own blob, which is the last one.

@@ -23,7 +23,7 @@ use Rattle.perkeep_top.specs.declared.status.InputFault.TheVariants.{BadRef, Bad
 use Rattle.perkeep_top.specs.declared.status.Status.{Status}
 use Rattle.perkeep_top.specs.declared.status.Status.TheVariants as status
 use Rattle.perkeep_top.specs.Faults.{put_status}
-use Rattle.perkeep_top.specs.Frame.{reads_nothing, reads_first, RefusedEarly, Meaning, Given, IsDrawn, IsQuiet, ReadsAll, ReadsSome, Always, Finishes, WritesSome, Stops, StopsFull, WhileReading, IsTooLong, read_too_much, found_unfit, said_badly, EndsBy, Ends}
+use Rattle.perkeep_top.specs.Frame.{reads_nothing, reads_first, RefusedEarly, Meaning, Given, IsDrawn, IsQuiet, ReadsAll, ReadsSome, Always, Finishes, WritesSome, Stops, StopsFull, WhileReading, IsTooLong, ReadsTooMuch, read_too_much, found_unfit, said_badly, EndsBy, Ends}
 use Rattle.perkeep_top.specs.Limits.{limits}
 use Rattle.perkeep_top.specs.Outside.{Outside, World, world}
 use Rattle.perkeep_top.specs.Steps.{RefusesInput, Finds, Writes}
@@ -414,7 +414,8 @@ module _ {D S K C R : Type 0} (run : Begun D S K C R) where
 
       by : (end : Status) → RefusesInput source most b.source s end → EndsBy run.o m b here end
       by status.ReadFault w = while_reading (λ most. Rose (source.faults b.source) (source.faults s)) w
-      by (status.BadInput (TooBig size)) w = read_too_much (while_reading (IsTooLong run.o m b here (TooBig size)) (size, sym (told size), w))
+      by (status.BadInput (TooBig size)) w = read_too_much (subst (λ i. ReadsTooMuch run.o m b here i (TooBig size)) (sym reads)
+          (early ((m.bad ≡ None) × IsTooLong run.o m b here (TooBig size) most) (run.fit, (size, sym (told size), w))))
       by status.NoMemory w = inl (early (Unit {0}) tt)
       by (status.BadInput BadRef) w = absurd w
       by (status.BadInput BadDate) w = absurd w

@@ -9,3 +9,4 @@ pub mod Sizes
 pub mod Asking
 pub mod Walked
 pub mod Noting
+pub mod Filing

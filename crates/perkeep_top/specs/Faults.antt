@@ -12,11 +12,13 @@ use Rattle.schema_write.specs.declared.draft.DraftFault.TheVariants as draft
 use Rattle.perkeep_words.specs.declared.kinds.TextFault.{TextFault}
 use Rattle.perkeep_words.specs.declared.kinds.TextFault.TheVariants as text
 use Rattle.perkeep_top.specs.declared.status.InputFault.{InputFault}
+use Rattle.file_cut.specs.declared.fault.CutFault.{CutFault}
+use Rattle.file_cut.specs.declared.fault.CutFault.TheVariants as cut
 use Rattle.file_tree.specs.declared.fault.FileFault.{FileFault}
 use Rattle.file_tree.specs.declared.fault.FileFault.TheVariants as file
 use Rattle.perkeep_top.specs.declared.status.InputFault.TheVariants.{BadRef, BadDate, BadNumber, BadName, TooBig, NotAFile, Short, Deep, TooLong}
 use Rattle.perkeep_top.specs.declared.status.Status.{Status}
-use Rattle.perkeep_top.specs.declared.status.Status.TheVariants.{NoMemory, BadInput, Disk, Full, Damaged, Absent, WriteFault}
+use Rattle.perkeep_top.specs.declared.status.Status.TheVariants.{NoMemory, BadInput, Disk, Full, Damaged, Absent, ReadFault, WriteFault}
 
 abbrev pub open_status : OpenFault → Status
 open_status opening.Disk = Disk
@@ -46,6 +48,13 @@ file_status (file.Deep r) = BadInput (Deep r)
 file_status file.WriteFault = WriteFault
 file_status (file.Get fault) = get_status fault
 file_status file.NoMemory = NoMemory
+
+abbrev pub cut_status : CutFault → Status
+cut_status cut.TooLong = BadInput (TooBig 17592186044417)
+cut_status (cut.NameTooLong len) = BadInput (TooBig len)
+cut_status cut.ReadFault = ReadFault
+cut_status (cut.Put fault) = put_status fault
+cut_status cut.NoMemory = NoMemory
 
 abbrev pub draft_status : DraftFault → Status
 draft_status (draft.TooLong len) = BadInput (TooLong len)

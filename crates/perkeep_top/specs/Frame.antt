@@ -181,6 +181,15 @@ module _ {D S K C R : Type 0} (o : Outside D S K C R) (m : Meaning) (old new : W
   abbrev pub IsTooLong : InputFault → ℕ → Type 0
   IsTooLong fault most = (size : ℕ) × (fault ≡ m.too_long size) × IsTooBig size most (o.source.left old.source) (o.source.left new.source)
 
+  -- as the store stands open it may be read further
+  abbrev pub IsTooMany : InputFault → ℕ → Type 0
+  IsTooMany fault most = (fault ≡ m.too_long (most + 1)) × IfSome (o.source.left old.source) (λ input. most < length input)
+
+  abbrev pub ReadsTooMuch : Input → InputFault → Type 0
+  ReadsTooMuch reads_nothing fault = ⊥
+  ReadsTooMuch (reads_first most) fault = RefusedEarly ((m.bad ≡ None) × IsTooLong fault most)
+  ReadsTooMuch (reads_later most) fault = Stops (λ given bytes gone rest. IsTooMany fault most)
+
   -- an input that was read whole before the store is opened, and is wrong
   abbrev pub WhenRead : Input → InputFault → Type 0
   WhenRead (reads_first most) fault =
@@ -190,7 +199,7 @@ module _ {D S K C R : Type 0} (o : Outside D S K C R) (m : Meaning) (old new : W
   -- why what the words or the input say can't be used
   pub data Unusable (fault : InputFault) : Type 0 where
     said_badly : m.bad ≡ Some fault → new ≡ old → Unusable fault
-    read_too_much : WhileReading m.input (IsTooLong fault) → Unusable fault
+    read_too_much : ReadsTooMuch m.input fault → Unusable fault
     read_wrongly : WhenRead m.input fault → Unusable fault
     found_unfit : Stops (λ given bytes gone rest. m.Refuses given told bytes gone (status.BadInput fault)) → Unusable fault
 

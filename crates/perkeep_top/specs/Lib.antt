@@ -10,6 +10,7 @@ pub mod Asking
 pub mod Put
 pub mod Get
 pub mod GetFile
+pub mod PutFile
 pub mod Notes
 pub mod Stat
 pub mod ListRefs

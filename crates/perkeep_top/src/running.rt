@@ -11,6 +11,7 @@ use crate::commands::get_file::get_file;
 use crate::commands::list::list;
 use crate::commands::permanode::permanode;
 use crate::commands::put::put;
+use crate::commands::put_file::put_file;
 use crate::commands::salvage::salvage;
 use crate::commands::search::search;
 use crate::commands::search_pack::search_pack;
@@ -138,6 +139,9 @@ fn run_command<D: Disk, V: Signer, S: Source, K: Sink, C: Clock, R: Dice>(
         Command::Delete { dir: _, r, key } => {
             let what = What::Delete { target: *r };
             claim(alloc, &what, key, keys, disk, source, sink, clock, dice)
+        }
+        Command::PutFile { dir: _, name } => {
+            put_file(alloc, name.as_str(), disk, source, sink, clock, dice)
         }
         Command::GetFile { dir: _, r } => get_file(alloc, r, disk, source, sink, clock, dice),
         Command::SearchPack { attr, value } => search_pack(

@@ -4,6 +4,7 @@ ghost use Rattle.perkeep_top.specs.Status.{code, word};
 
 use blobref::{NoMemory, Ref};
 use edge_base::{GetFault, PutFault};
+use file_cut::{CutFault, LONGEST_FILE};
 use file_tree::FileFault;
 use pack_store::{OpenFault, PackFault};
 use perkeep_words::TextFault;
@@ -20,7 +21,8 @@ pub enum InputFault {
     BadNumber,
     /// An attribute's name is empty.
     BadName,
-    /// The input is longer than it may be. It was read up to this number of bytes, and no further.
+    /// The input is longer than it may be, and has this number of bytes or more; or a file's name is, and has this
+    /// number.
     TooBig { size: u64 },
     /// The blob of this ref should be a file, or within one a file or bytes blob, and is something else.
     NotAFile { r: Ref },
@@ -198,6 +200,24 @@ impl From<FileFault> for Status {
             FileFault::WriteFault => Status::WriteFault,
             FileFault::Get(fault) => Status::from(fault),
             FileFault::NoMemory => Status::NoMemory,
+        }
+    }
+}
+
+impl From<CutFault> for Status {
+    ghost use Rattle.perkeep_top.specs.Faults.{cut_status};
+
+    ghost from_gives = { λ fault status. status ≡ cut_status fault };
+
+    fn from(fault: CutFault) -> Status {
+        match fault {
+            CutFault::TooLong => Status::BadInput(InputFault::TooBig {
+                size: LONGEST_FILE + 1,
+            }),
+            CutFault::NameTooLong { len } => Status::BadInput(InputFault::TooBig { size: len }),
+            CutFault::ReadFault => Status::ReadFault,
+            CutFault::Put(fault) => Status::from(fault),
+            CutFault::NoMemory => Status::NoMemory,
         }
     }
 }
