@@ -8,6 +8,9 @@ store, the kills are shared out among a few stores.
 
 A kill can't show that a record was synced before its ref was printed: what a killed program has written, the kernel
 keeps. The group `syncs` of faults.sh looks at that.
+
+Then `put-file` is killed while it puts files of a few MiB, an eighth as many times. A front of the file's blobs has to
+stand after each kill, and all of them where its ref was printed.
 """
 
 import collections
@@ -22,6 +25,7 @@ import harness
 import reference
 from harness import Difference, chance, compare
 from reference import pack_name, ref_of
+from writing import chunks_of, file_blobs
 
 LARGEST, LARGEST_WATCHED = 300_000, 1_048_576
 PUTS_A_ROUND = 5
@@ -166,6 +170,19 @@ class Killed:
         number = reference.pack_for_the_next_record(self.packs)
         return number if number in self.packs else None
 
+    def one_file(self, number):
+        """Puts a file for a random time, which is longer after a file that wasn't printed, and else shorter."""
+        what, content = f"file {number}", self.chance.randbytes(self.chance.randrange(2 << 20, 6 << 20))
+        blobs = file_blobs("n", chunks_of(content))
+        limit = ("timeout", "-sKILL", f"{self.chance.uniform(0.01, 2) * self.seconds_of_a_put:f}")
+        _, out, err = self.program.run(what, ["put-file", str(self.store), "n"], content, front=limit)
+        compare(what, "standard error", b"", err)
+        refs, added = list(map(ref_of, blobs)), self.look(what)[0]
+        compare(what, "standard output", refs[-1].encode() + b"\n" if out else b"", out)
+        compare(what, "blobs that stand", refs if out else refs[: len(added)], added)
+        self.printed.update(zip(refs, blobs) if out else ())
+        self.seconds_of_a_put *= 0.7 if out else 1.5
+
     # What is asked at the end
 
     def run(self, what, *words, source=b""):
@@ -203,5 +220,10 @@ def one_store(program, number):
     print(f"store {number}: {killed.endings.total()} kills ({told}); all {len(killed.printed)} printed refs are there", flush=True)
 
 
+def files(program):
+    killed = Killed(program, chance("files"))
+    return [lambda: [*map(killed.one_file, range(KILLS // 8)), killed.ask()]]
+
+
 if __name__ == "__main__":
-    harness.main("kill.sh", [], [kills])
+    harness.main("kill.sh", [], [kills, files])

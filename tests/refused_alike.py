@@ -15,7 +15,7 @@ from stores import Store, look
 from writing import pack
 
 SECONDS_OF_WAITING = 10
-# What standard input holds; none of these commands reads it.
+# What standard input holds; no command may read it where it is refused before.
 SOURCE = b"a source"
 
 

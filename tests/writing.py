@@ -3,6 +3,8 @@
 The tests and the benches make their inputs with it.
 """
 
+import functools
+
 from reference import MARKER, ref_of, signature
 
 NAME = "jefe"
@@ -99,6 +101,30 @@ def directory(name, entries):
 
 def static_set(members):
     return f'{{"camliVersion":1,"camliType":"static-set","members":[{",".join(map(text, members))}]}}\n'.encode()
+
+
+# docs/files.md, "Cutting a file"
+BYTES_OF_A_CHUNK = 1_048_576
+MOST_CHUNKS_OF_A_LIST = 4_096
+
+
+def chunks_of(content):
+    return [content[at : at + BYTES_OF_A_CHUNK] for at in range(0, len(content), BYTES_OF_A_CHUNK)]
+
+
+def file_blobs(name, chunks):
+    """The blobs of a file of these chunks, in the order in which they are put; the last one is the file's."""
+    known_ref = functools.lru_cache(None)(ref_of)
+    parts = [part(len(chunk), known_ref(chunk)) for chunk in chunks]
+    if len(chunks) <= MOST_CHUNKS_OF_A_LIST:
+        return [*chunks, file_blob(name, parts)]
+    blobs, trees = [], []
+    for at in range(0, len(chunks), MOST_CHUNKS_OF_A_LIST):
+        run = slice(at, at + MOST_CHUNKS_OF_A_LIST)
+        tree = bytes_blob(parts[run])
+        blobs += [*chunks[run], tree]
+        trees.append(part(sum(map(len, chunks[run])), ref_of(tree), "bytesRef"))
+    return [*blobs, file_blob(name, trees)]
 
 
 # Packs
