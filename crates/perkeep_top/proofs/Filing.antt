@@ -19,7 +19,7 @@ use Rattle.pack_store.specs.Archive.{Archive}
 use Rattle.pack_store.specs.Packs.{KeepsAll}
 use Rattle.pack_store.specs.Puts.{Stands, PutsBlobs, HasNoRoom}
 use Rattle.pack_store.specs.StoreShelf.{content_of, PutsStore}
-use Rattle.perkeep_top.specs.declared.status.InputFault.TheVariants.{TooBig}
+use Rattle.perkeep_top.specs.declared.status.InputFault.TheVariants.{TooLong}
 use Rattle.perkeep_top.specs.declared.status.Status.{Status}
 use Rattle.perkeep_top.specs.declared.status.Status.TheVariants as status
 use Rattle.perkeep_top.specs.Faults.{put_status, cut_status}
@@ -72,7 +72,7 @@ short_name : (name : List ℕ) → bad_name name ≡ None → longest_name < len
 short_name name fit long = absurd (cc (fit, lt-ltb longest_name (length name) long))
 
 pub fits : (name : List ℕ) → length name ≤ longest_name → bad_name name ≡ None
-fits name short = ap (λ (b : Bool). if b then Some (TooBig (length name)) else None) (le-ltb longest_name (length name) short)
+fits name short = ap (λ (b : Bool). if b then Some (TooLong (length name)) else None) (le-ltb longest_name (length name) short)
 
 module _ {D S K C R : Type 0} (o : Outside D S K C R)
     (counts_now : (d : D) (t : ℕ) (c : Packs) → t ≤ o.disk.moment d → o.disk.images d c → o.disk.images_since d t c)
@@ -146,7 +146,7 @@ module _ {D S K C R : Type 0} (o : Outside D S K C R)
         record {
           always = far.at.always;
           ends = read_too_much (stops run here u.why.0.0 [] far (given_input u.input) u.why.0.1 (has_of t u.input u.read) u.why.0.2 refl
-              (λ given bytes gone rest. IsTooMany o (put_file_meaning name) b here (TooBig (longest_file + 1)) longest_file)
+              (λ given bytes gone rest. IsTooMany o (put_file_meaning name) b here (TooLong (longest_file + 1)) longest_file)
               (refl, more_left (o.source.left b.source) longest_file u.input u.read.2 u.why.1));
         }
     not_filed (cut.Put e) w = not_kept w.1.input w.1.read e w.1.why

@@ -50,8 +50,8 @@ file_status (file.Get fault) = get_status fault
 file_status file.NoMemory = NoMemory
 
 abbrev pub cut_status : CutFault → Status
-cut_status cut.TooLong = BadInput (TooBig 17592186044417)
-cut_status (cut.NameTooLong len) = BadInput (TooBig len)
+cut_status cut.TooLong = BadInput (TooLong 17592186044417)
+cut_status (cut.NameTooLong len) = BadInput (TooLong len)
 cut_status cut.ReadFault = ReadFault
 cut_status (cut.Put fault) = put_status fault
 cut_status cut.NoMemory = NoMemory

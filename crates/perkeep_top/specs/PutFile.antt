@@ -4,13 +4,13 @@ use Rattle.blobref.specs.Blobref.{ref_of}
 use Rattle.file_cut.specs.Cutting.{file_blobs, own_blob}
 use Rattle.file_cut.specs.Writing.{longest_name, longest_file}
 use Rattle.perkeep_top.specs.declared.status.InputFault.{InputFault}
-use Rattle.perkeep_top.specs.declared.status.InputFault.TheVariants.{TooBig}
+use Rattle.perkeep_top.specs.declared.status.InputFault.TheVariants.{TooLong}
 use Rattle.perkeep_top.specs.Frame.{Meaning, reads_later}
 use Rattle.perkeep_top.specs.Outputs.{ref_line}
 
 -- a name that is too long
 abbrev pub bad_name : List ℕ → Option InputFault
-bad_name name = if nat_lt longest_name (length name) then Some (TooBig (length name)) else None
+bad_name name = if nat_lt longest_name (length name) then Some (TooLong (length name)) else None
 
 -- it puts blobs as it reads
 abbrev pub put_file_meaning : List ℕ → Meaning
@@ -20,7 +20,7 @@ put_file_meaning name = record {
   draws_time = false;
   draws_random = false;
   bad = bad_name name;
-  too_long = TooBig;
+  too_long = TooLong;
   wrong = λ input. None;
   blobs = λ given. file_blobs name given.input;
   IsOutput = λ given told bytes. bytes ≡ ref_line (ref_of (own_blob name given.input));

@@ -21,8 +21,7 @@ pub enum InputFault {
     BadNumber,
     /// An attribute's name is empty.
     BadName,
-    /// The input is longer than it may be, and has this number of bytes or more; or a file's name is, and has this
-    /// number.
+    /// The input is longer than it may be. It was read up to this number of bytes, and no further.
     TooBig { size: u64 },
     /// The blob of this ref should be a file, or within one a file or bytes blob, and is something else.
     NotAFile { r: Ref },
@@ -32,7 +31,8 @@ pub enum InputFault {
     Deep { r: Ref },
     /// The keyring doesn't hold the key.
     NoKey,
-    /// A text is too long for its blob, which would have this number of bytes.
+    /// A text is too long for its blob, which would have this number of bytes; or a file or its name is longer than it
+    /// may be, the name with this number of bytes, the file with this number or more.
     TooLong { len: u64 },
 }
 
@@ -211,10 +211,10 @@ impl From<CutFault> for Status {
 
     fn from(fault: CutFault) -> Status {
         match fault {
-            CutFault::TooLong => Status::BadInput(InputFault::TooBig {
-                size: LONGEST_FILE + 1,
+            CutFault::TooLong => Status::BadInput(InputFault::TooLong {
+                len: LONGEST_FILE + 1,
             }),
-            CutFault::NameTooLong { len } => Status::BadInput(InputFault::TooBig { size: len }),
+            CutFault::NameTooLong { len } => Status::BadInput(InputFault::TooLong { len }),
             CutFault::ReadFault => Status::ReadFault,
             CutFault::Put(fault) => Status::from(fault),
             CutFault::NoMemory => Status::NoMemory,

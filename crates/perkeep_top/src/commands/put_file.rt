@@ -28,8 +28,8 @@ pub(crate) fn put_file<D: Disk, S: Source, K: Sink, C: Clock, R: Dice>(
         (world result.0 source.new sink.new _clock.new _dice.new) result.1 }
 {
     if name.len() > LONGEST_NAME {
-        let size = name.len() as u64;
-        return (disk, Status::BadInput(InputFault::TooBig { size }));
+        let len = name.len() as u64;
+        return (disk, Status::BadInput(InputFault::TooLong { len }));
     }
     let mut store = match opened(alloc, disk) {
         Ok(store) => store,
