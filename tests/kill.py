@@ -222,7 +222,7 @@ def one_store(program, number):
 
 def files(program):
     killed = Killed(program, chance("files"))
-    return [lambda: [*map(killed.one_file, range(KILLS // 8)), killed.ask()]]
+    return [lambda: [*map(killed.one_file, range(KILLS // 2)), killed.ask()]]
 
 
 if __name__ == "__main__":
