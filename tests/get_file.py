@@ -231,6 +231,7 @@ def short():
     for what, one, out in [("all", tree_part(tree, 16), b"01234"), ("one byte", tree_part(tree, 1, 5), b"")]:
         yield Made(f"a part within, of which {what} is asked", [DIGITS, tree, file_blob("n", [one])], out, 4)
     yield file_of("bytes of the empty blob", [part(1, EMPTY)], b"", 4)
+    yield file_of("four bytes of three", [part(4, ABC)], b"", 4)
 
 
 @group

@@ -25,7 +25,7 @@ from store_packs import write_deleted_records
 from store_refusals import BAD_REFS
 from stores import ABC, NOWHERE, TORN, Store, check_search, look
 from tracing import need_strace, trace, traced
-from writing import keyring_line, pack, record
+from writing import directory, keyring_line, pack, record, static_set
 
 SECRETS = {
     "jefe": writing.SECRET,
@@ -66,6 +66,16 @@ class Notes(Store):
         """Puts a delete claim; answers its ref."""
         line = words or ["delete", str(self.path), target, f"--key={key}"]
         return self.dated(what, line, key, lambda date: writing.delete_payload(target, date, signer(key)))
+
+    def put_file(self, what, name, content):
+        """Puts a file; answers its ref."""
+        blobs = writing.file_blobs(name, writing.chunks_of(content))
+        for blob in blobs:
+            self.packs = reference.put(self.packs, blob)
+        ref = ref_of(blobs[-1])
+        self.program.check(what, self.words("put-file", name), ref.encode() + b"\n", source=content)
+        self.check_files(what)
+        return ref
 
     def dated(self, what, line, key, payload_of):
         start = time.time_ns()
@@ -610,7 +620,77 @@ def which_is_first(program):
     ])
 
 
+# A store as a person has one
+
+PERMANODES, FILES = 40, 12
+
+
+def realistic(program):
+    """Forty permanodes with titles, tags and members, twelve files, and a directory with its set, in one pack: all of it
+    is found, and the pack is clean."""
+    return [lambda: holds_all(program)]
+
+
+def holds_all(program):
+    what, store = "a realistic store", Notes(program)
+    nodes = [store.permanode(what) for _ in range(PERMANODES)]
+    titles = {node: "trips" if place == 0 else f"the {place}. of them" for place, node in enumerate(nodes)}
+    for place, node in enumerate(nodes):
+        store.claim(what, "set", node, "title", titles[node])
+        store.claim(what, "add", node, "tag", f"tag {place % 3}")
+        store.claim(what, "add", nodes[place // 3], "camliMember", node)
+    names = [store.put_file(what, f"photo {number}.jpg", chance(what, number).randbytes(2_300_000)) for number in range(FILES)]
+    for blob in (static_set(names), directory("trips", ref_of(static_set(names)))):
+        store.put(what, blob)
+    compare(what, "packs", [0], list(store.packs))
+    compare(what, "blobs", 1 + 4 * PERMANODES + 4 * FILES + 2, len(store.blobs()))
+    store.lists(what)
+    for node in nodes:
+        store.finds(what, [node], "title", titles[node])
+    for number in range(3):
+        store.finds(what, nodes[number::3], "tag", f"tag {number}")
+    for place, node in enumerate(nodes):
+        store.finds(what, [nodes[place // 3]], "camliMember", node)
+
+
 # The clock and the random bytes
+
+def known_dice(program):
+    """A permanode with random bytes that are told: its ref is known before, and the store holds the key and it."""
+    library = made_library(program, "dice", DICE)
+    return [lambda: first_permanode(program, library)]
+
+
+# Random bytes that are those of hexadecimal digits in the environment.
+DICE = """
+#include <stdio.h>
+#include <stdlib.h>
+#include <sys/types.h>
+
+ssize_t getrandom(void *bytes, size_t length, unsigned int flags) {
+    const char *digits = getenv("TEST_DICE");
+    unsigned char *to = bytes;
+    for (size_t i = 0; i < length; i++) {
+        unsigned int byte;
+        if (sscanf(digits + 2 * i, "%2x", &byte) != 1) abort();
+        to[i] = byte;
+    }
+    return length;
+}
+"""
+
+
+def first_permanode(program, library):
+    what, store, other = "known random bytes", Notes(program), Notes(program)
+    dice = {"front": ("env", f"LD_PRELOAD={library}", f"TEST_DICE={writing.RANDOM}")}
+    ref = store.note(what, store.words("permanode", "--key=jefe"), "jefe", RANDOM, writing.permanode_payload, **dice)
+    compare(what, "the ref", ref_of(writing.permanode()), ref)
+    compare(what, "refs", [ref_of(inputs.KEY), ref], list(store.blobs()))
+    status, out, err = program.run(what, other.words("permanode", "--key=nobody"), **dice)
+    compare_ending(f"{what}, but no key", 4, status, err)
+    compare(f"{what}, but no key", "standard output", b"", out)
+    other.check_files(f"{what}, but no key")
+
 
 def dice(program):
     """Random bytes that can't be had: a permanode fails with status 12, before the disk; claims don't ask for them."""
@@ -709,16 +789,22 @@ int clock_gettime(clockid_t clock, struct timespec *time) {
 
 def clock(program):
     """Claims under a clock that tells what it is told to: the text of each moment, and the clock's failures."""
+    library = made_library(program, "clock", CLOCK)
+    moments = [lambda time=time, date=date: tells(program, library, time, date) for time, date in TIMES]
+    return moments + [lambda time=time: fails(program, library, time) for time in NO_TIMES]
+
+
+def made_library(program, name, text):
+    """A library of C that the program can be started with in front of its own."""
     compiler = shutil.which("cc")
     if compiler is None:
-        raise LeftOut("there is no cc, to make a clock")
-    source, library = program.folder / "clock.c", program.folder / "clock.so"
-    source.write_text(CLOCK)
+        raise LeftOut(f"there is no cc, to make the library {name}")
+    source, library = program.folder / f"{name}.c", program.folder / f"{name}.so"
+    source.write_text(text)
     command = [compiler, "-shared", "-fPIC", "-o", library, source]
     if subprocess.run(command, stdin=subprocess.DEVNULL, stderr=subprocess.DEVNULL).returncode != 0:
-        raise LeftOut("cc can't make a clock")
-    told = [lambda time=time, date=date: tells(program, library, time, date) for time, date in TIMES]
-    return told + [lambda time=time: fails(program, library, time) for time in NO_TIMES]
+        raise LeftOut(f"cc can't make the library {name}")
+    return library
 
 
 TIMES = [
@@ -764,7 +850,8 @@ def fails(program, library, time):
     store.note(what, lines_of(store.path)[0], "jefe", RANDOM, writing.permanode_payload, **clock)
 
 
-GROUPS = [folders, rows, keys, texts, long_texts, changes, words, refused_texts, keyrings, clock, dice, failing]
+GROUPS = [folders, rows, keys, texts, long_texts, changes, realistic, words, refused_texts, keyrings]
+GROUPS += [clock, known_dice, dice, failing]
 
 if __name__ == "__main__":
     harness.main("notes.sh", GROUPS, [full, streams])

@@ -15,7 +15,7 @@ import inputs
 import reference
 import writing
 from faults import ends_with_fault, faults_of, is_durable_when_printed, own_calls
-from harness import LeftOut, chance, check, compare, compare_ending, finish, limited_to
+from harness import chance, check, compare, compare_ending, finish, limited_to
 from harness import with_broken_source, with_streams
 from reference import ref_of
 from refused_alike import bad_folders, bad_keyrings, bad_packs, ends_first, leaves, refused_lines, waits_too_long
@@ -453,16 +453,12 @@ def which_is_first(program):
 # Long files
 
 def large(program):
-    """Files of as many chunks as one list may have, and of more: some gigabytes, but few blobs."""
-    if not os.environ.get("LARGE"):
-        raise LeftOut("LARGE=1 runs it")
-    most = writing.MOST_CHUNKS_OF_A_LIST
-    cases = [(most, b""), (most, b"x"), (most + 1, b"")]
-    return [lambda count=count, rest=rest: has_many_chunks(program, count, rest) for count, rest in cases]
+    """Files of as many chunks as one list may have, and of one byte more."""
+    return [lambda rest=rest: has_many_chunks(program, writing.MOST_CHUNKS_OF_A_LIST, rest) for rest in (b"", b"x")]
 
 
-def has_many_chunks(program, count, rest, front=()):
-    """Zeros of so many chunks, and some bytes more. Words may stand in front of the program's."""
+def has_many_chunks(program, count, rest):
+    """Zeros of so many chunks, and some bytes more, in and out."""
     what, store, source = f"{count} chunks and {len(rest)} bytes", Files(program), program.new_path()
     with open(source, "wb") as file:
         file.truncate(count * BYTES_OF_A_CHUNK)
@@ -471,15 +467,27 @@ def has_many_chunks(program, count, rest, front=()):
     blobs = file_blobs(NAME, [bytes(BYTES_OF_A_CHUNK)] * count + ([rest] if rest else []))
     store.put_all(dict.fromkeys(blobs))
     with open(source, "rb") as file:
-        process = program.start(store.words("put-file", NAME), front=front, stdin=file, stdout=subprocess.PIPE)
+        process = program.start(store.words("put-file", NAME), stdin=file, stdout=subprocess.PIPE)
         out, err = finish(what, process, seconds=300)
+    source.unlink()
     compare_ending(what, 0, process.returncode, err)
     compare(what, "standard output", ref_of(blobs[-1]).encode() + b"\n", out)
     store.check_files(what)
-    source.unlink()
+    writes_zeros(store, f"{what}, back", ref_of(blobs[-1]), count, rest)
 
 
-GROUPS = [folders, sizes, names, sources, side_by_side, syncs, failing, words, keyrings, back]
+def writes_zeros(store, what, ref, count, rest):
+    """`get-file` writes so many chunks of zeros, and then these bytes."""
+    chunk, line = bytes(BYTES_OF_A_CHUNK), store.words("get-file", ref)
+    process = store.program.start(line, stdin=subprocess.DEVNULL, stdout=subprocess.PIPE)
+    are_zeros = [process.stdout.read(len(chunk)) == chunk for _ in range(count)]
+    out, err = finish(what, process)
+    compare_ending(what, 0, process.returncode, err)
+    compare(what, "chunks of zeros", count, are_zeros.count(True))
+    compare(what, "the bytes behind them", rest, out)
+
+
+GROUPS = [folders, sizes, names, sources, side_by_side, syncs, failing, words, keyrings, back, large]
 
 if __name__ == "__main__":
-    harness.main("put_file.sh", GROUPS, [full, streams, large])
+    harness.main("put_file.sh", GROUPS, [full, streams])

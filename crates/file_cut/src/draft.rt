@@ -1,6 +1,6 @@
 //! Chunks are put, and runs of them closed.
 ghost use Rattle.std.specs.Prelude.{◌≡◌, ◌≤◌, ◌<◌, ℕ, List, ◌∷◌, [], ◌++◌, length, IfOk, IfErr, OnOk};
-ghost use Rattle.blobref.specs.Blobref.{ref_of};
+ghost use Rattle.blobref.specs.Blobref.{IsOwnRef, ref_of};
 ghost use Rattle.edge_base.specs.Shelf.{max_blob};
 ghost use Rattle.schema_fact.specs.Limits.{total_size, MeetsLimits};
 ghost use Rattle.schema_write.specs.Blobs.{bytes_blob, file_blob};
@@ -59,13 +59,14 @@ fn total_size(parts: &[Part]) -> u64
     total
 }
 
-// Puts a blob.
-fn put_blob<B: Shelf>(shelf: &mut B, bytes: &[u8]) -> Result<(), PutFault>
-    requires { length bytes.now ≤ max_blob }
+// Puts a blob under its own ref.
+fn put_blob<B: Shelf>(shelf: &mut B, r: &Ref, bytes: &[u8]) -> Result<(), PutFault>
+    requires own { IsOwnRef r.now bytes.now }
+    requires short { length bytes.now ≤ max_blob }
     ensures ok { OnOk result (Puts B.Shelf shelf.old (bytes.now ∷ []) shelf.new) }
     ensures err { IfErr result (λ fault. IsCut B.Shelf shelf.old (bytes.now ∷ []) shelf.new fault) }
 {
-    match shelf.keep(bytes) {
+    match shelf.keep(r, bytes) {
         Ok(_) => Ok(()),
         Err(fault) => Err(fault),
     }
@@ -81,16 +82,17 @@ fn close_run<B: Shelf>(alloc: Global, shelf: &mut B, draft: &mut Draft) -> Resul
     let Ok(blob) = run_octets(alloc, &draft.run) else {
         return Err(PutFault::NoMemory);
     };
+    let r = Ref::of(blob.as_slice());
     let part = Part {
         size: total_size(draft.run.as_slice()),
         offset: 0,
-        origin: Origin::Tree(Ref::of(blob.as_slice())),
+        origin: Origin::Tree(r),
     };
     if draft.runs.push(part).is_err() {
         return Err(PutFault::NoMemory);
     }
     draft.run = PartList::empty(alloc);
-    put_blob(shelf, blob.as_slice())
+    put_blob(shelf, &r, blob.as_slice())
 }
 
 // Puts a chunk into the run that is being put.
@@ -101,15 +103,16 @@ fn put_chunk<B: Shelf>(shelf: &mut B, draft: &mut Draft, bytes: &[u8]) -> Result
         (draft.new ≡ record { run = draft.old.run ++ blob_part bytes.now ∷ []; runs = draft.old.runs }) }
     ensures err { IfErr result (λ fault. IsCut B.Shelf shelf.old (bytes.now ∷ []) shelf.new fault) }
 {
+    let r = Ref::of(bytes);
     let part = Part {
         size: bytes.len() as u64,
         offset: 0,
-        origin: Origin::Blob(Ref::of(bytes)),
+        origin: Origin::Blob(r),
     };
     if draft.run.push(part).is_err() {
         return Err(PutFault::NoMemory);
     }
-    put_blob(shelf, bytes)
+    put_blob(shelf, &r, bytes)
 }
 
 // Closes the run that is being put where it is full. A chunk is to come.
@@ -211,6 +214,7 @@ pub(crate) fn put_end<B: Shelf>(
     let Ok(blob) = file_octets(alloc, name, parts_of(draft)) else {
         return Err(PutFault::NoMemory);
     };
-    put_blob(shelf, blob.as_slice())?;
-    Ok(Ref::of(blob.as_slice()))
+    let r = Ref::of(blob.as_slice());
+    put_blob(shelf, &r, blob.as_slice())?;
+    Ok(r)
 }

@@ -39,13 +39,13 @@ impl<D: Disk> Shelf for Store<D> {
     }
 
     /// The number in the answer is that of the arrival.
-    fn keep(&mut self, bytes: &[u8]) -> Result<Put, PutFault> {
+    fn keep(&mut self, r: &Ref, bytes: &[u8]) -> Result<Put, PutFault> {
         let size = bytes.len() as u64;
         if size > MAX_SIZE {
             return Err(PutFault::TooBig { size });
         }
         puts_last::<D>();
-        self.put_own(&Ref::of(bytes), bytes)
+        self.put_own(r, bytes)
     }
 
     fn faults(&self) -> u64 {

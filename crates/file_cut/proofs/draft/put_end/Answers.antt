@@ -22,9 +22,9 @@ returns-in_err-put_blob-clause-err g c =
     let name = c.args.name.now in
     rw (p.1, p.2) (λ start chunks h.
     let both = c.in_ok-close_last.ensures.ok start chunks h in
-    own_cut g.B.Shelf g.met.B.Shelf.puts_nothing g.met.B.Shelf.puts_then g.met.B.Shelf.puts_follows g.met.B.Shelf.follows_then start c.close_last.new.shelf c.put_blob.new.shelf (below_file full chunks) (own_from full name chunks) c.as_slice.result.now _ both.0
+    own_cut g.B.Shelf g.met.B.Shelf.puts_nothing g.met.B.Shelf.puts_then g.met.B.Shelf.puts_follows g.met.B.Shelf.follows_then start c.close_last.new.shelf c.put_blob.new.shelf (below_file full chunks) (own_from full name chunks) c.as_slice-2.result.now _ both.0
     c.in_err-put_blob.ensures.err
-    (c.as_slice.ensures ∙ c.in-Ok.ensures.text ∙ ap (λ (ps : List Part). file_blob name ps) (c.parts_of.ensures ∙ both.1)))
+    (c.as_slice-2.ensures ∙ c.in-Ok.ensures.text ∙ ap (λ (ps : List Part). file_blob name ps) (c.parts_of.ensures ∙ both.1)))
 
 pub returns-clause-ok : goal.returns-clause-ok
 returns-clause-ok g c = λ start chunks h.
@@ -32,7 +32,7 @@ returns-clause-ok g c = λ start chunks h.
     let name = c.args.name.now in
     let both = c.in_ok-close_last.ensures.ok start chunks h in
     let text = c.in-Ok.ensures.text ∙ ap (λ (ps : List Part). file_blob name ps) (c.parts_of.ensures ∙ both.1) in (
-      own_put g.B.Shelf g.met.B.Shelf.puts_nothing g.met.B.Shelf.puts_then g.met.B.Shelf.puts_follows g.met.B.Shelf.follows_then start c.close_last.new.shelf c.put_blob.new.shelf (below_file full chunks) (own_from full name chunks) c.as_slice.result.now both.0
-          c.in_ok-put_blob.ensures.ok (c.as_slice.ensures ∙ text),
-      c.of.ensures ∙ ap (λ (b : List ℕ). ref_of b) (c.as_slice-2.ensures ∙ text),
+      own_put g.B.Shelf g.met.B.Shelf.puts_nothing g.met.B.Shelf.puts_then g.met.B.Shelf.puts_follows g.met.B.Shelf.follows_then start c.close_last.new.shelf c.put_blob.new.shelf (below_file full chunks) (own_from full name chunks) c.as_slice-2.result.now both.0
+          c.in_ok-put_blob.ensures.ok (c.as_slice-2.ensures ∙ text),
+      c.of-r.ensures ∙ ap (λ (b : List ℕ). ref_of b) (c.as_slice.ensures ∙ text),
     )
