@@ -35,8 +35,9 @@ pub fn folded<T: FactTable, L: Ledger>(
     copied(alloc, &found)
 }
 
-// What the claim of a ref makes of the values of the attribute of the permanode.
-fn apply_said<'a, T: FactTable, L: Ledger>(
+/// What the claim of a ref makes of the values of the attribute of the permanode; nothing where it is no claim. One
+/// look-up. After `NoMemory` the values may be anything.
+pub fn apply_said<'a, T: FactTable, L: Ledger>(
     table: &'a T,
     found: &mut Vec<&'a Text>,
     p: &Ref,
@@ -105,7 +106,8 @@ fn remove(found: &mut Vec<&Text>, value: &str)
     }
 }
 
-fn copied(alloc: Global, found: &[&Text]) -> Result<TextList, NoMemory>
+/// Copies of the texts.
+pub fn copied(alloc: Global, found: &[&Text]) -> Result<TextList, NoMemory>
     ensures { IfOk result (λ texts. texts ≡ map (λ t. t.now) found.now) }
 {
     let mut texts = TextList::empty(alloc);

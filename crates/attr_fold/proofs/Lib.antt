@@ -1,0 +1,7 @@
+pub mod Walking
+pub mod Noting
+pub mod Popping
+pub mod Standing
+pub mod Telling
+pub mod Written
+pub mod Seen

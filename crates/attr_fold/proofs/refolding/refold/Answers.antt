@@ -1,0 +1,22 @@
+use Rattle.std.proofs.lemmas.Result.{on_ok_weaker}
+use Rattle.attr_fold.proofs.Telling.{own_written, held_after}
+use Rattle.attr_fold.proofs.refolding.refold.Goals as goal
+
+pub returns-clause-own : goal.returns-clause-own
+returns-clause-own g c =
+    on_ok_weaker c.write_rows.result
+    (own_written c.args.rows.now.facts c.args.rows.now.deletes c.args.rows.now.changes c.args.p.now
+    c.args.rows.now.state c.args.rows.now.holders c.requires.held
+    c.in-Some.stands c.in-Some.ensures c.in_ok-turns.turns _ c.in_ok-turns.ensures c.write_rows.new.holders)
+    c.write_rows.ensures.written
+
+pub returns-clause-held : goal.returns-clause-held
+returns-clause-held g c =
+    on_ok_weaker c.write_rows.result
+    (λ written. held_after c.args.rows.now.facts c.args.rows.now.deletes c.args.rows.now.changes c.args.p.now
+    c.args.rows.now.state c.args.rows.now.holders c.requires.held
+    c.write_rows.new.holders c.write_rows.ensures.others
+    (own_written c.args.rows.now.facts c.args.rows.now.deletes c.args.rows.now.changes c.args.p.now
+    c.args.rows.now.state c.args.rows.now.holders c.requires.held
+    c.in-Some.stands c.in-Some.ensures c.in_ok-turns.turns _ c.in_ok-turns.ensures c.write_rows.new.holders written))
+    c.write_rows.ensures.written

@@ -1,0 +1,4 @@
+pub mod Moments
+pub mod AttributeTurns
+pub mod Turns
+pub mod Refolded

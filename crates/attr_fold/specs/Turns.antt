@@ -1,0 +1,94 @@
+-- Which values are there after some changes, as turns tell it. The changes are counted from 0, the turns behind them from 1.
+use Rattle.std.specs.Prelude.{◌≡◌, ◌≤◌, ◌==◌, ℕ, suc, Bool, true, false, not, List, length, map, Option, Some, None, option_map, unwrap_or, nat_lt, if◌then◌else◌}
+use Rattle.std.specs.List.{filter_map, list_any}
+use Rattle.std.specs.declared.cmp.Ordering.{Ordering}
+use Rattle.std.specs.FinMap.{FinMap, get, insert, remove, contains_key}
+use Rattle.schema_fact.specs.declared.kinds.What.{What}
+use Rattle.schema_fact.specs.declared.kinds.What.TheVariants.{Set, Add, Del, Delete}
+use Rattle.schema_date.specs.declared.date.When.TheVariants.{Always}
+use Rattle.claim_model.specs.Facts.{Facts}
+use Rattle.claim_model.specs.Claims.{Moment}
+use Rattle.claim_model.specs.Changes.{Act, sets, adds, removes, Change, counting, gives, has_after}
+use Rattle.index_look.specs.Claims.{said}
+use Rattle.index_rows.specs.Changes.{Changes, changes_after}
+use Rattle.index_rows.specs.Deletes.{Deletes, row_deleted}
+use Rattle.index_rows.specs.States.{States}
+use Rattle.index_rows.specs.Values.{change_at}
+use Rattle.index_rows.specs.Holders.{HolderKey, Holders, holder_cmp, says_permanode}
+use Rattle.attr_fold.specs.AttributeTurns.{AttributeTurns}
+use Rattle.attr_fold.specs.declared.turns.Turns.{Turns}
+
+-- turns under an attribute, a value and a permanode
+abbrev pub ValueTurns : Type 0
+ValueTurns = FinMap holder_cmp ℕ
+
+-- a turn, and 0 where there is none
+abbrev pub turn_at : {K : Type 0} {R : K → K → Ordering} → FinMap R ℕ → K → ℕ
+turn_at turns k = unwrap_or (get turns k) 0
+
+-- whether the value is there: it was given, and all values of its attribute were removed at no later turn
+abbrev pub is_there : ValueTurns → AttributeTurns → HolderKey → Bool
+is_there given emptied k = nat_lt (turn_at emptied k.0) (turn_at given k)
+
+-- with the turn 0 at the key, if it has none
+abbrev pub known : ValueTurns → HolderKey → ValueTurns
+known turns k = if contains_key turns k then turns else insert turns k 0
+
+-- the turns behind a change, which counts or doesn't
+abbrev pub noted : Turns → Act → Bool → HolderKey → ℕ → Turns
+noted turns sets true k n =
+    record { given = insert turns.given k (suc n); emptied = insert turns.emptied k.0 n }
+noted turns sets false k n = record { given = known turns.given k; emptied = turns.emptied }
+noted turns adds true k n = record { given = insert turns.given k (suc n); emptied = turns.emptied }
+noted turns adds false k n = record { given = known turns.given k; emptied = turns.emptied }
+noted turns removes true k n =
+    if length k.1 == 0 then record { given = turns.given; emptied = insert turns.emptied k.0 n }
+    else record { given = insert turns.given k 0; emptied = turns.emptied }
+noted turns removes false k n = turns
+
+-- the same of what a claim says of p
+abbrev pub what_noted : Turns → List ℕ → What → Bool → ℕ → Turns
+what_noted turns p (Set on attr value) counts n = noted turns sets counts (attr, value, p) n
+what_noted turns p (Add on attr value) counts n = noted turns adds counts (attr, value, p) n
+what_noted turns p (Del on attr value) counts n = noted turns removes counts (attr, value, p) n
+what_noted turns p (Delete target) counts n = turns
+
+-- what the claim of a moment leaves of the turns: it counts unless it is deleted, by claims of every date
+abbrev pub said_noted : Turns → List ℕ → Option What → Bool → ℕ → Turns
+said_noted turns p None counts n = turns
+said_noted turns p (Some what) counts n = what_noted turns p what counts n
+
+abbrev pub moment_noted : Facts → Deletes → List ℕ → Turns → Moment → ℕ → Turns
+moment_noted facts deletes p turns k n =
+    said_noted turns p (said facts k.1) (not (row_deleted facts deletes Always k.1)) n
+
+-- the changes of some moments, each with whether it counts
+abbrev pub told_at : Facts → Deletes → Moment → Option (Change × Bool)
+told_at facts deletes k =
+    option_map (λ change. (change, not (row_deleted facts deletes Always k.1))) (change_at facts k)
+
+abbrev pub told : Facts → Deletes → List Moment → List (Change × Bool)
+told facts deletes ks = filter_map (told_at facts deletes) ks
+
+-- the moments of all changes of p
+abbrev pub all_moments : Changes → List ℕ → List Moment
+all_moments changes p = map (λ e. e.0.1) (changes_after changes p None)
+
+-- whether p isn't deleted, by claims of every date, where it is a permanode whose row says that it is genuine
+abbrev pub standing : Facts → States → Deletes → List ℕ → Option Bool
+standing facts state deletes p =
+    if says_permanode facts state p then Some (not (row_deleted facts deletes Always p)) else None
+
+-- the turns tell which values of p are there after the changes, and know each value that one of these gives
+pub record Tells (p : List ℕ) (changes : List (Change × Bool)) (turns : Turns) (n : ℕ) : Type 0 where
+  pub there : (name value : List ℕ)
+      → is_there turns.given turns.emptied (name, value, p) ≡ has_after name value (counting changes)
+  pub known : (name value : List ℕ) → list_any (λ c. gives name value c.0) changes ≡ true
+      → contains_key turns.given (name, value, p) ≡ true
+  pub own : (k : HolderKey) → contains_key turns.given k ≡ true → k.2 ≡ p
+  pub given : (k : HolderKey) → turn_at turns.given k ≤ n
+  pub emptied : (name : List ℕ) → turn_at turns.emptied name ≤ n
+
+-- a row put or dropped
+abbrev pub row_written : Holders → HolderKey → Bool → Holders
+row_written holders k there = if there then insert holders k tt else remove holders k

@@ -1,0 +1,196 @@
+//! The rows of what a permanode holds, written again.
+ghost use Rattle.std.specs.Prelude.{◌≡◌, ◌+◌, ◌<◌, ◌^◌, ◌∷◌, [], ◌++◌, ◌&&◌, ℕ, List, length, nat_lt, false, true, if◌then◌else◌, IfOk, OnErr, OnOk};
+ghost use Rattle.std.specs.FinMap.{contains_key};
+ghost use Rattle.std.specs.Str.{bytes_eq};
+ghost use Rattle.index_rows.specs.Counted.{has_deleters, IsCounted};
+ghost use Rattle.index_rows.specs.Holders.{row_holds, HolderKey as Seen, IsHeldBut};
+ghost use Rattle.index_rows.specs.Values.{IsChange, IsListed};
+ghost use Rattle.attr_fold.specs.Refolded.{IsHeldSomehow};
+ghost use Rattle.attr_fold.specs.Turns.{all_moments, is_there, moment_noted, row_written, standing, told, turn_at, Tells};
+
+use crate::attribute_turns::AttributeTurns;
+use crate::turns::Turns;
+use blobref::{NoMemory, Ref};
+use edge_base::Steps;
+use index_look::claim::{claim_says, is_permanode_at};
+use index_rows::{ChangeRows, HolderKey, HolderRows, Moment, RefRows, Rows, StateRow};
+use std::alloc::Global;
+use std::sync::ledger::Ledger;
+
+/// Writes the rows of one permanode in `holders` again, so that they are those of the attributes and values that it
+/// has, by claims of every date. A ref that is no genuine permanode has none, nor has a permanode that is deleted.
+///
+/// The counts of delete claims must be right, each row of `changes` must be that of a change of a genuine claim, and
+/// each row of `holders` must be of a genuine permanode and of a value that one of its changes sets or adds. All other
+/// rows stay as they are, also after `NoMemory`; those of the permanode may then be anything. No other table changes.
+///
+/// It walks over the changes of the permanode once: where there are k, it takes at most 4 + 4 k look-ups, steps and
+/// changes, and time in k log k. It takes memory for the moments of these changes and for their values.
+pub fn refold<L: Ledger>(
+    alloc: Global,
+    rows: &mut Rows,
+    p: &Ref,
+    steps: &mut Steps<L>,
+) -> Result<(), NoMemory>
+    requires counted { IsCounted rows.old.facts rows.old.deletes rows.old.state }
+    requires listed { IsListed rows.old.facts rows.old.state rows.old.changes }
+    requires held { IsHeldSomehow rows.old.facts rows.old.state rows.old.deletes rows.old.changes rows.old.holders }
+    ensures facts { rows.new.facts ≡ rows.old.facts }
+    ensures state { rows.new.state ≡ rows.old.state }
+    ensures waiters { rows.new.waiters ≡ rows.old.waiters }
+    ensures deletes { rows.new.deletes ≡ rows.old.deletes }
+    ensures changes { rows.new.changes ≡ rows.old.changes }
+    ensures others { (name value q : List ℕ) → bytes_eq q p.now ≡ false
+        → contains_key rows.new.holders (name, value, q) ≡ contains_key rows.old.holders (name, value, q) }
+    ensures own { OnOk result ((name value : List ℕ) → contains_key rows.new.holders (name, value, p.now)
+        ≡ row_holds rows.old.facts rows.old.state rows.old.deletes rows.old.changes name value p.now) }
+    ensures held { OnOk result ((but : List (List ℕ))
+        → IsHeldBut (p.now ∷ but) rows.old.facts rows.old.state rows.old.deletes rows.old.changes rows.old.holders
+        → IsHeldBut but rows.old.facts rows.old.state rows.old.deletes rows.old.changes rows.new.holders) }
+{
+    let Some(stands) = standing(rows, p, steps) else {
+        return Ok(());
+    };
+    let turns = turns_of(alloc, rows, p, steps)?;
+    write_rows(&mut rows.holders, turns, p, stands, steps)
+}
+
+// Whether p isn't deleted, where it is a genuine permanode.
+fn standing<L: Ledger>(rows: &Rows, p: &Ref, steps: &mut Steps<L>) -> Option<bool>
+    requires { IsCounted rows.now.facts rows.now.deletes rows.now.state }
+    ensures { result ≡ standing rows.now.facts rows.now.state rows.now.deletes p.now }
+{
+    if !is_permanode_at(&rows.facts, p, steps) {
+        return None;
+    }
+    match rows.state.row(p, steps) {
+        Some(row) if row.genuine => Some(row.deleters == 0),
+        _ => None,
+    }
+}
+
+// Which values the changes of p leave.
+fn turns_of<L: Ledger>(
+    alloc: Global,
+    rows: &Rows,
+    p: &Ref,
+    steps: &mut Steps<L>,
+) -> Result<Turns, NoMemory>
+    requires counted { IsCounted rows.now.facts rows.now.deletes rows.now.state }
+    requires listed { IsListed rows.now.facts rows.now.state rows.now.changes }
+    ensures { IfOk result (λ turns. Tells p.now
+        (told rows.now.facts rows.now.deletes (all_moments rows.now.changes p.now)) turns
+        (length (all_moments rows.now.changes p.now))) }
+{
+    let moments = moments_of(alloc, &rows.changes, p, steps)?;
+    let mut turns = Turns::empty(alloc);
+    for (n, moment) in moments.iter().enumerate() {
+        note_moment(alloc, rows, &mut turns, p, moment, n, steps)?;
+    }
+    Ok(turns)
+}
+
+// The moments of all changes of p, in their order.
+fn moments_of<L: Ledger>(
+    alloc: Global,
+    changes: &ChangeRows,
+    p: &Ref,
+    steps: &mut Steps<L>,
+) -> Result<Vec<Moment>, NoMemory>
+    ensures { IfOk result (λ moments. moments.items ≡ all_moments changes.now p.now) }
+{
+    let mut moments = Vec::new(alloc);
+    let mut last = None;
+    'walk: while let Some(moment) = changes.next_of(p, last.as_ref(), steps) {
+        push(&mut moments, &moment)?;
+        last = Some(moment);
+    }
+    Ok(moments)
+}
+
+fn push(moments: &mut Vec<Moment>, moment: &Moment) -> Result<(), NoMemory>
+    ensures { OnOk result (moments.new.items ≡ moments.old.items ++ moment.now ∷ []) }
+{
+    moments.push(*moment)?;
+    Ok(())
+}
+
+// Takes up the change n of p, that of a moment.
+fn note_moment<L: Ledger>(
+    alloc: Global,
+    rows: &Rows,
+    turns: &mut Turns,
+    p: &Ref,
+    moment: &Moment,
+    n: usize,
+    steps: &mut Steps<L>,
+) -> Result<(), NoMemory>
+    requires counted { IsCounted rows.now.facts rows.now.deletes rows.now.state }
+    requires change { IsChange rows.now.facts rows.now.state p.now moment.now }
+    requires small { n + 1 < 2 ^ 64 }
+    ensures { OnOk result
+        (turns.new ≡ moment_noted rows.now.facts rows.now.deletes p.now turns.old moment.now n) }
+{
+    let Some(fact) = rows.facts.row(&moment.1, steps) else {
+        return Ok(());
+    };
+    let Some(what) = claim_says(&fact.kind) else {
+        return Ok(());
+    };
+    let counts = !has_deleters(&rows.state, &moment.1, steps);
+    turns.note(alloc, p, what, counts, n)
+}
+
+// Whether the row of a ref counts some delete claim.
+fn has_deleters<L: Ledger>(state: &RefRows<StateRow>, r: &Ref, steps: &mut Steps<L>) -> bool
+    ensures { result ≡ has_deleters state.now r.now }
+{
+    match state.row(r, steps) {
+        Some(row) => 0 < row.deleters,
+        None => false,
+    }
+}
+
+// Puts the row of each value that is there, and drops that of each other one that was ever given; none is there where
+// p doesn't stand.
+fn write_rows<L: Ledger>(
+    holders: &mut HolderRows,
+    mut turns: Turns,
+    p: &Ref,
+    stands: bool,
+    steps: &mut Steps<L>,
+) -> Result<(), NoMemory>
+    requires { (k : Seen) → contains_key turns.given k ≡ true → k.2 ≡ p.now }
+    ensures others { (name value q : List ℕ) → bytes_eq q p.now ≡ false
+        → contains_key holders.new (name, value, q) ≡ contains_key holders.old (name, value, q) }
+    ensures written { OnOk result ((name value : List ℕ) → contains_key holders.new (name, value, p.now)
+        ≡ (if contains_key turns.given (name, value, p.now)
+        then stands && is_there turns.given turns.emptied (name, value, p.now)
+        else contains_key holders.old (name, value, p.now))) }
+{
+    'rows: while let Some((key, turn)) = turns.given.pop_first() {
+        write_row(holders, &turns.emptied, key, turn, stands, steps)?;
+    }
+    Ok(())
+}
+
+// Puts the row of a value where it is there, and else drops it.
+fn write_row<L: Ledger>(
+    holders: &mut HolderRows,
+    emptied: &AttributeTurns,
+    key: HolderKey,
+    turn: usize,
+    stands: bool,
+    steps: &mut Steps<L>,
+) -> Result<(), NoMemory>
+    ensures ok { OnOk result (holders.new
+        ≡ row_written holders.old key (stands && nat_lt (turn_at emptied.now key.0) turn)) }
+    ensures err { OnErr result (holders.new ≡ holders.old) }
+{
+    if stands && emptied.turn(key.attr()) < turn {
+        holders.put(key, steps)
+    } else {
+        holders.drop_row(&key, steps);
+        Ok(())
+    }
+}

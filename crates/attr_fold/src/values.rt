@@ -1,0 +1,125 @@
+//! The values of an attribute, and the date of the last change.
+ghost use Rattle.std.specs.Prelude.{◌≡◌, IfOk, OnOk, map, option_and_then};
+ghost use Rattle.std.specs.FinMap.{get};
+ghost use Rattle.index_rows.specs.Deletes.{Ringless};
+ghost use Rattle.index_rows.specs.Values.{row_values, row_last_change, IsChange, IsListed};
+ghost use Rattle.attr_fold.specs.Moments.{claim_date, last_with, moment_values};
+
+use crate::moments::next_moment;
+use blobref::{NoMemory, Ref, Text, TextList};
+use edge_base::Steps;
+use index_look::values::{apply_said, copied};
+use index_rows::{Moment, Rows, deleted_at};
+use schema_date::{Date, When};
+use schema_fact::Kind;
+use std::alloc::Global;
+use std::sync::ledger::Ledger;
+
+/// The values of an attribute of a permanode at that time, as the rows of its changes tell them, whether it is deleted
+/// or not. Each row of `deletes` must be that of a ready delete claim, and each row of `changes` that of a change of a
+/// genuine claim. `NoMemory` comes only where no memory is left. Its time is that of the walk over the changes up to
+/// that time, and of looking for each whether its claim is deleted.
+pub fn fold_at<L: Ledger>(
+    alloc: Global,
+    rows: &Rows,
+    p: &Ref,
+    attr: &str,
+    when: &When,
+    steps: &mut Steps<L>,
+) -> Result<TextList, NoMemory>
+    requires ringless { Ringless rows.now.facts rows.now.deletes }
+    requires listed { IsListed rows.now.facts rows.now.state rows.now.changes }
+    ensures { IfOk result (λ texts.
+        texts ≡ row_values rows.now.facts rows.now.deletes rows.now.changes when.now p.now attr.now) }
+{
+    let mut found = Vec::new(alloc);
+    let mut last = None;
+    'walk: while let Some(moment) = next_moment(&rows.changes, p, last.as_ref(), when, steps) {
+        apply_moment(rows, &mut found, p, &moment, attr, when, steps)?;
+        last = Some(moment);
+    }
+    copied(alloc, &found)
+}
+
+// What the change of a moment makes of the values of the attribute of p, unless its claim is deleted at that time.
+fn apply_moment<'a, L: Ledger>(
+    rows: &'a Rows,
+    found: &mut Vec<&'a Text>,
+    p: &Ref,
+    moment: &Moment,
+    attr: &str,
+    when: &When,
+    steps: &mut Steps<L>,
+) -> Result<(), NoMemory>
+    requires ringless { Ringless rows.now.facts rows.now.deletes }
+    requires change { IsChange rows.now.facts rows.now.state p.now moment.now }
+    ensures { OnOk result (map (λ t. t.now) found.new.items
+        ≡ moment_values rows.now.facts rows.now.deletes when.now attr.now (map (λ t. t.now) found.old.items) moment.now) }
+{
+    if deleted_at(rows, &moment.1, when, steps) {
+        return Ok(());
+    }
+    apply_said(&rows.facts, found, p, &moment.1, attr, steps)
+}
+
+/// The date of the last change of a permanode that counts at that time, as the rows of its changes tell it; `None`
+/// exactly where none counts. The rows of `deletes` and `changes` must be as for `fold_at`, and so is its time. It
+/// takes no memory.
+pub fn last_change_at<L: Ledger>(
+    rows: &Rows,
+    p: &Ref,
+    when: &When,
+    steps: &mut Steps<L>,
+) -> Option<Date>
+    requires ringless { Ringless rows.now.facts rows.now.deletes }
+    requires listed { IsListed rows.now.facts rows.now.state rows.now.changes }
+    ensures { result ≡ row_last_change rows.now.facts rows.now.deletes rows.now.changes when.now p.now }
+{
+    let mut found = None;
+    let mut last = None;
+    'walk: while let Some(moment) = next_moment(&rows.changes, p, last.as_ref(), when, steps) {
+        found = last_with(rows, found, &moment, when, steps);
+        last = Some(moment);
+    }
+    match found {
+        Some(moment) => date_at(rows, &moment.1, steps),
+        None => None,
+    }
+}
+
+// The later moment, unless its claim is deleted at that time.
+fn last_with<L: Ledger>(
+    rows: &Rows,
+    found: Option<Moment>,
+    moment: &Moment,
+    when: &When,
+    steps: &mut Steps<L>,
+) -> Option<Moment>
+    requires { Ringless rows.now.facts rows.now.deletes }
+    ensures { result ≡ last_with rows.now.facts rows.now.deletes when.now found moment.now }
+{
+    if deleted_at(rows, &moment.1, when, steps) {
+        found
+    } else {
+        Some(*moment)
+    }
+}
+
+// The date of the claim of a ref.
+fn date_at<L: Ledger>(rows: &Rows, r: &Ref, steps: &mut Steps<L>) -> Option<Date>
+    ensures { result ≡ option_and_then (λ fact. claim_date fact.kind) (get rows.now.facts r.now) }
+{
+    match rows.facts.row(r, steps) {
+        Some(fact) => claim_date(&fact.kind),
+        None => None,
+    }
+}
+
+fn claim_date(kind: &Kind) -> Option<Date>
+    ensures { result ≡ claim_date kind.now }
+{
+    match kind {
+        Kind::Claim { date, .. } => Some(*date),
+        _ => None,
+    }
+}

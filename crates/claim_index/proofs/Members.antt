@@ -1,0 +1,105 @@
+-- Which refs stand in a list.
+use Rattle.std.proofs.Common.{◌≡◌, ℕ, suc, ◌+◌, ◌-◌, ◌<◌, ◌≤◌, Bool, true, false, ◌||◌, length, get_or, take, drop, drop-cons, add-one, arith}
+use Rattle.std.proofs.Common.{List, [], ◌∷◌, ◌++◌, refl, sym, ap, ◌∙◌, append_assoc, ◌⊎◌, inl, inr}
+use Rattle.std.proofs.lemmas.Bool.{cases_Bool, false≢true, false_from_ne_true, or_left, or_right}
+use Rattle.std.proofs.lemmas.List.{append-nil}
+use Rattle.std.proofs.lemmas.List.Concat.{flat_map-cons}
+use Rattle.std.proofs.lemmas.List.Folds.{list_any-append}
+use Rattle.std.proofs.lemmas.List.Filters.{dedup_is}
+use Rattle.std.proofs.lemmas.List.Kept.{Contains-dedup, Contains-from_dedup}
+use Rattle.std.proofs.lemmas.List.Sorted.{list_any-IsPermutation}
+use Rattle.std.proofs.lemmas.Map.Views.{Contains-from_any, list_any-from_Contains}
+use Rattle.std.proofs.lemmas.Slice.Eq.{bytes_eq-Decides}
+use Rattle.std.specs.Cmp.Lexicographic.{nat_list_eq_equiv}
+use Rattle.std.specs.Prelude.{IsPermutation}
+use Rattle.std.specs.List.{Contains, list_any, flat_map, dedup}
+use Rattle.std.specs.List.Retain.{IsFiltered, DiffersFromLast}
+use Rattle.std.specs.Str.{bytes_eq}
+use Rattle.claim_model.specs.Least.{passes_or_in}
+use Rattle.claim_model.proofs.Least.{same_truth}
+use Rattle.index_look.proofs.Texts.{take_one}
+use Rattle.index_rows.specs.Once.{AreNew}
+
+swap : (a b : Bool) → (a || (b || false)) ≡ (b || a)
+swap true true = refl
+swap true false = refl
+swap false true = refl
+swap false false = refl
+
+module _ (others : List (List ℕ)) (d : List ℕ) where
+  abbrev is_other : List ℕ → Bool
+  is_other y = list_any (bytes_eq y) others
+
+  pub among_more : (y : List ℕ) → list_any (bytes_eq y) (others ++ d ∷ []) ≡ (bytes_eq y d || is_other y)
+  among_more y = list_any-append (bytes_eq y) others (d ∷ []) ∙ swap (is_other y) (bytes_eq y d)
+
+  pub among_front : (y : List ℕ) → is_other y ≡ true → list_any (bytes_eq y) (others ++ d ∷ []) ≡ true
+  among_front y h = among_more y ∙ or_right (bytes_eq y d) (is_other y) h
+
+  pub among_last : list_any (bytes_eq d) (others ++ d ∷ []) ≡ true
+  among_last = among_more d ∙ or_left (bytes_eq d d) (is_other d) ((bytes_eq-Decides d d).1 refl)
+
+  -- what stands in a list isn't what doesn't
+  pub among_apart : is_other d ≡ false → (y : List ℕ) → is_other y ≡ true → bytes_eq y d ≡ false
+  among_apart out y h =
+      false_from_ne_true (bytes_eq y d)
+      (λ e. false≢true (sym out ∙ ap is_other (sym ((bytes_eq-Decides y d).0 e)) ∙ h))
+
+-- a list in which each ref stands once, without its last one
+pub once_front : (p : List ℕ → Bool) (before xs : List (List ℕ)) (d : List ℕ) → AreNew p before (xs ++ d ∷ [])
+    → AreNew p before xs × (passes_or_in p (before ++ xs) d ≡ false)
+once_front p before [] d h = (tt, ap (λ o. passes_or_in p o d) (append-nil before) ∙ h.0)
+once_front p before (x ∷ xs) d h =
+    let rest = once_front p (before ++ x ∷ []) xs d h.1 in
+    ((h.0, rest.0), ap (λ o. passes_or_in p o d) (sym (append_assoc before (x ∷ []) xs)) ∙ rest.1)
+
+-- what a ref of a list gives stands among what they all give
+pub among_all : (f : List ℕ → List (List ℕ)) (q y : List ℕ) (xs : List (List ℕ)) → list_any (bytes_eq y) xs ≡ true
+    → list_any (bytes_eq q) (f y) ≡ true → list_any (bytes_eq q) (flat_map f xs) ≡ true
+among_all f q y [] h t = absurd (false≢true h)
+among_all f q y (x ∷ xs) h t =
+    ap given (flat_map-cons f x xs) ∙ list_any-append (bytes_eq q) (f x) (flat_map f xs)
+    ∙ by (cases_Bool (bytes_eq y x)) (among_all f q y xs)
+  where
+    given : List (List ℕ) → Bool
+    given = list_any (bytes_eq q)
+
+    by : (bytes_eq y x ≡ true) ⊎ (bytes_eq y x ≡ false)
+        → (list_any (bytes_eq y) xs ≡ true → given (f y) ≡ true → given (flat_map f xs) ≡ true)
+        → (given (f x) || given (flat_map f xs)) ≡ true
+    by (inl e) rest =
+        or_left (given (f x)) (given (flat_map f xs)) (ap (λ r. given (f r)) (sym ((bytes_eq-Decides y x).0 e)) ∙ t)
+    by (inr e) rest =
+        or_right (given (f x)) (given (flat_map f xs))
+        (rest (ap (λ b. b || list_any (bytes_eq y) xs) (sym e) ∙ h) t)
+
+-- the first refs of a list, with the last of them apart
+pub take_last : (refs : List (List ℕ)) (i : ℕ) (r : List ℕ) → 0 < i → i ≤ length refs → r ≡ get_or refs (i - 1) r
+    → take i refs ≡ take (i - 1) refs ++ r ∷ []
+take_last refs i r above below is =
+    let next : suc (i - 1) ≡ i = omega arith in
+    ap (λ n. take n refs) (sym next) ∙ take_one refs (i - 1) r (omega arith) is
+
+-- a list from one of its refs on
+pub drop_first : (refs : List (List ℕ)) (i : ℕ) (r : List ℕ) → i < length refs → r ≡ get_or refs i r
+    → drop i refs ≡ r ∷ drop (i + 1) refs
+drop_first refs i r within is = drop-cons refs i r within ∙ (λ j. sym is j ∷ drop (sym (add-one i) j) refs)
+
+-- a list in another order has the same refs, and so it does where each stands once
+module _ (refs sorted once : List (List ℕ)) (permutation : IsPermutation refs sorted)
+    (filtered : IsFiltered (DiffersFromLast bytes_eq) [] sorted once) (q : List ℕ) where
+  same : (x y : List ℕ) → bytes_eq x y ≡ true → x ≡ y
+  same x y = (bytes_eq-Decides x y).0
+
+  there : (rs : List (List ℕ)) → list_any (bytes_eq q) rs ≡ true → Contains rs q
+  there rs h = Contains-from_any same q rs h
+
+  pub same_members : list_any (bytes_eq q) once ≡ list_any (bytes_eq q) refs
+  same_members =
+      ap (list_any (bytes_eq q)) (dedup_is bytes_eq sorted once filtered)
+      ∙ same_truth (list_any (bytes_eq q) (dedup bytes_eq sorted)) (list_any (bytes_eq q) sorted)
+      (λ h. list_any-from_Contains nat_list_eq_equiv q sorted
+      (Contains-from_dedup bytes_eq sorted q (there (dedup bytes_eq sorted) h)))
+      (λ h. list_any-from_Contains nat_list_eq_equiv q (dedup bytes_eq sorted)
+      (Contains-dedup nat_list_eq_equiv same sorted q (there sorted h)))
+      ∙ sym (list_any-IsPermutation (bytes_eq q) refs sorted permutation)

@@ -1,0 +1,13 @@
+-- The permanodes from here on are still to be looked at.
+use Rattle.std.proofs.Common.{List, ℕ, [], drop}
+use Rattle.index_rows.specs.declared.rows.Rows.{Rows}
+use Rattle.claim_index.specs.Halfway.{CanBeFinished}
+use Rattle.claim_index.proofs.Refolds.{IsSameBeside}
+use Rattle.claim_index.proofs.finishing.refold_all.Given as goal
+
+pub record AreRefolded (rows after : Rows) (left : List (List ℕ)) : Type 0 where
+  pub same : IsSameBeside rows after
+  pub finished : CanBeFinished [] left after
+
+abbrev pub invariant-loop-p : goal.invariant-loop-p
+invariant-loop-p g l = AreRefolded l.fn.rows l.rows (drop l.p-index l.p-items)

@@ -1,0 +1,19 @@
+use Rattle.std.proofs.Common.{◌∙◌}
+use Rattle.claim_model.specs.Claims.{last_change}
+use Rattle.claim_index.proofs.Telling.{all_listed, change_told}
+use Rattle.claim_index.proofs.index.IndexLook.last_change.Goals as goal
+
+pub last_change-requires-else-self-clause-listed : goal.last_change-requires-else-self-clause-listed
+last_change-requires-else-self-clause-listed g c =
+    let a = c.self.inside in
+    let rest = c.self.invariant c.if-self.false in
+    all_listed a.rows.facts
+    (g.V.Verifier.accepts a.keys) a.rows.state a.rows.waiters a.rows.deletes a.rows.changes a.rows.holders rest
+
+pub returns-else-self : goal.returns-else-self
+returns-else-self g c =
+    let a = c.self.inside in
+    let rest = c.self.invariant c.if-self.false in
+    c.last_change-else-self.ensures
+    ∙ change_told a.rows.facts
+    (g.V.Verifier.accepts a.keys) a.rows.state a.rows.waiters a.rows.deletes a.rows.changes a.rows.holders rest c.args.when.now c.args.p.now ∙ (λ i. last_change (c.self.view_is i).facts (g.V.Verifier.accepts (c.self.view_is i).keys) c.args.when.now c.args.p.now)

@@ -1,0 +1,86 @@
+use Rattle.std.proofs.Common.{◌∷◌, [], ◌++◌, ℕ, List, sym, ap, subst, ◌∙◌}
+use Rattle.index_meaning.specs.Touching.{concerned_by}
+use Rattle.claim_index.specs.Halfway.{taken, IsHalfway, CanBeJudged}
+use Rattle.claim_index.proofs.OneJudged.{can_judge, can_go_on, nothing_more, concerns_more, delete_more, judged_is, others_are_no_delete, ok_then}
+use Rattle.claim_index.proofs.taking.judge_one.Goals as goal
+
+pub returns-in-Nothing-clause-halfway : goal.returns-in-Nothing-clause-halfway
+returns-in-Nothing-clause-halfway g c = λ left h can.
+    let a = g.V.Verifier.accepts c.args.keys.now in
+    let old = c.args.rows.now in
+    let new = c.judge.new.rows in
+    let e = c.in_ok-judge.ensures in
+    let x = c.args.x.now in
+    let work = c.args.work.now in
+    let able = can_judge a old x left work.deletes work.concerned h can in
+    subst (IsHalfway a left work.deletes work.concerned) (judged_is old new e.facts e.waiters e.deletes e.holders)
+    (nothing_more a old x left work.deletes work.concerned h can new.state new.changes e.state e.changes
+    (e.judged (taken old) left able h.judged) (e.changed (taken old) left able h.changed) (sym e.answer ∙ c.in-Nothing.is))
+
+pub returns-in-Nothing-clause-reached : goal.returns-in-Nothing-clause-reached
+returns-in-Nothing-clause-reached g c = λ left h can.
+    let a = g.V.Verifier.accepts c.args.keys.now in
+    let old = c.args.rows.now in
+    let new = c.judge.new.rows in
+    let e = c.in_ok-judge.ensures in
+    let x = c.args.x.now in
+    let work = c.args.work.now in
+    let able = can_judge a old x left work.deletes work.concerned h can in
+    subst (CanBeJudged left) (judged_is old new e.facts e.waiters e.deletes e.holders)
+    (can_go_on a old x left work.deletes work.concerned h can new.state new.changes e.state e.changes
+    (e.judged (taken old) left able h.judged) (e.changed (taken old) left able h.changed))
+
+pub returns-in-Delete-clause-halfway : goal.returns-in-Delete-clause-halfway
+returns-in-Delete-clause-halfway g c = ok_then c.push.result (λ pushed left h can.
+    let a = g.V.Verifier.accepts c.args.keys.now in
+    let old = c.args.rows.now in
+    let new = c.judge.new.rows in
+    let e = c.in_ok-judge.ensures in
+    let x = c.args.x.now in
+    let work = c.args.work.now in
+    let able = can_judge a old x left work.deletes work.concerned h can in
+    subst (λ (ds : List (List ℕ)). IsHalfway a left ds work.concerned new) (sym pushed)
+    (subst (IsHalfway a left (work.deletes ++ x ∷ []) work.concerned) (judged_is old new e.facts e.waiters e.deletes e.holders)
+    (delete_more a old x left work.deletes work.concerned h can new.state new.changes e.state e.changes
+    (e.judged (taken old) left able h.judged) (e.changed (taken old) left able h.changed) (sym e.answer ∙ c.in-Delete.is)))) c.push.ensures.ok
+
+pub returns-in-Delete-clause-reached : goal.returns-in-Delete-clause-reached
+returns-in-Delete-clause-reached g c = ok_then c.push.result (λ pushed left h can.
+    let a = g.V.Verifier.accepts c.args.keys.now in
+    let old = c.args.rows.now in
+    let new = c.judge.new.rows in
+    let e = c.in_ok-judge.ensures in
+    let x = c.args.x.now in
+    let work = c.args.work.now in
+    let able = can_judge a old x left work.deletes work.concerned h can in
+    subst (CanBeJudged left) (judged_is old new e.facts e.waiters e.deletes e.holders)
+    (can_go_on a old x left work.deletes work.concerned h can new.state new.changes e.state e.changes
+    (e.judged (taken old) left able h.judged) (e.changed (taken old) left able h.changed))) c.push.ensures.ok
+
+pub returns-in-Permanode-clause-halfway : goal.returns-in-Permanode-clause-halfway
+returns-in-Permanode-clause-halfway g c = ok_then c.concern.result (λ added left h can.
+    let a = g.V.Verifier.accepts c.args.keys.now in
+    let old = c.args.rows.now in
+    let new = c.judge.new.rows in
+    let e = c.in_ok-judge.ensures in
+    let x = c.args.x.now in
+    let work = c.args.work.now in
+    let able = can_judge a old x left work.deletes work.concerned h can in
+    subst (λ (cs : List (List ℕ)). IsHalfway a left work.deletes cs new) (ap (λ facts. work.concerned ++ concerned_by facts new.state x) (sym e.facts) ∙ sym added)
+    (subst (IsHalfway a left work.deletes (work.concerned ++ concerned_by old.facts new.state x)) (judged_is old new e.facts e.waiters e.deletes e.holders)
+    (concerns_more a old x left work.deletes work.concerned h can new.state new.changes e.state e.changes
+    (e.judged (taken old) left able h.judged) (e.changed (taken old) left able h.changed)
+    (λ d. others_are_no_delete c.in-Permanode.is (e.answer ∙ d))))) c.concern.ensures.ok
+
+pub returns-in-Permanode-clause-reached : goal.returns-in-Permanode-clause-reached
+returns-in-Permanode-clause-reached g c = ok_then c.concern.result (λ added left h can.
+    let a = g.V.Verifier.accepts c.args.keys.now in
+    let old = c.args.rows.now in
+    let new = c.judge.new.rows in
+    let e = c.in_ok-judge.ensures in
+    let x = c.args.x.now in
+    let work = c.args.work.now in
+    let able = can_judge a old x left work.deletes work.concerned h can in
+    subst (CanBeJudged left) (judged_is old new e.facts e.waiters e.deletes e.holders)
+    (can_go_on a old x left work.deletes work.concerned h can new.state new.changes e.state e.changes
+    (e.judged (taken old) left able h.judged) (e.changed (taken old) left able h.changed))) c.concern.ensures.ok

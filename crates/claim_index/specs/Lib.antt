@@ -1,0 +1,5 @@
+pub mod Numbers
+pub mod Judging
+pub mod Halfway
+pub mod Indexed
+pub mod Told

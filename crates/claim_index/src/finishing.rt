@@ -1,0 +1,131 @@
+//! What is left once refs were judged: delete claims are entered, and permanodes looked at again.
+ghost use Rattle.std.specs.Prelude.{◌≡◌, ◌∷◌, ◌++◌, [], ℕ, List, IfOk, OnOk};
+ghost use Rattle.std.specs.List.{flat_map, list_any};
+ghost use Rattle.std.specs.Str.{bytes_eq};
+ghost use Rattle.std.specs.FinMap.{contains_key};
+ghost use Rattle.claim_verify.specs.Verifier.{Accepts};
+ghost use Rattle.delete_claims.specs.Entered.{IsNewDelete};
+ghost use Rattle.index_rows.specs.Counted.{IsCounted};
+ghost use Rattle.claim_index.specs.Halfway.{IsHalfway, CanBeFinished};
+ghost use Rattle.index_meaning.specs.Touching.{concerned_by};
+
+use crate::touching::concern;
+use crate::work::Work;
+use attr_fold::refold;
+use blobref::{NoMemory, Ref, RefList};
+use delete_claims::enter;
+use edge_base::Steps;
+use index_rows::Rows;
+use std::alloc::Global;
+use std::sync::ledger::Ledger;
+
+// Does what is left. Where there is no memory the facts are as they were, and the other tables may be anything.
+pub(crate) fn finish<L: Ledger>(
+    alloc: Global,
+    rows: &mut Rows,
+    work: Work,
+    steps: &mut Steps<L>,
+) -> Result<(), NoMemory>
+    requires { CanBeFinished work.deletes work.concerned rows.old }
+    ensures facts { rows.new.facts ≡ rows.old.facts }
+    ensures taken { OnOk result ((y : List ℕ) → contains_key rows.new.state y ≡ contains_key rows.old.state y) }
+    ensures halfway { OnOk result ((accepts : Accepts)
+        → IsHalfway accepts [] work.deletes work.concerned rows.old → IsHalfway accepts [] [] [] rows.new) }
+{
+    let Work {
+        deletes,
+        mut concerned,
+    } = work;
+    enter_all(alloc, rows, deletes.as_slice(), &mut concerned, steps)?;
+    refold_all(alloc, rows, concerned, steps)
+}
+
+// Enters delete claims, the last one first, so that a chain that became ready at once takes time in its length.
+fn enter_all<L: Ledger>(
+    alloc: Global,
+    rows: &mut Rows,
+    deletes: &[Ref],
+    concerned: &mut RefList,
+    steps: &mut Steps<L>,
+) -> Result<(), NoMemory>
+    requires { CanBeFinished deletes.now concerned.old rows.old }
+    ensures facts { rows.new.facts ≡ rows.old.facts }
+    ensures taken { OnOk result ((y : List ℕ) → contains_key rows.new.state y ≡ contains_key rows.old.state y) }
+    ensures finished { OnOk result (CanBeFinished [] concerned.new rows.new) }
+    ensures halfway { OnOk result ((accepts : Accepts)
+        → IsHalfway accepts [] deletes.now concerned.old rows.old → IsHalfway accepts [] [] concerned.new rows.new) }
+{
+    'claims: for i in (0..deletes.len()).rev() {
+        enter_one(alloc, rows, &deletes[i], concerned, steps)?;
+    }
+    Ok(())
+}
+
+// Enters a delete claim, and adds to the list whom it concerns.
+fn enter_one<L: Ledger>(
+    alloc: Global,
+    rows: &mut Rows,
+    d: &Ref,
+    concerned: &mut RefList,
+    steps: &mut Steps<L>,
+) -> Result<(), NoMemory>
+    requires counted { IsCounted rows.old.facts rows.old.deletes rows.old.state }
+    requires fresh { IsNewDelete rows.old.facts rows.old.deletes rows.old.state d.now }
+    ensures facts { rows.new.facts ≡ rows.old.facts }
+    ensures taken { OnOk result ((y : List ℕ) → contains_key rows.new.state y ≡ contains_key rows.old.state y) }
+    ensures finished { OnOk result ((others : List (List ℕ))
+        → CanBeFinished (others ++ d.now ∷ []) concerned.old rows.old → CanBeFinished others concerned.new rows.new) }
+    ensures halfway { OnOk result ((accepts : Accepts) (others : List (List ℕ))
+        → IsHalfway accepts [] (others ++ d.now ∷ []) concerned.old rows.old
+        → IsHalfway accepts [] others concerned.new rows.new) }
+{
+    let changed = enter(alloc, rows, d, steps)?;
+    concern_all(rows, changed.as_slice(), concerned, steps)
+}
+
+// Adds to the list whom these concern.
+fn concern_all<L: Ledger>(
+    rows: &Rows,
+    changed: &[Ref],
+    concerned: &mut RefList,
+    steps: &mut Steps<L>,
+) -> Result<(), NoMemory>
+    ensures { OnOk result
+        (concerned.new ≡ concerned.old ++ flat_map (concerned_by rows.now.facts rows.now.state) changed.now) }
+{
+    for y in changed {
+        concern(rows, y, concerned, steps)?;
+    }
+    Ok(())
+}
+
+// Looks at permanodes again, each once.
+fn refold_all<L: Ledger>(
+    alloc: Global,
+    rows: &mut Rows,
+    concerned: RefList,
+    steps: &mut Steps<L>,
+) -> Result<(), NoMemory>
+    requires { CanBeFinished [] concerned rows.old }
+    ensures facts { rows.new.facts ≡ rows.old.facts }
+    ensures taken { OnOk result ((y : List ℕ) → contains_key rows.new.state y ≡ contains_key rows.old.state y) }
+    ensures halfway { OnOk result ((accepts : Accepts)
+        → IsHalfway accepts [] [] concerned rows.old → IsHalfway accepts [] [] [] rows.new) }
+{
+    let refs = each_once(concerned)?;
+    for p in &refs {
+        refold(alloc, rows, p, steps)?;
+    }
+    Ok(())
+}
+
+// The refs of a list, ascending and each once.
+fn each_once(refs: RefList) -> Result<Vec<Ref>, NoMemory>
+    ensures { IfOk result (λ once. (q : List ℕ)
+        → list_any (bytes_eq q) once.items ≡ list_any (bytes_eq q) refs) }
+{
+    let mut refs = refs.into_vec();
+    refs.sort()?;
+    refs.dedup();
+    Ok(refs)
+}

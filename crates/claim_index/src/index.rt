@@ -1,0 +1,257 @@
+//! An index of facts.
+ghost use Rattle.std.specs.Prelude.{◌≡◌, ◌+◌, false, IfOk, OnOk, OnErr};
+ghost use Rattle.std.specs.FinMap as finite;
+ghost use Rattle.schema_fact.specs.Validity.{IsValid};
+ghost use Rattle.claim_index.specs.Indexed.{Inserts, IsSame};
+
+use crate::answers;
+use crate::numbers::Numbers;
+use crate::rebuilding::{rebuild, take_up};
+use blobref::{NoMemory, Ref, RefList, TextList};
+use claim_verify::Verifier;
+use edge_base::{Inserted, Steps};
+use index_look::Look;
+use index_rows::Rows;
+use schema_date::{Date, When};
+use schema_fact::Fact;
+use std::alloc::Global;
+use std::marker::Model;
+use std::sync::ledger::Ledger;
+
+/// An index of facts that come one by one, in any order. A contract sees the facts under their refs, the numbers under
+/// which they came, the keys, and whether the index is stale: its other tables are then of no use, after a want of
+/// memory, and it answers from the facts alone.
+#[derive(Drop)]
+pub struct Index<V: Verifier> {
+    alloc: Global,
+    rows: Rows,
+    numbers: Numbers,
+    keys: V,
+    stale: bool,
+}
+
+impl<V: Verifier> Model for Index<V> {
+    ghost use Rattle.std.specs.Prelude.{◌≡◌, false};
+    ghost use Rattle.index_meaning.specs.Meaning.{IsAtRest};
+    ghost use Rattle.claim_index.specs.Indexed.{Indexed, indexed_code};
+
+    ghost Value = { Indexed V };
+
+    ghost coded = { indexed_code V.code };
+
+    ghost view = { λ a. record { facts = a.rows.facts; numbers = a.numbers.numbers; keys = a.keys; stale = a.stale } };
+
+    ghost invariant = { λ a. a.stale ≡ false → IsAtRest a.rows.facts (V.accepts a.keys) a.rows.state
+        a.rows.waiters a.rows.deletes a.rows.changes a.rows.holders };
+}
+
+impl<V: Verifier> Index<V> {
+    /// An index of no facts. It keeps the allocator, and takes all its memory from it.
+    pub fn fresh(alloc: Global, keys: V) -> Index<V>
+    where
+        V: Drop,
+        ensures facts { result.facts ≡ finite.empty }
+        ensures numbers { result.numbers ≡ finite.empty }
+        ensures keys { result.keys ≡ keys }
+        ensures stale { result.stale ≡ false }
+    {
+        Index {
+            alloc,
+            rows: Rows::empty(alloc),
+            numbers: Numbers::empty(alloc),
+            keys,
+            stale: false,
+        }
+    }
+
+    /// Puts a fact under a number and a ref, and takes it up. `Already` comes exactly where the number stood in the
+    /// index; then nothing is put. After both the index isn't stale: where it was, the tables are made anew of all
+    /// facts. A ref must stand under one number alone.
+    ///
+    /// `NoMemory` comes only where no memory is left. The facts and the numbers are then as they were, and the index
+    /// may be stale. It answers by the facts all the same, and the next insert makes the tables anew.
+    ///
+    /// It looks at what waited for the ref, at what became ready and the delete claims that this concerns, and at the
+    /// changes of each permanode that is concerned, once each.
+    pub fn insert<L: Ledger>(
+        &mut self,
+        number: u64,
+        r: &Ref,
+        fact: Fact,
+        steps: &mut Steps<L>,
+    ) -> Result<Inserted, NoMemory>
+        requires valid { IsValid fact }
+        requires alone { finite.contains_key self.old.numbers number ≡ false
+            → finite.contains_key self.old.facts r.now ≡ false }
+        ensures inserted { IfOk result (λ inserted. Inserts self.old self.new number r.now fact inserted) }
+        ensures refused { OnErr result (IsSame self.old self.new) }
+        ensures stale { OnOk result (self.new.stale ≡ false) }
+        ensures keys { self.new.keys ≡ self.old.keys }
+    {
+        if self.numbers.has(number) {
+            self.refresh(steps)?;
+            return Ok(Inserted::Already);
+        }
+        self.numbers.make_room(number)?;
+        self.rows.facts.put(self.alloc, r, fact, steps)?;
+        let taken_up = take_up(self.alloc, &mut self.rows, &self.keys, self.stale, r, steps);
+        if taken_up.is_err() {
+            self.rows.facts.drop_row(r, steps);
+            self.stale = true;
+            return Err(NoMemory);
+        }
+        self.stale = false;
+        self.numbers.set(number);
+        Ok(Inserted::New)
+    }
+
+    // Makes the tables anew of all facts, where the index is stale.
+    fn refresh<L: Ledger>(&mut self, steps: &mut Steps<L>) -> Result<(), NoMemory>
+        ensures same { IsSame self.old self.new }
+        ensures keys { self.new.keys ≡ self.old.keys }
+        ensures stale { OnOk result (self.new.stale ≡ false) }
+    {
+        if self.stale {
+            rebuild(self.alloc, &mut self.rows, &self.keys, steps)?;
+            self.stale = false;
+        }
+        Ok(())
+    }
+
+    /// How many numbers stand in the index.
+    pub fn len(&self) -> u64
+        ensures { result ≡ finite.len self.now.numbers }
+    {
+        self.numbers.len()
+    }
+
+    /// Whether a number stands in the index. It takes time in the logarithm of the number of blocks of 64 numbers.
+    pub fn holds(&self, number: u64) -> bool
+        ensures { result ≡ finite.contains_key self.now.numbers number }
+    {
+        self.numbers.has(number)
+    }
+
+    /// Whether the index is stale. It then answers as before, but walks over all facts for each answer.
+    pub fn stale(&self) -> bool
+        ensures { result ≡ self.now.stale }
+    {
+        self.stale
+    }
+
+    /// Whether a fact was inserted under the ref. One look-up.
+    pub fn stands<L: Ledger>(&self, r: &Ref, steps: &mut Steps<L>) -> bool
+        ensures value { result ≡ finite.contains_key self.now.facts r.now }
+        ensures ticks { steps.new ≡ steps.old + 1 }
+    {
+        self.rows.facts.row(r, steps).is_some()
+    }
+}
+
+impl<V: Verifier> Look for Index<V> {
+    ghost facts = { λ index. index.facts };
+
+    ghost accepts = { λ index. V.accepts index.keys };
+
+    ghost quick = { λ index. ⊥ };
+
+    /// Two look-ups.
+    fn fact_of<L: Ledger>(&self, r: &Ref, steps: &mut Steps<L>) -> Option<&Fact> {
+        if self.stale {
+            plain_answers::fact_of(&self.rows.facts, &self.keys, r, steps)
+        } else {
+            answers::fact_of(&self.rows, r, steps)
+        }
+    }
+
+    /// Two look-ups.
+    fn is_permanode<L: Ledger>(&self, r: &Ref, steps: &mut Steps<L>) -> bool {
+        if self.stale {
+            plain_answers::is_permanode(&self.rows.facts, &self.keys, r, steps)
+        } else {
+            answers::is_genuine_permanode(&self.rows, r, steps)
+        }
+    }
+
+    /// It walks over the facts up to that permanode, with a look-up for each permanode.
+    fn permanode_after<L: Ledger>(&self, after: Option<&Ref>, steps: &mut Steps<L>) -> Option<Ref> {
+        if self.stale {
+            plain_answers::permanode_after(&self.rows.facts, &self.keys, after, steps)
+        } else {
+            answers::permanode_after(&self.rows, after, steps)
+        }
+    }
+
+    /// Two look-ups for all dates. At another it walks over the delete claims on the ref, those on these, and so on,
+    /// each once; it takes no memory, and the stack doesn't grow.
+    fn deleted<L: Ledger>(&self, r: &Ref, when: &When, steps: &mut Steps<L>) -> bool {
+        if self.stale {
+            plain_answers::deleted(&self.rows.facts, &self.keys, r, when, steps)
+        } else {
+            answers::deleted(&self.rows, r, when, steps)
+        }
+    }
+
+    /// It walks over the changes of the permanode up to that time, and asks for each whether its claim is deleted.
+    fn values<L: Ledger>(
+        &self,
+        p: &Ref,
+        attr: &str,
+        when: &When,
+        steps: &mut Steps<L>,
+    ) -> Result<TextList, NoMemory> {
+        if self.stale {
+            let facts = &self.rows.facts;
+            plain_answers::values(self.alloc, facts, &self.keys, p, attr, when, steps)
+        } else {
+            answers::values(self.alloc, &self.rows, p, attr, when, steps)
+        }
+    }
+
+    /// The same walk.
+    fn last_change<L: Ledger>(&self, p: &Ref, when: &When, steps: &mut Steps<L>) -> Option<Date> {
+        if self.stale {
+            plain_answers::last_change(&self.rows.facts, &self.keys, p, when, steps)
+        } else {
+            answers::last_change(&self.rows, p, when, steps)
+        }
+    }
+
+    /// Two look-ups.
+    fn file_size<L: Ledger>(&self, r: &Ref, steps: &mut Steps<L>) -> Option<u64> {
+        if self.stale {
+            plain_answers::file_size(&self.rows.facts, &self.keys, r, steps)
+        } else {
+            answers::file_size(&self.rows, r, steps)
+        }
+    }
+
+    /// A step for each holder, and one more.
+    fn holders<L: Ledger>(
+        &self,
+        attr: &str,
+        value: &str,
+        steps: &mut Steps<L>,
+    ) -> Result<RefList, NoMemory> {
+        if self.stale {
+            plain_answers::holders(self.alloc, &self.rows.facts, &self.keys, attr, value, steps)
+        } else {
+            answers::holders(self.alloc, &self.rows.holders, attr, value, steps)
+        }
+    }
+
+    /// For all dates a step for each parent, and one more. At another it walks over all facts, and over the changes
+    /// of each permanode.
+    fn parents<L: Ledger>(
+        &self,
+        child: &Ref,
+        when: &When,
+        steps: &mut Steps<L>,
+    ) -> Result<RefList, NoMemory> {
+        if self.stale {
+            plain_answers::parents(self.alloc, &self.rows.facts, &self.keys, child, when, steps)
+        } else {
+            answers::parents(self.alloc, &self.rows, child, when, steps)
+        }
+    }
+}

@@ -1,0 +1,182 @@
+//! What is found out of a ref that became ready.
+ghost use Rattle.std.specs.Prelude.{◌≡◌, ◌&&◌, ◌||◌, ◌∷◌, ℕ, List, IfOk, OnOk};
+ghost use Rattle.std.specs.Str.{bytes_eq};
+ghost use Rattle.std.specs.FinMap.{get, contains_key};
+ghost use Rattle.claim_model.specs.Facts.{Facts};
+ghost use Rattle.claim_model.specs.Claims.{Moment};
+ghost use Rattle.index_meaning.specs.Meaning.{is_change_on, IsJudged, IsChangesOf};
+ghost use Rattle.claim_index.specs.Judging.{is_change_by, judged_in, kind_judged, marked, what_judged, with_marks};
+ghost use Rattle.claim_index.specs.Judging.{IsMarked, IsChanged, CanJudge};
+
+use crate::genuine::is_signed;
+use crate::soundness::parts_fit;
+use blobref::{NoMemory, Ref};
+use claim_verify::Verifier;
+use edge_base::Steps;
+use index_rows::{ChangeRows, RefRows, Rows, StateRow};
+use schema_date::Date;
+use schema_fact::{Kind, What};
+use std::sync::ledger::Ledger;
+
+// What a ref that was judged is to an index.
+#[derive(Clone, Copy)]
+pub(crate) enum Judged {
+    // Neither a genuine permanode nor a genuine claim.
+    Nothing,
+    // A genuine permanode.
+    Permanode,
+    // A genuine delete claim.
+    Delete,
+    // A genuine attribute claim.
+    Changes,
+}
+
+// Judges a ref that became ready, once what it depends on was judged: its row of `state` says from then on whether it
+// is genuine and whether it is a sound tree, and the changes of a genuine attribute claim have their rows. The answer
+// says what the ref is, which is all that is left to do for it. Facts, and the tables that aren't named here, stay.
+// `NoMemory` comes only where no memory is left, and the rows of `state` and `changes` may be anything then. It looks
+// up the fact, its signer and the origins of its parts, once each.
+pub(crate) fn judge<V: Verifier, L: Ledger>(
+    rows: &mut Rows,
+    keys: &V,
+    x: &Ref,
+    steps: &mut Steps<L>,
+) -> Result<Judged, NoMemory>
+    ensures facts { rows.new.facts ≡ rows.old.facts }
+    ensures waiters { rows.new.waiters ≡ rows.old.waiters }
+    ensures deletes { rows.new.deletes ≡ rows.old.deletes }
+    ensures holders { rows.new.holders ≡ rows.old.holders }
+    ensures state { OnOk result
+        (IsMarked rows.old.facts (V.accepts keys.now) rows.old.state rows.new.state x.now) }
+    ensures changes { OnOk result
+        (IsChanged rows.old.facts (V.accepts keys.now) rows.old.changes rows.new.changes x.now) }
+    ensures answer { IfOk result (λ judged. judged ≡ judged_in rows.old.facts (V.accepts keys.now) x.now) }
+    ensures judged { OnOk result ((facts : Facts) (left : List (List ℕ))
+        → CanJudge facts rows.old.facts rows.old.state left x.now
+        → IsJudged facts (V.accepts keys.now) (x.now ∷ left) rows.old.state
+        → IsJudged facts (V.accepts keys.now) left rows.new.state) }
+    ensures changed { OnOk result ((facts : Facts) (left : List (List ℕ))
+        → CanJudge facts rows.old.facts rows.old.state left x.now
+        → IsChangesOf facts (V.accepts keys.now) (x.now ∷ left) rows.old.changes
+        → IsChangesOf facts (V.accepts keys.now) left rows.new.changes) }
+{
+    look_into(rows, keys, x, steps)
+}
+
+// Writes down what is found of x.
+fn look_into<V: Verifier, L: Ledger>(
+    rows: &mut Rows,
+    keys: &V,
+    x: &Ref,
+    steps: &mut Steps<L>,
+) -> Result<Judged, NoMemory>
+    ensures facts { rows.new.facts ≡ rows.old.facts }
+    ensures waiters { rows.new.waiters ≡ rows.old.waiters }
+    ensures deletes { rows.new.deletes ≡ rows.old.deletes }
+    ensures holders { rows.new.holders ≡ rows.old.holders }
+    ensures state { OnOk result
+        (IsMarked rows.old.facts (V.accepts keys.now) rows.old.state rows.new.state x.now) }
+    ensures changes { OnOk result
+        (IsChanged rows.old.facts (V.accepts keys.now) rows.old.changes rows.new.changes x.now) }
+    ensures answer { IfOk result (λ judged. judged ≡ judged_in rows.old.facts (V.accepts keys.now) x.now) }
+{
+    let Some(fact) = rows.facts.row(x, steps) else {
+        return Ok(Judged::Nothing);
+    };
+    let genuine = is_signed(&rows.facts, keys, fact, steps);
+    let sound = parts_fit(&rows.facts, &rows.state, fact, steps);
+    mark(&mut rows.state, x, genuine, sound, steps)?;
+    if !genuine {
+        return Ok(Judged::Nothing);
+    }
+    list_changes(&mut rows.changes, x, &fact.kind, steps)?;
+    Ok(kind_judged(&fact.kind))
+}
+
+// Writes into the row of x what was found of it.
+fn mark<L: Ledger>(
+    state: &mut RefRows<StateRow>,
+    x: &Ref,
+    genuine: bool,
+    sound: bool,
+    steps: &mut Steps<L>,
+) -> Result<(), NoMemory>
+    ensures { OnOk result ((y : List ℕ)
+        → get state.new y ≡ marked (bytes_eq y x.now) genuine sound (get state.old y)) }
+{
+    if !genuine && !sound {
+        return Ok(());
+    }
+    match state.row(x, steps) {
+        Some(row) => {
+            let row = with_marks(*row, genuine, sound);
+            state.put(x, row, steps)
+        }
+        None => Ok(()),
+    }
+}
+
+fn with_marks(row: StateRow, genuine: bool, sound: bool) -> StateRow
+    ensures { result ≡ with_marks genuine sound row }
+{
+    StateRow {
+        genuine,
+        sound,
+        ..row
+    }
+}
+
+// Puts the rows of the changes of a genuine blob, where it is a claim.
+fn list_changes<L: Ledger>(
+    changes: &mut ChangeRows,
+    x: &Ref,
+    kind: &Kind,
+    steps: &mut Steps<L>,
+) -> Result<(), NoMemory>
+    ensures { OnOk result ((p : List ℕ) (k : Moment) → contains_key changes.new (p, k)
+        ≡ (contains_key changes.old (p, k) || (bytes_eq k.1 x.now && is_change_on p k kind.now))) }
+{
+    match kind {
+        Kind::Claim { date, what, .. } => put_changes(changes, x, date, what, steps),
+        _ => Ok(()),
+    }
+}
+
+// Puts a row for each change of a claim.
+fn put_changes<L: Ledger>(
+    changes: &mut ChangeRows,
+    claim: &Ref,
+    date: &Date,
+    what: &What,
+    steps: &mut Steps<L>,
+) -> Result<(), NoMemory>
+    ensures { OnOk result ((p : List ℕ) (k : Moment) → contains_key changes.new (p, k)
+        ≡ (contains_key changes.old (p, k) || (bytes_eq k.1 claim.now && is_change_by p k date.now what.now))) }
+{
+    match what {
+        What::Set { on, .. } | What::Add { on, .. } | What::Del { on, .. } => {
+            changes.put(on, date, claim, 0, steps)
+        }
+        What::Delete { .. } => Ok(()),
+    }
+}
+
+// What a genuine blob of this kind is to an index.
+fn kind_judged(kind: &Kind) -> Judged
+    ensures { result ≡ kind_judged kind.now }
+{
+    match kind {
+        Kind::Permanode(_) => Judged::Permanode,
+        Kind::Claim { what, .. } => what_judged(what),
+        _ => Judged::Nothing,
+    }
+}
+
+fn what_judged(what: &What) -> Judged
+    ensures { result ≡ what_judged what.now }
+{
+    match what {
+        What::Delete { .. } => Judged::Delete,
+        _ => Judged::Changes,
+    }
+}

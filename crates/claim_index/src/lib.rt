@@ -1,0 +1,17 @@
+//! An index of facts that come one by one, in any order.
+#![tactic(auto)]
+
+mod answers;
+mod finishing;
+mod genuine;
+mod index;
+mod judging;
+mod numbers;
+mod rebuilding;
+mod said;
+mod soundness;
+mod taking;
+mod touching;
+mod work;
+
+pub use index::Index;

@@ -1,0 +1,91 @@
+//! The tables made anew, of all facts at once.
+ghost use Rattle.std.specs.Prelude.{◌≡◌, ℕ, List, [], IfSome, IfNone, None, OnOk, option_copied, false};
+ghost use Rattle.std.specs.FinMap.{contains_key};
+ghost use Rattle.index_look.specs.Walk.{entries_after};
+ghost use Rattle.claim_index.specs.Halfway.{HasOneMore, IsHalfway, IsNext, IsTakenTo, Rests};
+
+use crate::finishing::finish;
+use crate::taking::take_in;
+use crate::work::Work;
+use blobref::{NoMemory, Ref};
+use claim_verify::Verifier;
+use edge_base::Steps;
+use index_rows::{ChangeRows, FactRows, HolderRows, PairRows, RefRows, Rows};
+use std::alloc::Global;
+use std::sync::ledger::Ledger;
+
+// Takes up one fact more, or all of them anew where the other tables are stale. Where there is no memory the facts are
+// as they were, and the other tables may be anything.
+pub(crate) fn take_up<V: Verifier, L: Ledger>(
+    alloc: Global,
+    rows: &mut Rows,
+    keys: &V,
+    stale: bool,
+    r: &Ref,
+    steps: &mut Steps<L>,
+) -> Result<(), NoMemory>
+    requires { stale ≡ false → HasOneMore (V.accepts keys.now) rows.old r.now }
+    ensures facts { rows.new.facts ≡ rows.old.facts }
+    ensures rest { OnOk result (Rests (V.accepts keys.now) rows.new) }
+{
+    if stale {
+        return rebuild(alloc, rows, keys, steps);
+    }
+    let mut work = Work::none(alloc);
+    take_in(alloc, rows, keys, r, &mut work, steps)?;
+    finish(alloc, rows, work, steps)
+}
+
+// Makes all tables but that of the facts anew. Where there is no memory these may be anything.
+pub(crate) fn rebuild<V: Verifier, L: Ledger>(
+    alloc: Global,
+    rows: &mut Rows,
+    keys: &V,
+    steps: &mut Steps<L>,
+) -> Result<(), NoMemory>
+    ensures facts { rows.new.facts ≡ rows.old.facts }
+    ensures rest { OnOk result (Rests (V.accepts keys.now) rows.new) }
+{
+    rows.state = RefRows::empty(alloc);
+    rows.waiters = PairRows::empty(alloc);
+    rows.deletes = PairRows::empty(alloc);
+    rows.changes = ChangeRows::empty(alloc);
+    rows.holders = HolderRows::empty(alloc);
+    let mut work = Work::none(alloc);
+    take_all(alloc, rows, keys, &mut work, steps)?;
+    finish(alloc, rows, work, steps)
+}
+
+// Takes up all facts, in the order of their refs.
+fn take_all<V: Verifier, L: Ledger>(
+    alloc: Global,
+    rows: &mut Rows,
+    keys: &V,
+    work: &mut Work,
+    steps: &mut Steps<L>,
+) -> Result<(), NoMemory>
+    requires halfway { IsHalfway (V.accepts keys.now) [] work.old.deletes work.old.concerned rows.old }
+    requires none { IsTakenTo rows.old None }
+    ensures facts { rows.new.facts ≡ rows.old.facts }
+    ensures halfway { OnOk result
+        (IsHalfway (V.accepts keys.now) [] work.new.deletes work.new.concerned rows.new) }
+    ensures all { OnOk result ((y : List ℕ) → contains_key rows.new.state y ≡ contains_key rows.new.facts y) }
+{
+    let mut last: Option<Ref> = None;
+    'walk: while let Some(r) = next_ref(&rows.facts, last.as_ref(), steps) {
+        take_in(alloc, rows, keys, &r, work, steps)?;
+        last = Some(r);
+    }
+    Ok(())
+}
+
+// The next ref of a fact.
+fn next_ref<L: Ledger>(facts: &FactRows, last: Option<&Ref>, steps: &mut Steps<L>) -> Option<Ref>
+    ensures next { IfSome result (λ r. IsNext facts.now (option_copied last.entry) r) }
+    ensures last { IfNone result (entries_after facts.now (option_copied last.entry) ≡ []) }
+{
+    match facts.next_after(last, steps) {
+        Some(entry) => Some(entry.0),
+        None => None,
+    }
+}

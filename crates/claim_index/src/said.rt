@@ -1,0 +1,52 @@
+//! What rows of `state` say. One look-up each.
+ghost use Rattle.std.specs.Prelude.{◌≡◌};
+ghost use Rattle.index_rows.specs.States.{says_genuine};
+ghost use Rattle.claim_index.specs.Judging.{says_sound};
+ghost use Rattle.claim_index.specs.Told.{says_ready};
+
+use blobref::Ref;
+use edge_base::Steps;
+use index_rows::{RefRows, StateRow};
+use std::sync::ledger::Ledger;
+
+// Whether the ref is ready.
+pub(crate) fn says_ready<L: Ledger>(
+    state: &RefRows<StateRow>,
+    r: &Ref,
+    steps: &mut Steps<L>,
+) -> bool
+    ensures { result ≡ says_ready state.now r.now }
+{
+    match state.row(r, steps) {
+        Some(row) => row.ready,
+        None => false,
+    }
+}
+
+// Whether it is genuine.
+pub(crate) fn says_genuine<L: Ledger>(
+    state: &RefRows<StateRow>,
+    r: &Ref,
+    steps: &mut Steps<L>,
+) -> bool
+    ensures { result ≡ says_genuine state.now r.now }
+{
+    match state.row(r, steps) {
+        Some(row) => row.genuine,
+        None => false,
+    }
+}
+
+// Whether it is a sound tree.
+pub(crate) fn says_sound<L: Ledger>(
+    state: &RefRows<StateRow>,
+    r: &Ref,
+    steps: &mut Steps<L>,
+) -> bool
+    ensures { result ≡ says_sound state.now r.now }
+{
+    match state.row(r, steps) {
+        Some(row) => row.sound,
+        None => false,
+    }
+}

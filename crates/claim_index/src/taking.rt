@@ -1,0 +1,85 @@
+//! A ref that is taken up, and what becomes ready by it.
+ghost use Rattle.std.specs.Prelude.{◌≡◌, ◌||◌, ◌∷◌, [], ℕ, List, OnOk};
+ghost use Rattle.std.specs.Str.{bytes_eq};
+ghost use Rattle.std.specs.FinMap.{contains_key};
+ghost use Rattle.pending_deps.specs.Arriving.{IsNew};
+ghost use Rattle.claim_index.specs.Halfway.{IsHalfway, CanBeJudged};
+
+use crate::judging::{Judged, judge};
+use crate::touching::concern;
+use crate::work::Work;
+use blobref::{NoMemory, Ref};
+use claim_verify::Verifier;
+use edge_base::Steps;
+use index_rows::Rows;
+use pending_deps::arrive;
+use std::alloc::Global;
+use std::sync::ledger::Ledger;
+
+// Takes up a ref whose fact stands: what becomes ready is judged, and what is left to do for it joins the work. Where
+// there is no memory the facts are as they were, and the other tables may be anything.
+pub(crate) fn take_in<V: Verifier, L: Ledger>(
+    alloc: Global,
+    rows: &mut Rows,
+    keys: &V,
+    r: &Ref,
+    work: &mut Work,
+    steps: &mut Steps<L>,
+) -> Result<(), NoMemory>
+    requires halfway { IsHalfway (V.accepts keys.now) [] work.old.deletes work.old.concerned rows.old }
+    requires fresh { IsNew rows.old.facts rows.old.state r.now }
+    ensures facts { rows.new.facts ≡ rows.old.facts }
+    ensures taken { OnOk result ((y : List ℕ)
+        → contains_key rows.new.state y ≡ (bytes_eq y r.now || contains_key rows.old.state y)) }
+    ensures halfway { OnOk result
+        (IsHalfway (V.accepts keys.now) [] work.new.deletes work.new.concerned rows.new) }
+{
+    let order = arrive(alloc, rows, r, steps)?;
+    judge_all(rows, keys, order.as_slice(), work, steps)
+}
+
+// Judges refs in their order.
+fn judge_all<V: Verifier, L: Ledger>(
+    rows: &mut Rows,
+    keys: &V,
+    order: &[Ref],
+    work: &mut Work,
+    steps: &mut Steps<L>,
+) -> Result<(), NoMemory>
+    requires halfway { IsHalfway (V.accepts keys.now) order.now work.old.deletes work.old.concerned rows.old }
+    requires reached { CanBeJudged order.now rows.old }
+    ensures facts { rows.new.facts ≡ rows.old.facts }
+    ensures taken { OnOk result ((y : List ℕ) → contains_key rows.new.state y ≡ contains_key rows.old.state y) }
+    ensures halfway { OnOk result
+        (IsHalfway (V.accepts keys.now) [] work.new.deletes work.new.concerned rows.new) }
+{
+    for x in order {
+        judge_one(rows, keys, x, work, steps)?;
+    }
+    Ok(())
+}
+
+// Judges a ref, and adds what is left to do for it to the work.
+fn judge_one<V: Verifier, L: Ledger>(
+    rows: &mut Rows,
+    keys: &V,
+    x: &Ref,
+    work: &mut Work,
+    steps: &mut Steps<L>,
+) -> Result<(), NoMemory>
+    ensures facts { rows.new.facts ≡ rows.old.facts }
+    ensures taken { OnOk result ((y : List ℕ) → contains_key rows.new.state y ≡ contains_key rows.old.state y) }
+    ensures halfway { OnOk result ((left : List (List ℕ))
+        → IsHalfway (V.accepts keys.now) (x.now ∷ left) work.old.deletes work.old.concerned rows.old
+        → CanBeJudged (x.now ∷ left) rows.old
+        → IsHalfway (V.accepts keys.now) left work.new.deletes work.new.concerned rows.new) }
+    ensures reached { OnOk result ((left : List (List ℕ))
+        → IsHalfway (V.accepts keys.now) (x.now ∷ left) work.old.deletes work.old.concerned rows.old
+        → CanBeJudged (x.now ∷ left) rows.old → CanBeJudged left rows.new) }
+{
+    match judge(rows, keys, x, steps)? {
+        Judged::Nothing => Ok(()),
+        Judged::Delete => work.deletes.push(*x),
+        Judged::Permanode | Judged::Changes => concern(rows, x, &mut work.concerned, steps),
+    }
+}

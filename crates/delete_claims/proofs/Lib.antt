@@ -1,0 +1,4 @@
+pub mod Rounds
+pub mod Flips
+pub mod Chain
+pub mod OneRow

@@ -1,0 +1,93 @@
+//! Delete claims that are entered, one after another.
+ghost use Rattle.std.specs.Prelude.{◌≡◌, IfOk};
+ghost use Rattle.schema_date.specs.declared.date.When.TheVariants.{Always};
+ghost use Rattle.index_rows.specs.Deletes.{row_deleted};
+ghost use Rattle.index_rows.specs.Counted.{has_deleters, IsCounted};
+ghost use Rattle.delete_claims.specs.Entered.{delete_in, IsNewDelete, IsEntered};
+
+use crate::flipping::flip_from;
+use blobref::{NoMemory, Ref, RefList};
+use edge_base::Steps;
+use index_look::claim::can_be_deleted_at;
+use index_rows::{FactRows, RefRows, Rows, StateRow};
+use schema_date::Date;
+use schema_fact::{Kind, What};
+use std::alloc::Global;
+use std::sync::ledger::Ledger;
+
+/// Enters a delete claim: puts its row, and counts it at its target where it isn't deleted itself. Answers the refs
+/// whose deletion at `When::Always` this changed, each once: they are now deleted and weren't, or were and aren't.
+///
+/// The counts of delete claims must be right for the rows of `deletes`. The claim must be ready, it and its target must
+/// have arrived, and it must have no row. After `Ok` its row stands, the counts are right again, and no other row and
+/// no other column of `state` changed. After `NoMemory` the tables `deletes` and `state` may be anything, and the other
+/// tables are as they were.
+///
+/// A target whose deletion changes may itself be a delete claim that counted, or now counts, at its own target, and so
+/// on from target to target. The time is that of at most four look-ups or changes for each target up to the first whose
+/// deletion stays. So of n delete claims that each delete the one before, entered in this order, the last one alone
+/// looks at up to n targets, and all together at up to the square of n. Entered in the reverse order, each looks at
+/// one.
+pub fn enter<L: Ledger>(
+    alloc: Global,
+    rows: &mut Rows,
+    d: &Ref,
+    steps: &mut Steps<L>,
+) -> Result<RefList, NoMemory>
+    requires counted { IsCounted rows.old.facts rows.old.deletes rows.old.state }
+    requires fresh { IsNewDelete rows.old.facts rows.old.deletes rows.old.state d.now }
+    ensures facts { rows.new.facts ≡ rows.old.facts }
+    ensures waiters { rows.new.waiters ≡ rows.old.waiters }
+    ensures changes { rows.new.changes ≡ rows.old.changes }
+    ensures holders { rows.new.holders ≡ rows.old.holders }
+    ensures entered { IfOk result (λ changed.
+        IsEntered rows.old.facts rows.old.deletes rows.new.deletes rows.old.state rows.new.state d.now changed) }
+{
+    let Some((target, date)) = delete_in(&rows.facts, d, steps) else {
+        unreachable!()
+    };
+    rows.deletes.put(&target, d, date, steps)?;
+    if has_deleters(&rows.state, d, steps) {
+        return Ok(RefList::empty(alloc));
+    }
+    flip_from(
+        alloc,
+        &rows.facts,
+        &mut rows.state,
+        &rows.deletes,
+        &target,
+        steps,
+    )
+}
+
+/// Whether a blob is deleted at `When::Always` by the delete claims whose rows stand, where the counts of delete claims
+/// are right for these rows. At most two look-ups.
+pub fn is_gone<L: Ledger>(rows: &Rows, y: &Ref, steps: &mut Steps<L>) -> bool
+    requires { IsCounted rows.now.facts rows.now.deletes rows.now.state }
+    ensures { result ≡ row_deleted rows.now.facts rows.now.deletes Always y.now }
+{
+    can_be_deleted_at(&rows.facts, y, steps) && has_deleters(&rows.state, y, steps)
+}
+
+fn has_deleters<L: Ledger>(state: &RefRows<StateRow>, y: &Ref, steps: &mut Steps<L>) -> bool
+    ensures { result ≡ has_deleters state.now y.now }
+{
+    match state.row(y, steps) {
+        Some(row) => 0 < row.deleters,
+        None => false,
+    }
+}
+
+// The target and the date of a delete claim.
+fn delete_in<L: Ledger>(facts: &FactRows, d: &Ref, steps: &mut Steps<L>) -> Option<(Ref, Date)>
+    ensures { result ≡ delete_in facts.now d.now }
+{
+    match &facts.row(d, steps)?.kind {
+        Kind::Claim {
+            date,
+            what: What::Delete { target },
+            ..
+        } => Some((*target, *date)),
+        _ => None,
+    }
+}

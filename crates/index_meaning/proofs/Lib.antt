@@ -1,0 +1,16 @@
+pub mod Deletions
+pub mod Parts
+pub mod Moments
+pub mod Values
+pub mod Said
+pub mod Holding
+pub mod Unconcerned
+pub mod Listing
+pub mod Growth
+pub mod Arriving
+pub mod Resting
+pub mod Counts
+pub mod Left
+pub mod Keeping
+pub mod Concerning
+pub mod Progressing

@@ -1,0 +1,5 @@
+use Rattle.index_meaning.proofs.Values.{rows_tell_last_change}
+use Rattle.index_meaning.proofs.laws.rows_tell_last_change.Goals as goal
+
+pub returns : goal.returns
+returns c = rows_tell_last_change

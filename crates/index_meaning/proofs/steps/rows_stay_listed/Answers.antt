@@ -1,0 +1,5 @@
+use Rattle.index_meaning.proofs.Growth.{rows_stay_listed}
+use Rattle.index_meaning.proofs.steps.rows_stay_listed.Goals as goal
+
+pub returns : goal.returns
+returns c = rows_stay_listed

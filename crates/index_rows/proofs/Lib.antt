@@ -1,0 +1,16 @@
+pub mod RefMaps
+pub mod Stored
+pub mod Orders
+pub mod Arrived
+pub mod Puts
+pub mod Once
+pub mod Groups
+pub mod Alone
+pub mod Walks
+pub mod HolderGroups
+pub mod Deleting
+pub mod DeletionWalk
+pub mod DeletionEnds
+pub mod DeletionSteps
+pub mod Counting
+pub mod DeletionCounts

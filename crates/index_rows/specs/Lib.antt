@@ -1,0 +1,10 @@
+pub mod Stored
+pub mod Pairs
+pub mod Changes
+pub mod Deletes
+pub mod States
+pub mod Waiting
+pub mod Once
+pub mod Counted
+pub mod Values
+pub mod Holders

@@ -1,0 +1,132 @@
+//! Which claims change a permanode, and when.
+ghost use Rattle.std.specs.Prelude.{◌≡◌, ◌+◌, ◌∷◌, [], Some, OnOk, OnErr, IfSome, IfNone, option_copied};
+ghost use Rattle.std.specs.FinMap as finite;
+ghost use Rattle.index_rows.specs.Changes.{changes_above, changes_after, changes_from, changes_start, AllFromFirst, IsFromFirst};
+
+use blobref::{NoMemory, Ref};
+use edge_base::Steps;
+use schema_date::Date;
+use std::alloc::Global;
+use std::collections::BTreeSet;
+use std::marker::Model;
+use std::ops::Bound;
+use std::sync::ledger::Ledger;
+
+/// When a change counts: the number of its claim's date, as `Date::ns` gives it; the claim; the change's place there.
+pub type Moment = (i128, Ref, u32);
+
+/// The changes of permanodes by their moments. A contract sees them as a map with rows that say nothing. `steps`
+/// counts the steps from one row to the next and the rows put, each of which takes time in the logarithm of the number
+/// of rows.
+#[derive(Drop)]
+pub struct ChangeRows {
+    rows: BTreeSet<(Ref, Moment)>,
+}
+
+impl Model for ChangeRows {
+    ghost use Rattle.std.specs.FinMap as finite;
+    ghost use Rattle.std.specs.Coded.{coded_ℕ, coded_list, coded×};
+    ghost use base.Stored.{coded_unit};
+    ghost use Rattle.index_rows.specs.Changes.{change_cmp, keys_alone, moment_code, AllFromFirst};
+
+    ghost Value = { finite.FinMap change_cmp (Unit {0}) };
+
+    ghost coded = { finite.code (coded× (coded_list coded_ℕ) moment_code) coded_unit };
+
+    ghost view = { λ a. finite.from_entries (keys_alone a.rows.keys) };
+
+    ghost invariant = { λ a. AllFromFirst (finite.from_entries (keys_alone a.rows.keys)) };
+}
+
+impl ChangeRows {
+    /// No rows.
+    pub fn empty(alloc: Global) -> ChangeRows
+        ensures { result ≡ finite.empty }
+    {
+        ChangeRows {
+            rows: BTreeSet::new(alloc),
+        }
+    }
+
+    /// Puts a row: the claim of that date changes p by its change at this place. Where there is no memory nothing
+    /// changes.
+    pub fn put<L: Ledger>(
+        &mut self,
+        p: &Ref,
+        date: &Date,
+        claim: &Ref,
+        place: u32,
+        steps: &mut Steps<L>,
+    ) -> Result<(), NoMemory>
+        ensures ok { OnOk result (self.new ≡ finite.insert self.old (p.now, (date.now, claim.now, place)) tt) }
+        ensures err { OnErr result (self.new ≡ self.old) }
+        ensures ticks { steps.new ≡ steps.old + 1 }
+    {
+        steps.tick();
+        let moment = moment_of(date, claim, place);
+        self.rows.insert((*p, moment))?;
+        Ok(())
+    }
+
+    /// The first moment of p behind `after`, or of all where `after` is `None`; `None` exactly where there is none.
+    pub fn next_of<L: Ledger>(
+        &self,
+        p: &Ref,
+        after: Option<&Moment>,
+        steps: &mut Steps<L>,
+    ) -> Option<Moment>
+        ensures next { IfSome result (λ k.
+            changes_after self.now p.now (option_copied after.entry)
+            ≡ ((p.now, k), tt) ∷ changes_after self.now p.now (Some k)) }
+        ensures last { IfNone result (changes_after self.now p.now (option_copied after.entry) ≡ []) }
+        ensures ticks { steps.new ≡ steps.old + 1 }
+    {
+        match self.next_from(p, after, steps) {
+            Some(key) => if *p == key.0 { Some(key.1) } else { None },
+            None => None,
+        }
+    }
+
+    // The least key of p behind `after`, or at all, or of another permanode above p.
+    fn next_from<L: Ledger>(
+        &self,
+        p: &Ref,
+        after: Option<&Moment>,
+        steps: &mut Steps<L>,
+    ) -> Option<(Ref, Moment)>
+        ensures next { IfSome result (λ k.
+            changes_from self.now (changes_start p.now (option_copied after.entry))
+            ≡ (k, tt) ∷ changes_above self.now k) }
+        ensures last { IfNone result (changes_from self.now (changes_start p.now (option_copied after.entry)) ≡ []) }
+        ensures valid { AllFromFirst self.now }
+        ensures ticks { steps.new ≡ steps.old + 1 }
+    {
+        steps.tick();
+        match self
+            .rows
+            .range((changes_start(p, after), Bound::Unbounded))
+            .next()
+        {
+            Some(key) => Some(*key),
+            None => None,
+        }
+    }
+}
+
+fn moment_of(date: &Date, claim: &Ref, place: u32) -> Moment
+    ensures value { result ≡ (date.now, claim.now, place) }
+    ensures first { IsFromFirst result }
+{
+    claim.is_from_least();
+    (date.ns(), *claim, place)
+}
+
+// Where the changes of p begin, or go on.
+fn changes_start(p: &Ref, after: Option<&Moment>) -> Bound<(Ref, Moment)>
+    ensures { result ≡ changes_start p.now (option_copied after.entry) }
+{
+    match after {
+        Some(moment) => Bound::Excluded((*p, *moment)),
+        None => Bound::Included((*p, (i128::MIN, Ref::least(), 0))),
+    }
+}

@@ -1,0 +1,89 @@
+//! Deletion at a date, by a walk over the rows of delete claims.
+ghost use Rattle.std.specs.Prelude.{◌≡◌};
+ghost use Rattle.std.specs.FinMap.{get};
+ghost use Rattle.claim_model.specs.Facts.{passes};
+ghost use Rattle.claim_model.specs.Deleted.{can_be_deleted};
+ghost use Rattle.index_rows.specs.Deletes.{Ringless, row_deleted, target_in, kind_target, what_target};
+
+use crate::rows::Rows;
+use blobref::Ref;
+use edge_base::Steps;
+use index_look::claim::{can_be_deleted, counts_at};
+use schema_date::When;
+use schema_fact::{Kind, What};
+use std::sync::ledger::Ledger;
+
+/// Whether a blob is deleted at that time, by the delete claims whose rows stand. Each row of `deletes` must be that of
+/// a ready delete claim, so that no chain of them is a ring. It takes no memory and isn't recursive. Its time is that
+/// of looking through the delete claims on the blob, those on these, and so on, once each.
+pub fn deleted_at<L: Ledger>(rows: &Rows, r: &Ref, when: &When, steps: &mut Steps<L>) -> bool
+    requires { Ringless rows.now.facts rows.now.deletes }
+    ensures { result ≡ row_deleted rows.now.facts rows.now.deletes when.now r.now }
+{
+    if !can_be_deleted_at(rows, r, steps) {
+        return false;
+    }
+    // `at` is the blob whose delete claims are looked through, and those up to `last` don't make it deleted.
+    let mut at = *r;
+    let mut last: Option<Ref> = None;
+    'walk: loop {
+        match rows.deletes.next_of(&at, last.as_ref(), steps) {
+            Some((d, date)) => {
+                if counts_at(when, &date) {
+                    at = d;
+                    last = None;
+                } else {
+                    last = Some(d);
+                }
+            }
+            None => {
+                if at == *r {
+                    return false;
+                }
+                let y = target_in(rows, &at, steps);
+                if y == *r {
+                    return true;
+                }
+                at = target_in(rows, &y, steps);
+                last = Some(y);
+            }
+        }
+    }
+}
+
+fn can_be_deleted_at<L: Ledger>(rows: &Rows, r: &Ref, steps: &mut Steps<L>) -> bool
+    ensures { result ≡ passes (λ fact. can_be_deleted fact.kind) (get rows.now.facts r.now) }
+{
+    match rows.facts.row(r, steps) {
+        Some(fact) => can_be_deleted(&fact.kind),
+        None => false,
+    }
+}
+
+// The target of a delete claim, and of all else the ref itself.
+fn target_in<L: Ledger>(rows: &Rows, y: &Ref, steps: &mut Steps<L>) -> Ref
+    ensures { result ≡ target_in rows.now.facts y.now }
+{
+    match rows.facts.row(y, steps) {
+        Some(fact) => kind_target(y, &fact.kind),
+        None => *y,
+    }
+}
+
+fn kind_target(y: &Ref, kind: &Kind) -> Ref
+    ensures { result ≡ kind_target y.now kind.now }
+{
+    match kind {
+        Kind::Claim { what, .. } => what_target(y, what),
+        _ => *y,
+    }
+}
+
+fn what_target(y: &Ref, what: &What) -> Ref
+    ensures { result ≡ what_target y.now what.now }
+{
+    match what {
+        What::Delete { target } => *target,
+        _ => *y,
+    }
+}

@@ -1,0 +1,232 @@
+//! Which permanodes hold which values of attributes.
+ghost use Rattle.std.specs.Prelude.{◌≡◌, ◌+◌, ◌&&◌, ◌∷◌, [], Some, OnOk, OnErr, IfOk, IfSome, IfNone, option_copied, refl};
+ghost use Rattle.std.specs.Cmp.{eq_by_cmp_equiv, partial_equiv_from_equiv, partial_order_from_total};
+ghost use Rattle.std.specs.FinMap as finite;
+ghost use Rattle.std.specs.Ordering.{eq_by_cmp};
+ghost use Rattle.index_rows.specs.Holders.{holder_cmp, holder_total, holders_after, holders_start, is_of};
+
+use blobref::{NoMemory, Ref, Text};
+use edge_base::Steps;
+use std::alloc::Global;
+use std::cmp::Ordering;
+use std::collections::BTreeSet;
+use std::marker::Model;
+use std::ops::Bound;
+use std::sync::ledger::Ledger;
+
+/// An attribute, a value of it, and a permanode that holds this value. A contract sees it as these three. Keys are
+/// ordered by the attribute, then by the value, then by the permanode, the texts byte by byte.
+#[derive(Drop)]
+pub struct HolderKey {
+    attr: Text,
+    value: Text,
+    permanode: Ref,
+}
+
+impl Model for HolderKey {
+    ghost use Rattle.index_rows.specs.Holders.{HolderKey as Seen, holder_code};
+
+    ghost Value = { Seen };
+
+    ghost coded = { holder_code };
+
+    ghost view = { λ k. (k.attr, k.value, k.permanode) };
+}
+
+impl HolderKey {
+    /// The key of copies of the texts. `NoMemory` comes only where no memory is left.
+    pub fn copy(
+        alloc: Global,
+        attr: &str,
+        value: &str,
+        permanode: &Ref,
+    ) -> Result<HolderKey, NoMemory>
+        ensures { IfOk result (λ key. key ≡ (attr.now, value.now, permanode.now)) }
+    {
+        let attr = Text::copy(alloc, attr)?;
+        let value = Text::copy(alloc, value)?;
+        Ok(HolderKey {
+            attr,
+            value,
+            permanode: *permanode,
+        })
+    }
+
+    /// The attribute.
+    pub fn attr(&self) -> &str
+        ensures { result.now ≡ self.now.0 }
+    {
+        self.attr.as_str()
+    }
+
+    /// The value.
+    pub fn value(&self) -> &str
+        ensures { result.now ≡ self.now.1 }
+    {
+        self.value.as_str()
+    }
+
+    /// The permanode.
+    pub fn permanode(&self) -> &Ref
+        ensures { result.now ≡ self.now.2 }
+    {
+        &self.permanode
+    }
+}
+
+impl PartialEq for HolderKey {
+    ghost eq = { eq_by_cmp holder_cmp };
+
+    ghost laws = { partial_equiv_from_equiv (eq_by_cmp_equiv holder_total) };
+
+    fn eq(&self, other: &HolderKey) -> bool {
+        self.cmp(other).is_eq()
+    }
+}
+
+impl Eq for HolderKey {
+    ghost laws = { eq_by_cmp_equiv holder_total };
+}
+
+impl PartialOrd for HolderKey {
+    ghost partial_cmp = { λ x y. Some (holder_cmp x y) };
+
+    ghost laws = { partial_order_from_total holder_total };
+
+    fn partial_cmp(&self, other: &HolderKey) -> Option<Ordering> {
+        Some(self.cmp(other))
+    }
+}
+
+impl Ord for HolderKey {
+    ghost cmp = { holder_cmp };
+
+    ghost total = { holder_total };
+
+    ghost matches_partial_cmp = { λ x y. refl };
+
+    ghost matches_eq = { λ x y. refl };
+
+    fn cmp(&self, other: &HolderKey) -> Ordering {
+        self.attr
+            .as_str()
+            .cmp(other.attr.as_str())
+            .then_with(|| self.value.as_str().cmp(other.value.as_str()))
+            .then_with(|| self.permanode.cmp(&other.permanode))
+    }
+}
+
+/// The permanodes that hold the values of attributes. A contract sees them as a map with rows that say nothing.
+/// `steps` counts the look-ups, the steps from one row to the next and the changes, each of which takes time in the
+/// logarithm of the number of rows.
+#[derive(Drop)]
+pub struct HolderRows {
+    rows: BTreeSet<HolderKey>,
+}
+
+impl Model for HolderRows {
+    ghost use Rattle.std.specs.FinMap as finite;
+    ghost use base.Stored.{coded_unit};
+    ghost use Rattle.index_rows.specs.Changes.{keys_alone};
+    ghost use Rattle.index_rows.specs.Holders.{holder_cmp, holder_code, AllOfRefs, Holders};
+
+    ghost Value = { Holders };
+
+    ghost coded = { finite.code holder_code coded_unit };
+
+    ghost view = { λ a. finite.from_entries (keys_alone a.rows.keys) };
+
+    ghost invariant = { λ a. AllOfRefs (finite.from_entries (keys_alone a.rows.keys)) };
+}
+
+impl HolderRows {
+    /// No rows.
+    pub fn empty(alloc: Global) -> HolderRows
+        ensures { result ≡ finite.empty }
+    {
+        HolderRows {
+            rows: BTreeSet::new(alloc),
+        }
+    }
+
+    /// Whether the row of a key stands.
+    pub fn has<L: Ledger>(&self, key: &HolderKey, steps: &mut Steps<L>) -> bool
+        ensures value { result ≡ finite.contains_key self.now key.now }
+        ensures ticks { steps.new ≡ steps.old + 1 }
+    {
+        steps.tick();
+        self.rows.contains(key)
+    }
+
+    /// Puts the row of a key. Where there is no memory nothing changes, and the key is dropped.
+    pub fn put<L: Ledger>(&mut self, key: HolderKey, steps: &mut Steps<L>) -> Result<(), NoMemory>
+        ensures ok { OnOk result (self.new ≡ finite.insert self.old key tt) }
+        ensures err { OnErr result (self.new ≡ self.old) }
+        ensures ticks { steps.new ≡ steps.old + 1 }
+    {
+        steps.tick();
+        key.permanode().is_from_least();
+        self.rows.insert(key)?;
+        Ok(())
+    }
+
+    /// Drops the row of a key. Where there is none nothing changes.
+    pub fn drop_row<L: Ledger>(&mut self, key: &HolderKey, steps: &mut Steps<L>)
+        ensures value { self.new ≡ finite.remove self.old key.now }
+        ensures ticks { steps.new ≡ steps.old + 1 }
+    {
+        steps.tick();
+        self.rows.remove(key);
+    }
+
+    /// The least permanode greater than `after`, or of all where `after` is `None`, that has this value of the
+    /// attribute; `None` exactly where there is none. So the walk of n permanodes takes n + 1 steps. Each copies the
+    /// two texts, and `NoMemory` comes only where no memory is left for that.
+    pub fn next_of<L: Ledger>(
+        &self,
+        alloc: Global,
+        attr: &str,
+        value: &str,
+        after: Option<&Ref>,
+        steps: &mut Steps<L>,
+    ) -> Result<Option<Ref>, NoMemory>
+        ensures next { IfOk result (λ found. IfSome found (λ p.
+            holders_after self.now attr.now value.now (option_copied after.entry)
+            ≡ ((attr.now, value.now, p), tt) ∷ holders_after self.now attr.now value.now (Some p))) }
+        ensures last { IfOk result (λ found. IfNone found
+            (holders_after self.now attr.now value.now (option_copied after.entry) ≡ [])) }
+        ensures ticks { steps.new ≡ steps.old + 1 }
+    {
+        steps.tick();
+        let start = holders_start(alloc, attr, value, after)?;
+        match self.rows.range((start, Bound::Unbounded)).next() {
+            Some(key) => if is_of(key, attr, value) {
+                Ok(Some(*key.permanode()))
+            } else {
+                Ok(None)
+            },
+            None => Ok(None),
+        }
+    }
+}
+
+fn is_of(key: &HolderKey, attr: &str, value: &str) -> bool
+    ensures { result ≡ is_of attr.now value.now key.now }
+{
+    attr == key.attr.as_str() && value == key.value.as_str()
+}
+
+// Where the permanodes of an attribute and a value begin, or go on.
+fn holders_start(
+    alloc: Global,
+    attr: &str,
+    value: &str,
+    after: Option<&Ref>,
+) -> Result<Bound<HolderKey>, NoMemory>
+    ensures { IfOk result (λ start. start ≡ holders_start attr.now value.now (option_copied after.entry)) }
+{
+    match after {
+        Some(p) => Ok(Bound::Excluded(HolderKey::copy(alloc, attr, value, p)?)),
+        None => Ok(Bound::Included(HolderKey::copy(alloc, attr, value, &Ref::least())?)),
+    }
+}

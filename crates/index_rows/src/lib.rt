@@ -1,0 +1,18 @@
+//! The rows that an index keeps, in tables by key.
+#![tactic(auto)]
+
+mod change_rows;
+mod deletion;
+mod fact_rows;
+mod holder_rows;
+mod pair_rows;
+mod ref_rows;
+mod rows;
+
+pub use change_rows::{ChangeRows, Moment};
+pub use deletion::deleted_at;
+pub use fact_rows::FactRows;
+pub use holder_rows::{HolderKey, HolderRows};
+pub use pair_rows::PairRows;
+pub use ref_rows::RefRows;
+pub use rows::{Rows, StateRow};

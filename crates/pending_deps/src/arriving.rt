@@ -1,0 +1,96 @@
+//! A ref that arrives.
+ghost use Rattle.std.specs.Prelude.{◌≡◌, IfOk};
+ghost use Rattle.index_rows.specs.Waiting.{IsWaiting};
+ghost use Rattle.pending_deps.specs.Arriving.{says_ready, needs_of, HasPut, IsEnlisted, IsNew, HasArrived};
+
+use crate::settling::settle;
+use blobref::{NoMemory, Ref, RefList};
+use edge_base::Steps;
+use index_rows::{FactRows, PairRows, RefRows, Rows, StateRow};
+use std::alloc::Global;
+use std::sync::ledger::Ledger;
+
+/// Takes up a ref whose fact came, and answers what became ready by it, each ref once and behind what it depends on.
+/// The rows of `state` and `waiters` must be right, the fact put, and the ref without a row of `state`. It has one from
+/// then on, the rows of these two tables are right again, and no other table changes. After `NoMemory` these two may be
+/// anything. Its time is that of looking once at each dependency of the ref and at each row that waited for what became
+/// ready.
+pub fn arrive<L: Ledger>(
+    alloc: Global,
+    rows: &mut Rows,
+    r: &Ref,
+    steps: &mut Steps<L>,
+) -> Result<RefList, NoMemory>
+    requires waiting { IsWaiting rows.old.facts rows.old.state rows.old.waiters }
+    requires fresh { IsNew rows.old.facts rows.old.state r.now }
+    ensures facts { rows.new.facts ≡ rows.old.facts }
+    ensures deletes { rows.new.deletes ≡ rows.old.deletes }
+    ensures changes { rows.new.changes ≡ rows.old.changes }
+    ensures holders { rows.new.holders ≡ rows.old.holders }
+    ensures arrived { IfOk result (λ order.
+        HasArrived rows.old.facts rows.old.state rows.new.state rows.new.waiters r.now order) }
+{
+    let missing = enlist(&rows.facts, &rows.state, &mut rows.waiters, r, steps)?;
+    let row = StateRow {
+        ready: missing == 0,
+        genuine: false,
+        sound: false,
+        missing,
+        deleters: 0,
+    };
+    rows.state.put(r, row, steps)?;
+    let mut order = RefList::empty(alloc);
+    if missing == 0 {
+        order.push(*r)?;
+    }
+    settle(&mut rows.state, &mut rows.waiters, &mut order, steps)?;
+    Ok(order)
+}
+
+// Puts a row for each ref that r has to wait for, and counts them.
+fn enlist<L: Ledger>(
+    facts: &FactRows,
+    state: &RefRows<StateRow>,
+    waiters: &mut PairRows<()>,
+    r: &Ref,
+    steps: &mut Steps<L>,
+) -> Result<u64, NoMemory>
+    ensures { IfOk result (λ n.
+        IsEnlisted state.now waiters.old waiters.new r.now (needs_of facts.now r.now) n) }
+{
+    let mut missing: u64 = 0;
+    if let Some(fact) = facts.row(r, steps) {
+        for i in 0..fact.dep_count() {
+            let d = fact.dep(i);
+            missing += enlist_one(state, waiters, &d, r, steps)?;
+        }
+    }
+    Ok(missing)
+}
+
+// Puts a row where r has to wait for d and has none.
+fn enlist_one<L: Ledger>(
+    state: &RefRows<StateRow>,
+    waiters: &mut PairRows<()>,
+    d: &Ref,
+    r: &Ref,
+    steps: &mut Steps<L>,
+) -> Result<u64, NoMemory>
+    ensures { IfOk result (λ n. HasPut state.now waiters.old waiters.new d.now r.now n) }
+{
+    if says_ready(state, d, steps) || waiters.row(d, r, steps).is_some() {
+        return Ok(0);
+    }
+    waiters.put(d, r, (), steps)?;
+    Ok(1)
+}
+
+// Whether the row of d says that it is ready.
+fn says_ready<L: Ledger>(state: &RefRows<StateRow>, d: &Ref, steps: &mut Steps<L>) -> bool
+    ensures { result ≡ says_ready state.now d.now }
+{
+    match state.row(d, steps) {
+        Some(row) => row.ready,
+        None => false,
+    }
+}

@@ -1,0 +1,83 @@
+//! What becomes ready one after another.
+ghost use Rattle.std.specs.Prelude.{◌≡◌, ◌<◌, ℕ, Bool, List, length, OnOk};
+ghost use Rattle.std.specs.FinMap as finite;
+ghost use Rattle.claim_model.specs.Facts.{Facts};
+ghost use Rattle.pending_deps.specs.Settling.{row_or_empty, one_less, order_with, CountsMissing, Settling, KeepsOthers, HasMissing};
+
+use blobref::{NoMemory, Ref, RefList};
+use edge_base::Steps;
+use index_rows::{PairRows, RefRows, StateRow};
+use std::sync::ledger::Ledger;
+
+// Tells those that wait for the refs of `order`, which grows by what becomes ready.
+pub(crate) fn settle<L: Ledger>(
+    state: &mut RefRows<StateRow>,
+    waiters: &mut PairRows<()>,
+    order: &mut RefList,
+    steps: &mut Steps<L>,
+) -> Result<(), NoMemory>
+    requires { CountsMissing state.old waiters.old }
+    ensures counted { OnOk result (CountsMissing state.new waiters.new) }
+    ensures others { OnOk result (KeepsOthers state.old state.new) }
+    ensures settled { OnOk result ((facts : Facts) (old : List ℕ → Bool)
+        → Settling facts old state.old waiters.old order.old 0
+        → Settling facts old state.new waiters.new order.new (length order.new)) }
+{
+    let mut i = 0;
+    'next: while i < order.len() {
+        let x = *order.at(i);
+        'group: while let Some((w, _row)) = waiters.next_of(&x, None, steps) {
+            drop_waiter(state, waiters, &x, &w, order, steps)?;
+        }
+        i += 1;
+    }
+    Ok(())
+}
+
+// Takes off the row that says that w waits for x; w is ready where it was the last.
+fn drop_waiter<L: Ledger>(
+    state: &mut RefRows<StateRow>,
+    waiters: &mut PairRows<()>,
+    x: &Ref,
+    w: &Ref,
+    order: &mut RefList,
+    steps: &mut Steps<L>,
+) -> Result<(), NoMemory>
+    requires { HasMissing state.old w.now }
+    ensures waiters { OnOk result (waiters.new ≡ finite.remove waiters.old (x.now, w.now)) }
+    ensures state { OnOk result
+        (state.new ≡ finite.insert state.old w.now (one_less (row_or_empty (finite.get state.old w.now)))) }
+    ensures order { OnOk result (order.new ≡ order_with order.old w.now (row_or_empty (finite.get state.old w.now))) }
+{
+    waiters.drop_row(x, w, steps);
+    let row = row_of(state, w, steps);
+    state.put(w, one_less(row), steps)?;
+    if row.missing == 1 {
+        order.push(*w)?;
+    }
+    Ok(())
+}
+
+fn row_of<L: Ledger>(state: &RefRows<StateRow>, w: &Ref, steps: &mut Steps<L>) -> StateRow
+    requires { HasMissing state.now w.now }
+    ensures row { result ≡ row_or_empty (finite.get state.now w.now) }
+    ensures missing { 0 < result.missing }
+{
+    match state.row(w, steps) {
+        Some(row) => *row,
+        None => unreachable!(),
+    }
+}
+
+fn one_less(row: StateRow) -> StateRow
+    requires { 0 < row.missing }
+    ensures { result ≡ one_less row }
+{
+    StateRow {
+        ready: row.missing == 1,
+        genuine: row.genuine,
+        sound: row.sound,
+        missing: row.missing - 1,
+        deleters: row.deleters,
+    }
+}
