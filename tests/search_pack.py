@@ -14,7 +14,9 @@ from typing import NamedTuple, Optional
 import harness
 import inputs
 import reference
+import writing
 from harness import Difference, compare, compare_ending, finish, limited_to
+from reference import ref_of
 from writing import keyring_line, pack, record
 
 EXAMPLES = pathlib.Path(__file__).resolve().parent.parent / "examples"
@@ -261,6 +263,55 @@ def limits():
 PIECE = 1_048_576
 
 
+# How many there are of each shape, and the seconds in which a search over it has to end.
+MEMBERS, DELETIONS, LATE, TREES, SOON = 20_000, 10_000, 50_000, 60, 20
+
+
+def shapes():
+    """Blobs that hang together in ways that could cost much. Each search has to end soon."""
+    node, date = writing.permanode(), "2020-01-01T00:00:00Z"
+    tag = writing.claim("set", ref_of(node), "tag", "a", date)
+
+    def members(program):
+        refs = [f"sha224-{number:056x}" for number in range(MEMBERS)]
+        claims = [writing.claim("add", ref_of(node), "camliMember", ref, date) for ref in refs]
+        blobs = [inputs.KEY, node, *claims]
+        ends_soon(program, "members", blobs, "camliMember", refs[MEMBERS // 2], [node])
+        ends_soon(program, "members, the last first", blobs[::-1], "camliMember", refs[0], [node])
+
+    def deletions(program):
+        """Each deletes the one before. Where their number is even the last one undoes the first."""
+        chain = [tag]
+        for _ in range(DELETIONS):
+            chain.append(writing.delete(ref_of(chain[-1]), date))
+        for what, blobs, found in [("even", chain, [node]), ("odd", chain[:-1], [])]:
+            for order, listed in [("in order", blobs), ("the last first", blobs[::-1])]:
+                what = f"a chain of deletions, {what}, {order}"
+                ends_soon(program, what, [inputs.KEY, node, *listed], "tag", "a", found)
+                ends_soon(program, f"{what}, the key last", [*listed, node, inputs.KEY], "tag", "a", found)
+
+    def late_key(program):
+        nodes = [writing.permanode(f"{number:032x}") for number in range(LATE)]
+        claims = [writing.claim("set", ref_of(one), "tag", f"{number % 500}", date) for number, one in enumerate(nodes)]
+        ends_soon(program, "a key that comes last", [*claims, *nodes, inputs.KEY], "tag", "7", nodes[7::500])
+
+    def shared_trees(program):
+        trees = [writing.bytes_blob([writing.part(1)])]
+        for _ in range(TREES):
+            trees.append(writing.bytes_blob([writing.part(1, ref_of(trees[-1]), "bytesRef")] * 2))
+        trees.append(writing.file_blob("n", [writing.part(2, ref_of(trees[-1]), "bytesRef")]))
+        for order, listed in [("in order", trees), ("the last first", trees[::-1])]:
+            ends_soon(program, f"trees that share, {order}", [*listed, tag, node, inputs.KEY], "tag", "a", [node])
+
+    return [members, deletions, late_key, shared_trees]
+
+
+def ends_soon(program, what, blobs, attribute, value, found):
+    out = reference.search_text(sorted(map(ref_of, found))) + b"\n"
+    folder = program.working_folder(inputs.KEYRING)
+    program.check(what, ("search-pack", attribute, value), out, source=pack(*blobs), folder=folder, seconds=SOON)
+
+
 def poured(program, what, length, status, **streams):
     """Pours zeros into the program until it ends or all are taken; answers how many were."""
     folder = program.working_folder(inputs.KEYRING)
@@ -280,7 +331,7 @@ def poured(program, what, length, status, **streams):
 
 
 GROUPS = [example, salvage, torn, flipped, json, facts, dates, keys, claims, orders, words, keyrings, random_packs]
-GROUPS_OF_CHECKS = [pages, edges, limits]
+GROUPS_OF_CHECKS = [pages, edges, limits, shapes]
 
 
 def checks_of(program, group):

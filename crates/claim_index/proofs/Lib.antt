@@ -15,3 +15,4 @@ pub mod Texts
 pub mod Telling
 mod Whole
 mod OneMore
+mod Listed

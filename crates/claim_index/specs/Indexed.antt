@@ -1,5 +1,5 @@
 -- What a contract sees of an index.
-use Rattle.std.specs.Prelude.{◌≡◌, ℕ, Bool, true, false, List}
+use Rattle.std.specs.Prelude.{◌≡◌, ℕ, Bool, true, false, List, [], ◌∷◌}
 use Rattle.std.specs.Coded.{Coded, code_by, coded_ℕ, coded_list, coded×, coded_bool}
 use base.Stored.{coded_unit}
 use Rattle.std.specs.FinMap.{code, contains_key, insert}
@@ -7,7 +7,7 @@ use Rattle.edge_base.specs.declared.answers.Inserted.{Inserted}
 use Rattle.edge_base.specs.declared.answers.Inserted.TheVariants.{New, Already}
 use Rattle.schema_fact.specs.declared.kinds.Fact.{Fact}
 use Rattle.schema_fact.specs.contracts.kinds.Fact as fact
-use Rattle.claim_model.specs.Facts.{Facts}
+use Rattle.claim_model.specs.Facts.{Entry, Facts}
 use Rattle.claim_index.specs.Numbers.{NumberSet}
 
 -- the facts that were inserted, under which numbers, the keys, and whether the other tables are of no use
@@ -39,3 +39,8 @@ pub record IsPut {V : Type 0} (old new : Indexed V) (number : ℕ) (r : List ℕ
 abbrev pub Inserts : {V : Type 0} → Indexed V → Indexed V → ℕ → List ℕ → Fact → Inserted → Type 0
 Inserts old new number r fact New = IsPut old new number r fact
 Inserts old new number r fact Already = IsSame old new × (contains_key old.numbers number ≡ true)
+
+-- facts, with those of a list put among them: of those under the same ref the first one stands
+abbrev pub with_all : Facts → List Entry → Facts
+with_all facts [] = facts
+with_all facts (e ∷ es) = insert (with_all facts es) e.0 e.1

@@ -1,26 +1,30 @@
 //! An index of facts.
-ghost use Rattle.std.specs.Prelude.{◌≡◌, ◌+◌, false, IfOk, OnOk, OnErr};
+ghost use Rattle.std.specs.Prelude.{◌≡◌, ◌+◌, ℕ, false, length, nat_lt, IfOk, OnOk, OnErr};
 ghost use Rattle.std.specs.FinMap as finite;
 ghost use Rattle.schema_fact.specs.Validity.{IsValid};
-ghost use Rattle.claim_index.specs.Indexed.{Inserts, IsSame};
+ghost use Rattle.claim_model.specs.Facts.{AreValid};
+ghost use Rattle.claim_index.specs.Indexed.{Inserts, IsSame, with_all};
 
 use crate::answers;
 use crate::numbers::Numbers;
 use crate::rebuilding::{rebuild, take_up};
-use blobref::{NoMemory, Ref, RefList, TextList};
+use blobref::{ListOf, NoMemory, Ref, RefList, TextList};
 use claim_verify::Verifier;
 use edge_base::{Inserted, Steps};
 use index_look::Look;
-use index_rows::Rows;
+use index_rows::{FactRows, Rows};
 use schema_date::{Date, When};
 use schema_fact::Fact;
 use std::alloc::Global;
 use std::marker::Model;
 use std::sync::ledger::Ledger;
 
-/// An index of facts that come one by one, in any order. A contract sees the facts under their refs, the numbers under
-/// which they came, the keys, and whether the index is stale: its other tables are then of no use, after a want of
-/// memory, and it answers from the facts alone.
+/// Refs with facts, in any order.
+pub type FactList = ListOf<(Ref, Fact)>;
+
+/// An index of facts that come as a list or one by one, in any order. A contract sees the facts under their refs, the
+/// numbers under which they came, the keys, and whether the index is stale: its other tables are then of no use, after
+/// a want of memory, and it answers from the facts alone.
 #[derive(Drop)]
 pub struct Index<V: Verifier> {
     alloc: Global,
@@ -62,6 +66,42 @@ impl<V: Verifier> Index<V> {
             keys,
             stale: false,
         }
+    }
+
+    /// An index of a list of facts, which are taken up all at once. Each stands under the number of its place in the
+    /// list, counted from 0. Of facts under the same ref the first one stands. It isn't stale. It keeps the allocator,
+    /// and takes all its memory from it.
+    ///
+    /// `NoMemory` comes only where no memory is left. There is then no index, and the facts and the keys are dropped.
+    ///
+    /// It puts each fact, asks the keys once for each permanode and claim that is ready, and looks at the changes of
+    /// each permanode once. All told it takes time in n log n for n rows in the tables.
+    pub fn of<L: Ledger>(
+        alloc: Global,
+        facts: FactList,
+        keys: V,
+        steps: &mut Steps<L>,
+    ) -> Result<Index<V>, NoMemory>
+    where
+        V: Drop,
+        requires valid { AreValid facts }
+        ensures facts { IfOk result (λ index. index.facts ≡ finite.from_entries facts) }
+        ensures numbers { IfOk result (λ index. (n : ℕ)
+            → finite.contains_key index.numbers n ≡ nat_lt n (length facts)) }
+        ensures keys { IfOk result (λ index. index.keys ≡ keys) }
+        ensures stale { IfOk result (λ index. index.stale ≡ false) }
+    {
+        let numbers = Numbers::below(alloc, facts.len() as u64)?;
+        let mut rows = Rows::empty(alloc);
+        put_all(alloc, &mut rows.facts, facts, steps)?;
+        rebuild(alloc, &mut rows, &keys, steps)?;
+        Ok(Index {
+            alloc,
+            rows,
+            numbers,
+            keys,
+            stale: false,
+        })
     }
 
     /// Puts a fact under a number and a ref, and takes it up. `Already` comes exactly where the number stood in the
@@ -254,4 +294,22 @@ impl<V: Verifier> Look for Index<V> {
             answers::parents(self.alloc, &self.rows, child, when, steps)
         }
     }
+}
+
+// Puts the facts of a list, the last one first: of facts under the same ref the first one stands.
+fn put_all<L: Ledger>(
+    alloc: Global,
+    facts: &mut FactRows,
+    list: FactList,
+    steps: &mut Steps<L>,
+) -> Result<(), NoMemory>
+    requires { AreValid list }
+    ensures { OnOk result (facts.new ≡ with_all facts.old list) }
+{
+    let mut left = list.into_vec();
+    'puts: while let Some(entry) = left.pop() {
+        let r = entry.0;
+        facts.put(alloc, &r, entry.1, steps)?;
+    }
+    Ok(())
 }

@@ -14,4 +14,4 @@ mod taking;
 mod touching;
 mod work;
 
-pub use index::Index;
+pub use index::{FactList, Index};

@@ -1,5 +1,5 @@
 //! A set of numbers.
-ghost use Rattle.std.specs.Prelude.{◌≡◌, ◌<◌, true, OnOk};
+ghost use Rattle.std.specs.Prelude.{◌≡◌, ◌<◌, ℕ, true, nat_lt, IfOk, OnOk};
 ghost use Rattle.std.specs.FinMap as finite;
 ghost use Rattle.claim_index.specs.Numbers.{has_bit, has_room};
 
@@ -43,6 +43,19 @@ impl Numbers {
             masks: BTreeMap::new(alloc),
             count: 0,
         }
+    }
+
+    /// The numbers below a count. `NoMemory` comes only where no memory is left, and what was taken is then given back.
+    /// It puts them one by one, in time in n log n for n numbers.
+    pub fn below(alloc: Global, count: u64) -> Result<Numbers, NoMemory>
+        ensures { IfOk result (λ numbers. (q : ℕ) → finite.contains_key numbers.numbers q ≡ nat_lt q count) }
+    {
+        let mut numbers = Numbers::empty(alloc);
+        'numbers: for n in 0..count {
+            numbers.make_room(n)?;
+            numbers.set(n);
+        }
+        Ok(numbers)
     }
 
     /// Whether the number is there.

@@ -13,9 +13,9 @@ ghost use Rattle.perkeep_top.specs.Blobs.{pack_facts, blob_at, with_blob, with_b
 
 use crate::status::Status;
 use blobref::{NoMemory, Octets, Ref};
+use claim_index::FactList;
 use pack_disk::Disk;
 use pack_store::Store;
-use plain_index::FactList;
 use salvage_scan::{Found, scan};
 use schema_json::fact;
 use std::alloc::Global;

@@ -9,10 +9,10 @@ ghost use Rattle.perkeep_top.specs.Search.{pack_answer, search_line};
 use crate::blobs::pack_facts;
 use answer_text::search_text;
 use blobref::{NoMemory, Octets, RefList};
+use claim_index::{FactList, Index};
 use claim_verify::Verifier;
 use edge_base::Steps;
 use index_look::Look;
-use plain_index::{FactList, PlainIndex};
 use schema_date::When;
 use search_eval::answer;
 use search_query::Query;
@@ -50,13 +50,33 @@ pub(crate) fn search_line<V: Verifier>(
     requires valid { AreValid facts }
     ensures { IfOk result (λ line. line ≡ search_line (from_entries facts) (V.accepts keys.now) attr.now value.now at) }
 {
-    let index = PlainIndex::build(alloc, facts, keys)?;
+    let index = index_of::<_, Brand>(alloc, facts, keys, Blank::new(1))?;
     let query = Query::for_value(alloc, attr, value, at)?;
     let refs = answer_of::<_, Brand>(alloc, &index, &query, Blank::new(1))?;
     line(alloc, &refs)
 }
 
-// The answer to a query. The steps are counted in the blank ledger, and told to nobody.
+// An index of facts. The steps are counted in the blank ledger, and told to nobody.
+fn index_of<V: Verifier, L: Ledger>(
+    alloc: Global,
+    facts: FactList,
+    keys: V,
+    blank: Blank,
+) -> Result<Index<V>, NoMemory>
+where
+    V: Drop,
+    requires valid { AreValid facts }
+    requires name { blank.name ≡ L.name }
+    requires parts { blank.parts ≡ L.parts }
+    requires some { 0 < blank.parts }
+    ensures facts { IfOk result (λ index. index.facts ≡ from_entries facts) }
+    ensures keys { IfOk result (λ index. index.keys ≡ keys) }
+{
+    let mut steps = Steps::<L>::start(blank);
+    Index::of(alloc, facts, keys, &mut steps)
+}
+
+// The answer to a query, whose steps are counted likewise.
 fn answer_of<K: Look, L: Ledger>(
     alloc: Global,
     look: &K,
