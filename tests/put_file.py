@@ -457,8 +457,8 @@ def large(program):
     return [lambda rest=rest: has_many_chunks(program, writing.MOST_CHUNKS_OF_A_LIST, rest) for rest in (b"", b"x")]
 
 
-def has_many_chunks(program, count, rest):
-    """Zeros of so many chunks, and some bytes more, in and out."""
+def has_many_chunks(program, count, rest, front=()):
+    """Zeros of so many chunks, and some bytes more, in and out. Words may stand in front of put-file's."""
     what, store, source = f"{count} chunks and {len(rest)} bytes", Files(program), program.new_path()
     with open(source, "wb") as file:
         file.truncate(count * BYTES_OF_A_CHUNK)
@@ -467,7 +467,7 @@ def has_many_chunks(program, count, rest):
     blobs = file_blobs(NAME, [bytes(BYTES_OF_A_CHUNK)] * count + ([rest] if rest else []))
     store.put_all(dict.fromkeys(blobs))
     with open(source, "rb") as file:
-        process = program.start(store.words("put-file", NAME), stdin=file, stdout=subprocess.PIPE)
+        process = program.start(store.words("put-file", NAME), front=front, stdin=file, stdout=subprocess.PIPE)
         out, err = finish(what, process, seconds=300)
     source.unlink()
     compare_ending(what, 0, process.returncode, err)

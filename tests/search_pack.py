@@ -264,7 +264,7 @@ PIECE = 1_048_576
 
 
 # How many there are of each shape, and the seconds in which a search over it has to end.
-MEMBERS, DELETIONS, LATE, TREES, SOON = 20_000, 10_000, 50_000, 60, 20
+MEMBERS, DELETIONS, LATE, TREES, SOON = 20_000, 10_000, 50_000, 60, 60
 
 
 def shapes():
