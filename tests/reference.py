@@ -1,8 +1,8 @@
 """What the program's commands answer and store, worked out a second time.
 
 Everything here is written from the pages of docs/ alone, to be read beside them: claims.md, commands.md, files.md, and
-of formats/ packs.md, blobrefs.md, schema.md, dates.md, keyring.md and answers.md. It is slow and plain on purpose. The
-tests compare the program with it. What is written, blob by blob, is in writing.py.
+of formats/ packs.md, blobrefs.md, schema.md, dates.md, keyring.md, answers.md and generated.md. It is slow and plain on
+purpose. The tests compare the program with it. What is written, blob by blob, is in writing.py.
 
 Each constant names the page, and the part of it, that it is from. Bytes are `bytes`, refs and texts are `str`. A
 moment is a number of nanoseconds, and ALWAYS stands for no moment at all.
@@ -543,6 +543,33 @@ def search_pack(pack, keyring, attribute, value):
 def archive_of_store(packs, keyring):
     """The archive of a store under the text of its keyring."""
     return Archive(arrivals(packs), read_keyring(keyring))
+
+
+# The generated store
+
+# docs/formats/generated.md, "Words"
+STEP = 0x9E3779B97F4A7C15
+FOLDS = (30, 0xBF58476D1CE4E5B9), (27, 0x94D049BB133111EB)
+
+
+def word(start, number):
+    """The word of a number under a start."""
+    z = (start + (number + 1) * STEP) % 2**64
+    for places, factor in FOLDS:
+        z = (z ^ z >> places) * factor % 2**64
+    return z ^ z >> 31
+
+
+def load_text(blobs, keyring):
+    """What `load` prints where it makes these blobs (docs/commands.md, "load")."""
+    by_ref = {}
+    for blob in blobs:
+        by_ref.setdefault(ref_of(blob), blob)
+    archive = Archive(by_ref, read_keyring(keyring))
+    permanodes = sum(archive.is_permanode(ref) and not archive.deleted(ref, ALWAYS) for ref in archive.facts)
+    answer = ref_of(search_text(archive.holders("tag", "t0")))
+    line = f"blobs {len(blobs)} permanodes {permanodes} answer {answer}\n"
+    return f"forward {line}backward {line}".encode()
 
 
 # Files (docs/files.md)

@@ -5,7 +5,7 @@ The tests and the benches make their inputs with it.
 
 import functools
 
-from reference import MARKER, ref_of, signature
+from reference import MARKER, date_text, moment_of, ref_of, signature, word
 
 NAME = "jefe"
 SECRET = b"Jefe"
@@ -78,6 +78,38 @@ def claim(kind, permanode_ref, attribute, value, date, signer=KEY, secret=SECRET
 
 def delete(target, date, signer=KEY, secret=SECRET):
     return signed(delete_payload(target, date, signer), secret)
+
+
+# The generated store (docs/formats/generated.md)
+
+LOAD = "load"
+LOAD_SECRET = b"load"
+FIRST_MOMENT = moment_of("2020-01-01T00:00:00Z")
+
+
+def load_blobs(count, start):
+    """So many blobs of the generated store of a start, in the order of their numbers."""
+    blobs = []
+    for i in range(count):
+        blobs.append(load_blob(start, i, blobs))
+    return blobs
+
+
+def load_blob(start, i, before):
+    """Blob i of the generated store, behind those before it."""
+    if i == 0:
+        return key_blob(LOAD)
+    signer = ref_of(before[0])
+    by_key = {"signer": signer, "secret": LOAD_SECRET}
+    date = date_text(FIRST_MOMENT + i * 10**9)
+    if i % 4 == 1:
+        return permanode(f"{word(start, 2 * i):016x}{word(start, 2 * i + 1):016x}", **by_key)
+    if i % 4 == 2:
+        return claim("set", ref_of(before[i - 1]), "tag", f"t{word(start, i) % 16}", date, **by_key)
+    if i % 4 == 3:
+        return claim("add", ref_of(before[i - 2]), "title", f"n{i}", date, **by_key)
+    on_tag = i == 4 or word(start, i) % 2 == 0
+    return delete(ref_of(before[i - 2 if on_tag else i - 4]), date, **by_key)
 
 
 # Files, directories and sets

@@ -7,3 +7,5 @@ pub mod PartsWritten
 pub mod ClaimsWritten
 pub mod Drafted
 pub mod Lengths
+pub mod GeneratedDates
+pub mod GeneratedBlobs

@@ -1,3 +1,4 @@
 pub mod Blobs
 pub mod Laws
 pub mod Drafts
+pub mod Generated

@@ -85,9 +85,14 @@ pub fn signed(alloc: Global, payload: &[u8], sig: &[u8; 32]) -> Result<Octets, N
     Ok(Octets::from_vec(blob))
 }
 
-// The payload of a claim with the text of its date.
+/// The payload of a claim with the text of its date.
 #[tactic(auto, unfolding(crate::specs::Blobs::claim_payload))]
-fn what_payload(alloc: Global, signer: &str, date: &str, what: &What) -> Result<Vec<u8>, NoMemory>
+pub(crate) fn what_payload(
+    alloc: Global,
+    signer: &str,
+    date: &str,
+    what: &What,
+) -> Result<Vec<u8>, NoMemory>
     ensures text { IfOk result (λ payload. payload.items ≡ claim_payload signer.now date.now what.now) }
     ensures form { OnOk result (HasAttribute what.now → MayBeSaid what.now) }
 {

@@ -1,4 +1,8 @@
-use crate::{bytes_blob, claim_payload, file_blob, key_blob, permanode_payload, signed};
+ghost use Rattle.std.specs.Prelude.{◌≤◌};
+
+use crate::{
+    bytes_blob, claim_payload, file_blob, key_blob, load_blobs, permanode_payload, signed,
+};
 use blobref::{Ref, Text};
 use claim_verify::{KeyName, Keyring, Signer};
 use schema_date::Date;
@@ -128,5 +132,29 @@ fn files(rt: HostRuntime) {
     assert!(rt;
         bytes(rt.alloc())
             == Ref::read(b"sha224-687927f7697527536543a7421c7e078edc39d595b7f54ccc60acc574")
+    );
+}
+
+// The ref of all blobs of a generated store, one behind the other.
+fn generated(alloc: Global, count: u64, start: u64) -> Option<Ref>
+    requires { count ≤ 100000 }
+{
+    let blobs = load_blobs(alloc, count, start).ok()?;
+    let mut all = Vec::new(alloc);
+    for blob in blobs.as_slice() {
+        all.extend_from_slice(blob.as_slice()).ok()?;
+    }
+    Some(Ref::of(&all))
+}
+
+#[test]
+fn generated_stores(rt: HostRuntime) {
+    assert!(rt;
+        generated(rt.alloc(), 41, 7)
+            == Ref::read(b"sha224-24adf4a63aff388404cfaca0f002b66f4c13611e1cf184f4c8042b5c")
+    );
+    assert!(rt;
+        generated(rt.alloc(), 41, u64::MAX)
+            == Ref::read(b"sha224-c4351b36a129fd900a356cd36d43248a9ca6325a2bb885d8a4bb8b65")
     );
 }
