@@ -3,7 +3,9 @@
 
 mod query;
 
-pub use query::{Constraint, PermanodeTest, Query, Sort};
+pub use query::{
+    Constraint, FileTest, IntTest, Kin, Logical, Op, PermanodeTest, Query, Relation, Sort, TextTest,
+};
 
 #[cfg(test)]
 mod tests;
