@@ -16,7 +16,7 @@ use Rattle.std.specs.List.Sorted.{IsStrictlySortedBy}
 use Rattle.std.specs.FinMap.{from_entries}
 use Rattle.blobref.specs.Blobref.{ref_cmp}
 use Rattle.index_look.proofs.Order.{ascending_entries}
-use Rattle.search_eval.proofs.Walk.{filter_ascends, permanodes_ascend}
+use Rattle.search_eval.proofs.Walk.{ascends_taken, found_ascends}
 use Rattle.claim_verify.specs.Verifier.{Accepts}
 use Rattle.claim_model.specs.Facts.{Facts, passes, is_permanode}
 use Rattle.claim_model.specs.Genuine.{is_genuine, is_genuine_permanode, permanodes}
@@ -25,7 +25,8 @@ use Rattle.claim_model.specs.Claims.{last_change}
 use Rattle.search_query.specs.declared.query.Sort.{Sort}
 use Rattle.search_query.specs.declared.query.Sort.TheVariants.{Ref, Mod, ModDown}
 use Rattle.search_query.specs.declared.query.Query.{Query}
-use Rattle.search_eval.specs.Meaning.{meets}
+use Rattle.search_query.specs.View.{view}
+use Rattle.search_meets.specs.Meaning.{meets}
 use Rattle.search_eval.specs.Answer.{Dated, rising_cmp, falling_cmp, refs_by, dated, in_order, found, answer}
 use Rattle.search_eval.specs.Laws.{IsAsked, IsInOrder, IsBeyond, order_of, AnswersAreAsked}
 use Rattle.search_eval.proofs.Orders.{rising_total, falling_total, rising_same, falling_same, keys_are}
@@ -70,18 +71,6 @@ module _ (P : List ℕ → Type 0) where
   all_ordered ModDown changed rs h = in_any_order falling_cmp falling_total changed rs h
 
 -- ---- the order
-
-module _ {X : Type 0} (R : X → X → Ordering) where
-  above_taken : (x : X) (n : ℕ) (xs : List X) → AllByRecursion (λ y. R x y ≡ Less) xs → AllByRecursion (λ y. R x y ≡ Less) (take n xs)
-  above_taken x zero xs h = tt
-  above_taken x (suc n) [] h = tt
-  above_taken x (suc n) (y ∷ ys) h = (h.0, above_taken x n ys h.1)
-
-  ascends_taken : (n : ℕ) (xs : List X) → IsStrictlySortedBy R xs → IsStrictlySortedBy R (take n xs)
-  unfolding IsStrictlySortedBy
-  ascends_taken zero xs h = tt
-  ascends_taken (suc n) [] h = tt
-  ascends_taken (suc n) (x ∷ xs) h = (above_taken x n xs h.0, ascends_taken n xs h.1)
 
 module _ (changed : List ℕ → Option ℤ) where
   dates_own : (rs : List (List ℕ)) → AllByRecursion (λ (d : Dated). changed d.1 ≡ d.0) (dated changed rs)
@@ -231,7 +220,7 @@ module _ (facts : Facts) (accepts : Accepts) (query : Query) where
 
   all_asked : Asked (found facts accepts query)
   all_asked =
-      kept_each {P = λ r. (is_genuine_permanode facts accepts r ≡ true) × (is_deleted facts accepts query.at r ≡ false)} (meets facts accepts query.at query.constraint)
+      kept_each {P = λ r. (is_genuine_permanode facts accepts r ≡ true) × (is_deleted facts accepts query.at r ≡ false)} (meets facts accepts (view query.constraint) query.at)
       (λ r h met. record { genuine = h.0; live = h.1; met = met }) (live_permanodes facts accepts query.at)
       (kept_each {P = λ r. is_genuine_permanode facts accepts r ≡ true} (λ r. not (is_deleted facts accepts query.at r)) (λ r h live. (h, not-true (is_deleted facts accepts query.at r) live)) (permanodes facts accepts)
       (kept_each {P = λ r. Unit {0}} (is_genuine_permanode facts accepts) (λ r h genuine. genuine) (keys facts) (any_each (keys facts))))
@@ -248,13 +237,8 @@ module _ (facts : Facts) (accepts : Accepts) (query : Query) where
       let all = in_order query.sort (last_change facts accepts query.at) (found facts accepts query) in
       rw (length-take query.limit all) (omega arith)
 
-  all_ascend : IsStrictlySortedBy ref_cmp (found facts accepts query)
-  all_ascend =
-      filter_ascends (meets facts accepts query.at query.constraint) (live_permanodes facts accepts query.at)
-      (filter_ascends (λ r. not (is_deleted facts accepts query.at r)) (permanodes facts accepts) (permanodes_ascend facts accepts))
-
   all_in_order : IsInOrder query.sort (last_change facts accepts query.at) (in_order query.sort (last_change facts accepts query.at) (found facts accepts query))
-  all_in_order = in_its_order (last_change facts accepts query.at) query.sort (found facts accepts query) all_ascend
+  all_in_order = in_its_order (last_change facts accepts query.at) query.sort (found facts accepts query) (found_ascends facts accepts query)
 
   answer_ordered : IsInOrder query.sort (last_change facts accepts query.at) (answer facts accepts query)
   answer_ordered = ascends_taken (order_of query.sort (last_change facts accepts query.at)) query.limit _ all_in_order
@@ -262,7 +246,7 @@ module _ (facts : Facts) (accepts : Accepts) (query : Query) where
   asked_found : (r : List ℕ) → IsAsked facts accepts query r → list_any (bytes_eq r) (found facts accepts query) ≡ true
   asked_found r is =
       let parts = and_parts (is_genuine facts accepts r) (passes (λ fact. is_permanode fact.kind) (get facts r)) is.genuine in
-      kept r (meets facts accepts query.at query.constraint) (live_permanodes facts accepts query.at) is.met
+      kept r (meets facts accepts (view query.constraint) query.at) (live_permanodes facts accepts query.at) is.met
       (kept r (λ q. not (is_deleted facts accepts query.at q)) (permanodes facts accepts) (ap not is.live)
       (kept r (is_genuine_permanode facts accepts) (keys facts) is.genuine (has_fact r facts (some_passes (λ fact. is_permanode fact.kind) (get facts r) parts.1))))
 

@@ -13,7 +13,8 @@ use Rattle.answer_text.specs.Search.{search_text}
 use Rattle.search_query.specs.declared.query.Sort.{Sort}
 use Rattle.search_query.specs.declared.query.Sort.TheVariants.{Ref, Mod, ModDown}
 use Rattle.search_query.specs.declared.query.Query.{Query}
-use Rattle.search_eval.specs.Meaning.{meets}
+use Rattle.search_query.specs.View.{view}
+use Rattle.search_meets.specs.Meaning.{meets}
 
 -- a permanode behind the date of its last change, where it has one
 abbrev pub Dated : Type 0
@@ -43,7 +44,7 @@ in_order ModDown changed refs = refs_by falling_cmp (dated changed refs)
 
 -- the genuine permanodes not deleted at the query's date that meet its constraint then, ascending
 abbrev pub found : Facts → Accepts → Query → List (List ℕ)
-found facts accepts query = filter (meets facts accepts query.at query.constraint) (live_permanodes facts accepts query.at)
+found facts accepts query = filter (meets facts accepts (view query.constraint) query.at) (live_permanodes facts accepts query.at)
 
 -- the same in the query's order, cut to the first `limit`
 abbrev pub answer : Facts → Accepts → Query → List (List ℕ)

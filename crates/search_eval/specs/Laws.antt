@@ -14,14 +14,15 @@ use Rattle.claim_model.specs.Claims.{last_change}
 use Rattle.search_query.specs.declared.query.Sort.{Sort}
 use Rattle.search_query.specs.declared.query.Sort.TheVariants.{Ref, Mod, ModDown}
 use Rattle.search_query.specs.declared.query.Query.{Query}
-use Rattle.search_eval.specs.Meaning.{meets}
+use Rattle.search_query.specs.View.{view}
+use Rattle.search_meets.specs.Meaning.{meets}
 use Rattle.search_eval.specs.Answer.{answer, rising_cmp, falling_cmp}
 
 -- what a query asks for: a genuine permanode, not deleted at the query's date, that meets its constraint then
 pub record IsAsked (facts : Facts) (accepts : Accepts) (query : Query) (r : List ℕ) : Type 0 where
   pub genuine : is_genuine_permanode facts accepts r ≡ true
   pub live : is_deleted facts accepts query.at r ≡ false
-  pub met : meets facts accepts query.at query.constraint r ≡ true
+  pub met : meets facts accepts (view query.constraint) query.at r ≡ true
 
 -- the order of refs that a query asks for
 abbrev pub order_of : Sort → (List ℕ → Option ℤ) → List ℕ → List ℕ → Ordering

@@ -1,4 +1,3 @@
-pub mod Meaning
 pub mod Answer
 pub mod Walk
 pub mod Laws

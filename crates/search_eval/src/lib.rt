@@ -3,7 +3,6 @@
 
 mod answering;
 mod laws;
-mod meeting;
 mod ordering;
 
 pub use answering::answer;

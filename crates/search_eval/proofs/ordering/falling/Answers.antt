@@ -1,5 +1,6 @@
-use Rattle.std.proofs.Common.{◌≡◌, ◌∙◌, map, ap, subst, List, rules}
+use Rattle.std.proofs.Common.{◌≡◌, ◌∙◌, map, take, ap, sym, subst, List, rules}
 use Rattle.std.specs.List.Sorted.{IsPermutation}
+use Rattle.std.proofs.lemmas.List.{take-map}
 use Rattle.std.proofs.lemmas.List.Sorted.{answers_always}
 use Rattle.std.proofs.lemmas.Result.{IfOk-weaker}
 use Rattle.claim_model.specs.Claims.{last_change}
@@ -14,5 +15,6 @@ returns g c =
     let ordered = falls changed c.args.refs.now sorted c.requires
     (subst (λ (ds : List Dated). IsPermutation ds sorted) c.in_ok-dated.ensures c.sort_by_key.ensures.permutation)
     (c.in_ok-sort_by_key.ensures.sorted (λ e. (record { 0 = e.0 }, e.1)) (answers_always _ _ _ (λ f a r g called. search rules))) in
-    IfOk-weaker c.undated.result (λ refs. refs ≡ map (λ (e : Dated). e.1) c.deref.result.now) _
-    (λ refs is. is ∙ ap (map (λ (e : Dated). e.1)) c.deref.ensures.value ∙ ordered) c.undated.ensures
+    IfOk-weaker c.undated.result (λ refs. refs ≡ map (λ (e : Dated). e.1) (take c.args.limit c.deref.result.now)) _
+    (λ refs is. is ∙ ap (λ (ds : List Dated). map (λ (e : Dated). e.1) (take c.args.limit ds)) c.deref.ensures.value
+    ∙ sym (take-map (λ (e : Dated). e.1) c.args.limit sorted) ∙ ap (take c.args.limit) ordered) c.undated.ensures

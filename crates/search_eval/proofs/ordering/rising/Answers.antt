@@ -1,5 +1,6 @@
-use Rattle.std.proofs.Common.{◌≡◌, ◌∙◌, map, ap, subst, List}
+use Rattle.std.proofs.Common.{◌≡◌, ◌∙◌, map, take, ap, sym, subst, List}
 use Rattle.std.specs.List.Sorted.{IsPermutation}
+use Rattle.std.proofs.lemmas.List.{take-map}
 use Rattle.std.proofs.lemmas.Result.{IfOk-weaker}
 use Rattle.claim_model.specs.Claims.{last_change}
 use Rattle.search_eval.specs.Answer.{Dated}
@@ -13,5 +14,6 @@ returns g c =
     let ordered = rises changed c.args.refs.now sorted c.requires
     (subst (λ (ds : List Dated). IsPermutation ds sorted) c.in_ok-dated.ensures c.sort.ensures.permutation)
     c.in_ok-sort.ensures.sorted in
-    IfOk-weaker c.undated.result (λ refs. refs ≡ map (λ (e : Dated). e.1) c.deref.result.now) _
-    (λ refs is. is ∙ ap (map (λ (e : Dated). e.1)) c.deref.ensures.value ∙ ordered) c.undated.ensures
+    IfOk-weaker c.undated.result (λ refs. refs ≡ map (λ (e : Dated). e.1) (take c.args.limit c.deref.result.now)) _
+    (λ refs is. is ∙ ap (λ (ds : List Dated). map (λ (e : Dated). e.1) (take c.args.limit ds)) c.deref.ensures.value
+    ∙ sym (take-map (λ (e : Dated). e.1) c.args.limit sorted) ∙ ap (take c.args.limit) ordered) c.undated.ensures

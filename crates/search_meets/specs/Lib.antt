@@ -1,0 +1,4 @@
+pub mod Tests
+pub mod Values
+pub mod Meaning
+pub mod Computed
