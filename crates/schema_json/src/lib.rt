@@ -7,4 +7,5 @@ mod part_list;
 mod reading;
 mod signing;
 
+pub use fields::json_in;
 pub use reading::fact;

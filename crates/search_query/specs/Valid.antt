@@ -1,5 +1,6 @@
 -- Valid queries (docs/search.md): the conditions on each object of the language, over the mirror of a constraint.
-use Rattle.std.specs.Prelude.{◌≡◌, ◌≤◌, ℕ, suc, max, List, length, nat_lt, Bool, true, false, not, ◌&&◌, ◌||◌, Option, Some, None, is_some}
+use Rattle.std.specs.Prelude.{◌≡◌, ◌≤◌, ℕ, suc, max, List, [], ◌∷◌, length, nat_lt, Bool, true, false, not, ◌&&◌, ◌||◌, Option, Some, None, is_some}
+use Rattle.std.specs.List.{list_any}
 use Rattle.search_query.specs.declared.query.IntTest.{IntTest}
 use Rattle.search_query.specs.declared.query.TextTest.{TextTest}
 use Rattle.search_query.specs.declared.query.FileTest.{FileTest}
@@ -7,24 +8,27 @@ use Rattle.search_query.specs.declared.query.Op.{Op}
 use Rattle.search_query.specs.declared.query.Op.TheVariants.{And, Or, Xor, Not}
 use Rattle.search_query.specs.declared.query.Query.{Query}
 use Rattle.search_query.specs.Mirror.{Leaves, TestLeaves, Asked, not_asked, asked, Joined, no_logical, logical, Tested, no_permanode, permanode, Related, no_relation, relation}
-use Rattle.search_query.specs.View.{view, is_asked}
+use Rattle.search_query.specs.View.{Question, question, is_asked}
 
 -- what stands under a key meets a condition, if the key is present
 abbrev pub if_present : {A : Type 0} → (A → Bool) → Option A → Bool
 if_present valid None = true
 if_present valid (Some x) = valid x
 
+abbrev pub any_of : List Bool → Bool
+any_of truths = list_any (λ truth. truth) truths
+
 -- Objects outside the cycle
 
 -- at least one key
 abbrev pub valid_int_test : IntTest → Bool
-valid_int_test test = is_some test.min || is_some test.max
+valid_int_test test = any_of (is_some test.max ∷ is_some test.min ∷ [])
 
 -- at least one key
 abbrev pub valid_text_test : TextTest → Bool
 valid_text_test test =
-    (is_some test.equals || is_some test.contains || is_some test.has_prefix || is_some test.has_suffix
-    || is_some test.empty || is_some test.byte_length)
+    any_of (is_some test.byte_length ∷ is_some test.contains ∷ is_some test.empty ∷ is_some test.equals
+    ∷ is_some test.has_prefix ∷ is_some test.has_suffix ∷ [])
     && if_present valid_int_test test.byte_length
 
 abbrev pub valid_file_test : FileTest → Bool
@@ -39,11 +43,6 @@ valid_leaves leaves =
     && if_present valid_int_test leaves.blob_size
     && if_present valid_file_test leaves.file
 
-abbrev pub has_leaf : Leaves → Bool
-has_leaf leaves =
-    is_some leaves.anything || is_some leaves.camli_type || is_some leaves.blob_ref_prefix
-    || is_some leaves.blob_size || is_some leaves.file
-
 abbrev pub is_joined : Joined → Bool
 is_joined no_logical = false
 is_joined (logical op a b) = true
@@ -54,7 +53,9 @@ is_tested (permanode leaves in_set related) = true
 
 -- at least one key
 abbrev pub has_part : Joined → Leaves → Tested → Bool
-has_part joined leaves tested = is_joined joined || has_leaf leaves || is_tested tested
+has_part joined leaves tested =
+    any_of (is_some leaves.anything ∷ is_some leaves.blob_ref_prefix ∷ is_some leaves.blob_size
+    ∷ is_some leaves.camli_type ∷ is_some leaves.file ∷ is_joined joined ∷ is_tested tested ∷ [])
 
 -- `op` is present, `a` too, and `b` exactly where `op` isn't `not`
 abbrev pub operands_fit : Option Op → Bool → Bool → Bool
@@ -72,7 +73,7 @@ names_attribute attr = if_present (λ name. nat_lt 0 (length name)) attr
 abbrev pub values_fit : TestLeaves → Bool → Bool
 values_fit leaves in_set =
     is_some leaves.attr
-    || not (is_some leaves.value || is_some leaves.value_matches || in_set || is_some leaves.num_value)
+    || not (any_of (is_some leaves.value ∷ is_some leaves.value_matches ∷ in_set ∷ is_some leaves.num_value ∷ []))
 
 abbrev pub valid_test_leaves : TestLeaves → Bool
 valid_test_leaves leaves =
@@ -126,9 +127,13 @@ abbrev mutual
 
 -- Queries
 
--- a limit of 1 to 1,000,000, and a constraint that meets the conditions and nests at most 32 deep
-pub record IsValid (query : Query) : Type 0 where
-  pub least : 1 ≤ query.limit
-  pub most : query.limit ≤ 1000000
-  pub conditions : valid_asked (view query.constraint) ≡ true
-  pub depth : nests (view query.constraint) ≤ 32
+-- a limit of 1 to 1,000,000, and a constraint that is there, meets the conditions and nests at most 32 deep
+pub record IsValidQuestion (q : Question) : Type 0 where
+  pub some : is_asked q.constraint ≡ true
+  pub least : 1 ≤ q.limit
+  pub most : q.limit ≤ 1000000
+  pub conditions : valid_asked q.constraint ≡ true
+  pub depth : nests q.constraint ≤ 32
+
+abbrev pub IsValid : Query → Type 0
+IsValid query = IsValidQuestion (question query)

@@ -1,6 +1,9 @@
 -- What a constraint asks: the mirror of its value.
-use Rattle.std.specs.Prelude.{Bool, true, false, Option, Some, None, Box}
+use Rattle.std.specs.Prelude.{ℕ, Bool, true, false, Option, Some, None, Box}
 use Rattle.std.specs.declared.alloc.Global.{Global}
+use Rattle.schema_date.specs.declared.date.When.{When}
+use Rattle.search_query.specs.declared.query.Sort.{Sort}
+use Rattle.search_query.specs.declared.query.Query.{Query}
 use Rattle.search_query.specs.declared.query.Constraint.{Constraint}
 use Rattle.search_query.specs.declared.query.Constraint.TheOpen.{Constraint-F, Logical-F, PermanodeTest-F, Relation-F}
 use Rattle.search_query.specs.declared.query.Constraint.TheFolds.{fold-Constraint, fold-Logical, fold-PermanodeTest, fold-Relation}
@@ -112,3 +115,15 @@ test_leaves_of p = record {
   value_matches = p.value_matches;
   num_value = p.num_value;
 }
+
+-- Queries
+
+-- a query, with the mirror in place of its constraint
+pub record Question : Type 0 where
+  pub constraint : Asked
+  pub limit : ℕ
+  pub sort : Sort
+  pub at : When
+
+abbrev pub question : Query → Question
+question query = record { constraint = view query.constraint; limit = query.limit; sort = query.sort; at = query.at }
