@@ -127,9 +127,11 @@ fn logical_under(
     path: &str,
     left: u32,
 ) -> Result<Option<Logical>, QueryFault>
-    ensures ok { IfOk result (λ _. below (logical_fault (constraint_fault left)) key.now path.now (view value.now) ≡ None) }
+    ensures ok { IfOk result (λ _.
+        below (logical_fault (constraint_fault left)) key.now path.now (view value.now) ≡ None) }
     ensures value { IfOk result (λ o. logical_seen o ≡ joined_in (constraint_of left) (get key.now (view value.now))) }
-    ensures err { IfErr result (Tells (below (logical_fault (constraint_fault left)) key.now path.now (view value.now))) }
+    ensures err { IfErr result (Tells
+        (below (logical_fault (constraint_fault left)) key.now path.now (view value.now))) }
 {
     let Some(below) = value.get(key) else {
         return Ok(None);
@@ -162,9 +164,12 @@ fn permanode_under(
     path: &str,
     left: u32,
 ) -> Result<Option<PermanodeTest>, QueryFault>
-    ensures ok { IfOk result (λ _. below (permanode_fault (constraint_fault left)) key.now path.now (view value.now) ≡ None) }
-    ensures value { IfOk result (λ o. permanode_seen o ≡ tested_in (constraint_of left) (get key.now (view value.now))) }
-    ensures err { IfErr result (Tells (below (permanode_fault (constraint_fault left)) key.now path.now (view value.now))) }
+    ensures ok { IfOk result (λ _.
+        below (permanode_fault (constraint_fault left)) key.now path.now (view value.now) ≡ None) }
+    ensures value { IfOk result (λ o.
+        permanode_seen o ≡ tested_in (constraint_of left) (get key.now (view value.now))) }
+    ensures err { IfErr result (Tells
+        (below (permanode_fault (constraint_fault left)) key.now path.now (view value.now))) }
 {
     let Some(below) = value.get(key) else {
         return Ok(None);
@@ -223,9 +228,12 @@ fn relation_under(
     path: &str,
     left: u32,
 ) -> Result<Option<Relation>, QueryFault>
-    ensures ok { IfOk result (λ _. below (relation_fault (constraint_fault left)) key.now path.now (view value.now) ≡ None) }
-    ensures value { IfOk result (λ o. relation_seen o ≡ related_in (constraint_of left) (get key.now (view value.now))) }
-    ensures err { IfErr result (Tells (below (relation_fault (constraint_fault left)) key.now path.now (view value.now))) }
+    ensures ok { IfOk result (λ _.
+        below (relation_fault (constraint_fault left)) key.now path.now (view value.now) ≡ None) }
+    ensures value { IfOk result (λ o.
+        relation_seen o ≡ related_in (constraint_of left) (get key.now (view value.now))) }
+    ensures err { IfErr result (Tells
+        (below (relation_fault (constraint_fault left)) key.now path.now (view value.now))) }
 {
     let Some(below) = value.get(key) else {
         return Ok(None);

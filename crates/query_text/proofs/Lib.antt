@@ -1,0 +1,5 @@
+pub mod Pairs
+pub mod Looking
+pub mod Sound
+pub mod Back
+pub mod ReadBack
