@@ -43,6 +43,19 @@ pub(crate) const LOW: &str =
 pub(crate) const HIGH: &str =
     r#"{"camliVersion":1,"camliType":"permanode","camliSigner":"sha224-da4a89851a3c8f7ce55ef510378a1b717451b9f0b152bb73f28508dc","random":"00000000000000000000000000000002","camliSig":"cffd81e14d20ce9692155c69e9acaa21abd998630228ea7b787f1b588d809218"}"#;
 
+// Of 2014-01-03: the first and the low permanode have each other, and themselves, as members.
+pub(crate) const LOW_IN_LOW: &str =
+    r#"{"camliVersion":1,"camliType":"claim","camliSigner":"sha224-da4a89851a3c8f7ce55ef510378a1b717451b9f0b152bb73f28508dc","claimDate":"2014-01-03T00:00:00Z","claimType":"add-attribute","permaNode":"sha224-00eeaf8019242079449364c2bdc2d6222fa8930c076dca3cd550587a","attribute":"camliMember","value":"sha224-00eeaf8019242079449364c2bdc2d6222fa8930c076dca3cd550587a","camliSig":"e4275b9fdca63f74d3092238a74502e296ef001a9b321ec3825e2c5f61c28e60"}"#;
+
+pub(crate) const MAIN_IN_LOW: &str =
+    r#"{"camliVersion":1,"camliType":"claim","camliSigner":"sha224-da4a89851a3c8f7ce55ef510378a1b717451b9f0b152bb73f28508dc","claimDate":"2014-01-03T00:00:00Z","claimType":"add-attribute","permaNode":"sha224-00eeaf8019242079449364c2bdc2d6222fa8930c076dca3cd550587a","attribute":"camliMember","value":"sha224-01d0f2ac408584236db9de88e8cbd79887704db69e188875443566b5","camliSig":"2504491da996dbe1ac9de1b471166f34e3678954b351a876924ad2a607a40d5a"}"#;
+
+pub(crate) const LOW_IN_MAIN: &str =
+    r#"{"camliVersion":1,"camliType":"claim","camliSigner":"sha224-da4a89851a3c8f7ce55ef510378a1b717451b9f0b152bb73f28508dc","claimDate":"2014-01-03T00:00:00Z","claimType":"add-attribute","permaNode":"sha224-01d0f2ac408584236db9de88e8cbd79887704db69e188875443566b5","attribute":"camliMember","value":"sha224-00eeaf8019242079449364c2bdc2d6222fa8930c076dca3cd550587a","camliSig":"6a59ff34067175fb0b34c5d6dc6b833fa721b412e39f9c0b15e70cdfd99e9d23"}"#;
+
+pub(crate) const MAIN_IN_MAIN: &str =
+    r#"{"camliVersion":1,"camliType":"claim","camliSigner":"sha224-da4a89851a3c8f7ce55ef510378a1b717451b9f0b152bb73f28508dc","claimDate":"2014-01-03T00:00:00Z","claimType":"add-attribute","permaNode":"sha224-01d0f2ac408584236db9de88e8cbd79887704db69e188875443566b5","attribute":"camliMember","value":"sha224-01d0f2ac408584236db9de88e8cbd79887704db69e188875443566b5","camliSig":"bbfc75a2341bd6aad40828ffca8d112ec26a87c670a625a9b292ee0d3f65865e"}"#;
+
 fn all_apart(r: &Ref, facts: &[(Ref, Fact)]) -> bool
     ensures { result ≡ list_all (λ e. not (bytes_eq r.now e.0)) facts.now }
 {

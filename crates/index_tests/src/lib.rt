@@ -8,6 +8,8 @@ mod dates;
 #[cfg(test)]
 mod index;
 #[cfg(test)]
+mod nested;
+#[cfg(test)]
 mod schema;
 #[cfg(test)]
 mod search;

@@ -11,23 +11,33 @@ use std::alloc::Global;
 use std::marker::Brand;
 use std::sync::ledger::{Blank, Ledger};
 
-fn answered<L: Ledger>(alloc: Global, query: &Query, blank: Blank) -> Result<RefList, NoMemory>
+fn answered<L: Ledger>(
+    alloc: Global,
+    blobs: &[&str],
+    query: &Query,
+    blank: Blank,
+) -> Result<RefList, NoMemory>
     requires name { blank.name ≡ L.name }
     requires parts { blank.parts ≡ L.parts }
     requires some { 0 < blank.parts }
 {
     let mut steps = Steps::<L>::start(blank);
-    answer(
-        alloc,
-        &index_of(alloc, &[TAG, HIGH, PERMANODE, KEY, LOW])?,
-        query,
-        &mut steps,
-    )
+    answer(alloc, &index_of(alloc, blobs)?, query, &mut steps)
 }
 
 // Whether the answer has these blobs, in this order.
 fn finds(alloc: Global, query: &Query, want: &[&str]) -> Result<bool, NoMemory> {
-    let found = answered::<Brand>(alloc, query, Blank::new(1))?;
+    finds_among(alloc, &[TAG, HIGH, PERMANODE, KEY, LOW], query, want)
+}
+
+// The same over these blobs.
+pub(crate) fn finds_among(
+    alloc: Global,
+    blobs: &[&str],
+    query: &Query,
+    want: &[&str],
+) -> Result<bool, NoMemory> {
+    let found = answered::<Brand>(alloc, blobs, query, Blank::new(1))?;
     Ok(
         found.len() == want.len()
             && found
@@ -36,6 +46,32 @@ fn finds(alloc: Global, query: &Query, want: &[&str]) -> Result<bool, NoMemory> 
                 .zip(want)
                 .all(|(r, blob)| *r == Ref::of(blob.as_bytes())),
     )
+}
+
+// What asks nothing of a permanode.
+pub(crate) fn no_test() -> PermanodeTest {
+    PermanodeTest {
+        at: None,
+        attr: None,
+        value: None,
+        value_matches: None,
+        value_in_set: None,
+        num_value: None,
+        relation: None,
+    }
+}
+
+// What asks nothing but a test of permanodes.
+pub(crate) fn of_permanodes(permanode: Option<PermanodeTest>) -> Constraint {
+    Constraint {
+        logical: None,
+        anything: None,
+        camli_type: None,
+        blob_ref_prefix: None,
+        blob_size: None,
+        file: None,
+        permanode,
+    }
 }
 
 // Whether the query for a tag at that time has this answer.
@@ -64,7 +100,7 @@ fn one_tagged_permanode_is_found(rt: HostRuntime) -> Result<(), NoMemory> {
 // Whether all permanodes come in this order, and the first two where two are asked for.
 fn come_in_order(alloc: Global, sort: Sort, want: &[&str; 3]) -> Result<bool, NoMemory> {
     let all = Query {
-        constraint: Constraint { permanode: None },
+        constraint: of_permanodes(None),
         limit: 200,
         sort,
         at: When::Always,
@@ -88,12 +124,10 @@ fn three_orders(rt: HostRuntime) -> Result<(), NoMemory> {
 fn finds_any(alloc: Global, attr: &str, want: &[&str]) -> Result<bool, NoMemory> {
     let test = PermanodeTest {
         attr: Some(Text::copy(alloc, attr)?),
-        value: None,
+        ..no_test()
     };
     let query = Query {
-        constraint: Constraint {
-            permanode: Some(test),
-        },
+        constraint: of_permanodes(Some(test)),
         limit: 200,
         sort: Sort::Ref,
         at: When::Always,

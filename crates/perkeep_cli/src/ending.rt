@@ -2,7 +2,7 @@
 use perkeep_top::Status;
 
 /// The end of the program (`docs/commands.md`).
-#[derive(Clone, Copy, PartialEq)]
+#[derive(Drop)]
 pub(crate) enum Ending {
     /// As the run ended, or would have.
     Ran(Status),

@@ -31,7 +31,7 @@ fn main(rt: HostRuntime) -> ExitCode {
         Ok(_closed) => ending_of(&rt),
         Err(_) => Ending::Ran(Status::WriteFault),
     };
-    if ending != Ending::Ran(Status::Done) {
+    if !matches!(ending, Ending::Ran(Status::Done)) {
         // Where this fails too nothing more can be told.
         let _ = rt.eprintln(format_args!("perkeep: {}", ending.word()));
     }

@@ -10,3 +10,4 @@ pub mod Asking
 pub mod Walked
 pub mod Noting
 pub mod Filing
+pub mod Querying

@@ -10,6 +10,8 @@ use Rattle.pack_disk.specs.Packs.{Packs}
 use Rattle.pack_store.specs.declared.rows.Row.{Row}
 use Rattle.pack_store.specs.Rows.{arrivals_in}
 use Rattle.perkeep_top.specs.Blobs.{with_blobs}
+use Rattle.search_query.specs.declared.query.Query.{Query}
+use Rattle.perkeep_top.specs.Query.{query_line, IsAnswerOf}
 use Rattle.perkeep_top.specs.Search.{search_line, IsAnswer}
 use Rattle.perkeep_top.proofs.Gathering.{facts_of_arrivals}
 
@@ -18,3 +20,9 @@ pub searched : (told : Option Packs) (rows : List Row) → ForSome told (λ held
     → (facts : List Entry) → ForSome told (λ held. facts ≡ with_blobs [] (arrivals_in held rows)) → (line : List ℕ) → line ≡ search_line (from_entries facts) accepts attr value at → IsAnswer accepts attr value at told line
 searched told rows arrived accepts attr value at facts are line made = λ held tells.
     made ∙ ap (λ m. search_line m accepts attr value at) (ap from_entries (are held tells ∙ ap (with_blobs []) (arrived held tells)) ∙ facts_of_arrivals (entries held))
+
+-- the same for a query
+pub queried : (told : Option Packs) (rows : List Row) → ForSome told (λ held. arrivals_in held rows ≡ arrivals (entries held)) → (accepts : Accepts) (query : Query)
+    → (facts : List Entry) → ForSome told (λ held. facts ≡ with_blobs [] (arrivals_in held rows)) → (line : List ℕ) → line ≡ query_line (from_entries facts) accepts query → IsAnswerOf accepts query told line
+queried told rows arrived accepts query facts are line made = λ held tells.
+    made ∙ ap (λ m. query_line m accepts query) (ap from_entries (are held tells ∙ ap (with_blobs []) (arrived held tells)) ∙ facts_of_arrivals (entries held))

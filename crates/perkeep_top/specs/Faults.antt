@@ -7,6 +7,8 @@ use Rattle.pack_store.specs.declared.opening.OpenFault.{OpenFault}
 use Rattle.pack_store.specs.declared.opening.OpenFault.TheVariants as opening
 use Rattle.pack_store.specs.declared.whole.PackFault.{PackFault}
 use Rattle.pack_store.specs.declared.whole.PackFault.TheVariants as pack
+use Rattle.query_read.specs.declared.fault.QueryFault.{QueryFault}
+use Rattle.query_read.specs.declared.fault.QueryFault.TheVariants as query
 use Rattle.schema_write.specs.declared.draft.DraftFault.{DraftFault}
 use Rattle.schema_write.specs.declared.draft.DraftFault.TheVariants as draft
 use Rattle.perkeep_words.specs.declared.kinds.TextFault.{TextFault}
@@ -16,7 +18,7 @@ use Rattle.file_cut.specs.declared.fault.CutFault.{CutFault}
 use Rattle.file_cut.specs.declared.fault.CutFault.TheVariants as cut
 use Rattle.file_tree.specs.declared.fault.FileFault.{FileFault}
 use Rattle.file_tree.specs.declared.fault.FileFault.TheVariants as file
-use Rattle.perkeep_top.specs.declared.status.InputFault.TheVariants.{BadRef, BadDate, BadNumber, BadName, TooBig, NotAFile, Short, Deep, TooLong}
+use Rattle.perkeep_top.specs.declared.status.InputFault.TheVariants.{BadRef, BadDate, BadNumber, BadName, TooBig, NotAFile, Short, Deep, TooLong, BadQuery}
 use Rattle.perkeep_top.specs.declared.status.Status.{Status}
 use Rattle.perkeep_top.specs.declared.status.Status.TheVariants.{NoMemory, BadInput, Disk, Full, Damaged, Absent, ReadFault, WriteFault}
 
@@ -66,3 +68,10 @@ input_fault text.BadRef = BadRef
 input_fault text.BadDate = BadDate
 input_fault text.BadNumber = BadNumber
 input_fault text.BadName = BadName
+
+abbrev pub query_status : QueryFault → Status
+query_status query.NotJson = BadInput (BadQuery query.NotJson)
+query_status (query.BadKey at) = BadInput (BadQuery (query.BadKey at))
+query_status (query.BadValue at) = BadInput (BadQuery (query.BadValue at))
+query_status (query.TooDeep at) = BadInput (BadQuery (query.TooDeep at))
+query_status query.NoMemory = NoMemory

@@ -15,5 +15,6 @@ pub mod Notes
 pub mod Stat
 pub mod ListRefs
 pub mod Search
+pub mod Query
 pub mod Salvaged
 pub mod Run

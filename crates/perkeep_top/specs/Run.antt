@@ -16,6 +16,7 @@ use Rattle.perkeep_top.specs.Notes.{Keys, permanode_meaning, claim_meaning, what
 use Rattle.perkeep_top.specs.ListRefs.{list_meaning}
 use Rattle.perkeep_top.specs.Outside.{Outside, World}
 use Rattle.perkeep_top.specs.Put.{put_meaning}
+use Rattle.perkeep_top.specs.Query.{query_meaning}
 use Rattle.perkeep_top.specs.PutFile.{put_file_meaning}
 use Rattle.perkeep_top.specs.Salvaged.{salvage_meaning}
 use Rattle.perkeep_top.specs.Search.{search_meaning, search_pack_meaning}
@@ -34,6 +35,7 @@ meaning_of keys (command.Claim dir kind r attr value name) = claim_meaning keys 
 meaning_of keys (command.Delete dir r name) = claim_meaning keys name (Delete r)
 meaning_of keys (command.PutFile dir name) = put_file_meaning name
 meaning_of keys (command.GetFile dir r) = get_file_meaning r
+meaning_of keys (command.Query dir) = query_meaning keys.accepts
 meaning_of keys (command.SearchPack attr value) = search_pack_meaning keys.accepts attr value
 
 -- how a run ends: at words that are no line, at a text that is wrong, and else by the command's meaning

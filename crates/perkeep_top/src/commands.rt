@@ -7,6 +7,7 @@ pub(crate) mod list;
 pub(crate) mod permanode;
 pub(crate) mod put;
 pub(crate) mod put_file;
+pub(crate) mod query;
 pub(crate) mod salvage;
 pub(crate) mod search;
 pub(crate) mod search_pack;

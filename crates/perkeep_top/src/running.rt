@@ -12,6 +12,7 @@ use crate::commands::list::list;
 use crate::commands::permanode::permanode;
 use crate::commands::put::put;
 use crate::commands::put_file::put_file;
+use crate::commands::query::query;
 use crate::commands::salvage::salvage;
 use crate::commands::search::search;
 use crate::commands::search_pack::search_pack;
@@ -144,6 +145,7 @@ fn run_command<D: Disk, V: Signer, S: Source, K: Sink, C: Clock, R: Dice>(
             put_file(alloc, name.as_str(), disk, source, sink, clock, dice)
         }
         Command::GetFile { dir: _, r } => get_file(alloc, r, disk, source, sink, clock, dice),
+        Command::Query { dir: _ } => query(alloc, keys, disk, source, sink, clock, dice),
         Command::SearchPack { attr, value } => search_pack(
             alloc,
             attr.as_str(),

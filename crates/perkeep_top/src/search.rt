@@ -4,6 +4,7 @@ ghost use Rattle.std.specs.FinMap.{from_entries};
 ghost use Rattle.answer_text.specs.Search.{search_text};
 ghost use Rattle.claim_model.specs.Facts.{AreDistinct, AreValid};
 ghost use Rattle.search_eval.specs.Answer.{answer};
+ghost use Rattle.perkeep_top.specs.Query.{query_line};
 ghost use Rattle.perkeep_top.specs.Search.{pack_answer, search_line};
 
 use crate::blobs::pack_facts;
@@ -50,9 +51,23 @@ pub(crate) fn search_line<V: Verifier>(
     requires valid { AreValid facts }
     ensures { IfOk result (λ line. line ≡ search_line (from_entries facts) (V.accepts keys.now) attr.now value.now at) }
 {
-    let index = index_of::<_, Brand>(alloc, facts, keys, Blank::new(1))?;
     let query = Query::for_value(alloc, attr, value, at)?;
-    let refs = answer_of::<_, Brand>(alloc, &index, &query, Blank::new(1))?;
+    query_line(alloc, facts, keys, &query)
+}
+
+/// The line that answers a query over facts.
+pub(crate) fn query_line<V: Verifier>(
+    alloc: Global,
+    facts: FactList,
+    keys: &V,
+    query: &Query,
+) -> Result<Octets, NoMemory>
+    requires distinct { AreDistinct facts }
+    requires valid { AreValid facts }
+    ensures { IfOk result (λ line. line ≡ query_line (from_entries facts) (V.accepts keys.now) query.now) }
+{
+    let index = index_of::<_, Brand>(alloc, facts, keys, Blank::new(1))?;
+    let refs = answer_of::<_, Brand>(alloc, &index, query, Blank::new(1))?;
     line(alloc, &refs)
 }
 
@@ -76,8 +91,8 @@ where
     Index::of(alloc, facts, keys, &mut steps)
 }
 
-// The answer to a query, whose steps are counted likewise.
-fn answer_of<K: Look, L: Ledger>(
+/// The answer to a query, whose steps are counted likewise.
+pub(crate) fn answer_of<K: Look, L: Ledger>(
     alloc: Global,
     look: &K,
     query: &Query,

@@ -8,10 +8,11 @@ use file_cut::{CutFault, LONGEST_FILE};
 use file_tree::FileFault;
 use pack_store::{OpenFault, PackFault};
 use perkeep_words::TextFault;
+use query_read::QueryFault;
 use schema_write::DraftFault;
 
 /// What was wrong with what the words or the input say (`docs/commands.md`).
-#[derive(Clone, Copy, PartialEq, Eq)]
+#[derive(Drop)]
 pub enum InputFault {
     /// A text that should be a blobref is none.
     BadRef,
@@ -31,13 +32,15 @@ pub enum InputFault {
     Deep { r: Ref },
     /// The keyring doesn't hold the key.
     NoKey,
-    /// A text is too long for its blob, which would have this number of bytes; or a file or its name is longer than it
-    /// may be, the name with this number of bytes, the file with this number or more.
+    /// A text is too long for its blob, which would have this number of bytes; or a file, its name or a query is longer
+    /// than it may be, the name with this number of bytes, the file and the query with this number or more.
     TooLong { len: u64 },
+    /// The input is no query: its first fault.
+    BadQuery(QueryFault),
 }
 
 /// How a run ended (`docs/commands.md`).
-#[derive(Clone, Copy, PartialEq, Eq)]
+#[derive(Drop)]
 pub enum Status {
     /// All was done and written.
     Done,
@@ -231,6 +234,19 @@ impl From<DraftFault> for Status {
         match fault {
             DraftFault::TooLong { len } => Status::BadInput(InputFault::TooLong { len }),
             DraftFault::NoMemory => Status::NoMemory,
+        }
+    }
+}
+
+impl From<QueryFault> for Status {
+    ghost use Rattle.perkeep_top.specs.Faults.{query_status};
+
+    ghost from_gives = { λ fault status. status ≡ query_status fault };
+
+    fn from(fault: QueryFault) -> Status {
+        match fault {
+            QueryFault::NoMemory => Status::NoMemory,
+            fault => Status::BadInput(InputFault::BadQuery(fault)),
         }
     }
 }

@@ -87,6 +87,7 @@ command_at name.List parts =
 command_at name.Search parts =
     command.Search (position_at 0 parts) (text_of (codes "attr") parts) (text_of (codes "value") parts)
     (when_of (codes "at") parts)
+command_at name.Query parts = command.Query (position_at 0 parts)
 command_at name.Salvage parts = command.Salvage (position_at 0 parts)
 command_at name.SearchPack parts = command.SearchPack (position_at 0 parts) (position_at 1 parts)
 command_at name.Permanode parts = command.Permanode (position_at 0 parts) (text_of (codes "key") parts)

@@ -4,7 +4,7 @@ use Rattle.perkeep_words.specs.Forms.{OptionForm, Form, begins_at_dir}
 use Rattle.perkeep_words.specs.declared.kinds.TextKind.{TextKind}
 use Rattle.perkeep_words.specs.declared.kinds.TextKind.TheVariants.{Dir, Any, Blobref, Date, Name, Key, Change, Number}
 use Rattle.perkeep_words.specs.declared.table.CommandName.{CommandName}
-use Rattle.perkeep_words.specs.declared.table.CommandName.TheVariants.{Put, Get, Stat, List as ListBlobs, Search, Salvage, SearchPack, Permanode, Claim, Delete, PutFile, GetFile}
+use Rattle.perkeep_words.specs.declared.table.CommandName.TheVariants.{Put, Get, Stat, List as ListBlobs, Search, Query, Salvage, SearchPack, Permanode, Claim, Delete, PutFile, GetFile}
 
 -- its name, whether it may change the store, its positions, how many are needed, what spares the others, its options
 abbrev pub row : List ℕ → Bool → List TextKind → ℕ → Option (ℕ × List ℕ) → List OptionForm → Form
@@ -35,6 +35,7 @@ form_of ListBlobs = row (codes "list") false (Dir ∷ []) 1 None
     (may (codes "after") Blobref ∷ may (codes "limit") (Number 1 limit_max) ∷ [])
 form_of Search = row (codes "search") false (Dir ∷ []) 1 None
     (must (codes "attr") Name ∷ must (codes "value") Any ∷ may (codes "at") Date ∷ [])
+form_of Query = row (codes "query") false (Dir ∷ []) 1 None []
 form_of Salvage = row (codes "salvage") false (Dir ∷ []) 1 None []
 form_of SearchPack = row (codes "search-pack") false (Name ∷ Any ∷ []) 2 None []
 form_of Permanode = row (codes "permanode") true (Dir ∷ []) 1 None (must (codes "key") Key ∷ [])
@@ -45,7 +46,7 @@ form_of PutFile = row (codes "put-file") true (Dir ∷ Any ∷ []) 2 None []
 form_of GetFile = row (codes "get-file") false (Dir ∷ Blobref ∷ []) 2 None []
 
 abbrev pub commands : List CommandName
-commands = Put ∷ Get ∷ Stat ∷ ListBlobs ∷ Search ∷ Salvage ∷ SearchPack ∷ Permanode ∷ Claim ∷ Delete ∷ PutFile
+commands = Put ∷ Get ∷ Stat ∷ ListBlobs ∷ Search ∷ Query ∷ Salvage ∷ SearchPack ∷ Permanode ∷ Claim ∷ Delete ∷ PutFile
     ∷ GetFile ∷ []
 
 -- the first of these that a word names

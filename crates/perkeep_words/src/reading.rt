@@ -48,6 +48,10 @@ pub enum Command<'a> {
         value: Word<'a>,
         at: When,
     },
+    /// `query DIR`
+    Query {
+        dir: Word<'a>,
+    },
     /// `salvage DIR`
     Salvage {
         dir: Word<'a>,
@@ -192,6 +196,7 @@ fn command_at<'a>(line: &RightLine<'a>) -> Command<'a>
             value: line.word_option("value"),
             at: line.when("at"),
         },
+        CommandName::Query => Command::Query { dir },
         CommandName::Salvage => Command::Salvage { dir },
         CommandName::SearchPack => Command::SearchPack {
             attr: line.filled(0),

@@ -15,6 +15,7 @@ pub enum CommandName {
     Stat,
     List,
     Search,
+    Query,
     Salvage,
     SearchPack,
     Permanode,
@@ -24,12 +25,13 @@ pub enum CommandName {
     GetFile,
 }
 
-const COMMANDS: [CommandName; 12] = [
+const COMMANDS: [CommandName; 13] = [
     CommandName::Put,
     CommandName::Get,
     CommandName::Stat,
     CommandName::List,
     CommandName::Search,
+    CommandName::Query,
     CommandName::Salvage,
     CommandName::SearchPack,
     CommandName::Permanode,
@@ -97,6 +99,7 @@ impl CommandName {
             CommandName::Stat => plain("stat", &[TextKind::Dir, TextKind::Blobref]),
             CommandName::List => with_options("list", LIST_OPTIONS),
             CommandName::Search => with_options("search", SEARCH_OPTIONS),
+            CommandName::Query => plain("query", &[TextKind::Dir]),
             CommandName::Salvage => plain("salvage", &[TextKind::Dir]),
             CommandName::SearchPack => plain("search-pack", &[TextKind::Name, TextKind::Any]),
             CommandName::Permanode => signed("permanode", &[TextKind::Dir]),

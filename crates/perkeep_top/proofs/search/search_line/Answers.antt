@@ -1,10 +1,9 @@
-use Rattle.std.proofs.Common.{◌≡◌, ◌∙◌, ◌++◌, IfOk, subst, codes}
-use Rattle.answer_text.specs.Search.{search_text}
-use Rattle.search_eval.specs.Answer.{answer}
+use Rattle.std.proofs.Common.{◌≡◌, IfOk, subst}
+use Rattle.std.specs.FinMap.{from_entries}
+use Rattle.perkeep_top.specs.Query.{query_line}
 use Rattle.perkeep_top.proofs.search.search_line.Goals as goal
 
 pub returns : goal.returns
 returns g c =
-    subst (λ refs. IfOk c.line.result (λ line. line ≡ search_text refs ++ codes "\n"))
-    (c.in_ok-refs.ensures ∙ (λ i. answer (c.in_ok-index.ensures.facts i) (g.V.Verifier.accepts (c.in_ok-index.ensures.keys i).now) (c.in_ok-query.ensures.asked i)))
-    c.line.ensures
+    subst (λ q. IfOk c.query_line.result (λ line. line ≡ query_line (from_entries c.args.facts) (g.V.Verifier.accepts c.args.keys.now) q))
+    c.in_ok-query.ensures.asked c.query_line.ensures

@@ -1,4 +1,4 @@
-use Rattle.perkeep_top.proofs.search.search_line.Given as goal
+use Rattle.perkeep_top.proofs.search.query_line.Given as goal
 
 -- the ledger of each blank
 abbrev pub ghosts-index_of : goal.ghosts-index_of

@@ -1,4 +1,4 @@
-use Rattle.index_tests.proofs.search.finds.Given as goal
+use Rattle.index_tests.proofs.search.finds_among.Given as goal
 
 -- the blank's own ledger
 abbrev pub ghosts-answered : goal.ghosts-answered

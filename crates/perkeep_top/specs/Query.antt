@@ -1,0 +1,111 @@
+-- What `query` means (docs/commands.md).
+use Rattle.std.specs.Prelude.{◌≡◌, ℕ, true, false, List, [], ◌++◌, codes, Option, Some, None, option_map}
+use Rattle.std.specs.Option.{ForSome}
+use Rattle.claim_model.specs.Facts.{Facts}
+use Rattle.claim_verify.specs.Verifier.{Accepts}
+use Rattle.edge_base.specs.Edge.{Rose}
+use Rattle.edge_base.specs.declared.edge.Source.{Ghosts as SourceGhosts}
+use Rattle.query_read.specs.Reading.{asks_for, first_fault}
+use Rattle.search_query.specs.View.{question}
+use Rattle.search_query.specs.declared.query.Query.{Query}
+use Rattle.search_eval.specs.Answer.{answer_bytes}
+use Rattle.pack_disk.specs.Packs.{Packs}
+use Rattle.pack_store.specs.Puts.{blobs_of}
+use Rattle.perkeep_top.specs.declared.status.InputFault.{InputFault}
+use Rattle.perkeep_top.specs.declared.status.InputFault.TheVariants.{BadRef, BadDate, BadNumber, BadName, TooBig, NotAFile, Short, Deep, NoKey, TooLong, BadQuery}
+use Rattle.perkeep_top.specs.declared.status.Status.{Status}
+use Rattle.perkeep_top.specs.declared.status.Status.TheVariants as status
+use Rattle.perkeep_top.specs.Blobs.{facts_of_content}
+use Rattle.perkeep_top.specs.Frame.{Meaning, reads_first, GaveWhole, IsTooBig}
+use Rattle.perkeep_top.specs.Search.{RefusesFacts}
+
+-- the most bytes that a query may have
+abbrev pub longest_query : ℕ
+longest_query = 1048576
+
+-- the first fault of a text, where it is no query
+abbrev pub bad_query : List ℕ → Option InputFault
+bad_query text = option_map BadQuery (first_fault text)
+
+-- the answer to a query, and a line feed
+abbrev pub query_line : Facts → Accepts → Query → List ℕ
+query_line facts accepts query = answer_bytes facts accepts query ++ codes "\n"
+
+-- the same over the facts of the blobs that stand there, where the disk tells
+abbrev pub IsAnswerOf : Accepts → Query → Option Packs → List ℕ → Type 0
+IsAnswerOf accepts query told bytes =
+    ForSome told (λ held. bytes ≡ query_line (facts_of_content (blobs_of held)) accepts query)
+
+-- the answer to the query that a text is
+pub record IsAnswerTo (accepts : Accepts) (text : List ℕ) (told : Option Packs) (bytes : List ℕ) : Type 0 where
+  pub query : Query
+  pub asked : asks_for text ≡ Some (question query)
+  pub answer : IsAnswerOf accepts query told bytes
+
+abbrev pub query_meaning : Accepts → Meaning
+query_meaning accepts = record {
+  opens = true;
+  input = reads_first longest_query;
+  draws_time = false;
+  draws_random = false;
+  bad = None;
+  too_long = TooLong;
+  wrong = bad_query;
+  blobs = λ given. [];
+  IsOutput = λ given told bytes. IsAnswerTo accepts given.input told bytes;
+  streams = false;
+  IsPart = λ given told bytes. bytes ≡ [];
+  Refuses = λ given told bytes gone answer. RefusesFacts told answer;
+}
+
+-- ---- the step that reads it
+
+-- a text that is this query was read
+pub record ReadsQuery {S : Type 0} (g : SourceGhosts S) (old new : S) (query : Query) : Type 0 where
+  pub text : List ℕ
+  pub read : GaveWhole longest_query (g.left old) (g.left new) text
+  pub sound : first_fault text ≡ None
+  pub asked : asks_for text ≡ Some (question query)
+
+-- a text that is no query was read
+pub record ReadsNone {S : Type 0} (g : SourceGhosts S) (old new : S) (fault : InputFault) : Type 0 where
+  pub text : List ℕ
+  pub read : GaveWhole longest_query (g.left old) (g.left new) text
+  pub faulty : bad_query text ≡ Some fault
+
+-- an input that was read whole, and is no query
+abbrev pub RefusesInputFault : {S : Type 0} → SourceGhosts S → S → S → InputFault → Type 0
+RefusesInputFault g old new (TooLong size) = IsTooBig size longest_query (g.left old) (g.left new)
+RefusesInputFault g old new (BadQuery fault) = ReadsNone g old new (BadQuery fault)
+RefusesInputFault g old new _ = ⊥
+
+-- why no query was read
+abbrev pub RefusesQuery : {S : Type 0} → SourceGhosts S → S → S → Status → Type 0
+RefusesQuery g old new status.ReadFault = Rose (g.faults old) (g.faults new)
+RefusesQuery g old new (status.BadInput fault) = RefusesInputFault g old new fault
+RefusesQuery g old new status.NoMemory = Unit {0}
+RefusesQuery g old new _ = ⊥
+
+-- a text that is too long, told as such
+abbrev pub too_long_status : Status → Status
+too_long_status (status.BadInput (TooBig size)) = status.BadInput (TooLong size)
+too_long_status (status.BadInput BadRef) = status.BadInput BadRef
+too_long_status (status.BadInput BadDate) = status.BadInput BadDate
+too_long_status (status.BadInput BadNumber) = status.BadInput BadNumber
+too_long_status (status.BadInput BadName) = status.BadInput BadName
+too_long_status (status.BadInput (NotAFile r)) = status.BadInput (NotAFile r)
+too_long_status (status.BadInput (Short r has wants)) = status.BadInput (Short r has wants)
+too_long_status (status.BadInput (Deep r)) = status.BadInput (Deep r)
+too_long_status (status.BadInput NoKey) = status.BadInput NoKey
+too_long_status (status.BadInput (TooLong len)) = status.BadInput (TooLong len)
+too_long_status (status.BadInput (BadQuery fault)) = status.BadInput (BadQuery fault)
+too_long_status status.Done = status.Done
+too_long_status status.NoMemory = status.NoMemory
+too_long_status status.BadWords = status.BadWords
+too_long_status (status.Absent r) = status.Absent r
+too_long_status status.ReadFault = status.ReadFault
+too_long_status status.WriteFault = status.WriteFault
+too_long_status status.Disk = status.Disk
+too_long_status status.HandFault = status.HandFault
+too_long_status (status.Full blobs pack) = status.Full blobs pack
+too_long_status (status.Damaged want is) = status.Damaged want is
