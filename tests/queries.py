@@ -1,7 +1,7 @@
 """Queries, read, written and answered a second time.
 
-All of it is written from docs/search.md alone, to be read beside that page, over the facts of reference.py
-(docs/claims.md). It is slow and plain on purpose, but for what is kept once it was worked out.
+All of it is written from docs/formats/queries.md and docs/search.md alone, to be read beside these pages, over the
+facts of reference.py (docs/claims.md). It is slow and plain on purpose, but for what is kept once it was worked out.
 
 A query is a dict, and so is each object in it: the keys of the page with their values, a date as its moment.
 """
@@ -13,7 +13,7 @@ import strict_json
 import writing
 from reference import ALWAYS, is_whole
 
-# "The text of a query"
+# docs/formats/queries.md
 USUAL = {"limit": 200, "sort": "blobref"}
 MOST_LIMIT = 1_000_000
 DEEPEST = 32
@@ -104,7 +104,7 @@ def read_constraint(value, keys, depth):
 
 CONSTRAINT = Kind(read_constraint, lambda value: write_object("constraint", value))
 INT_TEST, TEXT_TEST = object_of("int test"), object_of("text test")
-# "The text of a query": the table
+# docs/formats/queries.md: the table
 FORMS = {
     "query": Form(
         {"constraint": CONSTRAINT, "limit": whole(1, MOST_LIMIT), "sort": word("blobref", "mod", "-mod"), "at": DATE},

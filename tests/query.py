@@ -29,7 +29,7 @@ from refused_alike import locked
 from stores import NOTHING_FOUND, Store, look
 from writing import claim, pack, permanode
 
-PAGE = pathlib.Path(__file__).resolve().parent.parent / "docs" / "search.md"
+DOCS = pathlib.Path(__file__).resolve().parent.parent / "docs"
 # docs/commands.md, "Input and order"
 LONGEST_QUERY = 1_048_576
 # Nothing is printed, and the exit status is that of bad input.
@@ -120,13 +120,14 @@ def first_fault(text):
 # The page's own queries
 
 def page(program):
-    """The table of faults and the examples of docs/search.md."""
-    text = PAGE.read_text()
+    """The table of faults of docs/formats/queries.md and the examples of docs/search.md."""
+    grammar, text = (DOCS / name for name in ("formats/queries.md", "search.md"))
+    grammar, text = grammar.read_text(), text.read_text()
     shelf = Shelf(program, {0: pack(*query_inputs.lives())})
-    rows = re.findall(r"^\| `(.*)` \| `(\w+)` at (?:the (empty) path|`(.*)`) \|$", text, re.MULTILINE)
+    rows = re.findall(r"^\| `(.*)` \| `(\w+)` at (?:the (empty) place|`(.*)`) \|$", grammar, re.MULTILINE)
     checks = [lambda row=row: page_fault(shelf, *row) for row in rows]
     examples = ["".join(lines) for lines in re.findall(r"(?:^    .*\n)+", text, re.MULTILINE)]
-    check("the page has a table of faults and its examples", len(rows) >= 8 and len(examples) == len(EXAMPLES))
+    check("the pages have a table of faults and the examples", len(rows) >= 8 and len(examples) == len(EXAMPLES))
     blobs, refs = example_store()
     of_examples = Shelf(program, {0: pack(*blobs)})
     for example, names in zip(examples, EXAMPLES):

@@ -429,7 +429,7 @@ def signed_of(blob):
 
 # What the blobs say together: which are ready, genuine and deleted, and which values stand (docs/claims.md)
 
-# docs/search.md, "Queries": the limit of `Query::for_value`
+# docs/search.md, "Queries of the program"
 MOST_ANSWERS = 1_000_000
 
 
