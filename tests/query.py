@@ -629,8 +629,9 @@ def slowly(lives):
 # Sizes
 
 # Each permanode of a ring has those up to so many places behind it as members from day 1 on, and as many before it from
-# day 2 on. A query has to end within so many seconds.
-RING, REACH, SOON = 1_000, 10, 20
+# day 2 on. A query has to end within so many seconds. The parents at a date are looked for among all members of all
+# permanodes, for each ref anew (docs/search.md, "How it is computed"): there the ring is smaller.
+RING, SMALL_RING, REACH, SOON = 1_000, 100, 10, 20
 # From the inside to the outside: the relation, whether any or all meet, and the date; valueInSet is a relation here.
 NESTED = [
     [("child", "any", None)] * 5,
@@ -646,17 +647,27 @@ NESTED = [
 
 def sizes(program):
     """Queries of nested relations over many permanodes that are each other's members."""
-    nodes = [permanode(f"{number:032x}") for number in range(RING)]
+    rings = {length: ring_store(program, length) for length in (RING, SMALL_RING)}
+    checks = [lambda levels=levels: nested_relations(program, *rings[length_for(levels)], levels) for levels in NESTED]
+    return checks + [lambda: all_of_all(program)]
+
+
+def length_for(levels):
+    dated_parents = any(relation == "parent" and number is not None for relation, _, number in levels)
+    return SMALL_RING if dated_parents else RING
+
+
+def ring_store(program, length):
+    """The store of a ring of so many permanodes, and their refs."""
+    nodes = [permanode(f"{number:032x}") for number in range(length)]
     refs = list(map(ref_of, nodes))
     claims = [
-        claim("add", refs[place], "camliMember", refs[(place + step) % RING], inputs.day(1 if step > 0 else 2))
-        for place in range(RING)
+        claim("add", refs[place], "camliMember", refs[(place + step) % length], inputs.day(1 if step > 0 else 2))
+        for place in range(length)
         for step in range(-REACH, REACH + 1)
         if step != 0
     ]
-    ring = Store(program, {0: pack(query_inputs.KEY, *nodes, *claims)}, {"keyring": KEYRING})
-    checks = [lambda levels=levels: nested_relations(program, ring, refs, levels) for levels in NESTED]
-    return checks + [lambda: all_of_all(program)]
+    return Store(program, {0: pack(query_inputs.KEY, *nodes, *claims)}, {"keyring": KEYRING}), refs
 
 
 def nested_relations(program, store, refs, levels):
@@ -667,13 +678,13 @@ def nested_relations(program, store, refs, levels):
         if relation == "parent":
             steps = [-step for step in steps]
         meet = any if how == "any" else all
-        met = {place for place in range(RING) if meet((place + step) % RING in met for step in steps)}
+        met = {place for place in range(len(refs)) if meet((place + step) % len(refs) in met for step in steps)}
         if relation == "value":
             test = {"attr": "camliMember", "valueInSet": constraint}
         else:
             test = {"relation": {"relation": relation, how: constraint}}
         constraint = {"permanode": test if number is None else {"at": inputs.day(number), **test}}
-    text = spell({"constraint": constraint, "limit": RING}).encode()
+    text = spell({"constraint": constraint, "limit": len(refs)}).encode()
     out = reference.search_text(sorted(refs[place] for place in met)) + b"\n"
     program.check(f"{len(levels)} relations, {levels[-1]}", store.words("query"), out, source=text, seconds=SOON)
 
