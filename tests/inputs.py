@@ -1156,6 +1156,54 @@ def random_packs():
         yield f"random pack {number}", b"".join(pieces), KEYRING
 
 
+# How many stores of random blobs there are, how many blobs each has, and at how many dates it is searched.
+STORES, BLOBS_OF_A_STORE, DATES_OF_A_STORE = 24, 220, 17
+
+
+def random_stores():
+    """What each store is, its packs by their numbers, and the dates at which it is searched."""
+    for number in range(STORES):
+        chance = harness.chance("random stores", number)
+        what, order = STORE_ORDERS[number % len(STORE_ORDERS)]
+        blobs = random_blobs(chance, BLOBS_OF_A_STORE)
+        listed = order(chance, blobs)
+        cut = chance.randrange(len(listed))
+        yield f"store {number}, {what}", {0: pack(*listed[:cut]), 1: pack(*listed[cut:])}, dates_about(chance, blobs)
+
+
+def shuffled(chance, blobs):
+    return chance.sample(blobs, len(blobs))
+
+
+def keys_last(chance, blobs):
+    """In any order but for the keys, which come last."""
+    listed = shuffled(chance, blobs)
+    return sorted(listed, key=lambda blob: reference.fact_of(blob).kind == "Key")
+
+
+def backwards(_, blobs):
+    """Each blob before those that it speaks of."""
+    return blobs[::-1]
+
+
+def forwards(_, blobs):
+    return blobs
+
+
+STORE_ORDERS = [
+    ("in any order", shuffled),
+    ("the keys last", keys_last),
+    ("claims before what they are about", backwards),
+    ("in order", forwards),
+]
+
+
+def dates_about(chance, blobs):
+    """The dates of some claims, and the moments beside them."""
+    dates = sorted({date for date in (reference.fact_of(blob).date for blob in blobs) if date is not None})
+    return [chance.choice(dates) + chance.choice((-1, 0, 0, 0, 1)) for _ in range(DATES_OF_A_STORE)]
+
+
 def random_blobs(chance, count):
     """Blobs that speak of one another; the key `lost` is in no keyring, and `late` is in no pack."""
     held = {"jefe": SECRET, "other": OTHER_SECRET}

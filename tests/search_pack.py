@@ -1,9 +1,10 @@
 """Runs `perkeep search-pack` over many inputs, and compares standard output, standard error and the exit status byte by byte.
 
 Most inputs have an expected answer that is written down here, and the reference has to give it as well as the program. The random
-packs are compared with the reference alone.
+packs are compared with the reference alone; so are random stores, which `perkeep search` looks through at many dates.
 """
 
+import functools
 import itertools
 import mmap
 import os
@@ -15,8 +16,9 @@ import harness
 import inputs
 import reference
 import writing
-from harness import Difference, compare, compare_ending, finish, limited_to
+from harness import Difference, check, compare, compare_ending, finish, limited_to
 from reference import ref_of
+from stores import Store, check_search
 from writing import keyring_line, pack, record
 
 EXAMPLES = pathlib.Path(__file__).resolve().parent.parent / "examples"
@@ -186,6 +188,51 @@ def pages():
     ]
 
 
+def random_stores():
+    """Stores of random blobs, each searched at dates of its claims and beside them."""
+    stores = list(inputs.random_stores())
+    archives = [reference.archive_of_store(packs, inputs.KEYRING) for _, packs, _ in stores]
+    check_variety(archives)
+    return [one for store, archive in zip(stores, archives) for one in searches_of(*store, archive)]
+
+
+def searches_of(what, packs, dates, archive):
+    store = functools.cache(lambda program: Store(program, packs, {"keyring": inputs.KEYRING}))
+
+    def search(program, attribute, value, at):
+        try:
+            check_search(store(program), archive, attribute, value, reference.date_text(at))
+        except Difference as difference:
+            raise Difference(f"{what}: {difference}") from None
+
+    queries = itertools.product(inputs.RANDOM_QUERIES, dates)
+    return [functools.partial(search, attribute=attribute, value=value, at=at) for (attribute, value), at in queries]
+
+
+def check_variety(archives):
+    """Most stores have to have each of the things that make an answer hard."""
+    kinds = list(map(kinds_in, archives))
+    for kind in kinds[0]:
+        check(f"most random stores lack {kind}", sum(bool(each[kind]) for each in kinds) > len(kinds) / 2)
+
+
+def kinds_in(archive):
+    """Which of these things a store has."""
+    facts = archive.facts
+    signed = {ref for ref, fact in facts.items() if fact.signed is not None}
+    claims = {ref for ref in archive.genuine if facts[ref].kind == "Claim"}
+    targets = [facts[facts[ref].target] for ref in claims if facts[ref].claim == "delete"]
+    dates = [facts[ref].date for ref in claims]
+    return {
+        "a blob that waits": signed - archive.ready,
+        "a false signature": (signed & archive.ready) - archive.genuine,
+        "two signers": len({facts[ref].signed.signer for ref in claims}) > 1,
+        "a permanode that is deleted": any(fact.kind == "Permanode" for fact in targets),
+        "a deletion that is deleted": any(fact.claim == "delete" for fact in targets),
+        "two claims at one date": len(set(dates)) < len(dates),
+    }
+
+
 def edges():
     """Standard input, standard output and a keyring that fail."""
     line = ("search-pack", "tag", "a")
@@ -331,7 +378,7 @@ def poured(program, what, length, status, **streams):
 
 
 GROUPS = [example, salvage, torn, flipped, json, facts, dates, keys, claims, orders, words, keyrings, random_packs]
-GROUPS_OF_CHECKS = [pages, edges, limits, shapes]
+GROUPS_OF_CHECKS = [pages, random_stores, edges, limits, shapes]
 
 
 def checks_of(program, group):
