@@ -629,9 +629,8 @@ def slowly(lives):
 # Sizes
 
 # Each permanode of a ring has those up to so many places behind it as members from day 1 on, and as many before it from
-# day 2 on. A query has to end within so many seconds. The parents at a date are looked for among all members of all
-# permanodes, for each ref anew (docs/search.md, "How it is computed"): there the ring is smaller.
-RING, SMALL_RING, REACH, SOON = 1_000, 100, 10, 20
+# day 2 on. A query has to end within so many seconds.
+RING, REACH, SOON = 1_000, 10, 20
 # From the inside to the outside: the relation, whether any or all meet, and the date; valueInSet is a relation here.
 NESTED = [
     [("child", "any", None)] * 5,
@@ -647,23 +646,18 @@ NESTED = [
 
 def sizes(program):
     """Queries of nested relations over many permanodes that are each other's members."""
-    rings = {length: ring_store(program, length) for length in (RING, SMALL_RING)}
-    checks = [lambda levels=levels: nested_relations(program, *rings[length_for(levels)], levels) for levels in NESTED]
+    store, refs = ring_store(program)
+    checks = [lambda levels=levels: nested_relations(program, store, refs, levels) for levels in NESTED]
     return checks + [lambda: all_of_all(program)]
 
 
-def length_for(levels):
-    dated_parents = any(relation == "parent" and number is not None for relation, _, number in levels)
-    return SMALL_RING if dated_parents else RING
-
-
-def ring_store(program, length):
-    """The store of a ring of so many permanodes, and their refs."""
-    nodes = [permanode(f"{number:032x}") for number in range(length)]
+def ring_store(program):
+    """The store of a ring of permanodes, and their refs."""
+    nodes = [permanode(f"{number:032x}") for number in range(RING)]
     refs = list(map(ref_of, nodes))
     claims = [
-        claim("add", refs[place], "camliMember", refs[(place + step) % length], inputs.day(1 if step > 0 else 2))
-        for place in range(length)
+        claim("add", refs[place], "camliMember", refs[(place + step) % RING], inputs.day(1 if step > 0 else 2))
+        for place in range(RING)
         for step in range(-REACH, REACH + 1)
         if step != 0
     ]

@@ -23,9 +23,10 @@ const FIRST_ASKED: usize = 1_024;
 /// The refs that the query asks for, in its order, at most its limit (`docs/search.md`). `NoMemory` comes only where
 /// no memory is left. `steps` counts the steps of the index.
 ///
-/// The time is at most that of (parts of the constraint) x (refs) x (values or parents of a ref), however deep the
-/// constraint nests (`search_meets::met`). In the order `Sort::Ref` the permanodes are asked by and by, each time twice
-/// as many, until `limit` of them are found; so that time may come as often as their number can be halved.
+/// The time is at most that of (parts of the constraint) x (refs) x (values or parents of a ref), and of a walk over all
+/// permanodes for each part that asks for parents at a date, however deep the constraint nests (`search_meets::met`). In
+/// the order `Sort::Ref` the permanodes are asked by and by, each time twice as many, until `limit` of them are found;
+/// so that time may come as often as their number can be halved.
 pub fn answer<K: Look, L: Ledger>(
     alloc: Global,
     look: &K,

@@ -1,2 +1,4 @@
 pub mod Texts
 pub mod Marked
+pub mod Walk
+pub mod Gathering

@@ -1,14 +1,16 @@
 //! Which refs meet a constraint. Each part of it is asked once, of all the refs that it is in question for.
 ghost use Rattle.std.specs.Prelude.{◌≡◌, IfOk, Some, filter, map};
 ghost use Rattle.search_query.specs.View.{view, asked_view, is_asked, leaves_of, test_leaves_of};
-ghost use Rattle.search_query.specs.View.{logical_view, logical_seen, permanode_view, permanode_seen, relation_view, relation_seen};
+ghost use Rattle.search_query.specs.View.{logical_view, logical_seen, permanode_view, permanode_seen};
+ghost use Rattle.search_query.specs.View.{relation_view, relation_seen};
 ghost use Rattle.search_query.specs.declared.query.Constraint.TheViews.{out-Constraint, out-PermanodeTest};
 ghost use Rattle.search_meets.specs.Meaning.{leaves_meet, meets, meets_logical, meets_related, meets_tested};
 ghost use Rattle.search_meets.specs.Values.{each_or_any, kin_meet, live_meets, where_asked};
 
+use crate::kin::kin_links;
 use crate::leaves::leaves_meet;
 use crate::marks::{chosen, gathered, joined, said, spread, trues};
-use crate::valuing::{kin_links, live_marks, named_marks, set_links, time_of};
+use crate::valuing::{live_marks, named_marks, set_links, time_of};
 use blobref::{NoMemory, Ref, RefList};
 use edge_base::Steps;
 use index_look::Look;
@@ -22,7 +24,8 @@ use std::sync::ledger::Ledger;
 ///
 /// Each part of the constraint is asked once of each ref that it is in question for: those given, and what the parts
 /// around it lead to from there. So the time is at most that of (parts of the constraint) x (refs) x (values or parents
-/// of a ref), however deep the constraint nests.
+/// of a ref), however deep the constraint nests. Each part that asks for parents at a date, and not by claims of every
+/// date, also goes once through all permanodes and their changes, however many refs it is in question for.
 pub fn met<K: Look, L: Ledger>(
     alloc: Global,
     look: &K,

@@ -5,16 +5,15 @@ ghost use Rattle.claim_model.specs.Facts.{Facts};
 ghost use Rattle.search_query.specs.View.{test_leaves_of};
 ghost use Rattle.search_query.specs.declared.query.Constraint.TheViews.{out-PermanodeTest};
 ghost use Rattle.search_meets.specs.Computed.{candidates, is_candidate, set_refs};
-ghost use Rattle.search_meets.specs.Values.{asks_of_one, is_live, is_ready_ref, kin_of, live_meets, time_of};
+ghost use Rattle.search_meets.specs.Values.{asks_of_one, is_live, is_ready_ref, live_meets, time_of};
 ghost use Rattle.search_meets.specs.Values.{value_meets, values_hold, values_meet};
-ghost use Rattle.search_query.specs.declared.query.Kin.TheVariants.{Child};
 
 use crate::testing::{equals, int_meets, text_meets};
 use blobref::{NoMemory, Ref, RefList, Text};
 use edge_base::Steps;
 use index_look::Look;
 use schema_date::{Date, When};
-use search_query::{Kin, PermanodeTest, TextTest};
+use search_query::{PermanodeTest, TextTest};
 use std::alloc::Global;
 use std::sync::ledger::Ledger;
 
@@ -175,7 +174,7 @@ fn keep_candidate<K: Look, L: Ledger>(
 }
 
 // The ready refs among some values, of those that meet what is asked of them by themselves.
-fn candidates<K: Look, L: Ledger>(
+pub(crate) fn candidates<K: Look, L: Ledger>(
     alloc: Global,
     look: &K,
     value: &Option<Text>,
@@ -239,55 +238,6 @@ pub(crate) fn set_links<K: Look, L: Ledger>(
     let mut out = Vec::new(alloc);
     for r in refs {
         out.push(set_refs(alloc, look, test, attr, when, r, steps)?)?;
-    }
-    Ok(out)
-}
-
-// The ready refs among the members.
-fn children<K: Look, L: Ledger>(
-    alloc: Global,
-    look: &K,
-    when: &When,
-    r: &Ref,
-    steps: &mut Steps<L>,
-) -> Result<RefList, NoMemory>
-    ensures { IfOk result (λ refs. refs ≡ kin_of (K.facts look.now) (K.accepts look.now) (Some Child) when.now r.now) }
-{
-    let members = look.values(r, "camliMember", when, steps)?;
-    candidates(alloc, look, &None, &None, members.as_slice(), steps)
-}
-
-fn kin_of<K: Look, L: Ledger>(
-    alloc: Global,
-    look: &K,
-    kin: Option<Kin>,
-    when: &When,
-    r: &Ref,
-    steps: &mut Steps<L>,
-) -> Result<RefList, NoMemory>
-    ensures { IfOk result (λ refs. refs ≡ kin_of (K.facts look.now) (K.accepts look.now) kin when.now r.now) }
-{
-    match kin {
-        None => Ok(RefList::empty(alloc)),
-        Some(Kin::Parent) => look.parents(r, when, steps),
-        Some(Kin::Child) => children(alloc, look, when, r, steps),
-    }
-}
-
-// The children or the parents of each ref.
-pub(crate) fn kin_links<K: Look, L: Ledger>(
-    alloc: Global,
-    look: &K,
-    kin: Option<Kin>,
-    when: &When,
-    refs: &[Ref],
-    steps: &mut Steps<L>,
-) -> Result<Vec<RefList>, NoMemory>
-    ensures { IfOk result (λ l. l.items ≡ map (kin_of (K.facts look.now) (K.accepts look.now) kin when.now) refs.now) }
-{
-    let mut out = Vec::new(alloc);
-    for r in refs {
-        out.push(kin_of(alloc, look, kin, when, r, steps)?)?;
     }
     Ok(out)
 }

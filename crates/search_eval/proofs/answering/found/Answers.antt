@@ -2,7 +2,8 @@ use Rattle.std.proofs.Common.{◌∙◌, ap, sym}
 use Rattle.claim_model.specs.Genuine.{permanodes}
 use Rattle.index_look.specs.Look.{permanode_after}
 use Rattle.search_eval.specs.Walk.{is_found, up_to}
-use Rattle.search_eval.proofs.Walk.{ascends_as, at_end, begins, fewer, goes_on, permanodes_ascend, up_to_none, when_full}
+use Rattle.search_meets.proofs.Walk.{fewer, permanodes_ascend}
+use Rattle.search_eval.proofs.Walk.{ascends_as, at_end, begins, goes_on, up_to_none, when_full}
 use Rattle.search_eval.proofs.answering.found.Goals as goal
 
 pub walk-init : goal.walk-init
@@ -18,7 +19,7 @@ pub walk-smaller : goal.walk-smaller
 walk-smaller g c =
     let facts = g.K.Look.facts c.args.look.now in
     let accepts = g.K.Look.accepts c.args.look.now in
-    fewer (is_found facts accepts c.args.query.now) c.args.stop (permanodes facts accepts) c.walk.after c.in-Some.p (permanodes_ascend facts accepts)
+    fewer (permanodes facts accepts) c.walk.after c.in-Some.p (permanodes_ascend facts accepts)
     (c.in-Some.ensures ∙ ap (λ o. permanode_after facts accepts o) c.as_ref.ensures.value)
 
 pub walk-preserved : goal.walk-preserved
