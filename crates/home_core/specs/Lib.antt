@@ -1,3 +1,7 @@
 pub mod State
 pub mod Steps
 pub mod Promises
+pub mod Seats
+pub mod Searches
+pub mod Passes
+pub mod Working

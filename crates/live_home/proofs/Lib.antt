@@ -1,0 +1,5 @@
+pub mod Owning
+pub mod Entries
+pub mod Indexing
+pub mod Gathering
+pub mod Stepping
