@@ -21,56 +21,15 @@ sys.path.insert(0, str(pathlib.Path(__file__).resolve().parent.parent / "tests")
 sys.dont_write_bytecode = True
 
 import reference
-from reference import ref_of
-from writing import claim, delete, key_blob, keyring_line, permanode, record
+from writing import LOAD, LOAD_SECRET, keyring_line, load_blobs, record
 
 MIB = 1_048_576
 LARGE = int(os.environ.get("BENCH_MIB", "512"))
-NAME = "load"
-SECRET = b"load"
-LAST = 2**64 - 1
-
-
-def numbers(start, place):
-    """The number at a place of the sequence SplitMix64 that begins with a start."""
-    z = (start + (place + 1) * 0x9E3779B97F4A7C15) & LAST
-    z = ((z ^ (z >> 30)) * 0xBF58476D1CE4E5B9) & LAST
-    z = ((z ^ (z >> 27)) * 0x94D049BB133111EB) & LAST
-    return z ^ (z >> 31)
-
-
-def store_blobs(count, start):
-    """A key, and blobs signed with it, by fours: a permanode, its tag, its title, and a delete of the tag or of the last delete."""
-    key = key_blob(NAME)
-    signer = ref_of(key)
-    refs = []
-    for place in range(count):
-        date = date_after(place)
-        chance = numbers(start, place)
-        if place == 0:
-            blob = key
-        elif place % 4 == 1:
-            blob = permanode(f"{numbers(start, 2 * place):016x}{numbers(start, 2 * place + 1):016x}", signer, SECRET)
-        elif place % 4 == 2:
-            blob = claim("set", refs[place - 1], "tag", f"t{chance % 16}", date, signer, SECRET)
-        elif place % 4 == 3:
-            blob = claim("add", refs[place - 2], "title", f"n{place}", date, signer, SECRET)
-        else:
-            back = 2 if chance % 2 == 0 or place == 4 else 4
-            blob = delete(refs[place - back], date, signer, SECRET)
-        refs.append(ref_of(blob))
-        yield blob
-
-
-def date_after(seconds):
-    """2020-01-01 and so many seconds."""
-    days, rest = divmod(seconds, 86_400)
-    return f"2020-01-{days + 1:02}T{rest // 3600:02}:{rest // 60 % 60:02}:{rest % 60:02}Z"
 
 
 def store():
-    pack = b"".join(map(record, store_blobs(100_000, 7)))
-    return [pack], reference.search_pack(pack, keyring_line(NAME, SECRET), "tag", "t0")
+    pack = b"".join(map(record, load_blobs(100_000, 7)))
+    return [pack], reference.search_pack(pack, keyring_line(LOAD, LOAD_SECRET), "tag", "t0")
 
 
 def small_blobs():
@@ -97,7 +56,7 @@ def main(kind, folder):
     pieces, answer = KINDS[kind]()
     with open(folder / "pack", "wb") as file:
         file.writelines(pieces)
-    (folder / "keyring").write_bytes(keyring_line(NAME, SECRET))
+    (folder / "keyring").write_bytes(keyring_line(LOAD, LOAD_SECRET))
     (folder / "answer").write_bytes(answer)
 
 

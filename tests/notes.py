@@ -623,6 +623,10 @@ def which_is_first(program):
 # A store as a person has one
 
 PERMANODES, FILES = 40, 12
+MEMBERS_OF_TRIPS = (
+    b'{"constraint":{"permanode":{"relation":{"relation":"parent",'
+    b'"any":{"permanode":{"attr":"title","value":"trips"}}}}}}'
+)
 
 
 def realistic(program):
@@ -651,6 +655,8 @@ def holds_all(program):
         store.finds(what, nodes[number::3], "tag", f"tag {number}")
     for place, node in enumerate(nodes):
         store.finds(what, [nodes[place // 3]], "camliMember", node)
+    members = reference.search_text(sorted(nodes[:3])) + b"\n"
+    program.check(f"{what}: the members of trips", store.words("query"), members, source=MEMBERS_OF_TRIPS)
 
 
 # The clock and the random bytes

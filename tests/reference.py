@@ -560,6 +560,18 @@ def word(start, number):
     return z ^ z >> 31
 
 
+def load_text(blobs, keyring):
+    """What `load` prints where it makes these blobs (docs/commands.md, "load")."""
+    by_ref = {}
+    for blob in blobs:
+        by_ref.setdefault(ref_of(blob), blob)
+    archive = Archive(by_ref, read_keyring(keyring))
+    permanodes = sum(archive.is_permanode(ref) and not archive.deleted(ref, ALWAYS) for ref in archive.facts)
+    answer = ref_of(search_text(archive.holders("tag", "t0")))
+    line = f"blobs {len(blobs)} permanodes {permanodes} answer {answer}\n"
+    return f"forward {line}backward {line}".encode()
+
+
 # Files (docs/files.md)
 
 # "Reading a file": the file itself is the first of so many trees within one another

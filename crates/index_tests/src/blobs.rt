@@ -22,6 +22,10 @@ pub(crate) const PERMANODE: &str =
 pub(crate) const TAG: &str =
     r#"{"camliVersion":1,"camliType":"claim","camliSigner":"sha224-da4a89851a3c8f7ce55ef510378a1b717451b9f0b152bb73f28508dc","claimDate":"2014-01-02T00:00:00Z","claimType":"add-attribute","permaNode":"sha224-01d0f2ac408584236db9de88e8cbd79887704db69e188875443566b5","attribute":"tag","value":"sunset","camliSig":"7148778c9252ee12411c4b08050e85c6ea44c062a015e3d32f602e75b91b36cd"}"#;
 
+// Of 2014-01-06: one more tag, trip.
+pub(crate) const SECOND_TAG: &str =
+    r#"{"camliVersion":1,"camliType":"claim","camliSigner":"sha224-da4a89851a3c8f7ce55ef510378a1b717451b9f0b152bb73f28508dc","claimDate":"2014-01-06T00:00:00Z","claimType":"add-attribute","permaNode":"sha224-01d0f2ac408584236db9de88e8cbd79887704db69e188875443566b5","attribute":"tag","value":"trip","camliSig":"4908fe30017e27c36319ac36efee41b6b9bfc841d25b505bfd7c60f42018cd7f"}"#;
+
 // Of 2014-01-03, 2014-01-04 and 2014-01-05: the first deletes the tag, and each other the one before it.
 pub(crate) const DELETE: &str =
     r#"{"camliVersion":1,"camliType":"claim","camliSigner":"sha224-da4a89851a3c8f7ce55ef510378a1b717451b9f0b152bb73f28508dc","claimDate":"2014-01-03T00:00:00Z","claimType":"delete","target":"sha224-5aee6bc960444ae06b0ed804ab488bb98fa9c0d302f2aa29d42c5fd1","camliSig":"5b9988416d2624d7c82e12d1e79753da3ab33a0f2093d708e2db24355df9f146"}"#;

@@ -10,6 +10,8 @@ mod index;
 #[cfg(test)]
 mod nested;
 #[cfg(test)]
+mod queries;
+#[cfg(test)]
 mod schema;
 #[cfg(test)]
 mod search;

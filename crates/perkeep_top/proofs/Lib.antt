@@ -11,3 +11,4 @@ pub mod Walked
 pub mod Noting
 pub mod Filing
 pub mod Querying
+pub mod Loading

@@ -3,7 +3,7 @@ use Rattle.std.specs.Prelude.{◌≡◌, ℕ, Bool, List, [], ◌∷◌, ◌++�
 use Rattle.std.specs.List.{list_any}
 use Rattle.std.specs.Str.{bytes_eq}
 use Rattle.std.specs.BTreeSet.{BTreeSet, contains}
-use Rattle.blobref.specs.Blobref.{ref_cmp}
+use Rattle.blobref.specs.Blobref.{ref_cmp, ref_of}
 use Rattle.schema_json.specs.Facts.{fact_of}
 use Rattle.claim_model.specs.Facts.{Facts, Entry, Content, facts_of}
 use Rattle.salvage_scan.specs.Arrivals.{content}
@@ -13,6 +13,10 @@ use Rattle.salvage_scan.specs.declared.found.Found.{Found}
 -- a ref with its bytes
 abbrev pub Blob : Type 0
 Blob = List ℕ × List ℕ
+
+-- bytes under their ref
+abbrev pub named : List ℕ → Blob
+named bytes = (ref_of bytes, bytes)
 
 -- a ref with the fact of its bytes
 abbrev pub entry_of : Blob → Entry

@@ -17,4 +17,5 @@ pub mod ListRefs
 pub mod Search
 pub mod Query
 pub mod Salvaged
+pub mod Load
 pub mod Run

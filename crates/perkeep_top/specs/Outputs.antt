@@ -25,6 +25,15 @@ sizes_of blobs = map (λ (e : List ℕ × List ℕ). (e.0, length e.1)) (entries
 abbrev pub listed : Option (List ℕ) → ℕ → Blobs → List (List ℕ × ℕ)
 listed after limit blobs = take limit (filter (λ (e : List ℕ × ℕ). is_after after e.0) (sizes_of blobs))
 
+-- so many of something
+abbrev pub counted : List ℕ → ℕ → List ℕ
+counted what count = what ++ decimal count
+
+-- how many blobs were inserted in that order, how many permanodes are found, and the ref of an answer
+abbrev pub load_line : List ℕ → ℕ → ℕ → List ℕ → List ℕ
+load_line order blobs permanodes answer =
+    order ++ counted (codes " blobs ") blobs ++ counted (codes " permanodes ") permanodes ++ codes " answer " ++ ref_line answer
+
 -- ---- what salvage tells of packs
 
 -- a number in at least five digits

@@ -14,6 +14,7 @@ use Rattle.perkeep_top.specs.Get.{get_meaning}
 use Rattle.perkeep_top.specs.GetFile.{get_file_meaning}
 use Rattle.perkeep_top.specs.Notes.{Keys, permanode_meaning, claim_meaning, what_of}
 use Rattle.perkeep_top.specs.ListRefs.{list_meaning}
+use Rattle.perkeep_top.specs.Load.{load_meaning}
 use Rattle.perkeep_top.specs.Outside.{Outside, World}
 use Rattle.perkeep_top.specs.Put.{put_meaning}
 use Rattle.perkeep_top.specs.Query.{query_meaning}
@@ -37,6 +38,7 @@ meaning_of keys (command.PutFile dir name) = put_file_meaning name
 meaning_of keys (command.GetFile dir r) = get_file_meaning r
 meaning_of keys (command.Query dir) = query_meaning keys.accepts
 meaning_of keys (command.SearchPack attr value) = search_pack_meaning keys.accepts attr value
+meaning_of keys (command.Load count start) = load_meaning keys.accepts count start
 
 -- how a run ends: at words that are no line, at a text that is wrong, and else by the command's meaning
 abbrev pub Runs : {D S K C R : Type 0} → Outside D S K C R → Keys → Option (Result Command TextFault) → World D S K C R → World D S K C R → Status → Type 0

@@ -9,7 +9,7 @@ ghost use Rattle.pack_store.specs.Reading.{StaysStill};
 ghost use Rattle.pack_store.specs.Rows.{arrivals_in};
 ghost use Rattle.perkeep_top.specs.Search.{RefusesFacts};
 ghost use Rattle.perkeep_top.specs.Steps.{Finds};
-ghost use Rattle.perkeep_top.specs.Blobs.{pack_facts, blob_at, with_blob, with_blobs, HasRefsOf};
+ghost use Rattle.perkeep_top.specs.Blobs.{pack_facts, blob_at, named, with_blob, with_blobs, HasRefsOf};
 
 use crate::status::Status;
 use blobref::{NoMemory, Octets, Ref};
@@ -43,6 +43,19 @@ fn first_facts(alloc: Global, pack: &[u8], found: &[Found]) -> Result<FactList, 
     let mut facts = FactList::empty(alloc);
     for place in found {
         add_first(alloc, pack, place, &mut seen, &mut facts)?;
+    }
+    Ok(facts)
+}
+
+/// The facts of these blobs, each ref at its first.
+pub(crate) fn facts_of(alloc: Global, blobs: &[Octets]) -> Result<FactList, NoMemory>
+    ensures { IfOk result (λ facts. facts ≡ with_blobs [] (map named blobs.now)) }
+{
+    let mut seen = BTreeSet::new(alloc);
+    let mut facts = FactList::empty(alloc);
+    for blob in blobs {
+        let bytes = blob.as_slice();
+        add_blob(alloc, Ref::of(bytes), bytes, &mut seen, &mut facts)?;
     }
     Ok(facts)
 }

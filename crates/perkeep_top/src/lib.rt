@@ -4,6 +4,7 @@
 mod blobs;
 mod commands;
 mod lines;
+mod load;
 mod notes;
 mod running;
 mod search;

@@ -1,6 +1,6 @@
 //! The lines that commands write (`docs/commands.md`).
 ghost use Rattle.std.specs.Prelude.{◌≡◌, ◌++◌, decimal, flat_map, IfOk, OnOk};
-ghost use Rattle.perkeep_top.specs.Outputs.{ref_line, size_line, five_digits, pack_name, found_line, clean_line, report_of};
+ghost use Rattle.perkeep_top.specs.Outputs.{ref_line, size_line, counted, load_line, five_digits, pack_name, found_line, clean_line, report_of};
 
 use blobref::{Listing, NoMemory, Octets, Ref};
 use itoa::Buffer;
@@ -52,6 +52,32 @@ pub(crate) fn size_line(alloc: Global, r: &Ref, size: u64) -> Result<Octets, NoM
     let mut line = Vec::new(alloc);
     push_size_line(&mut line, r, size)?;
     Ok(Octets::from_vec(line))
+}
+
+/// How many blobs were inserted in an order, how many permanodes are found, and the ref of an answer.
+pub(crate) fn push_load_line(
+    text: &mut Vec<u8>,
+    order: &str,
+    blobs: u64,
+    permanodes: u64,
+    answer: &Ref,
+) -> Result<(), NoMemory>
+    ensures { OnOk result (text.new.items ≡ text.old.items ++ load_line order.now blobs permanodes answer.now) }
+{
+    text.extend_from_slice(order.as_bytes())?;
+    push_counted(text, b" blobs ", blobs)?;
+    push_counted(text, b" permanodes ", permanodes)?;
+    text.extend_from_slice(b" answer ")?;
+    text.extend_from_slice(answer.spell().as_slice())?;
+    text.push(b'\n')?;
+    Ok(())
+}
+
+fn push_counted(text: &mut Vec<u8>, what: &[u8], count: u64) -> Result<(), NoMemory>
+    ensures { OnOk result (text.new.items ≡ text.old.items ++ counted what.now count) }
+{
+    text.extend_from_slice(what)?;
+    push_decimal(text, count)
 }
 
 fn push_size_line(text: &mut Vec<u8>, r: &Ref, size: u64) -> Result<(), NoMemory>

@@ -9,6 +9,7 @@ use crate::commands::claim::{change, claim};
 use crate::commands::get::get;
 use crate::commands::get_file::get_file;
 use crate::commands::list::list;
+use crate::commands::load::load;
 use crate::commands::permanode::permanode;
 use crate::commands::put::put;
 use crate::commands::put_file::put_file;
@@ -146,6 +147,17 @@ fn run_command<D: Disk, V: Signer, S: Source, K: Sink, C: Clock, R: Dice>(
         }
         Command::GetFile { dir: _, r } => get_file(alloc, r, disk, source, sink, clock, dice),
         Command::Query { dir: _ } => query(alloc, keys, disk, source, sink, clock, dice),
+        Command::Load { count, start } => load(
+            alloc,
+            count.get(),
+            *start,
+            keys,
+            disk,
+            source,
+            sink,
+            clock,
+            dice,
+        ),
         Command::SearchPack { attr, value } => search_pack(
             alloc,
             attr.as_str(),

@@ -1,17 +1,18 @@
 -- In a line in which nothing is wrong, each text is what it has to be: for any form.
-use Rattle.std.proofs.Common.{◌≡◌, ◌≢◌, ◌&&◌, ◌||◌, ◌+◌, ◌<◌, ◌≤◌, ℕ, zero, suc, Bool, true, false, not, cond, List, [], ◌∷◌, ◌++◌, Option, Some, None, unwrap_or, option_to_list, length, nat_le, nat_lt, bytes_eq, arith, refl, ap, sym, subst, ◌∙◌}
+use Rattle.std.proofs.Common.{◌≡◌, ◌≢◌, ◌&&◌, ◌||◌, ◌+◌, ◌<◌, ◌≤◌, ℕ, zero, suc, Bool, true, false, not, cond, List, [], ◌∷◌, ◌++◌, Option, Some, None, is_some, unwrap_or, option_to_list, length, nat_le, nat_lt, bytes_eq, arith, refl, ap, sym, subst, ◌∙◌}
 use Rattle.std.specs.List.{slice_get}
 use Rattle.std.proofs.lemmas.Bool.{and_parts, leb-true, ltb-true}
 use Rattle.std.proofs.lemmas.Slice.Eq.{bytes_eq-Decides}
 use Rattle.blobref.specs.Blobref.{is_blobref}
 use Rattle.claim_verify.specs.KeyName.{is_key_name}
+use Rattle.schema_date.specs.Dates.{are_digits, number}
 use Rattle.perkeep_words.specs.Parts.{Part}
-use Rattle.perkeep_words.specs.Kinds.{is_right, wrong, fault_of}
+use Rattle.perkeep_words.specs.Kinds.{within, number_within, is_right, wrong, fault_of}
 use Rattle.perkeep_words.specs.Forms.{OptionForm, Form, texts_at, count_at, position_at, text_of, kind_in, is_needed, kind_of, are_of, has_positions, is_spared, is_given, are_given, has_form, faults}
 use Rattle.perkeep_words.specs.Table.{form_of}
 use Rattle.perkeep_words.specs.Reading.{LineSeen, IsRight, NeedsAt, NeedsOption}
 use Rattle.perkeep_words.specs.declared.kinds.TextKind.{TextKind}
-use Rattle.perkeep_words.specs.declared.kinds.TextKind.TheVariants.{Blobref, Name, Key}
+use Rattle.perkeep_words.specs.declared.kinds.TextKind.TheVariants.{Blobref, Name, Key, Number}
 use Rattle.perkeep_words.specs.declared.kinds.TextFault.{TextFault}
 
 neither : (a : Option TextFault) (b : List TextFault) → option_to_list a ++ b ≡ [] → (a ≡ None) × (b ≡ [])
@@ -156,3 +157,23 @@ option_filled line option right needs = filled (text_of option line.1) (right_op
 pub option_is_key : (line : LineSeen) (option : List ℕ) → IsRight line → NeedsOption line option Key
     → is_key_name (text_of option line.1) ≡ true
 option_is_key line option right needs = right_option line option Key right needs
+
+pub number_there : (line : LineSeen) (place least most : ℕ) → IsRight line → NeedsAt line place (Number least most)
+    → is_some (number_within least most (position_at place line.1)) ≡ true
+number_there line place least most right needs = right_position line place (Number least most) right needs
+
+-- a number that is read within bounds
+pub number_found : (least most : ℕ) (text : List ℕ) (n : ℕ) → Some n ≡ number_within least most text
+    → (n ≡ number text) × (n ≤ most)
+number_found least most text n e = by (are_digits text && nat_le 1 (length text)) e
+  where
+    inner : (b : Bool) → (nat_le least (number text) && nat_le (number text) most) ≡ b
+        → Some n ≡ cond b (Some (number text)) None → (n ≡ number text) × (n ≤ most)
+    inner true fits is =
+        let same : n ≡ number text = cc is in
+        (same, subst (λ k. k ≤ most) (sym same) (leb-true (number text) most (and_parts (nat_le least (number text)) (nat_le (number text) most) fits).1))
+    inner false fits is = absurd (cc is)
+
+    by : (b : Bool) → Some n ≡ cond b (within least most (number text)) None → (n ≡ number text) × (n ≤ most)
+    by true is = inner (nat_le least (number text) && nat_le (number text) most) refl is
+    by false is = absurd (cc is)

@@ -14,9 +14,9 @@ folds = record { empty = λ n. refl; more = λ n c cs digit. (let e : 10 * n + (
 own : IsNumeralModel (λ digits. are_digits digits ≡ true) number
 own = numerals_by_fold _ (search rules) number_after folds
 
-by_result : {E : Type 0} (digits : List ℕ) (r : Result ℕ E) → 0 < length digits → OkIff r ((0 < length digits) × (number digits < 2 ^ 32)) (number digits) → SomeIff (result_ok r) (number digits < 2 ^ 32) (number digits)
+by_result : {E : Type 0} (digits : List ℕ) (r : Result ℕ E) → 0 < length digits → OkIff r ((0 < length digits) × (number digits < 2 ^ 64)) (number digits) → SomeIff (result_ok r) (number digits < 2 ^ 64) (number digits)
 by_result digits (Ok n) some h = (h.0.1, h.1)
 by_result digits (Err e) some h = λ small. h (some, small)
 
-pub parsed : {E : Type 0} (digits : List ℕ) (r : Result ℕ E) → ParsesUnsigned 32 10 digits r → are_digits digits ≡ true → 0 < length digits → SomeIff (result_ok r) (number digits < 2 ^ 32) (number digits)
-parsed digits r h all some = by_result digits r some (parse_digits own 32 digits r h all)
+pub parsed : {E : Type 0} (digits : List ℕ) (r : Result ℕ E) → ParsesUnsigned 64 10 digits r → are_digits digits ≡ true → 0 < length digits → SomeIff (result_ok r) (number digits < 2 ^ 64) (number digits)
+parsed digits r h all some = by_result digits r some (parse_digits own 64 digits r h all)

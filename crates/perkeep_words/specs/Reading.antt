@@ -2,7 +2,7 @@
 use Rattle.std.specs.Prelude.{◌≡◌, ◌↔◌, ◌&&◌, ℕ, true, if◌then◌else◌, List, [], ◌∷◌, Option, Some, None, Result, Ok, Err, unwrap_or, option_map, option_and_then, nat_lt, codes}
 use Rattle.std.specs.List.{slice_get}
 use Rattle.blobref.specs.Blobref.{blobref_in}
-use Rattle.schema_date.specs.Dates.{date_in}
+use Rattle.schema_date.specs.Dates.{date_in, number}
 use Rattle.schema_date.specs.declared.date.When.{When}
 use Rattle.schema_date.specs.declared.date.When.TheVariants.{Always, At}
 use Rattle.perkeep_words.specs.Parts.{Part, HasParts, start, are_parts, parts_from}
@@ -97,6 +97,7 @@ command_at name.Claim parts =
 command_at name.Delete parts = command.Delete (position_at 0 parts) (position_at 1 parts) (text_of (codes "key") parts)
 command_at name.PutFile parts = command.PutFile (position_at 0 parts) (position_at 1 parts)
 command_at name.GetFile parts = command.GetFile (position_at 0 parts) (position_at 1 parts)
+command_at name.Load parts = command.Load (number (position_at 0 parts)) (number (position_at 1 parts))
 
 abbrev pub unless_wrong : Option TextFault → Command → Result Command TextFault
 unless_wrong None command = Ok command

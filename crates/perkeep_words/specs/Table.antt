@@ -4,7 +4,7 @@ use Rattle.perkeep_words.specs.Forms.{OptionForm, Form, begins_at_dir}
 use Rattle.perkeep_words.specs.declared.kinds.TextKind.{TextKind}
 use Rattle.perkeep_words.specs.declared.kinds.TextKind.TheVariants.{Dir, Any, Blobref, Date, Name, Key, Change, Number}
 use Rattle.perkeep_words.specs.declared.table.CommandName.{CommandName}
-use Rattle.perkeep_words.specs.declared.table.CommandName.TheVariants.{Put, Get, Stat, List as ListBlobs, Search, Query, Salvage, SearchPack, Permanode, Claim, Delete, PutFile, GetFile}
+use Rattle.perkeep_words.specs.declared.table.CommandName.TheVariants.{Put, Get, Stat, List as ListBlobs, Search, Query, Salvage, SearchPack, Permanode, Claim, Delete, PutFile, GetFile, Load}
 
 -- its name, whether it may change the store, its positions, how many are needed, what spares the others, its options
 abbrev pub row : List ℕ → Bool → List TextKind → ℕ → Option (ℕ × List ℕ) → List OptionForm → Form
@@ -27,6 +27,13 @@ must name kind = record { name = name; kind = kind; needed = true }
 abbrev pub limit_max : ℕ
 limit_max = 4194304
 
+-- the greatest number of blobs that a line of `load` asks for, and the greatest start
+abbrev pub count_max : ℕ
+count_max = 100000
+
+abbrev pub start_max : ℕ
+start_max = 18446744073709551615
+
 abbrev pub form_of : CommandName → Form
 form_of Put = row (codes "put") true (Dir ∷ []) 1 None []
 form_of Get = row (codes "get") false (Dir ∷ Blobref ∷ []) 2 None []
@@ -44,10 +51,11 @@ form_of Claim = row (codes "claim") true (Dir ∷ Change ∷ Blobref ∷ Name �
 form_of Delete = row (codes "delete") true (Dir ∷ Blobref ∷ []) 2 None (must (codes "key") Key ∷ [])
 form_of PutFile = row (codes "put-file") true (Dir ∷ Any ∷ []) 2 None []
 form_of GetFile = row (codes "get-file") false (Dir ∷ Blobref ∷ []) 2 None []
+form_of Load = row (codes "load") false (Number 1 count_max ∷ Number 0 start_max ∷ []) 2 None []
 
 abbrev pub commands : List CommandName
-commands = Put ∷ Get ∷ Stat ∷ ListBlobs ∷ Search ∷ Query ∷ Salvage ∷ SearchPack ∷ Permanode ∷ Claim ∷ Delete ∷ PutFile
-    ∷ GetFile ∷ []
+commands = Put ∷ Get ∷ Stat ∷ ListBlobs ∷ Search ∷ Query ∷ Salvage ∷ SearchPack ∷ Permanode ∷ Claim ∷ Delete
+    ∷ PutFile ∷ GetFile ∷ Load ∷ []
 
 -- the first of these that a word names
 abbrev pub named_in : List CommandName → List ℕ → Option CommandName

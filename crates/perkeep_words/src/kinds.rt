@@ -26,7 +26,7 @@ pub enum TextKind {
     /// The word for a change. Words with another one are no line.
     Change,
     /// A number from the first to the second one.
-    Number(u32, u32),
+    Number(u64, u64),
 }
 
 /// What is wrong with a text of a line.
@@ -109,7 +109,7 @@ pub fn fault_of(kind: Option<TextKind>, text: &str) -> Option<TextFault>
 }
 
 /// The number of a text: decimal digits, however many, from the least number to the most.
-pub fn number_within(least: u32, most: u32, text: &str) -> Option<u32>
+pub fn number_within(least: u64, most: u64, text: &str) -> Option<u64>
     ensures { result ≡ number_within least most text.now }
 {
     if text.is_empty() || !are_digits(text) {
@@ -118,7 +118,7 @@ pub fn number_within(least: u32, most: u32, text: &str) -> Option<u32>
     within(least, most, number_in(text)?)
 }
 
-fn within(least: u32, most: u32, n: u32) -> Option<u32>
+fn within(least: u64, most: u64, n: u64) -> Option<u64>
     ensures { result ≡ within least most n }
 {
     if least <= n && n <= most {
@@ -129,10 +129,10 @@ fn within(least: u32, most: u32, n: u32) -> Option<u32>
 }
 
 // The number that digits are. None where it doesn't fit.
-fn number_in(digits: &str) -> Option<u32>
+fn number_in(digits: &str) -> Option<u64>
     requires digits { are_digits digits.now ≡ true }
     requires some { 0 < length digits.now }
-    ensures { SomeIff result (number digits.now < 2 ^ 32) (number digits.now) }
+    ensures { SomeIff result (number digits.now < 2 ^ 64) (number digits.now) }
 {
     digits.parse().ok()
 }

@@ -17,4 +17,4 @@ pub use kinds::TextFault;
 pub use parts::parts_agree;
 pub use place::Places;
 pub use reading::{Command, Line, readings_agree};
-pub use words::{Filled, Word};
+pub use words::{BlobCount, Filled, Word};

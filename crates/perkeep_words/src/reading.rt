@@ -1,18 +1,20 @@
 //! Lines, and the commands that they are (docs/commands.md).
-ghost use Rattle.std.specs.Prelude.{◌≡◌, true};
+ghost use Rattle.std.specs.Prelude.{◌≡◌, ◌≤◌, true, is_some};
 ghost use Rattle.blobref.specs.Blobref.{is_blobref};
 ghost use Rattle.claim_verify.specs.KeyName.{is_key_name};
+ghost use Rattle.schema_date.specs.Dates.{number};
+ghost use Rattle.perkeep_words.specs.Kinds.{number_within};
 ghost use Rattle.perkeep_words.specs.Parts.{start, parts_from};
 ghost use Rattle.perkeep_words.specs.Forms.{position_at, text_of};
 ghost use Rattle.perkeep_words.specs.Table.{writes_of};
 ghost use Rattle.perkeep_words.specs.Reading.{line_of, command_at, command_in, change_at, ref_of, number_of, when_of, NeedsAt, NeedsOption, ReadingsAgree};
-ghost use Rattle.perkeep_words.specs.declared.kinds.TextKind.TheVariants.{Blobref, Name, Key};
+ghost use Rattle.perkeep_words.specs.declared.kinds.TextKind.TheVariants.{Blobref, Name, Key, Number};
 
 use crate::change::Change;
 use crate::forms::{nth, position};
 use crate::kinds::{TextFault, number_within};
-use crate::table::{CommandName, LIMIT_MAX};
-use crate::words::{Filled, Word};
+use crate::table::{COUNT_MAX, CommandName, LIMIT_MAX, START_MAX};
+use crate::words::{BlobCount, Filled, Word};
 use blobref::{Ref, Text};
 use claim_verify::KeyName;
 use schema_date::{Date, When};
@@ -39,7 +41,7 @@ pub enum Command<'a> {
     List {
         dir: Word<'a>,
         after: Option<Ref>,
-        limit: u32,
+        limit: u64,
     },
     /// `search DIR --attr A --value V [--at DATE]`
     Search {
@@ -91,9 +93,14 @@ pub enum Command<'a> {
         dir: Word<'a>,
         r: Ref,
     },
+    /// `load COUNT START`
+    Load {
+        count: BlobCount,
+        start: u64,
+    },
 }
 
-const DEFAULT_LIMIT: u32 = 1_000;
+const DEFAULT_LIMIT: u64 = 1_000;
 
 /// Words that are the line of a command, whatever its texts say (docs/commands.md). A contract sees it as the command,
 /// and the parts behind the command's name in their order.
@@ -188,7 +195,7 @@ fn command_at<'a>(line: &RightLine<'a>) -> Command<'a>
         CommandName::List => Command::List {
             dir,
             after: line.ref_option("after"),
-            limit: line.number("limit", 1, LIMIT_MAX, DEFAULT_LIMIT),
+            limit: line.number_option("limit", 1, LIMIT_MAX, DEFAULT_LIMIT),
         },
         CommandName::Search => Command::Search {
             dir,
@@ -227,6 +234,10 @@ fn command_at<'a>(line: &RightLine<'a>) -> Command<'a>
             dir,
             r: line.blobref(1),
         },
+        CommandName::Load => Command::Load {
+            count: BlobCount::of(line.number(0, 1, COUNT_MAX)),
+            start: line.number(1, 0, START_MAX),
+        },
     }
 }
 
@@ -258,6 +269,15 @@ impl<'a> RightLine<'a> {
         ensures { result ≡ position_at place self.now.1 }
     {
         Filled::of(position(self.behind, place))
+    }
+
+    // The number that a position is.
+    fn number(&self, place: usize, least: u64, most: u64) -> u64
+        requires { NeedsAt self.now place (Number least most) }
+        ensures value { result ≡ number (position_at place self.now.1) }
+        ensures most { result ≤ most }
+    {
+        number(least, most, position(self.behind, place))
     }
 
     // The change that a position names.
@@ -297,7 +317,7 @@ impl<'a> RightLine<'a> {
     }
 
     // The number that an option gives.
-    fn number(&self, option: &str, least: u32, most: u32, default: u32) -> u32
+    fn number_option(&self, option: &str, least: u64, most: u64, default: u64) -> u64
         ensures { result ≡ number_of option.now least most default self.now.1 }
     {
         match nth(self.behind, Some(option), 0) {
@@ -334,6 +354,18 @@ fn blobref(text: &str) -> Ref
 {
     match Ref::read(text.as_bytes()) {
         Some(r) => r,
+        None => unreachable!(),
+    }
+}
+
+// A text that is a number within bounds.
+fn number(least: u64, most: u64, text: &str) -> u64
+    requires { is_some (number_within least most text.now) ≡ true }
+    ensures value { result ≡ number text.now }
+    ensures most { result ≤ most }
+{
+    match number_within(least, most, text) {
+        Some(n) => n,
         None => unreachable!(),
     }
 }

@@ -23,9 +23,10 @@ pub enum CommandName {
     Delete,
     PutFile,
     GetFile,
+    Load,
 }
 
-const COMMANDS: [CommandName; 13] = [
+const COMMANDS: [CommandName; 14] = [
     CommandName::Put,
     CommandName::Get,
     CommandName::Stat,
@@ -39,10 +40,17 @@ const COMMANDS: [CommandName; 13] = [
     CommandName::Delete,
     CommandName::PutFile,
     CommandName::GetFile,
+    CommandName::Load,
 ];
 
 /// The greatest number of refs that a line of `list` asks for.
-pub const LIMIT_MAX: u32 = 4_194_304;
+pub const LIMIT_MAX: u64 = 4_194_304;
+
+/// The greatest number of blobs that a line of `load` asks for.
+pub const COUNT_MAX: u64 = 100_000;
+
+/// The greatest start that a line of `load` names.
+pub const START_MAX: u64 = u64::MAX;
 
 const LIST_OPTIONS: &[OptionForm] = &[
     OptionForm {
@@ -120,6 +128,13 @@ impl CommandName {
             CommandName::Delete => signed("delete", &[TextKind::Dir, TextKind::Blobref]),
             CommandName::PutFile => writing("put-file", &[TextKind::Dir, TextKind::Any]),
             CommandName::GetFile => plain("get-file", &[TextKind::Dir, TextKind::Blobref]),
+            CommandName::Load => plain(
+                "load",
+                &[
+                    TextKind::Number(1, COUNT_MAX),
+                    TextKind::Number(0, START_MAX),
+                ],
+            ),
         }
     }
 }

@@ -1,5 +1,6 @@
-//! Texts that a command has.
-ghost use Rattle.std.specs.Prelude.{◌≡◌, ◌≢◌, []};
+//! What a command is told by its line.
+ghost use Rattle.std.specs.Prelude.{◌≡◌, ◌≢◌, ◌≤◌, []};
+ghost use Rattle.perkeep_words.specs.Table.{count_max};
 
 use std::marker::Model;
 
@@ -64,5 +65,40 @@ impl<'a> Filled<'a> {
         ensures filled { result.now ≢ [] }
     {
         self.text
+    }
+}
+
+/// How many blobs a line of `load` asks for: at most 100,000. A contract sees it as that number.
+#[derive(Drop)]
+pub struct BlobCount {
+    count: u64,
+}
+
+impl Model for BlobCount {
+    ghost use Rattle.std.specs.Prelude.{◌≤◌, ℕ};
+    ghost use Rattle.perkeep_words.specs.Table.{count_max};
+
+    ghost Value = { ℕ };
+
+    ghost view = { λ c. c.count };
+
+    ghost invariant = { λ c. c.count ≤ count_max };
+}
+
+impl BlobCount {
+    /// The count of this number.
+    pub fn of(count: u64) -> BlobCount
+        requires { count ≤ count_max }
+        ensures { result ≡ count }
+    {
+        BlobCount { count }
+    }
+
+    /// Its number.
+    pub fn get(&self) -> u64
+        ensures number { result ≡ self.now }
+        ensures most { result ≤ count_max }
+    {
+        self.count
     }
 }

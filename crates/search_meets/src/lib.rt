@@ -10,3 +10,4 @@ mod testing;
 mod valuing;
 
 pub use meeting::met;
+pub use parents::live_permanodes;

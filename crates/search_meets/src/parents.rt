@@ -43,8 +43,9 @@ pub(crate) fn parent_links<K: Look, L: Ledger>(
     Ok(out)
 }
 
-// The genuine permanodes that aren't deleted at that time, ascending.
-fn live_permanodes<K: Look, L: Ledger>(
+/// The genuine permanodes that aren't deleted at that time, ascending. It goes over all permanodes. `NoMemory` comes only
+/// where no memory is left.
+pub fn live_permanodes<K: Look, L: Ledger>(
     alloc: Global,
     look: &K,
     when: &When,

@@ -20,7 +20,7 @@ use std::alloc::Global;
 pub(crate) fn list<D: Disk, S: Source, K: Sink, C: Clock, R: Dice>(
     alloc: Global,
     after: Option<&Ref>,
-    limit: u32,
+    limit: u64,
     disk: D,
     _source: &mut S,
     sink: &mut K,
@@ -46,7 +46,7 @@ fn lines_of<D: Disk>(
     alloc: Global,
     store: &Store<D>,
     after: Option<&Ref>,
-    limit: u32,
+    limit: u64,
 ) -> Result<Octets, NoMemory>
     requires { Stands D.Disk limits store.now }
     ensures { IfOk result (IsListing (option_copied after.entry) limit (D.packs store.now.disk)) }
