@@ -38,14 +38,20 @@ fn tagged(alloc: Global) -> Result<Constraint, NoMemory> {
     Ok(of_permanodes(Some(test)))
 }
 
-// Permanodes of which some child or parent meets the constraint.
-fn with_kin(alloc: Global, kin: Kin, inner: Constraint) -> Result<Constraint, NoMemory> {
+// Permanodes of which some child or parent, at that date, meets the constraint.
+fn with_kin(
+    alloc: Global,
+    kin: Kin,
+    at: Option<Date>,
+    inner: Constraint,
+) -> Result<Constraint, NoMemory> {
     let relation = Relation {
         relation: Some(kin),
         any: Some(Box::new(alloc, inner)?),
         all: None,
     };
     let test = PermanodeTest {
+        at,
         relation: Some(relation),
         ..no_test()
     };
@@ -81,7 +87,7 @@ fn with_member(alloc: Global, at: Option<Date>, inner: Constraint) -> Result<Con
 fn deep(alloc: Global, depth: u32) -> Result<Constraint, NoMemory> {
     let mut constraint = tagged(alloc)?;
     for _ in 0..depth {
-        constraint = with_kin(alloc, Kin::Child, constraint)?;
+        constraint = with_kin(alloc, Kin::Child, None, constraint)?;
     }
     Ok(constraint)
 }
@@ -96,7 +102,7 @@ fn each_part_is_asked_once(rt: HostRuntime) -> Result<(), NoMemory> {
 #[test]
 fn children_and_parents(rt: HostRuntime) -> Result<(), NoMemory> {
     let alloc = rt.alloc();
-    let parents = with_kin(alloc, Kin::Parent, tagged(alloc)?)?;
+    let parents = with_kin(alloc, Kin::Parent, None, tagged(alloc)?)?;
     assert!(rt; finds(alloc, parents, &[LOW, PERMANODE])?);
     let childless = with_all(alloc, tagged(alloc)?)?;
     assert!(rt; finds(alloc, childless, &[HIGH])?);
@@ -109,6 +115,26 @@ fn a_test_has_a_date_of_its_own(rt: HostRuntime) -> Result<(), NoMemory> {
     let now = with_member(alloc, None, tagged(alloc)?)?;
     assert!(rt; finds(alloc, now, &[LOW, PERMANODE])?);
     let before = with_member(alloc, Date::read(b"2014-01-02T23:00:00Z"), tagged(alloc)?)?;
+    assert!(rt; finds(alloc, before, &[])?);
+    Ok(())
+}
+
+#[test]
+fn parents_have_a_date(rt: HostRuntime) -> Result<(), NoMemory> {
+    let alloc = rt.alloc();
+    let then = with_kin(
+        alloc,
+        Kin::Parent,
+        Date::read(b"2030-01-01T00:00:00Z"),
+        tagged(alloc)?,
+    )?;
+    assert!(rt; finds(alloc, then, &[LOW, PERMANODE])?);
+    let before = with_kin(
+        alloc,
+        Kin::Parent,
+        Date::read(b"2014-01-02T23:00:00Z"),
+        tagged(alloc)?,
+    )?;
     assert!(rt; finds(alloc, before, &[])?);
     Ok(())
 }

@@ -1,5 +1,5 @@
 -- What is written of a valid query has no fault, and is read as that query.
-use Rattle.std.proofs.Common.{◌≡◌, ◌∙◌, ◌&&◌, ◌||◌, ◌≤◌, ◌<◌, ◌^◌, ℕ, zero, suc, ℤ, max, Bool, true, false, not, List, [], ◌∷◌, codes, length, Option, Some, None, IfSome, is_some, is_none, nat_lt, nat_le, option_map, option_and_then, unwrap_or, if◌then◌else◌, refl, sym, ap, arith}
+use Rattle.std.proofs.Common.{◌≡◌, ◌∙◌, ◌&&◌, ◌||◌, ◌≤◌, ℕ, zero, suc, ℤ, max, Bool, true, false, not, List, [], codes, Option, Some, None, IfSome, is_some, is_none, option_map, unwrap_or, if◌then◌else◌, refl, ap, arith}
 use Rattle.std.proofs.lemmas.Bool.{false≢true, and_parts, le-leb}
 use Rattle.std.proofs.Math.Nat.{le-max_left, le-max_right}
 use Rattle.serde_json.specs.Data.{Data}
@@ -20,11 +20,11 @@ use Rattle.search_query.specs.declared.query.Sort.{Sort}
 use Rattle.search_query.specs.declared.query.Sort.TheVariants.{Ref, Mod, ModDown}
 use Rattle.search_query.specs.Mirror.{Leaves, TestLeaves, Asked, not_asked, asked, Joined, no_logical, logical, Tested, no_permanode, permanode, Related, no_relation, relation}
 use Rattle.search_query.specs.View.{is_asked, Question}
-use Rattle.search_query.specs.Valid.{if_present, valid_int_test, valid_text_test, valid_file_test, valid_leaves, is_joined, is_tested, has_part, operands_fit, names_attribute, values_fit, valid_test_leaves, one_of, valid_asked, valid_joined, valid_tested, valid_related, nests, joined_nests, tested_nests, related_nests, IsValidQuestion}
-use Rattle.query_read.specs.Faults.{Fault, has_key}
-use Rattle.query_read.specs.Grammar.{leaf, int_test_keys, int_test_fault, text_test_keys, text_test_fault, file_test_keys, file_test_fault, is_op_not, logical_whole, logical_keys, logical_fault, relation_whole, relation_keys, relation_fault, permanode_whole, permanode_keys, permanode_fault, parts_keys, parts_fault, constraint_fault, limit_fault, query_keys, query_fault}
-use Rattle.query_read.specs.Values.{true_in, name_in, date_of, op_in, kin_in, sort_in, limit_in, int_test_of, text_test_of, file_test_of, asked_in, joined_of, joined_in, related_of, related_in, tested_of, tested_in, parts_of, constraint_of, question_of, when_of}
-use Rattle.query_text.specs.Text.{Field, Spelling, SpellsDates, text_item, number_item, truth_item, date_item, op_name, kin_name, sort_name, int_test_fields, int_test_item, text_test_fields, text_test_item, file_test_fields, file_test_item, constraint_fields, logical_fields, permanode_fields, relation_fields, object_item, asked_item, joined_item, tested_item, related_item, question_fields, question_item, date_of as when_date}
+use Rattle.search_query.specs.Valid.{if_present, valid_int_test, valid_text_test, valid_file_test, valid_leaves, is_joined, is_tested, has_part, operands_fit, names_attribute, values_fit, valid_test_leaves, one_of, valid_asked, valid_joined, valid_tested, valid_related, nests, joined_nests, tested_nests, related_nests}
+use Rattle.query_read.specs.Faults.{has_key}
+use Rattle.query_read.specs.Grammar.{leaf, int_test_keys, int_test_fault, text_test_keys, text_test_fault, file_test_keys, file_test_fault, is_op_not, logical_whole, logical_keys, logical_fault, relation_whole, relation_keys, relation_fault, permanode_whole, permanode_keys, permanode_fault, parts_keys, constraint_fault, limit_fault, query_keys, query_fault}
+use Rattle.query_read.specs.Values.{true_in, name_in, date_of, op_in, kin_in, sort_in, limit_in, int_test_of, text_test_of, file_test_of, asked_in, joined_in, related_in, tested_in, constraint_of, question_of, when_of}
+use Rattle.query_text.specs.Text.{Spelling, SpellsDates, text_item, number_item, truth_item, date_item, op_name, kin_name, sort_name, int_test_fields, int_test_item, text_test_fields, text_test_item, file_test_fields, file_test_item, constraint_fields, logical_fields, permanode_fields, relation_fields, object_item, asked_item, joined_item, tested_item, related_item, question_fields, question_item, date_of as when_date}
 use Rattle.query_text.specs.Laws.{HasText, Holds, HoldsJoined, HoldsTested, HoldsRelated, HoldsTest, HoldsQuestion}
 use Rattle.query_text.proofs.Looking.{looked_up, value_of, object_sound, NoFault, no_fault, IsRead, leaf_sound, leaf_back, is_there, all_some, IsBack, object_field, object_back}
 

@@ -3,3 +3,4 @@ pub mod Looking
 pub mod Sound
 pub mod Back
 pub mod ReadBack
+pub mod Spelled

@@ -1,18 +1,17 @@
 -- What stands in a written object, key by key.
-use Rattle.std.proofs.Common.{◌≡◌, ◌∙◌, ◌&&◌, ◌||◌, ◌++◌, ℕ, Bool, true, false, cond, not, List, [], ◌∷◌, map, fold, Option, Some, None, IfSome, is_some, option_map, option_and_then, if◌then◌else◌, bytes_eq, Ordering, refl, sym, ap, subst}
+use Rattle.std.proofs.Common.{◌≡◌, ◌∙◌, ◌&&◌, ◌++◌, ℕ, Bool, true, false, cond, not, List, [], ◌∷◌, map, fold, Option, Some, None, IfSome, is_some, option_map, option_and_then, if◌then◌else◌, bytes_eq, Ordering, refl, sym, ap, subst}
 use Rattle.std.specs.declared.cmp.Ordering.TheVariants.{Less, Equal, Greater}
 use Rattle.std.specs.Ordering.{nat_cmp, match_ordering}
 use Rattle.std.specs.Cmp.Lexicographic.{slice_cmp}
 use Rattle.std.specs.Cmp.Derive.{both_true}
-use Rattle.std.specs.List.{list_all, list_any}
+use Rattle.std.specs.List.{list_any}
 use Rattle.std.specs.Option.{option_or}
 use Rattle.std.proofs.lemmas.Bool.{false≢true, and_parts}
 use Rattle.std.proofs.lemmas.Slice.Eq.{bytes_eq-Decides}
-use Rattle.serde_json.specs.Data.{Data, object, Members, no_members, member, put}
+use Rattle.serde_json.specs.Data.{Data, Members, no_members, member, put}
 use Rattle.serde_json.specs.Find.{get}
-use Rattle.json_laws.specs.Written.{Pair, Item, last_value, members_of}
+use Rattle.json_laws.specs.Written.{Pair, Item, last_value}
 use Rattle.json_laws.proofs.Found.{member_found}
-use Rattle.query_read.specs.declared.fault.QueryFault.{QueryFault}
 use Rattle.query_read.specs.Faults.{Fault, Key, join, or_else, bad_key, bad_value, unknown, shape_fault, below, keys_fault, object_fault}
 use Rattle.query_read.specs.Grammar.{leaf}
 use Rattle.query_read.specs.Values.{under}

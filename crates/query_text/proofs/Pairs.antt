@@ -1,5 +1,5 @@
 -- The pairs of an object in a row.
-use Rattle.std.proofs.Common.{◌≡◌, ◌∙◌, ◌++◌, ◌+◌, ◌<◌, ℕ, ℤ, suc, Bool, true, false, List, [], ◌∷◌, codes, length, set, nat_lt, flat_map, Result, Ok, Err, OnOk, Option, Some, None, if◌then◌else◌, refl, sym, ap, arith}
+use Rattle.std.proofs.Common.{◌≡◌, ◌∙◌, ◌++◌, ◌+◌, ℕ, ℤ, suc, true, false, List, [], ◌∷◌, codes, length, set, nat_lt, flat_map, Result, Ok, Err, OnOk, Option, Some, None, if◌then◌else◌, refl, sym, ap, arith}
 use Rattle.std.proofs.Math.Seq.{set-append_seam}
 use Rattle.std.proofs.lemmas.Bool.{lt-ltb}
 use Rattle.std.proofs.lemmas.Bool.Decides.{nat_tests}
@@ -96,3 +96,8 @@ pub finished_alone : (fs : List Field) (old out new : List ℕ) (start : ℕ) �
     → new ≡ opened start out ++ codes "}" → new ≡ (object_item fs).text
 finished_alone fs old out new start empty at steps e =
     finished {T = Unit {0}} {E = Unit {0}} fs old out new start (Ok tt) (at ∙ sym (ap length empty)) steps e ∙ ap (λ l. l ++ (object_item fs).text) empty
+
+-- what holds in any case
+pub also : {T E P : Type 0} (r : Result T E) → P → OnOk r P
+also (Ok x) p = p
+also (Err e) p = tt

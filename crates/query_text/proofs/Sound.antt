@@ -1,5 +1,5 @@
 -- What is written reads as JSON, as the value that it was written for.
-use Rattle.std.proofs.Common.{◌≡◌, ◌∙◌, ◌+◌, ◌*◌, ◌≤◌, ◌<◌, ◌^◌, ◌++◌, ℕ, zero, suc, ℤ, max, Bool, List, [], ◌∷◌, codes, decimal, Option, Some, None, IfSome, option_map, refl, sym, ap, subst, arith}
+use Rattle.std.proofs.Common.{◌≡◌, ◌+◌, ◌*◌, ◌≤◌, ◌++◌, ℕ, zero, suc, ℤ, max, Bool, List, [], ◌∷◌, codes, decimal, Option, Some, None, IfSome, option_map, refl, sym, subst, arith}
 use Rattle.std.specs.Str.{IsUtf8}
 use Rattle.std.proofs.lemmas.Fmt.{IsAscii-decimal}
 use Rattle.std.proofs.lemmas.Str.{IsUtf8-from_ascii}
@@ -19,11 +19,11 @@ use Rattle.search_query.specs.declared.query.Kin.{Kin}
 use Rattle.search_query.specs.declared.query.Kin.TheVariants.{Parent, Child}
 use Rattle.search_query.specs.declared.query.Sort.{Sort}
 use Rattle.search_query.specs.declared.query.Sort.TheVariants.{Ref, Mod, ModDown}
-use Rattle.search_query.specs.Mirror.{Leaves, TestLeaves, Asked, not_asked, asked, Joined, no_logical, logical, Tested, no_permanode, permanode, Related, no_relation, relation}
+use Rattle.search_query.specs.Mirror.{Asked, not_asked, asked, Joined, no_logical, logical, Tested, no_permanode, permanode, Related, no_relation, relation}
 use Rattle.search_query.specs.View.{Question}
 use Rattle.search_query.specs.Valid.{nests, joined_nests, tested_nests, related_nests}
-use Rattle.query_text.specs.Text.{Field, Spelling, SpellsDates, pairs_of, present, object_item, text_item, number_item, truth_item, date_item, op_name, kin_name, sort_name, int_test_fields, int_test_item, text_test_fields, text_test_item, file_test_fields, file_test_item, constraint_fields, logical_fields, permanode_fields, relation_fields, asked_item, joined_item, tested_item, related_item, question_fields, question_item, date_of}
-use Rattle.query_text.specs.Laws.{IsWhole, HasText, HoldsInt, HoldsText, HoldsFile, HoldsTest, Holds, HoldsJoined, HoldsTested, HoldsRelated, HoldsQuestion}
+use Rattle.query_text.specs.Text.{Field, Spelling, SpellsDates, pairs_of, present, object_item, text_item, number_item, truth_item, date_item, op_name, kin_name, sort_name, int_test_fields, int_test_item, text_test_fields, text_test_item, file_test_fields, file_test_item, constraint_fields, logical_fields, permanode_fields, relation_fields, asked_item, joined_item, tested_item, related_item, question_fields, date_of}
+use Rattle.query_text.specs.Laws.{IsWhole, HasText, HoldsInt, HoldsText, HoldsFile, Holds, HoldsJoined, HoldsTested, HoldsRelated, HoldsQuestion}
 
 -- a text that reads as its value where arrays and objects may nest this deep
 abbrev pub IsSound : ℕ → Item → Type 0

@@ -1,5 +1,5 @@
 -- A written query is read as that query.
-use Rattle.std.specs.Prelude.{◌≡◌, ◌<◌, ◌^◌, ℕ, ℤ, List, Option, Some, None, IfSome}
+use Rattle.std.specs.Prelude.{◌≡◌, ◌<◌, ◌^◌, ℕ, ℤ, List, Some, None, IfSome}
 use Rattle.std.specs.Str.{IsUtf8}
 use Rattle.schema_date.specs.Dates.{date_in}
 use Rattle.schema_date.specs.DateTexts.{IsDateText}
@@ -66,3 +66,7 @@ HoldsQuestion q = Holds q.constraint × IfSome (date_of q.at) HasText
 abbrev pub QueriesAreRead : Type 0
 QueriesAreRead = (spell : Spelling) → SpellsDates spell → (q : Question) → HoldsQuestion q → IsValidQuestion q
     → (first_fault (query_text spell q) ≡ None) × (asks_for (query_text spell q) ≡ Some q)
+
+-- there is a function that gives each date its one written text
+abbrev pub DatesAreSpelled : Type 0
+DatesAreSpelled = (spell : Spelling) × SpellsDates spell

@@ -2,6 +2,7 @@
 ghost use Rattle.std.specs.Prelude.{◌≡◌, ◌++◌, OnOk};
 ghost use Rattle.search_query.specs.View.{view, logical_seen, logical_view, permanode_seen, permanode_view, relation_seen, relation_view, asked_view};
 ghost use Rattle.query_text.specs.Text.{Spelling, SpellsDates, asked_item, joined_item, tested_item, related_item};
+ghost use Rattle.query_text.specs.Laws.{Holds, HoldsJoined, HoldsTested, HoldsRelated};
 ghost use Rattle.query_text.specs.Pairs.{field_text};
 
 use crate::fields::{
@@ -19,8 +20,9 @@ pub(crate) fn constraint_pair(
     key: &str,
     constraint: &Constraint,
 ) -> Result<(), NoMemory>
-    ensures { OnOk result ((spell : Spelling) → SpellsDates spell →
+    ensures written { OnOk result ((spell : Spelling) → SpellsDates spell →
         out.new.items ≡ out.old.items ++ field_text key.now (asked_item spell (view constraint.now))) }
+    ensures holds { OnOk result (Holds (view constraint.now)) }
 {
     push_key(alloc, out, key)?;
     let start = out.len();
@@ -41,8 +43,9 @@ fn constraint_field(
     key: &str,
     constraint: &Option<Box<Constraint>>,
 ) -> Result<(), NoMemory>
-    ensures { OnOk result ((spell : Spelling) → SpellsDates spell →
+    ensures written { OnOk result ((spell : Spelling) → SpellsDates spell →
         out.new.items ≡ out.old.items ++ field_text key.now (asked_item spell (asked_view constraint.now))) }
+    ensures holds { OnOk result (Holds (asked_view constraint.now)) }
 {
     match constraint {
         None => Ok(()),
@@ -57,8 +60,9 @@ fn logical_pair(
     key: &str,
     logical: &Logical,
 ) -> Result<(), NoMemory>
-    ensures { OnOk result ((spell : Spelling) → SpellsDates spell →
+    ensures written { OnOk result ((spell : Spelling) → SpellsDates spell →
         out.new.items ≡ out.old.items ++ field_text key.now (joined_item spell (logical_view logical.now))) }
+    ensures holds { OnOk result (HoldsJoined (logical_view logical.now)) }
 {
     push_key(alloc, out, key)?;
     let start = out.len();
@@ -75,8 +79,9 @@ fn logical_field(
     key: &str,
     logical: &Option<Logical>,
 ) -> Result<(), NoMemory>
-    ensures { OnOk result ((spell : Spelling) → SpellsDates spell →
+    ensures written { OnOk result ((spell : Spelling) → SpellsDates spell →
         out.new.items ≡ out.old.items ++ field_text key.now (joined_item spell (logical_seen logical.now))) }
+    ensures holds { OnOk result (HoldsJoined (logical_seen logical.now)) }
 {
     match logical {
         None => Ok(()),
@@ -91,8 +96,9 @@ fn permanode_pair(
     key: &str,
     test: &PermanodeTest,
 ) -> Result<(), NoMemory>
-    ensures { OnOk result ((spell : Spelling) → SpellsDates spell →
+    ensures written { OnOk result ((spell : Spelling) → SpellsDates spell →
         out.new.items ≡ out.old.items ++ field_text key.now (tested_item spell (permanode_view test.now))) }
+    ensures holds { OnOk result (HoldsTested (permanode_view test.now)) }
 {
     push_key(alloc, out, key)?;
     let start = out.len();
@@ -113,8 +119,9 @@ fn permanode_field(
     key: &str,
     test: &Option<PermanodeTest>,
 ) -> Result<(), NoMemory>
-    ensures { OnOk result ((spell : Spelling) → SpellsDates spell →
+    ensures written { OnOk result ((spell : Spelling) → SpellsDates spell →
         out.new.items ≡ out.old.items ++ field_text key.now (tested_item spell (permanode_seen test.now))) }
+    ensures holds { OnOk result (HoldsTested (permanode_seen test.now)) }
 {
     match test {
         None => Ok(()),
@@ -129,8 +136,9 @@ fn relation_pair(
     key: &str,
     relation: &Relation,
 ) -> Result<(), NoMemory>
-    ensures { OnOk result ((spell : Spelling) → SpellsDates spell →
+    ensures written { OnOk result ((spell : Spelling) → SpellsDates spell →
         out.new.items ≡ out.old.items ++ field_text key.now (related_item spell (relation_view relation.now))) }
+    ensures holds { OnOk result (HoldsRelated (relation_view relation.now)) }
 {
     push_key(alloc, out, key)?;
     let start = out.len();
@@ -147,8 +155,9 @@ fn relation_field(
     key: &str,
     relation: &Option<Relation>,
 ) -> Result<(), NoMemory>
-    ensures { OnOk result ((spell : Spelling) → SpellsDates spell →
+    ensures written { OnOk result ((spell : Spelling) → SpellsDates spell →
         out.new.items ≡ out.old.items ++ field_text key.now (related_item spell (relation_seen relation.now))) }
+    ensures holds { OnOk result (HoldsRelated (relation_seen relation.now)) }
 {
     match relation {
         None => Ok(()),

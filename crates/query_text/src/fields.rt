@@ -1,9 +1,10 @@
 //! Objects, key by key, and the single values in them.
-ghost use Rattle.std.specs.Prelude.{◌≡◌, ◌++◌, OnOk, Some, codes, decimal, option_map};
+ghost use Rattle.std.specs.Prelude.{◌≡◌, ◌++◌, IfSome, OnOk, Some, codes, decimal, option_map};
 ghost use Rattle.std.specs.Str.{IsUtf8};
 ghost use Rattle.json.specs.Print.{quoted};
 ghost use Rattle.json_laws.specs.Written.{truth_text};
 ghost use Rattle.query_text.specs.Text.{text_item, number_item, truth_item, date_item, SpellsDates, Spelling, op_name, kin_name};
+ghost use Rattle.query_text.specs.Laws.{HasText, IsWhole};
 ghost use Rattle.query_text.specs.Pairs.{key_text, field_text, opened};
 
 use blobref::{NoMemory, Text};
@@ -62,7 +63,9 @@ pub(crate) fn text_field(
     key: &str,
     text: &Option<Text>,
 ) -> Result<(), NoMemory>
-    ensures { OnOk result (out.new.items ≡ out.old.items ++ field_text key.now (option_map text_item text.now)) }
+    ensures written { OnOk result (out.new.items
+        ≡ out.old.items ++ field_text key.now (option_map text_item text.now)) }
+    ensures holds { OnOk result (IfSome text.now IsUtf8) }
 {
     match text {
         None => Ok(()),
@@ -89,7 +92,8 @@ pub(crate) fn number_field(
     key: &str,
     n: Option<u64>,
 ) -> Result<(), NoMemory>
-    ensures { OnOk result (out.new.items ≡ out.old.items ++ field_text key.now (option_map number_item n)) }
+    ensures written { OnOk result (out.new.items ≡ out.old.items ++ field_text key.now (option_map number_item n)) }
+    ensures holds { OnOk result (IfSome n IsWhole) }
 {
     match n {
         None => Ok(()),
@@ -137,8 +141,9 @@ pub(crate) fn date_pair(
     key: &str,
     date: &Date,
 ) -> Result<(), NoMemory>
-    ensures { OnOk result ((spell : Spelling) → SpellsDates spell →
+    ensures written { OnOk result ((spell : Spelling) → SpellsDates spell →
         out.new.items ≡ out.old.items ++ field_text key.now (Some (date_item spell date.now))) }
+    ensures holds { OnOk result (HasText date.now) }
 {
     let text = date.text();
     text_pair(alloc, out, key, as_text(text.as_slice()))
@@ -150,8 +155,9 @@ pub(crate) fn date_field(
     key: &str,
     date: &Option<Date>,
 ) -> Result<(), NoMemory>
-    ensures { OnOk result ((spell : Spelling) → SpellsDates spell →
+    ensures written { OnOk result ((spell : Spelling) → SpellsDates spell →
         out.new.items ≡ out.old.items ++ field_text key.now (option_map (date_item spell) date.now)) }
+    ensures holds { OnOk result (IfSome date.now HasText) }
 {
     match date {
         None => Ok(()),

@@ -7,5 +7,5 @@ mod laws;
 mod value_tests;
 mod writing;
 
-pub use laws::queries_are_read;
+pub use laws::{dates_are_spelled, queries_are_read};
 pub use writing::text;

@@ -1,7 +1,10 @@
 //! The text of a query.
-ghost use Rattle.std.specs.Prelude.{◌≡◌, ◌++◌, IfOk, OnOk, option_map};
+ghost use Rattle.std.specs.Prelude.{◌≡◌, ◌++◌, IfOk, IfSome, None, OnOk, Some, option_map};
+ghost use Rattle.search_query.specs.Valid.{IsValid};
 ghost use Rattle.search_query.specs.View.{question};
+ghost use Rattle.query_read.specs.Reading.{asks_for, first_fault};
 ghost use Rattle.query_text.specs.Text.{Spelling, SpellsDates, sort_name, date_of, date_item, query_text};
+ghost use Rattle.query_text.specs.Laws.{HasText, HoldsQuestion};
 ghost use Rattle.query_text.specs.Pairs.{field_text};
 
 use crate::constraints::constraint_pair;
@@ -22,8 +25,9 @@ fn sort_name(sort: Sort) -> &'static str
 }
 
 fn when_field(alloc: Global, out: &mut Vec<u8>, key: &str, when: &When) -> Result<(), NoMemory>
-    ensures { OnOk result ((spell : Spelling) → SpellsDates spell →
+    ensures written { OnOk result ((spell : Spelling) → SpellsDates spell →
         out.new.items ≡ out.old.items ++ field_text key.now (option_map (date_item spell) (date_of when.now))) }
+    ensures holds { OnOk result (IfSome (date_of when.now) HasText) }
 {
     match when {
         When::Always => Ok(()),
@@ -34,8 +38,11 @@ fn when_field(alloc: Global, out: &mut Vec<u8>, key: &str, when: &When) -> Resul
 /// The text of a query (`docs/formats/queries.md`): compact JSON, which `query_read` reads as that query where it is
 /// valid. Each date stands as its one written text.
 pub fn text(alloc: Global, query: &Query) -> Result<Octets, NoMemory>
-    ensures { IfOk result (λ text. (spell : Spelling) → SpellsDates spell →
+    ensures written { IfOk result (λ text. (spell : Spelling) → SpellsDates spell →
         text ≡ query_text spell (question query.now)) }
+    ensures holds { OnOk result (HoldsQuestion (question query.now)) }
+    ensures read { IfOk result (λ text. IsValid query.now
+        → (first_fault text ≡ None) × (asks_for text ≡ Some (question query.now))) }
 {
     let mut out = Vec::new(alloc);
     constraint_pair(alloc, &mut out, "constraint", &query.constraint)?;
