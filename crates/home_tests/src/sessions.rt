@@ -33,17 +33,22 @@ fn is_stored(replies: &ReplyList, i: usize, want: u64) -> bool {
     }
 }
 
-// Session 1 puts all three blobs.
-fn three_puts(alloc: Global) -> Result<EventList, NoMemory> {
+// Session 1 puts these blobs.
+fn puts(alloc: Global, blobs: &[&str]) -> Result<EventList, NoMemory> {
     let mut events = EventList::empty(alloc);
-    for blob in [KEY, PERMANODE, TAG] {
+    for blob in blobs {
         events.push(put(alloc, 1, blob)?)?;
     }
     Ok(events)
 }
 
-fn settled(alloc: Global) -> Result<ReplyList, NoMemory> {
-    let mut events = three_puts(alloc)?;
+fn add_search(alloc: Global, session: u32, events: &mut EventList) -> Result<(), NoMemory> {
+    events.push(search(alloc, session)?)?;
+    Ok(())
+}
+
+// Session 1 takes a number, and gives it back.
+fn add_returned(events: &mut EventList) -> Result<(), NoMemory> {
     events.push(Event::Take {
         session: 1,
         known: 3,
@@ -52,11 +57,17 @@ fn settled(alloc: Global) -> Result<ReplyList, NoMemory> {
         session: 1,
         number: 0,
     })?;
+    Ok(())
+}
+
+fn settled(alloc: Global) -> Result<ReplyList, NoMemory> {
+    let mut events = puts(alloc, &[KEY, PERMANODE, TAG])?;
+    add_returned(&mut events)?;
     events.push(Event::Settle {
         session: 1,
         below: 0,
     })?;
-    events.push(search(alloc, 1)?)?;
+    add_search(alloc, 1, &mut events)?;
     replies(alloc, &events)
 }
 
@@ -68,18 +79,29 @@ fn a_session_finds_what_it_put_and_settled(rt: HostRuntime) -> Result<(), NoMemo
     Ok(())
 }
 
-fn stopped(alloc: Global) -> Result<ReplyList, NoMemory> {
+fn stop(alloc: Global, texts: &[&str]) -> Result<Event, NoMemory> {
     let mut kept = BlobList::empty(alloc);
-    kept.push(blob(alloc, KEY)?)?;
-    kept.push(blob(alloc, PERMANODE)?)?;
-    let mut events = three_puts(alloc)?;
-    events.push(Event::Stop { kept })?;
+    for text in texts {
+        kept.push(blob(alloc, text)?)?;
+    }
+    Ok(Event::Stop { kept })
+}
+
+fn stopped(alloc: Global) -> Result<ReplyList, NoMemory> {
+    let mut events = puts(alloc, &[KEY, PERMANODE, TAG])?;
+    let stop = stop(alloc, &[KEY, PERMANODE])?;
+    add_stop_and_settle(stop, &mut events)?;
+    add_search(alloc, 2, &mut events)?;
+    replies(alloc, &events)
+}
+
+fn add_stop_and_settle(stop: Event, events: &mut EventList) -> Result<(), NoMemory> {
+    events.push(stop)?;
     events.push(Event::Settle {
         session: 2,
         below: 9,
     })?;
-    events.push(search(alloc, 2)?)?;
-    replies(alloc, &events)
+    Ok(())
 }
 
 #[test]
@@ -90,9 +112,7 @@ fn a_claim_that_a_stop_lost_is_not_found(rt: HostRuntime) -> Result<(), NoMemory
 }
 
 fn inserted_beyond(alloc: Global) -> Result<ReplyList, NoMemory> {
-    let mut events = EventList::empty(alloc);
-    events.push(put(alloc, 1, KEY)?)?;
-    events.push(put(alloc, 1, PERMANODE)?)?;
+    let mut events = puts(alloc, &[KEY, PERMANODE])?;
     events.push(Event::Insert {
         session: 1,
         number: 7,
