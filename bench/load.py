@@ -9,7 +9,7 @@ import pathlib
 import sys
 
 from compare import MIB, TIMES, run
-from make_pack import LOAD, LOAD_SECRET, keyring_line
+from make_pack import KEYRING
 
 LINE = "blobs 100000 permanodes 25000 answer sha224-449c1ab9dc84a1f460f767f231a9da020897c1f366272578630f4158\n"
 ANSWER = f"forward {LINE}backward {LINE}".encode()
@@ -26,7 +26,7 @@ def timed(words, folder):
 def main(program, plain, folder):
     folder = pathlib.Path(folder)
     (folder / "pack").write_bytes(b"")
-    (folder / "keyring").write_bytes(keyring_line(LOAD, LOAD_SECRET))
+    (folder / "keyring").write_bytes(KEYRING)
     runs = [(timed([program, "load", "100000", "7"], folder), timed([plain, "100000", "7"], folder)) for _ in range(TIMES)]
     loads, plains = zip(*runs)
     speed = min(plains)[0] / min(loads)[0]

@@ -4,12 +4,14 @@
 
 writes `pack`, `keyring` and `answer` into the folder. The kinds are
 
-    store           100,000 blobs: 25,000 permanodes with a tag and a title each, and deletes of the tags and of deletes
+    store           100,000 blobs of the generated store (docs/formats/generated.md): 25,000 permanodes with a tag and a
+                    title each, and deletes of the tags and of deletes
     small-blobs     512 MiB of blobs of 300 bytes
     large-blobs     512 MiB of blobs of 1 MiB
     false-headers   40 MiB with 64 headers in front of other bytes, each of which costs the hash of 16 MiB
 
-The answer is that of `search-pack tag t0`. BENCH_MIB is another length of the two large packs, to try a bench.
+The answer is that of `search-pack tag t0`. BENCH_MIB is another length of the two large packs, and BENCH_BLOBS another
+number of the store's blobs, to try a bench.
 """
 
 import os
@@ -25,11 +27,14 @@ from writing import LOAD, LOAD_SECRET, keyring_line, load_blobs, record
 
 MIB = 1_048_576
 LARGE = int(os.environ.get("BENCH_MIB", "512"))
+BLOBS = int(os.environ.get("BENCH_BLOBS", "100000"))
+START = 7
+KEYRING = keyring_line(LOAD, LOAD_SECRET)
 
 
 def store():
-    pack = b"".join(map(record, load_blobs(100_000, 7)))
-    return [pack], reference.search_pack(pack, keyring_line(LOAD, LOAD_SECRET), "tag", "t0")
+    pack = b"".join(map(record, load_blobs(BLOBS, START)))
+    return [pack], reference.search_pack(pack, KEYRING, "tag", "t0")
 
 
 def small_blobs():
@@ -56,7 +61,7 @@ def main(kind, folder):
     pieces, answer = KINDS[kind]()
     with open(folder / "pack", "wb") as file:
         file.writelines(pieces)
-    (folder / "keyring").write_bytes(keyring_line(LOAD, LOAD_SECRET))
+    (folder / "keyring").write_bytes(KEYRING)
     (folder / "answer").write_bytes(answer)
 
 

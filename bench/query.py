@@ -17,7 +17,7 @@ import tempfile
 import time
 
 from compare import MIB
-from make_pack import LOAD, LOAD_SECRET, keyring_line, record, reference
+from make_pack import KEYRING, LOAD, LOAD_SECRET, record, reference
 
 sys.path.insert(0, str(pathlib.Path(__file__).resolve().parent.parent / "tests"))
 
@@ -62,7 +62,7 @@ class Program:
 
 def tables(pack):
     """A database in memory with what the permanodes hold."""
-    archive = reference.archive_of(pack, keyring_line(LOAD, LOAD_SECRET))
+    archive = reference.archive_of(pack, KEYRING)
     base = sqlite3.connect(":memory:")
     base.execute("create table permanodes (ref text primary key) without rowid")
     base.execute("create table held (attr text, value text, ref text)")
@@ -110,7 +110,7 @@ def ring_store(folder):
     ]
     folder.mkdir()
     (folder / "pack-00000.blobs").write_bytes(b"".join(map(record, [key, *nodes, *members])))
-    (folder / "keyring").write_bytes(keyring_line(LOAD, LOAD_SECRET))
+    (folder / "keyring").write_bytes(KEYRING)
     return refs
 
 
@@ -144,7 +144,7 @@ def main(path, folder):
     store.mkdir()
     pack = (folder / "pack").read_bytes()
     (store / "pack-00000.blobs").write_bytes(pack)
-    (store / "keyring").write_bytes(keyring_line(LOAD, LOAD_SECRET))
+    (store / "keyring").write_bytes(KEYRING)
     base, program = tables(pack), Program(path, store)
     per_ref("a query by value", program, BY_VALUE, base, VALUE_ROWS)
     per_ref("a query by relation", program, BY_RELATION, base, RELATION_ROWS)

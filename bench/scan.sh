@@ -6,12 +6,7 @@
 # Prints the time of the scan as a multiple of the time of hashing; the goals are 1.5 for small blobs and 1.1 for large ones.
 set -eu
 cd "$(dirname "$0")/.."
-program=${LAB:-crates/lab/out/lab}
-if [ -z "${LAB:-}" ] && { [ ! -x "$program" ] || [ -n "$(find crates/*/src -newer "$program" -type f -print -quit)" ]; }; then
-  (cd crates/lab && rt run -- hash </dev/null >&2)
-  touch "$program"
-fi
-program=$(realpath "$program")
+. bench/lab.bash
 folder=$(mktemp -d)
 trap 'rm -rf "$folder"' EXIT
 for kind in small-blobs large-blobs; do

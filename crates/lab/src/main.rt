@@ -1,12 +1,18 @@
 //! The yardsticks of `bench/`, in one program: `lab WORD` measures what the word names over standard input, and
-//! prints one line.
+//! prints one line. `lab WORD KEYRING ATTRIBUTE VALUE` asks an index by the keys of the keyring, whose text is the word,
+//! for the holders of the value.
 //!
 //! It is no part of the archive's program. It ends with that program's exit statuses.
 #![tactic(auto)]
 
+mod indexing;
 mod yardstick;
 
+use crate::indexing::Question;
 use crate::yardstick::Yardstick;
+use blobref::{NoMemory, Text};
+use claim_verify::{Keyring, KeyringFault};
+use std::alloc::Global;
 use std::env;
 use std::io::Read;
 use std::process::ExitCode;
@@ -31,6 +37,12 @@ impl Fault {
     }
 }
 
+impl From<NoMemory> for Fault {
+    fn from(_: NoMemory) -> Fault {
+        Fault::Memory
+    }
+}
+
 fn main(rt: HostRuntime) -> ExitCode {
     match measure(&rt) {
         Ok(()) => ExitCode::SUCCESS,
@@ -39,18 +51,61 @@ fn main(rt: HostRuntime) -> ExitCode {
 }
 
 fn measure(rt: &HostRuntime) -> Result<(), Fault> {
-    let yardstick = named(rt).ok_or(Fault::Words)?;
-    let mut input = Vec::new(rt.alloc());
-    rt.stdin().read_to_end(&mut input).map_err(|_| Fault::Read)?;
-    let line = yardstick
-        .line(rt.alloc(), &input)
-        .map_err(|_| Fault::Memory)?;
+    let words = words(rt)?;
+    let line = line_of(rt, &words)?;
     rt.println(format_args!("{}", line.as_str()))
         .map_err(|_| Fault::Write)
 }
 
-// The yardstick that the first word names.
-fn named(rt: &HostRuntime) -> Option<Yardstick> {
-    let word = env::args(rt).ok()?.skip(1).next()?;
-    Yardstick::named(word.as_str())
+// The line of the yardstick that the words name, over standard input.
+fn line_of(rt: &HostRuntime, words: &[Text]) -> Result<String, Fault> {
+    let yardstick = Yardstick::named(word(words, 0)).ok_or(Fault::Words)?;
+    let question = question(rt.alloc(), words)?;
+    let input = input(rt)?;
+    Ok(yardstick.line(rt.alloc(), &input, &question)?)
+}
+
+fn input(rt: &HostRuntime) -> Result<Vec<u8>, Fault> {
+    let mut input = Vec::new(rt.alloc());
+    rt.stdin().read_to_end(&mut input).map_err(|_| Fault::Read)?;
+    Ok(input)
+}
+
+// The words behind the name of the program.
+fn words(rt: &HostRuntime) -> Result<Vec<Text>, Fault> {
+    let args = env::args(rt).map_err(|_| Fault::Words)?;
+    let mut words = Vec::new(rt.alloc());
+    for word in args.skip(1) {
+        push_word(rt.alloc(), &mut words, word.as_str())?;
+    }
+    Ok(words)
+}
+
+fn push_word(alloc: Global, words: &mut Vec<Text>, word: &str) -> Result<(), NoMemory> {
+    words.push(Text::copy(alloc, word)?)?;
+    Ok(())
+}
+
+// The word of a place, or the empty one.
+fn word(words: &[Text], place: usize) -> &str {
+    match words.get(place) {
+        Some(word) => word.as_str(),
+        None => "",
+    }
+}
+
+// What the words behind the first ask.
+fn question(alloc: Global, words: &[Text]) -> Result<Question, Fault> {
+    let keys = keyring(alloc, word(words, 1))?;
+    let attr = Text::copy(alloc, word(words, 2))?;
+    let value = Text::copy(alloc, word(words, 3))?;
+    Ok(Question { keys, attr, value })
+}
+
+fn keyring(alloc: Global, text: &str) -> Result<Keyring, Fault> {
+    match Keyring::read(alloc, text.as_bytes()) {
+        Ok(keys) => Ok(keys),
+        Err(KeyringFault::NoMemory) => Err(Fault::Memory),
+        Err(_) => Err(Fault::Words),
+    }
 }

@@ -1,6 +1,7 @@
 //! What is measured, and the word for each. One yardstick more is a variant of `Yardstick`, its word, and the
 //! function that makes its line.
 
+use crate::indexing::{Arrival, Question, facts_line, index_line};
 use blobref::{NoMemory, Ref};
 use salvage_scan::{Clean, scan};
 use std::alloc::Global;
@@ -12,6 +13,10 @@ pub enum Yardstick {
     Scan,
     /// The SHA-224 of the bytes.
     Hash,
+    /// What the blobs of a pack say, read one after another and kept nowhere.
+    Facts,
+    /// An index over the blobs of a pack.
+    Index(Arrival),
 }
 
 impl Yardstick {
@@ -20,15 +25,26 @@ impl Yardstick {
         match word {
             "scan" => Some(Yardstick::Scan),
             "hash" => Some(Yardstick::Hash),
+            "facts" => Some(Yardstick::Facts),
+            "insert" => Some(Yardstick::Index(Arrival::InOrder)),
+            "insert-backwards" => Some(Yardstick::Index(Arrival::Backwards)),
+            "fill" => Some(Yardstick::Index(Arrival::AtOnce)),
             _ => None,
         }
     }
 
-    /// Measures the bytes, and gives the line that tells the outcome.
-    pub fn line(self, alloc: Global, input: &[u8]) -> Result<String, NoMemory> {
+    /// Measures the bytes, and gives the line that tells the outcome. An index is asked the question.
+    pub fn line(
+        &self,
+        alloc: Global,
+        input: &[u8],
+        question: &Question,
+    ) -> Result<String, NoMemory> {
         match self {
             Yardstick::Scan => scan_line(alloc, input),
             Yardstick::Hash => hash_line(alloc, input),
+            Yardstick::Facts => facts_line(alloc, input),
+            Yardstick::Index(arrival) => index_line(alloc, input, arrival, question),
         }
     }
 }

@@ -1,0 +1,74 @@
+"""Runs `lab insert` and its fellows over packs whose blobs hang together in ways that could cost much. Each run has to
+end soon, and to find as many holders of a value as there are.
+"""
+
+import harness
+import writing
+from reference import ref_of
+from writing import keyring_line, pack
+
+# How many there are of each shape, and the seconds in which a run over it has to end. A chain of deletions that comes in
+# order takes time in the square of its length (docs/index.md, "What an insert costs"), so that one is shorter.
+MEMBERS, DELETIONS, DELETIONS_IN_ORDER, LATE, TREES, SOON = 20_000, 10_000, 2_000, 100_000, 60, 10
+DATE = "2020-01-01T00:00:00Z"
+KEY = writing.key_blob()
+NODE = writing.permanode()
+TAG = writing.claim("set", ref_of(NODE), "tag", "a", DATE)
+BOTH_ORDERS = ("insert", "insert-backwards")
+
+
+def members():
+    """A permanode with many members, filled in at once."""
+    refs = [f"sha224-{number:056x}" for number in range(MEMBERS)]
+    claims = [writing.claim("add", ref_of(NODE), "camliMember", ref, DATE) for ref in refs]
+    return checks("members", [KEY, NODE, *claims], ("fill",), "camliMember", refs[MEMBERS // 2], 1)
+
+
+def deletions():
+    return chain_checks(DELETIONS, ("insert-backwards", "fill")) + chain_checks(DELETIONS_IN_ORDER, ("insert",))
+
+
+def chain_checks(count, words):
+    """Each deletes the one before. Where their number is even the last one undoes the first."""
+    chain = [KEY, NODE, TAG]
+    for _ in range(count):
+        chain.append(writing.delete(ref_of(chain[-1]), DATE))
+    even = checks("an even chain of deletions", chain, words, "tag", "a", 1)
+    return even + checks("an odd chain of deletions", chain[:-1], words, "tag", "a", 0)
+
+
+def late_key():
+    """Blobs that all wait for one key, which comes last; or first, where the last one is the first to come."""
+    nodes = [writing.permanode(f"{number:032x}") for number in range(LATE)]
+    return checks("a key that comes last", [*nodes, TAG, NODE, KEY], BOTH_ORDERS, "tag", "a", 1)
+
+
+def shared_trees():
+    """Trees each of which names the one before twice."""
+    trees = [writing.bytes_blob([writing.part(1)])]
+    for _ in range(TREES):
+        trees.append(writing.bytes_blob([writing.part(1, ref_of(trees[-1]), "bytesRef")] * 2))
+    trees.append(writing.file_blob("n", [writing.part(2, ref_of(trees[-1]), "bytesRef")]))
+    return checks("trees that share", [*trees, TAG, NODE, KEY], BOTH_ORDERS, "tag", "a", 1)
+
+
+def checks(what, blobs, words, attribute, value, holders):
+    source, out = pack(*blobs), f"{len(blobs)} {holders}\n".encode()
+    return [
+        lambda program, word=word: program.check(
+            f"{what}: {word}", (word, keyring_line(), attribute, value), out, source=source, seconds=SOON
+        )
+        for word in words
+    ]
+
+
+# They are timed, so nothing else runs beside them.
+GROUPS = [members, deletions, late_key, shared_trees]
+
+
+def checks_of(program, group):
+    return [lambda check=check: check(program) for check in group()]
+
+
+if __name__ == "__main__":
+    harness.main("index.sh", [], GROUPS, checks_of)
