@@ -33,7 +33,7 @@ fn some_text<R: Rng>(rng: &mut R) -> &'static str {
     }
 }
 
-// A blob, one time in eight under the ref of another.
+// A blob, one time in eight under a ref that is drawn apart from it.
 fn some_blob<R: Rng>(alloc: Global, rng: &mut R) -> Result<(Ref, Octets), NoMemory> {
     let (said, bytes) = blob(alloc, some_text(rng))?;
     if below(rng, 8) == 0 {
