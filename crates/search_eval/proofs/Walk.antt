@@ -1,27 +1,20 @@
 -- A walk from each genuine permanode to the next finds all that a query asks for.
-use Rattle.std.proofs.Common.{◌≡◌, ◌≢◌, ℕ, zero, suc, take, ◌≤◌, ◌<◌, Bool, true, false, ◌&&◌, not, cond, List, [], ◌∷◌, ◌++◌, length, filter, Option, Some, None, refl, sym, ap, ◌∙◌, subst, arith, inl, inr, ◌⊎◌, append_assoc, append-nil, Ordering}
+use Rattle.std.proofs.Common.{◌≡◌, ◌≢◌, ℕ, zero, suc, take, ◌≤◌, Bool, true, false, ◌&&◌, not, cond, List, [], ◌∷◌, ◌++◌, length, filter, Option, Some, None, refl, sym, ap, ◌∙◌, subst, arith, append_assoc, append-nil, Ordering}
 use Rattle.std.proofs.Math.Bool.{and_comm}
-use Rattle.std.proofs.lemmas.Bool.{cases_Bool, cond-true, cond-false, eq-eqb, eqb-true, false≢true}
+use Rattle.std.proofs.lemmas.Bool.{eq-eqb, eqb-true, false≢true}
 use Rattle.std.proofs.lemmas.List.{length-append, length-take, take_all, take_at}
-use Rattle.std.proofs.lemmas.Map.Keys.{sorted_head, sorted_tail}
-use Rattle.std.proofs.lemmas.Option.{same_Some}
-use Rattle.std.specs.declared.cmp.Ordering.TheVariants.{Less, Equal, Greater}
+use Rattle.std.specs.declared.cmp.Ordering.TheVariants.{Less}
 use Rattle.std.specs.declared.result.Result.{Result}
 use Rattle.std.specs.declared.result.Result.TheVariants.{Ok, Err}
 use Rattle.std.specs.Result.{OnOk}
 use Rattle.std.specs.List.{find, AllByRecursion}
 use Rattle.std.specs.List.Sorted.{IsStrictlySortedBy}
-use Rattle.std.specs.Ordering.{is_lt, ordering_reverse}
-use Rattle.std.specs.Cmp.Lexicographic.{nat_list_cmp_total}
-use Rattle.std.proofs.lemmas.Cmp.{tied_itself}
-use Rattle.std.specs.FinMap.{keys}
 use Rattle.blobref.specs.Blobref.{ref_cmp, is_after}
 use Rattle.claim_verify.specs.Verifier.{Accepts}
 use Rattle.claim_model.specs.Facts.{Facts}
-use Rattle.claim_model.specs.Genuine.{permanodes, is_genuine_permanode}
+use Rattle.claim_model.specs.Genuine.{permanodes}
 use Rattle.claim_model.specs.Deleted.{is_deleted, live_permanodes}
 use Rattle.index_look.specs.Look.{permanode_after}
-use Rattle.index_look.proofs.Entries.{keys_ascend}
 use Rattle.search_query.specs.declared.query.Query.{Query}
 use Rattle.search_meets.specs.Meaning.{meets}
 use Rattle.search_meets.proofs.Walk.{Ascends, all_after, filter_ascends, filter_joined, last, permanodes_ascend, step}
