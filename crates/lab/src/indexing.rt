@@ -66,7 +66,15 @@ fn counts<L: Ledger>(
 {
     let mut steps = Steps::<L>::start(blank);
     let index = indexed(alloc, pack, arrival, &question.keys, &mut steps)?;
-    let holders = index.holders(question.attr.as_str(), question.value.as_str(), &mut steps)?;
+    told(&index, question, &mut steps)
+}
+
+fn told<L: Ledger>(
+    index: &Index<&Keyring>,
+    question: &Question,
+    steps: &mut Steps<L>,
+) -> Result<(u64, usize), NoMemory> {
+    let holders = index.holders(question.attr.as_str(), question.value.as_str(), steps)?;
     Ok((index.len(), holders.len()))
 }
 
