@@ -119,22 +119,16 @@ fn a_test_has_a_date_of_its_own(rt: HostRuntime) -> Result<(), NoMemory> {
     Ok(())
 }
 
+// Whether the permanodes found are those of which some parent at that date is tagged.
+fn finds_by_parents(alloc: Global, at: &[u8], want: &[&str]) -> Result<bool, NoMemory> {
+    let constraint = with_kin(alloc, Kin::Parent, Date::read(at), tagged(alloc)?)?;
+    finds(alloc, constraint, want)
+}
+
 #[test]
 fn parents_have_a_date(rt: HostRuntime) -> Result<(), NoMemory> {
     let alloc = rt.alloc();
-    let then = with_kin(
-        alloc,
-        Kin::Parent,
-        Date::read(b"2030-01-01T00:00:00Z"),
-        tagged(alloc)?,
-    )?;
-    assert!(rt; finds(alloc, then, &[LOW, PERMANODE])?);
-    let before = with_kin(
-        alloc,
-        Kin::Parent,
-        Date::read(b"2014-01-02T23:00:00Z"),
-        tagged(alloc)?,
-    )?;
-    assert!(rt; finds(alloc, before, &[])?);
+    assert!(rt; finds_by_parents(alloc, b"2030-01-01T00:00:00Z", &[LOW, PERMANODE])?);
+    assert!(rt; finds_by_parents(alloc, b"2014-01-02T23:00:00Z", &[])?);
     Ok(())
 }
