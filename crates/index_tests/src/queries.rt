@@ -43,22 +43,20 @@ fn is_no_json(alloc: Global, text: &str) -> bool {
 #[test]
 fn first_faults(rt: HostRuntime) -> Result<(), NoMemory> {
     let alloc = rt.alloc();
-    assert!(rt; BAD_VALUES.iter().all(|row| is_bad_value(alloc, row.0, row.1)));
+    assert!(rt;
+        BAD_VALUES
+            .iter()
+            .all(|row| is_bad_value(alloc, row.0, row.1))
+    );
     assert!(rt; is_bad_key(alloc, r#"{"constraint":{"colour":1}}"#, "constraint/colour"));
     assert!(rt; is_no_json(alloc, r#"{"constraint":"#));
     Ok(())
 }
 
-const TWO_TAGS: &str =
-    r#"{"constraint":{"permanode":{"attr":"tag","numValue":{"min":2}}}}"#;
+const TWO_TAGS: &str = r#"{"constraint":{"permanode":{"attr":"tag","numValue":{"min":2}}}}"#;
 
 // Whether a text is a query with this answer over these blobs.
-fn text_finds(
-    alloc: Global,
-    blobs: &[&str],
-    text: &str,
-    want: &[&str],
-) -> Result<bool, NoMemory> {
+fn text_finds(alloc: Global, blobs: &[&str], text: &str, want: &[&str]) -> Result<bool, NoMemory> {
     match read(alloc, text.as_bytes()) {
         Ok(query) => finds_among(alloc, blobs, &query, want),
         Err(_) => Ok(false),

@@ -156,11 +156,7 @@ fn tagged<K: Look>(alloc: Global, look: &K) -> Result<Ref, NoMemory>
 }
 
 // The genuine permanodes that aren't deleted, ascending. The steps are counted likewise.
-fn live_of<K: Look, L: Ledger>(
-    alloc: Global,
-    look: &K,
-    blank: Blank,
-) -> Result<RefList, NoMemory>
+fn live_of<K: Look, L: Ledger>(alloc: Global, look: &K, blank: Blank) -> Result<RefList, NoMemory>
     requires name { blank.name ≡ L.name }
     requires parts { blank.parts ≡ L.parts }
     requires some { 0 < blank.parts }

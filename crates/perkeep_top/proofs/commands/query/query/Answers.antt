@@ -32,7 +32,7 @@ returns-in-Ok-answer_line g c =
       query = c.in-Ok.query;
       asked = c.in-Ok.ensures.read.asked;
       answer = subst (λ told. IsAnswerOf (g.V.Verifier.accepts c.args.keys.now) c.in-Ok.query told c.as_slice.result.now) c.in-Ok-opened.ensures.stays.told
-        (subst (IsAnswerOf (g.V.Verifier.accepts c.args.keys.now) c.in-Ok.query (g.D.Disk.packs c.in-Ok-opened.store.disk)) (sym c.as_slice.ensures) c.in-Ok-answer_line.ensures.line);
+          (subst (IsAnswerOf (g.V.Verifier.accepts c.args.keys.now) c.in-Ok.query (g.D.Disk.packs c.in-Ok-opened.store.disk)) (sym c.as_slice.ensures) c.in-Ok-answer_line.ensures.line);
     }) refl c.written.result c.written.ensures.wrote c.written.ensures.later)
 
 pub returns : goal.returns
