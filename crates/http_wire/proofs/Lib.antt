@@ -1,0 +1,13 @@
+pub mod Behind
+pub mod Closings
+pub mod Digits
+pub mod Ending
+pub mod Fetching
+pub mod HeadParts
+pub mod Leading
+pub mod Passing
+pub mod Refusals
+pub mod Seams
+pub mod Speaking
+pub mod Targets
+pub mod Values

@@ -1,0 +1,39 @@
+use Rattle.std.proofs.Common.{◌≡◌, ◌+◌, length, take, ap, ◌∙◌, arith}
+use Rattle.http_wire.specs.declared.scanning.Scanned.TheVariants.{End, Open}
+use Rattle.http_wire.specs.Lines.{scanned}
+use Rattle.http_wire.proofs.Seams.{seam_read, front_same, reached}
+use Rattle.http_wire.proofs.Fetching.{Fetched-chain, none_came}
+use Rattle.http_wire.proofs.filling.fill_on.Goals as goal
+
+pub overflow_add-result : goal.overflow_add-result
+overflow_add-result g c =
+    let found = seam_read c.args.place c.reads.at (End c.in-End.n) c.reads.ahead.bytes c.as_slice-bytes.result.now c.reads.seen c.args.limit c.min-most.result c.as_slice-bytes.ensures c.min-most.ensures (omega arith) (omega arith) c.reads.invariant.looked c.in-End.ensures in
+    let fits = reached c.args.place c.args.limit (c.reads.seen + c.in-End.n) c.reads.ahead.bytes found in
+    omega (arith, fits.1)
+
+pub returns-in-End-clause-found : goal.returns-in-End-clause-found
+returns-in-End-clause-found g c =
+    seam_read c.args.place c.reads.at (End c.in-End.n) c.reads.ahead.bytes c.as_slice-bytes.result.now c.reads.seen c.args.limit c.min-most.result c.as_slice-bytes.ensures c.min-most.ensures (omega arith) (omega arith) c.reads.invariant.looked c.in-End.ensures
+
+pub returns-then-seen-limit-clause-long : goal.returns-then-seen-limit-clause-long
+returns-then-seen-limit-clause-long g c = λ _. (
+  (c.in-Open.next, seam_read c.args.place c.reads.at (Open c.in-Open.next) c.reads.ahead.bytes c.as_slice-bytes.result.now c.reads.seen c.args.limit c.min-most.result c.as_slice-bytes.ensures c.min-most.ensures (omega arith) (omega arith) c.reads.invariant.looked c.in-Open.ensures),
+  omega (arith, ap length c.as_slice-bytes.ensures),
+)
+
+pub returns-then-n-eq0-clause-ended : goal.returns-then-n-eq0-clause-ended
+returns-then-n-eq0-clause-ended g c = λ _.
+    let same = none_came _ _ _ c.in-Ok.n c.in-Ok.ensures.fetched.1 c.in-Ok.ensures.grew c.if-n-eq0.true in
+    let open_still : scanned c.args.place (take c.args.limit c.fetch.new.self.bytes) ≡ Open c.in-Open.next =
+    ap (λ xs. scanned c.args.place (take c.args.limit xs)) same ∙ seam_read c.args.place c.reads.at (Open c.in-Open.next) c.reads.ahead.bytes c.as_slice-bytes.result.now c.reads.seen c.args.limit c.min-most.result c.as_slice-bytes.ensures c.min-most.ensures (omega arith) (omega arith) c.reads.invariant.looked c.in-Open.ensures in
+    ((c.in-Open.next, open_still), omega (arith, ap length c.as_slice-bytes.ensures, c.in-Ok.ensures.grew), c.in-Ok.ensures.end c.if-n-eq0.true)
+
+pub reads-preserved : goal.reads-preserved
+reads-preserved g c = record {
+  fetched = Fetched-chain _ _ _ _ _ _ c.reads.invariant.fetched c.in-Ok.ensures.fetched;
+  taken = c.in-Ok.ensures.taken ∙ c.reads.invariant.taken;
+  later = omega (arith, c.in-Ok.ensures.cause.later);
+  looked = ap (scanned c.args.place) (front_same c.args.limit c.min-most.result c.reads.ahead.bytes c.as_slice-bytes.result.now _ c.fetch.new.self.bytes c.as_slice-bytes.ensures c.min-most.ensures c.in-Ok.ensures.fetched.1) ∙ seam_read c.args.place c.reads.at (Open c.in-Open.next) c.reads.ahead.bytes c.as_slice-bytes.result.now c.reads.seen c.args.limit c.min-most.result c.as_slice-bytes.ensures c.min-most.ensures (omega arith) (omega arith) c.reads.invariant.looked c.in-Open.ensures;
+  small = omega arith;
+  within = omega (arith, ap length c.as_slice-bytes.ensures, c.in-Ok.ensures.grew);
+}

@@ -1,0 +1,18 @@
+use Rattle.std.proofs.Common.{◌≡◌, ◌-◌, length, take, sym, subst, arith}
+use Rattle.std.proofs.lemmas.List.{length-take-le}
+use Rattle.http_wire.specs.declared.body.Body.{Body}
+use Rattle.http_wire.specs.declared.body.Body.TheVariants as body
+use Rattle.http_wire.specs.Bodies.{Leads}
+use Rattle.http_wire.proofs.Leading.{leads_chunk}
+use Rattle.http_wire.proofs.reading.give.Goals as goal
+
+pub returns-in_ok-n-in-Chunk-clause-moved : goal.returns-in_ok-n-in-Chunk-clause-moved
+returns-in_ok-n-in-Chunk-clause-moved g c =
+    let n = c.in_ok-n-in-Chunk.n in
+    let text = take n c.take_content-in-Chunk.new.buf in
+    let bound = c.in_ok-n-in-Chunk.ensures.bound in
+    let len : length text ≡ n = length-take-le n c.take_content-in-Chunk.new.buf (omega (arith, bound.0, c.take_content-in-Chunk.auto.buf)) in (
+      text,
+      c.in_ok-n-in-Chunk.ensures.ok,
+      subst (λ (b : Body). Leads b (body.Chunk (c.in-Chunk.left - n)) text text) (sym c.in-Chunk.is) (leads_chunk c.in-Chunk.left (c.in-Chunk.left - n) text (omega (arith, len, bound.1))),
+    )

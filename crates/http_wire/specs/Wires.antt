@@ -1,0 +1,54 @@
+-- A connection's reader, as its callers see it.
+use Rattle.std.specs.Prelude.{◌≡◌, ℕ, ◌<◌, ◌≤◌, ◌⊎◌, List, [], length, Option, IfSome, Err, if◌then◌else◌, ◌==◌}
+use Rattle.http_wire.specs.declared.body.Body.{Body}
+use Rattle.http_wire.specs.declared.body.Body.TheVariants as body
+use Rattle.http_wire.specs.declared.head.Framing.{Framing}
+use Rattle.http_wire.specs.declared.head.Framing.TheVariants.{Empty, Length, Chunked}
+use Rattle.http_wire.specs.declared.head.HeadFault.{HeadFault}
+use Rattle.http_wire.specs.declared.head.HeadFault.TheVariants as fault
+use Rattle.http_wire.specs.declared.place.Place.TheVariants.{Start}
+use Rattle.http_wire.specs.declared.ends.WireEnd.{WireEnd}
+use Rattle.http_wire.specs.declared.ends.WireEnd.TheVariants as ends
+use Rattle.http_wire.specs.Lines.{Lacks}
+use Rattle.http_wire.specs.Stream.{Flow, Begins, stream}
+use Rattle.http_wire.specs.Heads.{IsHeadText, HeadSays}
+use Rattle.http_wire.specs.Bodies.{Stops, Breaks}
+
+-- what was read ahead, the text of the present head, how many bytes of the stream were taken before it, and what is to come of the body
+pub record WireView : Type 0 where
+  pub flow : Flow
+  pub head : List ℕ
+  pub begun : ℕ
+  pub body : Body
+
+-- the bytes still to come, where the source tells them
+abbrev pub to_come : WireView → Option (List ℕ) → Option (List ℕ)
+to_come wire left = stream wire.flow.bytes left
+
+-- what is to come of a body of this framing; one of no bytes counts as read
+abbrev pub body_of : Framing → Body
+body_of Empty = body.Done
+body_of (Length n) = if n == 0 then body.Done else body.Exactly n
+body_of Chunked = body.ChunkLine
+
+-- lines that begin the stream are no head that can be read
+abbrev pub RefusesHead : HeadFault → List ℕ → Type 0
+RefusesHead why text = IsHeadText text × HeadSays text (Err why)
+
+-- why no head was read, where the request begins at that place
+abbrev pub HeadEnds : Option (List ℕ) → ℕ → WireEnd → Type 0
+HeadEnds x place ends.Closed = IfSome x (λ bytes. bytes ≡ [])
+HeadEnds x place (ends.Cut n) = (n ≡ place) × IfSome x (λ bytes. (0 < length bytes) × (length bytes < 16384) × Lacks Start 16384 bytes)
+HeadEnds x place (ends.BadHead n) = (n ≡ place) × IfSome x (λ bytes. Begins bytes (RefusesHead fault.BadHead))
+HeadEnds x place (ends.BadLength n) = (n ≡ place) × IfSome x (λ bytes. Begins bytes (RefusesHead fault.BadLength))
+HeadEnds x place (ends.TooLong limit) = ((limit ≡ 16384) × IfSome x (λ bytes. (16384 ≤ length bytes) × Lacks Start 16384 bytes)) ⊎ ((limit ≡ 64) × IfSome x (λ bytes. Begins bytes (RefusesHead fault.TooMany)))
+HeadEnds x place ends.ReadFault = Unit {0}
+
+-- why no more of a body was given, where the request began at that place
+abbrev pub BodyEnds : Option (List ℕ) → Body → ℕ → WireEnd → Type 0
+BodyEnds x at place ends.Closed = ⊥
+BodyEnds x at place (ends.Cut n) = (n ≡ place) × IfSome x (Stops at)
+BodyEnds x at place (ends.BadHead n) = ⊥
+BodyEnds x at place (ends.BadLength n) = (n ≡ place) × IfSome x (Breaks at)
+BodyEnds x at place (ends.TooLong limit) = ⊥
+BodyEnds x at place ends.ReadFault = Unit {0}

@@ -1,0 +1,45 @@
+//! Laws of streams of requests, and of replies.
+ghost use Rattle.std.specs.Prelude.{◌≡◌, ◌∷◌, ◌++◌, [], List, ℕ, All, Some, codes};
+ghost use Rattle.http_wire.specs.Heads.{IsHeadText};
+ghost use Rattle.http_wire.specs.Replies.{phrase_of};
+ghost use Rattle.http_wire.specs.Speaking.{Request, IsRequest, Speaks, text_of, HasNoRequest, IsOpen, SpeaksTo};
+ghost use Rattle.http_wire.specs.Speaking.{place_behind, last_of};
+ghost use Rattle.http_wire.specs.Wires.{HeadEnds};
+ghost use Rattle.http_wire.specs.declared.ends.WireEnd.{WireEnd};
+
+/// The phrases of the codes that a server replies with.
+pub fn phrases()
+    ensures fine { phrase_of 200 ≡ codes "OK" }
+    ensures bad { phrase_of 400 ≡ codes "Bad Request" }
+    ensures forbidden { phrase_of 403 ≡ codes "Forbidden" }
+    ensures lacking { phrase_of 404 ≡ codes "Not Found" }
+    ensures method { phrase_of 405 ≡ codes "Method Not Allowed" }
+    ensures long { phrase_of 413 ≡ codes "Payload Too Large" }
+    ensures damaged { phrase_of 500 ≡ codes "Internal Server Error" }
+    ensures later { phrase_of 503 ≡ codes "Service Unavailable" }
+    ensures full { phrase_of 507 ≡ codes "Insufficient Storage" }
+{}
+
+/// A request with which the rest of a stream begins is one more of its requests.
+pub fn one_more_request()
+    ensures { (x rest after : List ℕ) (rs : List Request) (r : Request) → Speaks x rs rest → IsRequest r
+        → rest ≡ text_of r ++ after → Speaks x (rs ++ r ∷ []) after }
+{}
+
+/// A stream begins with one head text at most.
+pub fn one_head_text()
+    ensures { (x a b after rest : List ℕ) → x ≡ a ++ after → x ≡ b ++ rest → IsHeadText a → IsHeadText b → a ≡ b }
+{}
+
+/// Where no head is read, and no read failed, no whole request begins.
+pub fn ends_begin_no_request()
+    ensures { (x : List ℕ) (place : ℕ) (end : WireEnd) → HeadEnds (Some x) place end
+        → (end ≡ WireEnd.ReadFault → ⊥) → HasNoRequest x }
+{}
+
+/// Where no head is read behind requests that leave the connection open, and no read failed, that is how the stream's
+/// requests end: a refused head is the last one, and else there is none behind them.
+pub fn ends_are_last()
+    ensures { (x rest : List ℕ) (rs : List Request) (end : WireEnd) → Speaks x rs rest → All IsOpen rs
+        → HeadEnds (Some rest) (place_behind rs) end → (end ≡ WireEnd.ReadFault → ⊥) → SpeaksTo x rs (last_of end) }
+{}

@@ -1,0 +1,33 @@
+//! Heads and bodies of HTTP messages, read from a source in any cuts.
+#![tactic(auto)]
+
+mod ahead;
+mod body;
+mod chunk_end;
+mod chunks;
+mod closing;
+mod content;
+mod ends;
+mod fields;
+mod filling;
+mod head;
+mod heads;
+mod judging;
+mod kept;
+mod laws;
+mod place;
+mod reading;
+mod replies;
+mod scanning;
+mod stop;
+mod taking;
+mod target;
+mod trailers;
+mod wire;
+
+pub use body::Body;
+pub use ends::WireEnd;
+pub use head::{Framing, Head, HeadFault, Piece};
+pub use laws::{ends_are_last, ends_begin_no_request, one_head_text, one_more_request, phrases};
+pub use replies::reply_head;
+pub use wire::Wire;

@@ -1,0 +1,155 @@
+//! Reading a body from any place in it.
+ghost use Rattle.std.specs.Prelude.{◌≡◌, ◌<◌, ◌≤◌, [], length, take, IfOk, IfErr, IfSome, OnOk, OnErr, IsErrOf};
+ghost use Rattle.edge_base.specs.Edge.{Rose};
+ghost use Rattle.http_wire.specs.Stream.{stream, Passed};
+ghost use Rattle.http_wire.specs.Bodies.{Moves, Leads, StopSays, IsPastEnd, IsPastLine, IsReady, given_by};
+
+use crate::ahead::Ahead;
+use crate::body::Body;
+use crate::chunk_end::take_end;
+use crate::chunks::take_line;
+use crate::content::take_content;
+use crate::stop::Stop;
+use crate::trailers::take_trailers;
+use edge_base::Source;
+
+/// The next bytes of a body, into the front of the buffer, and how many: none for a buffer that isn't empty is its end.
+pub fn read_body<S: Source>(
+    ahead: &mut Ahead,
+    source: &mut S,
+    body: &mut Body,
+    buf: &mut [u8],
+) -> Result<usize, Stop>
+    ensures moved { Moves
+        (S.left source.old) (S.left source.new) ahead.old ahead.new body.old body.new (given_by result buf.new) }
+    ensures bound { IfOk result (λ n. n ≤ length buf.old) }
+    ensures end { IfOk result (λ n. n ≡ 0 → 0 < length buf.old → body.new ≡ Body.Done) }
+    ensures err { IfErr result (λ stop. StopSays (stream ahead.new.bytes (S.left source.new)) body.new stop) }
+    ensures fault { IsErrOf result Stop.Failed → Rose (S.faults source.old) (S.faults source.new) }
+    ensures later { S.faults source.old ≤ S.faults source.new }
+{
+    match get_ready(ahead, source, body) {
+        Ok(()) => give(ahead, source, body, buf),
+        Err(stop) => Err(stop),
+    }
+}
+
+// Passes what stands before the next bytes of the body.
+fn get_ready<S: Source>(ahead: &mut Ahead, source: &mut S, body: &mut Body) -> Result<(), Stop>
+    ensures moved { Moves (S.left source.old) (S.left source.new) ahead.old ahead.new body.old body.new [] }
+    ensures past { OnOk result (IsReady body.new) }
+    ensures err { IfErr result (λ stop. StopSays (stream ahead.new.bytes (S.left source.new)) body.new stop) }
+    ensures fault { IsErrOf result Stop.Failed → Rose (S.faults source.old) (S.faults source.new) }
+    ensures later { S.faults source.old ≤ S.faults source.new }
+{
+    pass_end(ahead, source, body)?;
+    pass_line(ahead, source, body)?;
+    pass_trailers(ahead, source, body)?;
+    Ok(())
+}
+
+// Passes the end of a chunk, where it stands there.
+fn pass_end<S: Source>(ahead: &mut Ahead, source: &mut S, body: &mut Body) -> Result<(), Stop>
+    ensures moved { Moves (S.left source.old) (S.left source.new) ahead.old ahead.new body.old body.new [] }
+    ensures past { OnOk result (IsPastEnd body.new) }
+    ensures err { IfErr result (λ stop. StopSays (stream ahead.new.bytes (S.left source.new)) body.new stop) }
+    ensures fault { IsErrOf result Stop.Failed → Rose (S.faults source.old) (S.faults source.new) }
+    ensures later { S.faults source.old ≤ S.faults source.new }
+{
+    match *body {
+        Body::Chunk(left) => {
+            if left != 0 {
+                return Ok(());
+            }
+            take_end(ahead, source)?;
+            *body = Body::ChunkLine;
+            Ok(())
+        }
+        _ => Ok(()),
+    }
+}
+
+// Passes a chunk line, where it stands there.
+fn pass_line<S: Source>(ahead: &mut Ahead, source: &mut S, body: &mut Body) -> Result<(), Stop>
+    requires { IsPastEnd body.old }
+    ensures moved { Moves (S.left source.old) (S.left source.new) ahead.old ahead.new body.old body.new [] }
+    ensures past { OnOk result (IsPastLine body.new) }
+    ensures err { IfErr result (λ stop. StopSays (stream ahead.new.bytes (S.left source.new)) body.new stop) }
+    ensures fault { IsErrOf result Stop.Failed → Rose (S.faults source.old) (S.faults source.new) }
+    ensures later { S.faults source.old ≤ S.faults source.new }
+{
+    match *body {
+        Body::ChunkLine => {
+            let size = take_line(ahead, source)?;
+            *body = behind_line(size);
+            Ok(())
+        }
+        _ => Ok(()),
+    }
+}
+
+// What stands behind a chunk line.
+fn behind_line(size: u64) -> Body
+    ensures last { size ≡ 0 → result ≡ Body.Trailers }
+    ensures more { 0 < size → result ≡ Body.Chunk size }
+{
+    if size == 0 {
+        Body::Trailers
+    } else {
+        Body::Chunk(size)
+    }
+}
+
+// Passes the trailers, where they stand there.
+fn pass_trailers<S: Source>(ahead: &mut Ahead, source: &mut S, body: &mut Body) -> Result<(), Stop>
+    requires { IsPastLine body.old }
+    ensures moved { Moves (S.left source.old) (S.left source.new) ahead.old ahead.new body.old body.new [] }
+    ensures past { OnOk result (IsReady body.new) }
+    ensures err { IfErr result (λ stop. StopSays (stream ahead.new.bytes (S.left source.new)) body.new stop) }
+    ensures fault { IsErrOf result Stop.Failed → Rose (S.faults source.old) (S.faults source.new) }
+    ensures later { S.faults source.old ≤ S.faults source.new }
+{
+    match *body {
+        Body::Trailers => {
+            take_trailers(ahead, source)?;
+            *body = Body::Done;
+            Ok(())
+        }
+        _ => Ok(()),
+    }
+}
+
+// The next bytes of a body that stand there, or its end.
+fn give<S: Source>(
+    ahead: &mut Ahead,
+    source: &mut S,
+    body: &mut Body,
+    buf: &mut [u8],
+) -> Result<usize, Stop>
+    requires { IsReady body.old }
+    ensures moved { Moves
+        (S.left source.old) (S.left source.new) ahead.old ahead.new body.old body.new (given_by result buf.new) }
+    ensures bound { IfOk result (λ n. n ≤ length buf.old) }
+    ensures end { IfOk result (λ n. n ≡ 0 → 0 < length buf.old → body.new ≡ Body.Done) }
+    ensures err { IfErr result (λ stop. StopSays (stream ahead.new.bytes (S.left source.new)) body.new stop) }
+    ensures fault { IsErrOf result Stop.Failed → Rose (S.faults source.old) (S.faults source.new) }
+    ensures later { S.faults source.old ≤ S.faults source.new }
+{
+    match *body {
+        Body::Done | Body::Exactly(0) => {
+            *body = Body::Done;
+            Ok(0)
+        }
+        Body::Exactly(left) => {
+            let n = take_content(ahead, source, buf, left)?;
+            *body = Body::Exactly(left - n as u64);
+            Ok(n)
+        }
+        Body::Chunk(left) => {
+            let n = take_content(ahead, source, buf, left)?;
+            *body = Body::Chunk(left - n as u64);
+            Ok(n)
+        }
+        Body::ChunkLine | Body::Trailers => unreachable!(),
+    }
+}

@@ -1,0 +1,51 @@
+//! The trailers of a chunked body.
+ghost use Rattle.std.specs.Prelude.{◌≡◌, ◌<◌, ◌≤◌, ℕ, [], List, length, IfSome, IsTrue, IsFalse, OnOk, OnErr, IsErrOf};
+ghost use Rattle.edge_base.specs.Edge.{Rose};
+ghost use Rattle.httparse.specs.Grammar.{Field, LineEnd, ReadsSection};
+ghost use Rattle.http_wire.specs.Stream.{stream, Passed};
+ghost use Rattle.http_wire.specs.Bodies.{IsTrailers, Stops, Breaks};
+ghost use Rattle.http_wire.specs.declared.body.Body.TheVariants as body;
+
+use crate::ahead::Ahead;
+use crate::filling::fill;
+use crate::place::Place;
+use crate::stop::{Stop, stop_of};
+use edge_base::Source;
+use httparse::Status;
+use httparse::spans::{EMPTY_HEADER_SPAN, parse_headers};
+
+/// Takes the trailers, which are dropped.
+pub fn take_trailers<S: Source>(ahead: &mut Ahead, source: &mut S) -> Result<(), Stop>
+    ensures ok { OnOk result ((text : List ℕ)
+        × Passed (S.left source.old) (S.left source.new) ahead.old ahead.new text × IsTrailers text) }
+    ensures err { OnErr result (Passed (S.left source.old) (S.left source.new) ahead.old ahead.new []) }
+    ensures cut { IsErrOf result Stop.Cut → IfSome (stream ahead.new.bytes (S.left source.new)) (Stops body.Trailers) }
+    ensures broken { IsErrOf result Stop.Broken
+        → IfSome (stream ahead.new.bytes (S.left source.new)) (Breaks body.Trailers) }
+    ensures fault { IsErrOf result Stop.Failed → Rose (S.faults source.old) (S.faults source.new) }
+    ensures later { S.faults source.old ≤ S.faults source.new }
+{
+    let n = match fill(ahead, source, Place::Next, 16_384) {
+        Ok(n) => n,
+        Err(missed) => return Err(stop_of(missed)),
+    };
+    if !is_section(&ahead.as_slice()[..n]) {
+        return Err(Stop::Broken);
+    }
+    ahead.pass(n);
+    Ok(())
+}
+
+// Whether the text is some header lines, at most 64, and their empty line.
+fn is_section(text: &[u8]) -> bool
+    ensures yes { IsTrue result → (fields : List Field) × (last : LineEnd) × ReadsSection text.now fields last []
+        × (length fields ≤ 64) }
+    ensures no { IsFalse result → (fields : List Field) (last : LineEnd) → ReadsSection text.now fields last []
+        → 64 < length fields }
+{
+    let mut headers = [EMPTY_HEADER_SPAN; 64];
+    match parse_headers(text, &mut headers) {
+        Ok(Status::Complete((len, _count))) => len == text.len(),
+        _ => false,
+    }
+}

@@ -1,0 +1,134 @@
+//! The reader of a connection.
+ghost use Rattle.std.specs.Prelude.{◌≡◌, ◌<◌, ◌≤◌, [], length, IfOk, IfErr, OnOk, OnErr, IsErrOf, slice_range, Ok};
+ghost use Rattle.edge_base.specs.Edge.{Rose};
+ghost use Rattle.http_wire.specs.Stream.{Passed};
+ghost use Rattle.http_wire.specs.Heads.{IsHeadText, HeadSays, IsPlaceIn};
+ghost use Rattle.http_wire.specs.Bodies.{Moves, given_by};
+ghost use Rattle.http_wire.specs.Wires.{to_come, body_of, HeadEnds, BodyEnds};
+
+use crate::ahead::Ahead;
+use crate::body::Body;
+use crate::ends::{WireEnd, end_of_body};
+use crate::head::{Framing, Head, Piece};
+use crate::kept::Kept;
+use crate::reading::read_body;
+use crate::taking::take_head;
+use blobref::NoMemory;
+use edge_base::Source;
+use httparse::spans::{EMPTY_HEADER_SPAN, HeaderSpan};
+use std::alloc::{AllocError, Global};
+use std::marker::Model;
+
+/// The reader of one connection: it takes heads and bodies from a source, however the bytes come. docs/http.md has the
+/// rules. It holds all buffers of the connection, some 224 KiB, and takes no memory after it is made.
+#[derive(Drop)]
+pub struct Wire {
+    ahead: Ahead,
+    head: Kept,
+    headers: Vec<HeaderSpan>,
+    begun: u64,
+    body: Body,
+}
+
+impl Model for Wire {
+    ghost use Rattle.std.specs.Prelude.{◌≡◌, length};
+    ghost use Rattle.http_wire.specs.Wires.{WireView};
+
+    ghost Value = { WireView };
+
+    ghost view = { λ w. record { flow = w.ahead; head = w.head; begun = w.begun; body = w.body } };
+
+    ghost invariant = { λ w. length w.headers.items ≡ 5462 };
+}
+
+impl Wire {
+    /// A reader that has taken nothing, with no body to read.
+    pub fn make(alloc: Global) -> Result<Wire, NoMemory>
+        ensures { IfOk result (λ wire.
+            wire ≡ record { flow = record { bytes = []; taken = 0 }; head = []; begun = 0; body = Body.Done }) }
+    {
+        let ahead = Ahead::make(alloc)?;
+        let head = Kept::make(alloc)?;
+        let headers = header_room(alloc)?;
+        Ok(Wire {
+            ahead,
+            head,
+            headers,
+            begun: 0,
+            body: Body::Done,
+        })
+    }
+
+    /// The bytes of a place in the present head, which is the one that `next_head` read last.
+    pub fn piece(&self, p: &Piece) -> &[u8]
+        requires { IsPlaceIn self.now.head p.now }
+        ensures { result.now ≡ slice_range self.now.head p.now.start p.now.end }
+    {
+        &self.head.as_slice()[p.start..p.end]
+    }
+
+    /// Takes the next bytes of the present body into the front of the buffer, and says how many: none for a buffer that
+    /// isn't empty is the body's end, as it is for a request without a body. Chunk lines and trailers are dropped.
+    ///
+    /// It ends with `Cut` where the source ends inside the body, with `BadLength` where what comes is no body, both
+    /// with the number of bytes before the request, and with `ReadFault` where a read failed. After each the bytes
+    /// given so far are those of the body, and what it tells is what the stream then has.
+    pub fn body<S: Source>(&mut self, source: &mut S, buf: &mut [u8]) -> Result<usize, WireEnd>
+        ensures moved { Moves (S.left source.old) (S.left source.new) self.old.flow self.new.flow
+            self.old.body self.new.body (given_by result buf.new) }
+        ensures kept { (self.new.head ≡ self.old.head) × (self.new.begun ≡ self.old.begun) }
+        ensures bound { IfOk result (λ n. n ≤ length buf.old) }
+        ensures end { IfOk result (λ n. n ≡ 0 → 0 < length buf.old → self.new.body ≡ Body.Done) }
+        ensures err { IfErr result
+            (λ end. BodyEnds (to_come self.new (S.left source.new)) self.new.body self.old.begun end) }
+        ensures fault { IsErrOf result WireEnd.ReadFault → Rose (S.faults source.old) (S.faults source.new) }
+        ensures later { S.faults source.old ≤ S.faults source.new }
+    {
+        let begun = self.begun;
+        match read_body(&mut self.ahead, source, &mut self.body, buf) {
+            Ok(n) => return Ok(n),
+            Err(stop) => return Err(end_of_body(stop, begun)),
+        }
+    }
+
+    /// Takes the next head, under the condition that the body before was read to its end.
+    ///
+    /// It ends with `Closed` where the source ends before the first byte, with `Cut` where it ends inside the head, and
+    /// with `BadHead`, `TooLong` and `BadLength` where the head is refused, in this order. `at` is the number of bytes
+    /// before the request. With `ReadFault` a read failed. An error takes nothing from the stream.
+    pub fn next_head<S: Source>(&mut self, source: &mut S) -> Result<Head, WireEnd>
+        requires { self.old.body ≡ Body.Done }
+        ensures ok { IfOk result
+            (λ head. Passed (S.left source.old) (S.left source.new) self.old.flow self.new.flow self.new.head
+            × IsHeadText self.new.head × HeadSays self.new.head (Ok head) × (self.new.body ≡ body_of head.framing)) }
+        ensures begun { self.new.begun ≡ self.old.flow.taken }
+        ensures same { OnErr result (Passed (S.left source.old) (S.left source.new) self.old.flow self.new.flow []
+            × (self.new.body ≡ Body.Done)) }
+        ensures err { IfErr result (λ end. HeadEnds (to_come self.new (S.left source.new)) self.old.flow.taken end) }
+        ensures fault { IsErrOf result WireEnd.ReadFault → Rose (S.faults source.old) (S.faults source.new) }
+        ensures later { S.faults source.old ≤ S.faults source.new }
+    {
+        self.begun = self.ahead.taken();
+        let head = take_head(&mut self.ahead, source, &mut self.head, &mut self.headers)?;
+        self.body = body_at(head.framing);
+        Ok(head)
+    }
+}
+
+// What is to come of a body of this framing.
+fn body_at(framing: Framing) -> Body
+    ensures { result ≡ body_of framing }
+{
+    match framing {
+        Framing::Empty => Body::Done,
+        Framing::Length(n) => { if n == 0 { Body::Done } else { Body::Exactly(n) } }
+        Framing::Chunked => Body::ChunkLine,
+    }
+}
+
+// Room for the headers of a head of 16,384 bytes.
+fn header_room(alloc: Global) -> Result<Vec<HeaderSpan>, AllocError>
+    ensures { IfOk result (λ room. length room.items ≡ 5462) }
+{
+    Vec::from_elem(alloc, EMPTY_HEADER_SPAN, 5_462)
+}
