@@ -1,0 +1,7 @@
+//! Tests of what comes over the wire: no part of the program.
+#![tactic(auto)]
+
+#[cfg(test)]
+mod replies;
+#[cfg(test)]
+mod requests;
