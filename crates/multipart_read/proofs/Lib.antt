@@ -1,0 +1,12 @@
+pub mod Looking
+pub mod Cuts
+pub mod Elements
+pub mod Telling
+pub mod Heading
+pub mod Valuing
+pub mod Chaining
+pub mod Feeding
+pub mod Unique
+pub mod Existing
+pub mod MarkLaws
+pub mod PartLaws

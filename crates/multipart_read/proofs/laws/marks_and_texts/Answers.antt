@@ -1,0 +1,10 @@
+use Rattle.multipart_read.proofs.MarkLaws.{marks_are_seen, seen_marks_stand, absent_marks_stand_nowhere, first_is_first}
+use Rattle.multipart_read.proofs.laws.marks_and_texts.Goals as goal
+
+pub returns : goal.returns
+returns c = record {
+  seen = marks_are_seen;
+  stands = seen_marks_stand;
+  nowhere = absent_marks_stand_nowhere;
+  first = first_is_first;
+}

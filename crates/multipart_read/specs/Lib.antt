@@ -1,0 +1,9 @@
+pub mod Marks
+pub mod MarkTexts
+pub mod Parameters
+pub mod Heads
+pub mod Tokens
+pub mod Body
+pub mod Reader
+pub mod PartLists
+pub mod Laws
