@@ -10,7 +10,7 @@ use Rattle.multipart_read.specs.declared.steps.Stage.{Stage}
 use Rattle.multipart_read.specs.declared.steps.Stage.TheVariants as stages
 use Rattle.multipart_read.specs.Marks.{first_mark, here, Lies}
 use Rattle.multipart_read.specs.Tokens.{Token, named}
-use Rattle.multipart_read.specs.Body.{End, Element, tell, behind, preamble, content_at, FromMark, Seen, InElement, InHead, Rest, Waits}
+use Rattle.multipart_read.specs.Body.{End, Element, tell, behind, preamble, content_at, FromMark, Seen, InElement, InHead, Rest}
 use Rattle.multipart_read.specs.Laws.{SomeReading, LittleWaits}
 use Rattle.multipart_read.proofs.Cuts.{first_mark-lies}
 

@@ -8,5 +8,7 @@ pub mod Chaining
 pub mod Feeding
 pub mod Unique
 pub mod Existing
+pub mod BodyEnds
 pub mod MarkLaws
 pub mod PartLaws
+pub mod ParameterLaws

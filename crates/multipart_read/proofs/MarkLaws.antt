@@ -7,7 +7,8 @@ use Rattle.multipart_read.specs.declared.marks.Mark.{Mark}
 use Rattle.multipart_read.specs.declared.marks.Mark.TheVariants.{Absent, Undecided, Delimiter, Close}
 use Rattle.multipart_read.specs.declared.marks.Sight.{Sight}
 use Rattle.multipart_read.specs.Marks.{is_pad, after_return, after_dash, after_pad, mark_behind, mark_from, first_mark, seen_from}
-use Rattle.multipart_read.specs.MarkTexts.{IsDelimiterText, IsCloseText, Fronts, MarksAreSeen, SeenMarksStand, AbsentMarksStandNowhere, FirstIsFirst}
+use Rattle.multipart_read.specs.MarkTexts.{IsDelimiterText, IsCloseText, Fronts, IsSeen}
+use Rattle.multipart_read.specs.MarkTexts.{MarksAreSeen, SeenMarksStand, AbsentMarksStandNowhere, UndecidedMayBecome, FirstIsFirst}
 use Rattle.multipart_read.proofs.Looking.{first_mark-cons, first_mark-nil}
 use Rattle.multipart_read.proofs.Cuts.{Keeps, mark_keeps}
 
@@ -278,3 +279,60 @@ absent_marks_stand_nowhere start bytes more n is = (
   λ found. absent_no_close (length found.0)
       (sym (still_absent start bytes more is) ∙ ap (mark_from 0 start) found.2 ∙ close_seen start found.0 found.1 found.4),
 )
+
+-- where it isn't known, bytes may follow that make a mark
+abbrev MayBecome : (List ℕ → Mark) → List ℕ → Type 0
+MayBecome mark bytes = (more : List ℕ) × IsSeen (mark (bytes ++ more))
+
+return_may : (taken : ℕ) (bytes : List ℕ) → after_return taken bytes ≡ Undecided → MayBecome (after_return taken) bytes
+return_may taken [] is = (10 ∷ [], tt)
+return_may taken (x ∷ xs) is = found (x == 10) is
+  where
+    found : (b : Bool) → cond b (Delimiter (taken + 1)) Absent ≡ Undecided → MayBecome (after_return taken) (x ∷ xs)
+    found true e = cc
+    found false e = cc
+
+dash_may : (taken : ℕ) (bytes : List ℕ) → after_dash taken bytes ≡ Undecided → MayBecome (after_dash taken) bytes
+dash_may taken [] is = (45 ∷ [], tt)
+dash_may taken (x ∷ xs) is = found (x == 45) is
+  where
+    found : (b : Bool) → cond b (Close (taken + 1)) Absent ≡ Undecided → MayBecome (after_dash taken) (x ∷ xs)
+    found true e = cc
+    found false e = cc
+
+-- a byte more, where the test of it leads to what may become a mark
+one_may : (b : Bool) (xs : List ℕ) (first second : List ℕ → Mark) → cond b (first xs) (second xs) ≡ Undecided
+    → (first xs ≡ Undecided → MayBecome first xs) → (second xs ≡ Undecided → MayBecome second xs)
+    → MayBecome (λ l. cond b (first l) (second l)) xs
+one_may true xs first second is there other = there is
+one_may false xs first second is there other = other is
+
+absent_may : (xs : List ℕ) → Absent ≡ Undecided → MayBecome (λ l. Absent) xs
+absent_may xs e = cc
+
+pad_may : (left taken : ℕ) (bytes : List ℕ) → after_pad left taken bytes ≡ Undecided → MayBecome (after_pad left taken) bytes
+unfolding after_pad
+pad_may zero taken [] is = (13 ∷ 10 ∷ [], tt)
+pad_may (suc n) taken [] is = (13 ∷ 10 ∷ [], tt)
+pad_may zero taken (x ∷ xs) is =
+    one_may (x == 13) xs (after_return (taken + 1)) (λ l. Absent) is (return_may (taken + 1) xs) (absent_may xs)
+pad_may (suc n) taken (x ∷ xs) is =
+    one_may (x == 13) xs (after_return (taken + 1)) (λ l. cond (is_pad x) (after_pad n (taken + 1) l) Absent) is (return_may (taken + 1) xs)
+    (λ e. one_may (is_pad x) xs (after_pad n (taken + 1)) (λ l. Absent) e (pad_may n (taken + 1) xs) (absent_may xs))
+
+behind_may : (taken : ℕ) (bytes : List ℕ) → mark_behind taken bytes ≡ Undecided → MayBecome (mark_behind taken) bytes
+unfolding mark_behind after_pad
+behind_may taken [] is = (45 ∷ 45 ∷ [], tt)
+behind_may taken (x ∷ xs) is =
+    one_may (x == 45) xs (after_dash (taken + 1)) (λ l. after_pad 16 taken (x ∷ l)) is (dash_may (taken + 1) xs) (pad_may 16 taken (x ∷ xs))
+
+start_may : (taken : ℕ) (text bytes : List ℕ) → mark_from taken text bytes ≡ Undecided → MayBecome (mark_from taken text) bytes
+unfolding mark_from
+start_may taken [] bytes is = behind_may taken bytes is
+start_may taken (t ∷ ts) [] is =
+    (t ∷ ts ++ codes "--", subst IsSeen (sym (start_passed taken (t ∷ ts) (codes "--") ∙ close_behind (taken + length (t ∷ ts)) [])) tt)
+start_may taken (t ∷ ts) (x ∷ xs) is =
+    one_may (x == t) xs (mark_from (taken + 1) ts) (λ l. Absent) is (start_may (taken + 1) ts xs) (absent_may xs)
+
+pub undecided_may_become : UndecidedMayBecome
+undecided_may_become start bytes is = start_may 0 start bytes is

@@ -1,5 +1,6 @@
 -- Laws of bodies and of readers.
-use Rattle.std.specs.Prelude.{◌≡◌, ◌+◌, ◌<◌, ◌≤◌, ◌⊎◌, ℕ, List, [], ◌++◌, length}
+use Rattle.std.specs.Prelude.{◌≡◌, ◌+◌, ◌<◌, ◌≤◌, ◌⊎◌, ℕ, List, [], ◌++◌, length, Ok, Err}
+use Rattle.multipart_read.specs.declared.events.PartFault.TheVariants.{BadBoundary, Bad, TooLong, NoMemory}
 use Rattle.multipart_read.specs.declared.steps.Stage.{Stage}
 use Rattle.multipart_read.specs.Tokens.{Token}
 use Rattle.multipart_read.specs.Body.{End, Waits}
@@ -14,6 +15,19 @@ OneReading = (boundary body : List ℕ) (told others : List Token) (end last : E
 abbrev pub SomeReading : Type 0
 SomeReading = (reader : Reader) (bytes : List ℕ)
     → ((told : List Token) (end : End) → Gives reader bytes told end → ⊥) → ⊥
+
+-- how a body of so many bytes may end
+abbrev pub IsEndOf : ℕ → End → Type 0
+IsEndOf total (Ok closed) = Unit {0}
+IsEndOf total (Err BadBoundary) = ⊥
+IsEndOf total (Err (Bad at)) = at ≤ total
+IsEndOf total (Err (TooLong limit)) = (limit ≡ 1000) ⊎ (limit ≡ 16777216)
+IsEndOf total (Err NoMemory) = ⊥
+
+-- a body ends by its close, at a place within it, or where a limit was passed
+abbrev pub BodiesEnd : Type 0
+BodiesEnd = (boundary body : List ℕ) (told : List Token) (end : End) → IsBody boundary body told end
+    → IsEndOf (length body) end
 
 -- pieces one after another tell what the whole tells
 abbrev pub PiecesJoin : Type 0

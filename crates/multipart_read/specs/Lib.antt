@@ -1,6 +1,7 @@
 pub mod Marks
 pub mod MarkTexts
 pub mod Parameters
+pub mod ParameterTexts
 pub mod Heads
 pub mod Tokens
 pub mod Body

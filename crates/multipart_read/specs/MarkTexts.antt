@@ -1,7 +1,8 @@
 -- What a mark is, as a text (RFC 2046).
 use Rattle.std.specs.Prelude.{◌≡◌, ◌<◌, ◌≤◌, ℕ, true, List, ◌++◌, length, drop, codes}
 use Rattle.std.specs.List.{list_all}
-use Rattle.multipart_read.specs.declared.marks.Mark.TheVariants.{Absent, Delimiter, Close}
+use Rattle.multipart_read.specs.declared.marks.Mark.{Mark}
+use Rattle.multipart_read.specs.declared.marks.Mark.TheVariants.{Absent, Undecided, Delimiter, Close}
 use Rattle.multipart_read.specs.Marks.{is_pad, mark_from, first_mark}
 
 -- the text of a delimiter: CR LF, `--`, the boundary, at most 16 bytes of pad, CR LF
@@ -36,6 +37,18 @@ SeenMarksStand =
 abbrev pub AbsentMarksStandNowhere : Type 0
 AbsentMarksStandNowhere = (start bytes more : List ℕ) (n : ℕ) → mark_from 0 start bytes ≡ Absent
     → (Fronts (IsDelimiterText start) (bytes ++ more) n → ⊥) × (Fronts (IsCloseText start) (bytes ++ more) n → ⊥)
+
+-- a delimiter or the close
+abbrev pub IsSeen : Mark → Type 0
+IsSeen Absent = ⊥
+IsSeen Undecided = ⊥
+IsSeen (Delimiter n) = Unit {0}
+IsSeen (Close n) = Unit {0}
+
+-- where it isn't known, some bytes that may follow make a mark of all bytes
+abbrev pub UndecidedMayBecome : Type 0
+UndecidedMayBecome = (start bytes : List ℕ) → mark_from 0 start bytes ≡ Undecided
+    → (more : List ℕ) × IsSeen (mark_from 0 start (bytes ++ more))
 
 -- before the first mark none is seen
 abbrev pub FirstIsFirst : Type 0

@@ -10,6 +10,6 @@ mod reader;
 mod steps;
 
 pub use events::{PartEvent, PartEvents, PartFault};
-pub use laws::{bodies_and_parts, bodies_and_pieces, marks_and_texts};
+pub use laws::{bodies_and_parts, bodies_and_pieces, marks_and_texts, parameters_and_texts};
 pub use parameters::boundary_of;
 pub use reader::Parts;
