@@ -1,4 +1,5 @@
--- What parameters are, as a text: *( blanks ";" blanks name "=" value ) blanks, where a value is a token, or a text in quotes.
+-- What parameters are, as a text: *( blanks ";" blanks name "=" value ) blanks, where a value is a token, or a text in
+-- quotes.
 use Rattle.std.specs.Prelude.{◌≡◌, ◌<◌, ℕ, true, if◌then◌else◌, List, [], ◌∷◌, ◌++◌, length, Option, Some, None}
 use Rattle.std.specs.List.{list_all, flat_map}
 use Rattle.httparse.specs.Grammar.{is_token_byte, is_ows}

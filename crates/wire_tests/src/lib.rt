@@ -2,6 +2,8 @@
 #![tactic(auto)]
 
 #[cfg(test)]
+mod multipart;
+#[cfg(test)]
 mod replies;
 #[cfg(test)]
 mod requests;
