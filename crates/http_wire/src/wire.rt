@@ -20,7 +20,7 @@ use std::alloc::{AllocError, Global};
 use std::marker::Model;
 
 /// The reader of one connection: it takes heads and bodies from a source, however the bytes come. docs/http.md has the
-/// rules. It holds all buffers of the connection, some 224 KiB, and takes no memory after it is made.
+/// rules. It holds all buffers of the connection, some 219 KiB, and takes no memory after it is made.
 #[derive(Drop)]
 pub struct Wire {
     ahead: Ahead,
