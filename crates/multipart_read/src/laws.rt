@@ -5,8 +5,9 @@ ghost use Rattle.multipart_read.specs.MarkTexts.{UndecidedMayBecome, FirstIsFirs
 ghost use Rattle.multipart_read.specs.ParameterTexts.{ValuesAreFirst};
 ghost use Rattle.multipart_read.specs.PartLists.{BodiesHaveParts, OneListOfParts, ToldInOrder};
 
-/// Each body has one reading, and none is without. It ends by its close, at a place within the body, or where a limit was
-/// passed. However it is cut into pieces, a reader that is fed them tells what the body tells, and holds back little.
+/// Each body has one reading, and none is without. It ends by its close, at a place within the body, or where a limit
+/// was passed. However it is cut into pieces, a reader that is fed them tells what the body tells, and holds back
+/// little.
 pub fn bodies_and_pieces()
     ensures one { OneReading }
     ensures some { SomeReading }
