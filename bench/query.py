@@ -17,6 +17,8 @@ import tempfile
 import time
 
 from compare import MIB
+# Before make_pack, which puts the folder of the tests in front of this one.
+from store import peak
 from make_pack import KEYRING, LOAD, LOAD_SECRET, record, reference
 
 sys.path.insert(0, str(pathlib.Path(__file__).resolve().parent.parent / "tests"))
@@ -42,7 +44,7 @@ class Program:
         self.words = [program, "query", str(store)]
 
     def answer(self, query):
-        """The refs of an answer, the processor time, and the peak memory in bytes."""
+        """The refs of an answer, and the processor time."""
         with tempfile.TemporaryFile() as source, tempfile.TemporaryFile() as sink:
             source.write(json.dumps(query).encode())
             source.seek(0)
@@ -51,10 +53,10 @@ class Program:
             child.returncode = os.waitstatus_to_exitcode(status)
             sink.seek(0)
             refs = [found["blob"] for found in json.load(sink)["blobs"]] if child.returncode == 0 else None
-        return refs, usage.ru_utime + usage.ru_stime, usage.ru_maxrss * 1_024
+        return refs, usage.ru_utime + usage.ru_stime
 
     def seconds(self, query, wanted):
-        refs, seconds, _ = self.answer(query)
+        refs, seconds = self.answer(query)
         if refs != wanted:
             sys.exit(f"{query}: not the answer that is wanted")
         return seconds
@@ -68,7 +70,7 @@ def tables(pack):
     base.execute("create table held (attr text, value text, ref text)")
     for ref in filter(archive.is_permanode, archive.facts):
         base.execute("insert into permanodes values (?)", (ref,))
-        held = [(attr, value, ref) for attr in ("tag", "title") for value in archive.values(ref, attr)]
+        held = [(attr, value, ref) for attr in ("tag", "title") for value in archive.values(ref, attr, reference.ALWAYS)]
         base.executemany("insert into held values (?, ?, ?)", held)
     base.execute("create index by_value on held (attr, value, ref)")
     base.execute("create index by_ref on held (ref, attr)")
@@ -92,8 +94,9 @@ def per_ref(what, program, query, base, statement):
     first = program.answer(FIRST)[0]
     beyond = processor_time(lambda: program.seconds(query, wanted)) - processor_time(lambda: program.seconds(FIRST, first))
     rows = processor_time(lambda: rows_of(base, statement)[1])
-    peak = program.answer(query)[2] / MIB
-    print(f"{what}, {len(wanted)} refs: {rows / max(beyond, 1e-9):.2f} of the speed of SQLite, per ref; peak memory {peak:.0f} MiB")
+    memory = peak(program.words, json.dumps(query).encode())
+    told = "" if memory is None else f"; peak memory {memory / MIB:.0f} MiB"
+    print(f"{what}, {len(wanted)} refs: {rows / max(beyond, 1e-9):.2f} of the speed of SQLite, per ref{told}")
 
 
 def ring_store(folder):
