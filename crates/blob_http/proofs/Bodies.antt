@@ -1,0 +1,61 @@
+-- Small bodies.
+use Rattle.std.proofs.Common.{◌≡◌, ℕ, ◌≤◌, ◌<◌, List, [], ◌++◌, ◌-◌, length, length-append, take, Option, Some, None, Result, Ok, Err, refl, sym, ap, subst, ◌∙◌, arith}
+use Rattle.std.specs.Option.{IfSome}
+use Rattle.std.proofs.lemmas.List.{append-nil, length-take-le}
+use Rattle.http_wire.specs.declared.body.Body.{Body}
+use Rattle.http_wire.specs.declared.body.Body.TheVariants.{Done}
+use Rattle.http_wire.specs.declared.ends.WireEnd.{WireEnd}
+use Rattle.http_wire.specs.declared.ends.WireEnd.TheVariants as ends
+use Rattle.http_wire.specs.Stream.{Flow}
+use Rattle.http_wire.specs.Bodies.{Moves}
+use Rattle.http_wire.specs.Wires.{WireView, to_come, BodyEnds}
+use Rattle.http_wire.proofs.Passing.{Passed-none}
+use Rattle.http_wire.proofs.Leading.{Leads-none, Moves-chain}
+use Rattle.edge_base.specs.Edge.{Gave}
+use Rattle.blob_http.specs.declared.gathering.Stopped.{Stopped}
+use Rattle.blob_http.specs.declared.gathering.Stopped.TheVariants as stopped
+use Rattle.blob_http.specs.Gathering.{Gathers, GatherSays, CanStop, StopSays, most_body}
+
+gave_none : (x : Option (List ℕ)) → Gave x x []
+gave_none None = refl
+gave_none (Some x) = (x, refl, refl)
+
+-- nothing is taken
+pub moves_none : (x : Option (List ℕ)) (flow : Flow) (at : Body) → Moves x x flow flow at at []
+moves_none x flow at = ([], Passed-none x x flow flow ([], sym (append-nil flow.bytes), gave_none x) refl, Leads-none at)
+
+-- what was given before, and then
+pub gathered : (p q r : Option (List ℕ)) (u v w : WireView) (all given : List ℕ) (result : Result (List ℕ) Stopped)
+    → Moves p q u.flow v.flow u.body v.body all → v.head ≡ u.head → v.begun ≡ u.begun
+    → Moves q r v.flow w.flow v.body w.body given → (w.head ≡ v.head) × (w.begun ≡ v.begun)
+    → GatherSays (to_come w r) w.body v.begun (all ++ given) result → Gathers p r u w result
+gathered p q r u v w all given result before head begun then kept says = record {
+  given = all ++ given;
+  moved = Moves-chain p q r u.flow v.flow w.flow u.body v.body w.body all given before then;
+  head = kept.0 ∙ head;
+  begun = kept.1 ∙ begun;
+  says = subst (λ (n : ℕ). GatherSays (to_come w r) w.body n (all ++ given) result) begun says;
+}
+
+pub can_stop : (x : Option (List ℕ)) (at : Body) (place : ℕ) (end : WireEnd) → BodyEnds x at place end → CanStop end
+can_stop x at place ends.Closed h = h
+can_stop x at place (ends.Cut n) h = tt
+can_stop x at place (ends.BadHead n) h = h
+can_stop x at place (ends.BadLength n) h = tt
+can_stop x at place (ends.TooLong n) h = h
+can_stop x at place ends.ReadFault h = tt
+
+pub stop_says : (x : Option (List ℕ)) (at : Body) (place : ℕ) (given : List ℕ) (why : Stopped)
+    → StopSays x at place why → GatherSays x at place given (Err why)
+stop_says x at place given stopped.Long h = absurd h
+stop_says x at place given stopped.Broken h = h
+stop_says x at place given stopped.Memory h = tt
+stop_says x at place given (stopped.Cut n) h = h
+stop_says x at place given stopped.ReadFault h = tt
+
+-- a piece that is too long for what is left
+pub too_long : (all buf : List ℕ) (n most : ℕ) → n ≤ length buf → most - length all < n → most < length (all ++ take n buf)
+too_long all buf n most within long = omega (arith, length-append all (take n buf), length-take-le n buf within)
+
+pub still_few : (all buf : List ℕ) (n most : ℕ) → n ≤ length buf → length all ≤ most → n ≤ most - length all → length (all ++ take n buf) ≤ most
+still_few all buf n most within few fits = omega (arith, length-append all (take n buf), length-take-le n buf within)
