@@ -1,0 +1,70 @@
+-- What a request asks, by its head and its body.
+use Rattle.std.specs.Prelude.{◌≡◌, ℕ, List, [], slice_range, Bool, true, false, Option, Some, None, option_map, Result, Ok, Err}
+use Rattle.answer_text.specs.declared.refusal.Refusal.{Refusal}
+use Rattle.answer_text.specs.declared.refusal.Refusal.TheVariants as refusal
+use Rattle.http_wire.specs.declared.head.Head.{Head}
+use Rattle.http_wire.specs.declared.head.Piece.{Piece}
+use Rattle.blob_routes.specs.declared.routes.Route.{Route}
+use Rattle.blob_routes.specs.declared.routes.Route.TheVariants as route
+use Rattle.blob_routes.specs.declared.routes.RouteFault.{RouteFault}
+use Rattle.blob_routes.specs.declared.routes.RouteFault.TheVariants as fault
+use Rattle.blob_routes.specs.declared.routes.Allowed.{Allowed}
+use Rattle.blob_routes.specs.declared.pages.Page.{Page}
+use Rattle.blob_routes.specs.Routes.{route_of, allowed_text}
+use Rattle.blob_routes.specs.Before.{early_of}
+use Rattle.blob_routes.specs.Stats.{refs_of}
+use Rattle.blob_routes.specs.Pages.{page_of}
+use Rattle.blob_http.specs.declared.questions.Question.{Question}
+use Rattle.blob_http.specs.declared.questions.Question.TheVariants.{Refused, Blob, Stat, Refs, Search}
+
+-- the bytes of a place in a head
+abbrev pub piece : List ℕ → Piece → List ℕ
+piece head p = slice_range head p.start p.end
+
+-- ---- before the body is read
+
+-- a refusal without methods
+abbrev pub refused : Refusal → Question
+refused why = Refused why None
+
+abbrev pub refused_by : RouteFault → Question
+refused_by fault.NoRoute = refused refusal.NoRoute
+refused_by (fault.Method allow) = Refused refusal.Method (Some allow)
+
+abbrev pub early_by : Route → Result (Option (List ℕ)) Refusal → Result Route Question
+early_by r (Ok boundary) = Ok r
+early_by r (Err why) = Err (refused why)
+
+abbrev pub first_by : List ℕ → Head → Result Route RouteFault → Result Route Question
+first_by head says (Ok r) = early_by r (early_of r says.framing (option_map (piece head) says.content_type))
+first_by head says (Err why) = Err (refused_by why)
+
+-- the route of a request, or how it is refused before its body is read
+abbrev pub first_of : List ℕ → Head → Result Route Question
+first_of head says = first_by head says (route_of (piece head says.method) (piece head says.path))
+
+-- ---- by the body too
+
+abbrev pub stat_of : Result (List (List ℕ)) Refusal → Question
+stat_of (Ok refs) = Stat refs
+stat_of (Err why) = refused why
+
+abbrev pub refs_asked : Result Page Refusal → Question
+refs_asked (Ok page) = Refs page
+refs_asked (Err why) = refused why
+
+-- what is asked along a route
+abbrev pub IsAskedAt : Route → List ℕ → List ℕ → Question → Type 0
+IsAskedAt (route.Blob r) query body q = q ≡ Blob r
+IsAskedAt (route.Stat posted) query body q = q ≡ stat_of (refs_of posted query body)
+IsAskedAt route.Page query body q = q ≡ refs_asked (page_of query)
+IsAskedAt route.Search query body q = IsSearch body q
+IsAskedAt route.Upload query body q = ⊥
+
+abbrev pub IsAskedBy : Result Route Question → List ℕ → List ℕ → Question → Type 0
+IsAskedBy (Ok r) query body q = IsAskedAt r query body q
+IsAskedBy (Err first) query body q = q ≡ first
+
+-- what a request of this head and this body asks
+abbrev pub IsAsked : List ℕ → Head → List ℕ → Question → Type 0
+IsAsked head says body q = IsAskedBy (first_of head says) (piece head says.query) body q
