@@ -21,6 +21,13 @@ use Rattle.blob_http.specs.declared.questions.Question.TheVariants.{Refused, Blo
 abbrev pub piece : List ℕ → Piece → List ℕ
 piece head p = slice_range head p.start p.end
 
+-- the places of a head lie in its text
+pub record HasPieces (text : List ℕ) (says : Head) : Type 0 where
+  pub method : IsPlaceIn text says.method
+  pub path : IsPlaceIn text says.path
+  pub query : IsPlaceIn text says.query
+  pub content_type : IfSome says.content_type (IsPlaceIn text)
+
 -- ---- before the body is read
 
 -- a refusal without methods
@@ -59,7 +66,7 @@ IsAskedAt (route.Blob r) query body q = q ≡ Blob r
 IsAskedAt (route.Stat posted) query body q = q ≡ stat_of (refs_of posted query body)
 IsAskedAt route.Page query body q = q ≡ refs_asked (page_of query)
 IsAskedAt route.Search query body q = IsSearch body q
-IsAskedAt route.Upload query body q = ⊥
+IsAskedAt route.Upload query body q = q ≡ refused refusal.NoRoute
 
 abbrev pub IsAskedBy : Result Route Question → List ℕ → List ℕ → Question → Type 0
 IsAskedBy (Ok r) query body q = IsAskedAt r query body q

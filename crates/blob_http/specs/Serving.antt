@@ -1,0 +1,228 @@
+-- What a connection leaves: the requests, their entries, and the replies over the histories.
+use Rattle.std.specs.Prelude.{◌≡◌, ◌≤◌, ◌⊎◌, ℕ, List, [], ◌∷◌, ◌++◌, map, length, take, All, Bool, Option, Some, None, IfSome}
+use Rattle.std.specs.List.{flat_map}
+use mathlib.Core.List.{IsPrefix}
+use Rattle.edge_base.specs.Edge.{Took, TookFront, Rose}
+use Rattle.edge_base.specs.declared.answers.GetFault.TheVariants as unread
+use Rattle.claim_verify.specs.Verifier.{Accepts}
+use Rattle.answer_text.specs.declared.refusal.Refusal.{Refusal}
+use Rattle.answer_text.specs.declared.refusal.Refusal.TheVariants as refusal
+use Rattle.histories.specs.declared.stamped.Stamped.{Stamped}
+use Rattle.histories.specs.declared.events.StoreEvent.{StoreEvent}
+use Rattle.histories.specs.declared.events.StoreEvent.TheVariants as store
+use Rattle.histories.specs.History.{stamp, has}
+use Rattle.histories.specs.Stores.{Blob, arrivals}
+use Rattle.histories.specs.Indexes.{Insertion}
+use Rattle.home_core.specs.Passes.{Sight, Caused}
+use Rattle.http_wire.specs.declared.ends.WireEnd.{WireEnd}
+use Rattle.http_wire.specs.declared.ends.WireEnd.TheVariants as ends
+use Rattle.http_wire.specs.Stream.{Flow, Passed}
+use Rattle.http_wire.specs.Bodies.{Stops, Breaks}
+use Rattle.http_wire.specs.Wires.{HeadEnds}
+use Rattle.http_wire.specs.Speaking.{Request, IsRequest, Speaks, Begun, IsBegun, Last, Nothing, Refused, Unfinished, IsOpen, GoesOn, place_behind, text_of}
+use Rattle.blob_http.specs.declared.entries.Outcome.{Outcome}
+use Rattle.blob_http.specs.declared.entries.Outcome.TheVariants.{Defined, Memory, Disk, Full, Damaged}
+use Rattle.blob_http.specs.declared.entries.Answered.{Answered}
+use Rattle.blob_http.specs.declared.questions.Question.{Question}
+use Rattle.blob_http.specs.declared.questions.Question.TheVariants as question
+use Rattle.blob_http.specs.declared.serving.Ended.{Ended}
+use Rattle.blob_http.specs.declared.serving.Ended.TheVariants as ended
+use Rattle.blob_http.specs.Asked.{Asked, Whole, Front, Head}
+use Rattle.blob_http.specs.Gathering.{most_body}
+use Rattle.blob_http.specs.Questions.{IsAsked, first_of}
+use Rattle.blob_http.specs.Answers.{IsAnswer, allow_text}
+use Rattle.blob_http.specs.Replies.{refused_reply, memory_reply}
+
+-- ---- replies
+
+-- what a refused head is refused for
+abbrev pub head_refusal : WireEnd → Refusal
+head_refusal (ends.BadHead n) = refusal.BadHead
+head_refusal (ends.BadLength n) = refusal.BadLength
+head_refusal (ends.TooLong limit) = refusal.TooLong limit
+head_refusal ends.Closed = refusal.BadHead
+head_refusal (ends.Cut n) = refusal.BadHead
+head_refusal ends.ReadFault = refusal.BadHead
+
+-- what the body of a request is refused for as it is read: it is too long, or it breaks
+abbrev pub IsBodyRefusal : Begun → Option (List ℕ) → Refusal → Type 0
+IsBodyRefusal b after r =
+    ((r ≡ refusal.TooLong most_body) × (most_body < length b.given)) ⊎ ((r ≡ refusal.BadLength) × IfSome after (Breaks b.at))
+
+-- the reply to a request that isn't read to its end: it is refused before its body is read, or by that
+abbrev pub IsFrontDefined : Begun → Option (List ℕ) → Result Route Question → List ℕ → Type 0
+IsFrontDefined b after (Err (question.Refused why allow)) text = text ≡ refused_reply true (allow_text allow) why
+IsFrontDefined b after (Err (question.Blob r)) text = ⊥
+IsFrontDefined b after (Err (question.Stat refs)) text = ⊥
+IsFrontDefined b after (Err (question.Refs page)) text = ⊥
+IsFrontDefined b after (Err (question.Search query)) text = ⊥
+IsFrontDefined b after (Ok route) text = (why : Refusal) × IsBodyRefusal b after why × (text ≡ refused_reply true [] why)
+
+abbrev pub IsFrontReply : Begun → Option (List ℕ) → Outcome → List ℕ → Type 0
+IsFrontReply b after Defined text = IsFrontDefined b after (first_of b.head b.says) text
+IsFrontReply b after Memory text = text ≡ memory_reply
+IsFrontReply b after Disk text = ⊥
+IsFrontReply b after (Full blobs pack) text = ⊥
+IsFrontReply b after (Damaged want is) text = ⊥
+
+abbrev pub IsHeadReply : WireEnd → Outcome → List ℕ → Type 0
+IsHeadReply end Defined text = text ≡ refused_reply true [] (head_refusal end)
+IsHeadReply end Memory text = text ≡ memory_reply
+IsHeadReply end Disk text = ⊥
+IsHeadReply end (Full blobs pack) text = ⊥
+IsHeadReply end (Damaged want is) text = ⊥
+
+-- the reply over the blobs that arrived and the Inserts
+abbrev pub IsReply : Bool → Accepts → List Blob → List Insertion → Asked → Outcome → List ℕ → Type 0
+IsReply tells accepts blobs g (Whole r) outcome text =
+    (q : Question) × IsAsked r.head r.says r.body q × IsAnswer tells accepts blobs g r.says.closes q outcome text
+IsReply tells accepts blobs g (Front b after) outcome text = IsFrontReply b after outcome text
+IsReply tells accepts blobs g (Head end) outcome text = IsHeadReply end outcome text
+
+-- ---- what was answered
+
+-- the entry that shows why, under one of the turns that the request drew
+abbrev pub HasCauseIn : List ℕ → List (Stamped StoreEvent) → Outcome → Type 0
+HasCauseIn turns h Defined = Unit {0}
+HasCauseIn turns h Memory = Unit {0}
+HasCauseIn turns h Disk = Caused unread.Disk turns h
+HasCauseIn turns h (Full blobs pack) = (t : ℕ) × (has turns t ≡ true) × Contains h (stamp t (store.Full blobs pack))
+HasCauseIn turns h (Damaged want is) = Caused (unread.Damaged want is) turns h
+
+-- the request was answered over the first Puts and the first Inserts, as many as its entry says
+pub record IsAnswered (tells : Bool) (accepts : Accepts) (h : List (Stamped StoreEvent)) (g : List Insertion)
+    (asked : Asked) (entry : Answered) (text turns : List ℕ) : Type 0 where
+  pub store_within : entry.store_count ≤ length (arrivals h)
+  pub index_within : entry.index_count ≤ length g
+  pub replied : IsReply tells accepts (take entry.store_count (arrivals h)) (take entry.index_count g) asked entry.outcome text
+  pub kept : entry.kept ≡ 0
+  pub cause : HasCauseIn turns h entry.outcome
+
+-- what a pass has seen grows
+pub record Longer (v w : Sight) : Type 0 where
+  pub store : IsPrefix v.store.history w.store.history
+  pub index : IsPrefix v.index.history w.index.history
+  pub shown : IsPrefix v.index.shown w.index.shown
+  pub limits : w.store.limits ≡ v.store.limits
+  pub accepts : w.index.accepts ≡ v.index.accepts
+
+-- one request was answered
+pub record Handles (tells : Bool) (asked : Asked) (v w : Sight) (entry : Answered) (text : List ℕ) : Type 0 where
+  pub turns : List ℕ
+  pub drawn : w.store.turns ≡ v.store.turns ++ turns
+  pub answered : IsAnswered tells w.index.accepts w.store.history w.index.shown asked entry text turns
+  pub store_low : length (arrivals v.store.history) ≤ entry.store_count
+  pub index_low : length v.index.shown ≤ entry.index_count
+  pub longer : Longer v w
+
+-- what was answered, its entry, its reply, and the turns of the store that it drew
+pub record Answer : Type 0 where
+  pub asked : Asked
+  pub entry : Answered
+  pub text : List ℕ
+  pub turns : List ℕ
+
+abbrev pub AnswerHolds : Bool → Accepts → List (Stamped StoreEvent) → List Insertion → Answer → Type 0
+AnswerHolds tells accepts h g a = IsAnswered tells accepts h g a.asked a.entry a.text a.turns
+
+-- the counts never fall, from the first pair to the last
+abbrev pub Climbs : ℕ → ℕ → List Answer → ℕ → ℕ → Type 0
+Climbs m n [] p q = (m ≤ p) × (n ≤ q)
+Climbs m n (a ∷ rest) p q = (m ≤ a.entry.store_count) × (n ≤ a.entry.index_count)
+    × Climbs a.entry.store_count a.entry.index_count rest p q
+
+-- What was served, over the histories that the pass has seen by now: the entries are told in order; what was asked and
+-- what was written is as is said; each reply is the one that is defined; the counts never fall; and the turns of the
+-- store that were drawn are those of the requests.
+pub record Serves (tells : Bool) (v w : Sight) (told told' : List Answered) (heard : List Asked → Type 0)
+    (wrote : List ℕ → Type 0) : Type 0 where
+  pub answers : List Answer
+  pub entries : told' ≡ told ++ map (λ (a : Answer). a.entry) answers
+  pub heard : heard (map (λ (a : Answer). a.asked) answers)
+  pub written : wrote (flat_map (λ (a : Answer). a.text) answers)
+  pub each : All (AnswerHolds tells v.index.accepts w.store.history w.index.shown) answers
+  pub climbs : Climbs (length (arrivals v.store.history)) (length v.index.shown) answers
+      (length (arrivals w.store.history)) (length w.index.shown)
+  pub turns : w.store.turns ≡ v.store.turns ++ flat_map (λ (a : Answer). a.turns) answers
+  pub longer : Longer v w
+
+-- ---- the stream
+
+-- these whole requests were answered, each of which leaves the connection open
+pub record Stays (asked : List Asked) (requests : List Request) : Type 0 where
+  pub answered : asked ≡ map Whole requests
+  pub are : All IsRequest requests
+  pub open : All IsOpen requests
+
+-- while the connection stays open: these requests were taken from the stream
+pub record Open (before now : Option (List ℕ)) (old new : Flow) (asked : List Asked) : Type 0 where
+  pub requests : List Request
+  pub stays : Stays asked requests
+  pub passed : Passed before now old new (flat_map text_of requests)
+
+-- the answers are those to the whole requests, and to what is answered last
+abbrev pub AreAnswers : List Asked → List Request → Last → List ℕ → Type 0
+AreAnswers asked requests Nothing rest = asked ≡ map Whole requests
+AreAnswers asked requests (Refused end) rest = asked ≡ map Whole requests ++ Head end ∷ []
+AreAnswers asked requests (Unfinished b) rest = (after : List ℕ) × (asked ≡ map Whole requests ++ Front b (Some after) ∷ [])
+    × (rest ≡ b.head ++ (b.framed ++ after))
+
+-- the source ended inside the request at this place: inside its head, or inside its body
+abbrev pub IsCut : ℕ → ℕ → List ℕ → Type 0
+IsCut place n rest = HeadEnds (Some rest) place (ends.Cut n)
+    ⊎ ((n ≡ place) × ((b : Begun) × (after : List ℕ) × IsBegun b × (rest ≡ b.head ++ (b.framed ++ after)) × Stops b.at after))
+
+-- no further request was taken, and the connection was open
+abbrev pub StoodOpen : List Request → Last → Type 0
+StoodOpen requests last = All IsOpen requests × (last ≡ Nothing)
+
+-- what follows the requests that were answered
+abbrev pub Follows : Ended → ℕ → List Request → Last → List ℕ → Type 0
+Follows ended.Closed place requests last rest = GoesOn place requests last rest
+Follows (ended.Cut n) place requests last rest = StoodOpen requests last × IsCut place n rest
+Follows ended.ReadFault place requests last rest = StoodOpen requests last
+Follows ended.WriteFault place requests last rest = StoodOpen requests last ⊎ GoesOn place requests last rest
+Follows ended.NoMemory place requests last rest = StoodOpen requests last
+
+-- the stream is these requests, of which each was answered, and what follows them. Where the connection was closed,
+-- `speaks` and `follows` are that the stream speaks to the requests and the last
+pub record Hears (x : List ℕ) (asked : List Asked) (end : Ended) : Type 0 where
+  pub requests : List Request
+  pub last : Last
+  pub rest : List ℕ
+  pub speaks : Speaks x requests rest
+  pub answers : AreAnswers asked requests last rest
+  pub follows : Follows end (place_behind requests) requests last rest
+
+abbrev pub Heard : Option (List ℕ) → Ended → List Asked → Type 0
+Heard x end asked = IfSome x (λ bytes. Hears bytes asked end)
+
+-- what the sink got: the replies, and at a failed write a front of them
+abbrev pub Wrote : Option (List ℕ) → Option (List ℕ) → Ended → List ℕ → Type 0
+Wrote before now ended.WriteFault texts = TookFront before now texts
+Wrote before now ended.Closed texts = Took before now texts
+Wrote before now (ended.Cut n) texts = Took before now texts
+Wrote before now ended.ReadFault texts = Took before now texts
+Wrote before now ended.NoMemory texts = Took before now texts
+
+-- why it ended
+abbrev pub EndCause : ℕ → ℕ → ℕ → ℕ → Ended → Type 0
+EndCause read read' wrote wrote' ended.ReadFault = Rose read read'
+EndCause read read' wrote wrote' ended.WriteFault = Rose wrote wrote'
+EndCause read read' wrote wrote' ended.Closed = Unit {0}
+EndCause read read' wrote wrote' (ended.Cut n) = Unit {0}
+EndCause read read' wrote wrote' ended.NoMemory = Unit {0}
+
+-- ---- one step of a connection: none, where it goes on
+
+abbrev pub HeardBy : Option (List ℕ) → Option (List ℕ) → Flow → Flow → Option Ended → List Asked → Type 0
+HeardBy before now old new None asked = Open before now old new asked
+HeardBy before now old new (Some end) asked = Heard before end asked
+
+abbrev pub WroteBy : Option (List ℕ) → Option (List ℕ) → Option Ended → List ℕ → Type 0
+WroteBy before now None texts = Took before now texts
+WroteBy before now (Some end) texts = Wrote before now end texts
+
+abbrev pub StepCause : ℕ → ℕ → ℕ → ℕ → Option Ended → Type 0
+StepCause read read' wrote wrote' None = Unit {0}
+StepCause read read' wrote wrote' (Some end) = EndCause read read' wrote wrote' end

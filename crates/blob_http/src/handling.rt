@@ -1,0 +1,160 @@
+//! Questions, answered over any home.
+ghost use Rattle.std.specs.Prelude.{◌≡◌};
+ghost use Rattle.blob_http.specs.declared.questions.Question.{Question};
+ghost use Rattle.blob_http.specs.Answers.{outcome_of};
+ghost use Rattle.blob_http.specs.Handling.{Answers, entry_of};
+
+use crate::entries::{Answered, Outcome};
+use crate::questions::Question;
+use crate::replies::{
+    Made, blob_reply, fault_reply, page_reply, refused, search_reply, stat_reply,
+};
+use answer_text::Refusal;
+use blob_routes::{Allowed, Page};
+use blobref::{Ref, RefList};
+use home_core::Home;
+use search_query::Query;
+use std::alloc::Global;
+use std::sync::Wait;
+
+/// The answer to a question, with its entry.
+pub(crate) fn answer<H: Home, R: Wait>(
+    rt: &R,
+    alloc: Global,
+    home: &H,
+    pass: &mut H::Pass,
+    question: &Question,
+    closes: bool,
+) -> (Answered, Made)
+    requires { H.belongs home.now pass.old }
+    ensures own { H.belongs home.now pass.new }
+    ensures answers { Answers (H.tells home.now) closes question.now (H.sight pass.old) (H.sight pass.new)
+        result.0 result.1 }
+{
+    match question {
+        Question::Refused { refusal, allow } => {
+            answer_refused(alloc, home, pass, refusal, *allow, closes)
+        }
+        Question::Blob { r } => answer_blob(rt, alloc, home, pass, r, closes),
+        Question::Stat { refs } => answer_stat(rt, alloc, home, pass, refs, closes),
+        Question::Refs { page } => answer_page(rt, alloc, home, pass, page, closes),
+        Question::Search { query } => answer_search(rt, alloc, home, pass, query, closes),
+    }
+}
+
+fn answer_refused<H: Home>(
+    alloc: Global,
+    home: &H,
+    pass: &H::Pass,
+    refusal: &Refusal,
+    allow: Option<Allowed>,
+    closes: bool,
+) -> (Answered, Made)
+    ensures { Answers (H.tells home.now) closes (Question.Refused refusal.now allow) (H.sight pass.now) (H.sight pass.now)
+        result.0 result.1 }
+{
+    let made = refused(alloc, Outcome::Defined, closes, allow, refusal);
+    let counts = home.seen(pass);
+    (entry(counts.0, counts.1, &made), made)
+}
+
+fn answer_blob<H: Home, R: Wait>(
+    rt: &R,
+    alloc: Global,
+    home: &H,
+    pass: &mut H::Pass,
+    r: &Ref,
+    closes: bool,
+) -> (Answered, Made)
+    requires { H.belongs home.now pass.old }
+    ensures own { H.belongs home.now pass.new }
+    ensures answers { Answers (H.tells home.now) closes (Question.Blob r.now) (H.sight pass.old) (H.sight pass.new)
+        result.0 result.1 }
+{
+    let fetched = home.fetch(rt, pass, r);
+    let counts = home.seen(pass);
+    let made = blob_reply(alloc, closes, r, fetched);
+    (entry(counts.0, counts.1, &made), made)
+}
+
+fn answer_stat<H: Home, R: Wait>(
+    rt: &R,
+    alloc: Global,
+    home: &H,
+    pass: &mut H::Pass,
+    refs: &RefList,
+    closes: bool,
+) -> (Answered, Made)
+    requires { H.belongs home.now pass.old }
+    ensures own { H.belongs home.now pass.new }
+    ensures answers { Answers (H.tells home.now) closes (Question.Stat refs.now) (H.sight pass.old) (H.sight pass.new)
+        result.0 result.1 }
+{
+    let found = home.stat(rt, pass, refs);
+    let counts = home.seen(pass);
+    let made = stat_reply(alloc, closes, found);
+    (entry(counts.0, counts.1, &made), made)
+}
+
+fn answer_page<H: Home, R: Wait>(
+    rt: &R,
+    alloc: Global,
+    home: &H,
+    pass: &mut H::Pass,
+    page: &Page,
+    closes: bool,
+) -> (Answered, Made)
+    requires { H.belongs home.now pass.old }
+    ensures own { H.belongs home.now pass.new }
+    ensures answers { Answers (H.tells home.now) closes (Question.Refs page.now) (H.sight pass.old) (H.sight pass.new)
+        result.0 result.1 }
+{
+    let found = home.list(rt, pass, page.after.as_ref(), page.limit + 1);
+    let counts = home.seen(pass);
+    let made = page_reply(alloc, closes, page.limit, found);
+    (entry(counts.0, counts.1, &made), made)
+}
+
+fn answer_search<H: Home, R: Wait>(
+    rt: &R,
+    alloc: Global,
+    home: &H,
+    pass: &mut H::Pass,
+    query: &Query,
+    closes: bool,
+) -> (Answered, Made)
+    requires { H.belongs home.now pass.old }
+    ensures own { H.belongs home.now pass.new }
+    ensures answers { Answers (H.tells home.now) closes (Question.Search query.now) (H.sight pass.old) (H.sight pass.new)
+        result.0 result.1 }
+{
+    let before = home.seen(pass);
+    match home.settle(rt, pass) {
+        Err(fault) => {
+            let after = home.seen(pass);
+            let made = fault_reply(alloc, closes, fault);
+            (entry(before.0, after.1, &made), made)
+        }
+        Ok(()) => {
+            let found = home.search(rt, pass, query);
+            let after = home.seen(pass);
+            let made = search_reply(alloc, closes, found);
+            (entry(before.0, after.1, &made), made)
+        }
+    }
+}
+
+fn entry(store_count: u64, index_count: u64, made: &Made) -> Answered
+    ensures { result ≡ entry_of store_count index_count made.now }
+{
+    let outcome = match made {
+        Made::Told { outcome, .. } => *outcome,
+        Made::Memory => Outcome::Memory,
+    };
+    Answered {
+        store_count,
+        index_count,
+        kept: 0,
+        outcome,
+    }
+}

@@ -1,0 +1,129 @@
+//! What a request asks, by its head and its body.
+ghost use Rattle.std.specs.Prelude.{◌≡◌, ℕ, List, Ok, IfOk, option_map, option_copied};
+ghost use Rattle.blob_routes.specs.Stats.{refs_of};
+ghost use Rattle.blob_routes.specs.Pages.{page_of};
+ghost use Rattle.blob_http.specs.Questions.{piece, first_of, refused_by, refused, stat_of, refs_asked, IsSearch, IsAskedAt, HasPieces};
+
+use answer_text::Refusal;
+use blob_routes::{
+    Allowed, AskFault, Page, Route, RouteFault, early, page_asked, query_asked, refs_asked, route,
+};
+use blobref::{NoMemory, Ref, RefList};
+use http_wire::{Head, Wire};
+use search_query::Query;
+use std::alloc::Global;
+
+/// What is asked, or how it is refused.
+#[derive(Drop)]
+pub enum Question {
+    /// Nothing that can be answered, with the methods to tell.
+    Refused {
+        refusal: Refusal,
+        allow: Option<Allowed>,
+    },
+    /// The bytes of a blob.
+    Blob { r: Ref },
+    /// Which of these refs stand.
+    Stat { refs: RefList },
+    /// A page of the refs.
+    Refs { page: Page },
+    /// The answer to a query.
+    Search { query: Query },
+}
+
+/// The route of a request, or how it is refused before its body is read.
+pub(crate) fn first(wire: &Wire, head: &Head) -> Result<Route, Question>
+    requires { HasPieces wire.now.head head.now }
+    ensures { result ≡ first_of wire.now.head head.now }
+{
+    let found = match route(wire.piece(&head.method), wire.piece(&head.path)) {
+        Ok(found) => found,
+        Err(fault) => return Err(refused_by(fault)),
+    };
+    match early(&found, &head.framing, content_type(wire, head)) {
+        Ok(_) => Ok(found),
+        Err(refusal) => Err(refused(refusal)),
+    }
+}
+
+fn refused_by(fault: RouteFault) -> Question
+    ensures { result ≡ refused_by fault }
+{
+    match fault {
+        RouteFault::NoRoute => Question::Refused {
+            refusal: Refusal::NoRoute,
+            allow: None,
+        },
+        RouteFault::Method { allow } => Question::Refused {
+            refusal: Refusal::Method,
+            allow: Some(allow),
+        },
+    }
+}
+
+fn content_type<'a>(wire: &'a Wire, head: &Head) -> Option<&'a [u8]>
+    requires { HasPieces wire.now.head head.now }
+    ensures { option_copied result.entry ≡ option_map (piece wire.now.head) head.now.content_type }
+{
+    match head.content_type {
+        Some(place) => Some(wire.piece(&place)),
+        None => None,
+    }
+}
+
+/// What is asked along a route, by the query and the body.
+pub(crate) fn question(
+    alloc: Global,
+    found: &Route,
+    query: &[u8],
+    body: &[u8],
+) -> Result<Question, NoMemory>
+    ensures { IfOk result (IsAskedAt found.now query.now body.now) }
+{
+    match found {
+        Route::Blob { r } => Ok(Question::Blob { r: *r }),
+        Route::Stat { posted } => stat(alloc, *posted, query, body),
+        Route::Page => refs(alloc, query),
+        Route::Search => search(alloc, body),
+        Route::Upload => Ok(refused(Refusal::NoRoute)),
+    }
+}
+
+fn refused(refusal: Refusal) -> Question
+    ensures { result ≡ refused refusal }
+{
+    Question::Refused {
+        refusal,
+        allow: None,
+    }
+}
+
+fn stat(alloc: Global, posted: bool, query: &[u8], body: &[u8]) -> Result<Question, NoMemory>
+    ensures { IfOk result (λ q. q ≡ stat_of (refs_of posted query.now body.now)) }
+{
+    match refs_asked(alloc, posted, query, body) {
+        Ok(refs) => Ok(Question::Stat { refs }),
+        Err(AskFault::Refused(refusal)) => Ok(refused(refusal)),
+        Err(AskFault::NoMemory) => Err(NoMemory),
+    }
+}
+
+fn refs(alloc: Global, query: &[u8]) -> Result<Question, NoMemory>
+    ensures { IfOk result (λ q. q ≡ refs_asked (page_of query.now)) }
+{
+    match page_asked(alloc, query) {
+        Ok(page) => Ok(Question::Refs { page }),
+        Err(AskFault::Refused(refusal)) => Ok(refused(refusal)),
+        Err(AskFault::NoMemory) => Err(NoMemory),
+    }
+}
+
+fn search(alloc: Global, body: &[u8]) -> Result<Question, NoMemory>
+    ensures { IfOk result (IsSearch body.now) }
+{
+    match query_asked(alloc, body) {
+        Ok(query) => Ok(Question::Search { query }),
+        Err(AskFault::Refused(refusal)) => Ok(refused(refusal)),
+        Err(AskFault::NoMemory) => Err(NoMemory),
+    }
+}
