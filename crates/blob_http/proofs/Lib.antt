@@ -1,1 +1,6 @@
 pub mod Bodies
+pub mod Staying
+pub mod Stepping
+pub mod Hearing
+pub mod Codes
+pub mod Answering

@@ -1,7 +1,11 @@
 -- What is answered of a connection's bytes.
-use Rattle.std.specs.Prelude.{◌≡◌, ℕ, List, [], ◌++◌, Bool, true, Option}
+use Rattle.std.specs.Prelude.{◌≡◌, ℕ, List, [], ◌++◌, Bool, true, Option, Result, Ok, Err}
 use Rattle.http_wire.specs.declared.ends.WireEnd.{WireEnd}
 use Rattle.http_wire.specs.declared.ends.WireEnd.TheVariants as ends
+use Rattle.answer_text.specs.declared.refusal.Refusal.{Refusal}
+use Rattle.answer_text.specs.declared.refusal.Refusal.TheVariants as refusal
+use Rattle.blob_http.specs.declared.serving.Ended.{Ended}
+use Rattle.blob_http.specs.declared.serving.Ended.TheVariants as ended
 use Rattle.http_wire.specs.Stream.{Flow, Passed, stream}
 use Rattle.http_wire.specs.Wires.{HeadEnds}
 use Rattle.http_wire.specs.Speaking.{Request, IsRequest, text_of, Begun, IsBegun}
@@ -18,14 +22,14 @@ closes_of (Whole r) = r.says.closes
 closes_of (Front b after) = true
 closes_of (Head end) = true
 
--- an end that is a refused head
-abbrev pub IsRefusedHead : WireEnd → Type 0
-IsRefusedHead ends.Closed = ⊥
-IsRefusedHead (ends.Cut n) = ⊥
-IsRefusedHead (ends.BadHead n) = Unit {0}
-IsRefusedHead (ends.BadLength n) = Unit {0}
-IsRefusedHead (ends.TooLong limit) = Unit {0}
-IsRefusedHead ends.ReadFault = ⊥
+-- what is refused where no head is read, or how the connection ends
+abbrev pub head_says : WireEnd → Result Refusal Ended
+head_says ends.Closed = Err ended.Closed
+head_says (ends.Cut n) = Err (ended.Cut n)
+head_says (ends.BadHead n) = Ok refusal.BadHead
+head_says (ends.BadLength n) = Ok refusal.BadLength
+head_says (ends.TooLong limit) = Ok (refusal.TooLong limit)
+head_says ends.ReadFault = Err ended.ReadFault
 
 -- the next bytes are this, and they were taken; a refused head stays
 abbrev pub Comes : Option (List ℕ) → Option (List ℕ) → Flow → Flow → Asked → Type 0
@@ -33,4 +37,4 @@ Comes before now old new (Whole r) = IsRequest r × Passed before now old new (t
 Comes before now old new (Front b after) =
     IsBegun b × Passed before now old new (b.head ++ b.framed) × (after ≡ stream new.bytes now)
 Comes before now old new (Head end) =
-    IsRefusedHead end × Passed before now old new [] × HeadEnds (stream new.bytes now) old.taken end
+    ((why : Refusal) × (head_says end ≡ Ok why)) × Passed before now old new [] × HeadEnds (stream new.bytes now) old.taken end

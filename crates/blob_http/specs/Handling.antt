@@ -1,5 +1,5 @@
 -- What one request comes to.
-use Rattle.std.specs.Prelude.{◌≡◌, ◌≤◌, ℕ, List, [], ◌++◌, length, take, Bool, true, false, ◌||◌, not, Option, Some, None, IfSome, Ok}
+use Rattle.std.specs.Prelude.{◌≡◌, ◌≤◌, ℕ, List, [], ◌++◌, length, take, Bool, true, false, ◌||◌, not, Option, Some, None, IfSome, Result, Ok, Err, ◌==◌}
 use Rattle.claim_verify.specs.Verifier.{Accepts}
 use Rattle.histories.specs.Stores.{Blob, arrivals}
 use Rattle.histories.specs.Indexes.{Insertion}
@@ -8,10 +8,16 @@ use Rattle.http_wire.specs.declared.body.Body.TheVariants as body
 use Rattle.http_wire.specs.declared.head.Head.{Head}
 use Rattle.http_wire.specs.declared.head.Framing.{Framing}
 use Rattle.http_wire.specs.declared.head.Framing.TheVariants.{Empty, Length, Chunked}
-use Rattle.http_wire.specs.Stream.{stream, Passed}
+use Rattle.http_wire.specs.Stream.{Flow, Passed}
 use Rattle.http_wire.specs.Heads.{IsHeadText, HeadSays}
 use Rattle.http_wire.specs.Wires.{WireView, body_of}
+use Rattle.blobref.specs.declared.memory.NoMemory.{NoMemory}
+use Rattle.answer_text.specs.declared.refusal.Refusal.TheVariants as refusal
+use Rattle.blob_routes.specs.Before.{most_body}
+use Rattle.blob_http.specs.declared.gathering.Stopped.{Stopped}
+use Rattle.blob_http.specs.declared.gathering.Stopped.TheVariants as stopped
 use Rattle.blob_http.specs.declared.entries.Answered.{Answered}
+use Rattle.blob_http.specs.Questions.{refused}
 use Rattle.blob_http.specs.declared.questions.Question.{Question}
 use Rattle.blob_http.specs.declared.replies.Made.{Made}
 use Rattle.blob_http.specs.declared.replies.Made.TheVariants as made
@@ -53,21 +59,43 @@ is_read Empty = true
 is_read (Length n) = n == 0
 is_read Chunked = false
 
--- a head was read
-pub record ReadsHead (before now : Option (List ℕ)) (old new : WireView) (says : Head) : Type 0 where
-  pub passed : Passed before now old.flow new.flow new.head
+-- a head was read from a flow
+pub record ReadsHead (before now : Option (List ℕ)) (old : Flow) (new : WireView) (says : Head) : Type 0 where
+  pub passed : Passed before now old new.flow new.head
   pub lines : IsHeadText new.head
   pub read : HeadSays new.head (Ok says)
+  pub begun : new.begun ≡ old.taken
   pub ready : new.body ≡ body_of says.framing
 
 -- something was answered: what it was, and that the entry and the reply are those to it
-pub record Replies (before now : Option (List ℕ)) (old new : WireView) (tells : Bool) (v w : Sight)
+pub record Replies (before now : Option (List ℕ)) (old : Flow) (new : WireView) (tells : Bool) (v w : Sight)
     (entry : Answered) (m : Made) (closes : Bool) : Type 0 where
   pub asked : Asked
-  pub comes : Comes before now old.flow new.flow asked
+  pub comes : Comes before now old new.flow asked
   pub handles : Handles tells asked v w entry (text_of m)
   pub closing : closes ≡ closes_of asked
   pub ready : closes ≡ false → new.body ≡ body.Done
+
+-- the answer to what was asked, where that was found out
+abbrev pub AlongSays : Bool → Bool → Result Question NoMemory → Sight → Sight → Answered → Made → Type 0
+AlongSays tells closes (Ok q) v w entry m = Answers tells closes q v w entry m
+AlongSays tells closes (Err e) v w entry m = (m ≡ made.Memory) × ((q : Question) → Answers tells closes q v w entry m)
+
+-- the answer where a body wasn't read to its end
+abbrev pub StopReplies : Bool → Stopped → Sight → Sight → Answered → Made → Type 0
+StopReplies tells stopped.Long v w entry m = Answers tells true (refused (refusal.TooLong most_body)) v w entry m
+StopReplies tells stopped.Broken v w entry m = Answers tells true (refused refusal.BadLength) v w entry m
+StopReplies tells stopped.Memory v w entry m = (m ≡ made.Memory) × ((q : Question) → Answers tells true q v w entry m)
+StopReplies tells (stopped.Cut n) v w entry m = ⊥
+StopReplies tells stopped.ReadFault v w entry m = ⊥
+
+-- how the connection ends there
+abbrev pub StopEnds : Stopped → Ended → Type 0
+StopEnds stopped.Long end = ⊥
+StopEnds stopped.Broken end = ⊥
+StopEnds stopped.Memory end = ⊥
+StopEnds (stopped.Cut n) end = end ≡ ended.Cut n
+StopEnds stopped.ReadFault end = end ≡ ended.ReadFault
 
 -- why nothing was answered, of the stream before, which is at this place
 abbrev pub NoneComes : Option (List ℕ) → ℕ → Ended → Type 0

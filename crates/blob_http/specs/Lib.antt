@@ -1,1 +1,7 @@
 pub mod Gathering
+pub mod Asked
+pub mod Replies
+pub mod Questions
+pub mod Answers
+pub mod Serving
+pub mod Handling

@@ -1,5 +1,5 @@
 -- What a request asks, by its head and its body.
-use Rattle.std.specs.Prelude.{◌≡◌, ℕ, List, [], slice_range, Bool, true, false, Option, Some, None, option_map, Result, Ok, Err}
+use Rattle.std.specs.Prelude.{◌≡◌, ◌≤◌, ℕ, List, [], slice_range, Bool, true, false, Option, Some, None, IfSome, option_map, Result, Ok, Err}
 use Rattle.answer_text.specs.declared.refusal.Refusal.{Refusal}
 use Rattle.answer_text.specs.declared.refusal.Refusal.TheVariants as refusal
 use Rattle.http_wire.specs.declared.head.Head.{Head}
@@ -13,7 +13,10 @@ use Rattle.blob_routes.specs.declared.pages.Page.{Page}
 use Rattle.blob_routes.specs.Routes.{route_of, allowed_text}
 use Rattle.blob_routes.specs.Before.{early_of}
 use Rattle.blob_routes.specs.Stats.{refs_of}
-use Rattle.blob_routes.specs.Pages.{page_of}
+use Rattle.blob_routes.specs.Pages.{page_of, most_page}
+use Rattle.blob_routes.specs.Queries.{question_of}
+use Rattle.search_query.specs.View.{question}
+use Rattle.http_wire.specs.Heads.{IsPlaceIn}
 use Rattle.blob_http.specs.declared.questions.Question.{Question}
 use Rattle.blob_http.specs.declared.questions.Question.TheVariants.{Refused, Blob, Stat, Refs, Search}
 
@@ -50,6 +53,14 @@ first_by head says (Err why) = Err (refused_by why)
 abbrev pub first_of : List ℕ → Head → Result Route Question
 first_of head says = first_by head says (route_of (piece head says.method) (piece head says.path))
 
+-- a page that is asked isn't too long
+abbrev pub IsFew : Question → Type 0
+IsFew (Refused why allow) = Unit {0}
+IsFew (Blob r) = Unit {0}
+IsFew (Stat refs) = Unit {0}
+IsFew (Refs page) = page.limit ≤ most_page
+IsFew (Search query) = Unit {0}
+
 -- ---- by the body too
 
 abbrev pub stat_of : Result (List (List ℕ)) Refusal → Question
@@ -59,6 +70,14 @@ stat_of (Err why) = refused why
 abbrev pub refs_asked : Result Page Refusal → Question
 refs_asked (Ok page) = Refs page
 refs_asked (Err why) = refused why
+
+-- a query that means what the body asks, or the body's refusal
+abbrev pub IsSearch : List ℕ → Question → Type 0
+IsSearch body (Search query) = question_of body ≡ Ok (question query)
+IsSearch body (Refused why allow) = (question_of body ≡ Err why) × (allow ≡ None)
+IsSearch body (Blob r) = ⊥
+IsSearch body (Stat refs) = ⊥
+IsSearch body (Refs page) = ⊥
 
 -- what is asked along a route
 abbrev pub IsAskedAt : Route → List ℕ → List ℕ → Question → Type 0

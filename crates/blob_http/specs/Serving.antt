@@ -1,5 +1,5 @@
 -- What a connection leaves: the requests, their entries, and the replies over the histories.
-use Rattle.std.specs.Prelude.{◌≡◌, ◌≤◌, ◌⊎◌, ℕ, List, [], ◌∷◌, ◌++◌, map, length, take, All, Bool, Option, Some, None, IfSome}
+use Rattle.std.specs.Prelude.{◌≡◌, ◌≤◌, ◌<◌, ◌⊎◌, ℕ, List, [], ◌∷◌, ◌++◌, map, length, take, All, Bool, Option, Some, None, IfSome, Result, Ok, Err, true, Contains}
 use Rattle.std.specs.List.{flat_map}
 use mathlib.Core.List.{IsPrefix}
 use Rattle.edge_base.specs.Edge.{Took, TookFront, Rose}
@@ -27,22 +27,14 @@ use Rattle.blob_http.specs.declared.questions.Question.{Question}
 use Rattle.blob_http.specs.declared.questions.Question.TheVariants as question
 use Rattle.blob_http.specs.declared.serving.Ended.{Ended}
 use Rattle.blob_http.specs.declared.serving.Ended.TheVariants as ended
-use Rattle.blob_http.specs.Asked.{Asked, Whole, Front, Head}
-use Rattle.blob_http.specs.Gathering.{most_body}
+use Rattle.blob_http.specs.Asked.{Asked, Whole, Front, Head, head_says}
+use Rattle.blob_routes.specs.declared.routes.Route.{Route}
+use Rattle.blob_routes.specs.Before.{most_body}
 use Rattle.blob_http.specs.Questions.{IsAsked, first_of}
 use Rattle.blob_http.specs.Answers.{IsAnswer, allow_text}
 use Rattle.blob_http.specs.Replies.{refused_reply, memory_reply}
 
 -- ---- replies
-
--- what a refused head is refused for
-abbrev pub head_refusal : WireEnd → Refusal
-head_refusal (ends.BadHead n) = refusal.BadHead
-head_refusal (ends.BadLength n) = refusal.BadLength
-head_refusal (ends.TooLong limit) = refusal.TooLong limit
-head_refusal ends.Closed = refusal.BadHead
-head_refusal (ends.Cut n) = refusal.BadHead
-head_refusal ends.ReadFault = refusal.BadHead
 
 -- what the body of a request is refused for as it is read: it is too long, or it breaks
 abbrev pub IsBodyRefusal : Begun → Option (List ℕ) → Refusal → Type 0
@@ -66,7 +58,7 @@ IsFrontReply b after (Full blobs pack) text = ⊥
 IsFrontReply b after (Damaged want is) text = ⊥
 
 abbrev pub IsHeadReply : WireEnd → Outcome → List ℕ → Type 0
-IsHeadReply end Defined text = text ≡ refused_reply true [] (head_refusal end)
+IsHeadReply end Defined text = (why : Refusal) × (head_says end ≡ Ok why) × (text ≡ refused_reply true [] why)
 IsHeadReply end Memory text = text ≡ memory_reply
 IsHeadReply end Disk text = ⊥
 IsHeadReply end (Full blobs pack) text = ⊥
@@ -134,11 +126,11 @@ Climbs m n (a ∷ rest) p q = (m ≤ a.entry.store_count) × (n ≤ a.entry.inde
 -- What was served, over the histories that the pass has seen by now: the entries are told in order; what was asked and
 -- what was written is as is said; each reply is the one that is defined; the counts never fall; and the turns of the
 -- store that were drawn are those of the requests.
-pub record Serves (tells : Bool) (v w : Sight) (told told' : List Answered) (heard : List Asked → Type 0)
+pub record Serves (tells : Bool) (v w : Sight) (told told' : List Answered) (hears : List Asked → Type 0)
     (wrote : List ℕ → Type 0) : Type 0 where
   pub answers : List Answer
   pub entries : told' ≡ told ++ map (λ (a : Answer). a.entry) answers
-  pub heard : heard (map (λ (a : Answer). a.asked) answers)
+  pub heard : hears (map (λ (a : Answer). a.asked) answers)
   pub written : wrote (flat_map (λ (a : Answer). a.text) answers)
   pub each : All (AnswerHolds tells v.index.accepts w.store.history w.index.shown) answers
   pub climbs : Climbs (length (arrivals v.store.history)) (length v.index.shown) answers
@@ -148,11 +140,15 @@ pub record Serves (tells : Bool) (v w : Sight) (told told' : List Answered) (hea
 
 -- ---- the stream
 
+-- where a connection begins
+abbrev pub fresh_flow : Flow
+fresh_flow = record { bytes = []; taken = 0 }
+
 -- these whole requests were answered, each of which leaves the connection open
 pub record Stays (asked : List Asked) (requests : List Request) : Type 0 where
   pub answered : asked ≡ map Whole requests
   pub are : All IsRequest requests
-  pub open : All IsOpen requests
+  pub stay : All IsOpen requests
 
 -- while the connection stays open: these requests were taken from the stream
 pub record Open (before now : Option (List ℕ)) (old new : Flow) (asked : List Asked) : Type 0 where

@@ -1,5 +1,7 @@
 //! Questions, answered over any home.
-ghost use Rattle.std.specs.Prelude.{◌≡◌};
+ghost use Rattle.std.specs.Prelude.{◌≡◌, ◌≤◌};
+ghost use Rattle.blob_routes.specs.Pages.{most_page};
+ghost use Rattle.blob_http.specs.Questions.{IsFew};
 ghost use Rattle.blob_http.specs.declared.questions.Question.{Question};
 ghost use Rattle.blob_http.specs.Answers.{outcome_of};
 ghost use Rattle.blob_http.specs.Handling.{Answers, entry_of};
@@ -26,7 +28,8 @@ pub(crate) fn answer<H: Home, R: Wait>(
     question: &Question,
     closes: bool,
 ) -> (Answered, Made)
-    requires { H.belongs home.now pass.old }
+    requires belongs { H.belongs home.now pass.old }
+    requires few { IsFew question.now }
     ensures own { H.belongs home.now pass.new }
     ensures answers { Answers (H.tells home.now) closes question.now (H.sight pass.old) (H.sight pass.new)
         result.0 result.1 }
@@ -104,7 +107,8 @@ fn answer_page<H: Home, R: Wait>(
     page: &Page,
     closes: bool,
 ) -> (Answered, Made)
-    requires { H.belongs home.now pass.old }
+    requires belongs { H.belongs home.now pass.old }
+    requires few { page.now.limit ≤ most_page }
     ensures own { H.belongs home.now pass.new }
     ensures answers { Answers (H.tells home.now) closes (Question.Refs page.now) (H.sight pass.old) (H.sight pass.new)
         result.0 result.1 }

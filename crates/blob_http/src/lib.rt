@@ -1,6 +1,16 @@
 //! Serves the requests of a connection over any home (`docs/http.md`).
 #![tactic(auto)]
 
+mod entries;
 mod gathering;
+mod handling;
+mod questions;
+mod replies;
+mod requests;
+mod serving;
 
+pub use entries::{Answered, Outcome};
 pub use gathering::Stopped;
+pub use questions::Question;
+pub use replies::{Kind, Made};
+pub use serving::{Ended, serve_connection};

@@ -1,12 +1,12 @@
 //! What a request asks, by its head and its body.
-ghost use Rattle.std.specs.Prelude.{◌≡◌, ℕ, List, Ok, IfOk, option_map, option_copied};
+ghost use Rattle.std.specs.Prelude.{◌≡◌, ℕ, List, Ok, IfOk, IfErr, option_map, option_copied};
 ghost use Rattle.blob_routes.specs.Stats.{refs_of};
 ghost use Rattle.blob_routes.specs.Pages.{page_of};
-ghost use Rattle.blob_http.specs.Questions.{piece, first_of, refused_by, refused, stat_of, refs_asked, IsSearch, IsAskedAt, HasPieces};
+ghost use Rattle.blob_http.specs.Questions.{IsFew, piece, first_of, refused_by, refused, stat_of, refs_asked, IsSearch, IsAskedAt, HasPieces};
 
 use answer_text::Refusal;
 use blob_routes::{
-    Allowed, AskFault, Page, Route, RouteFault, early, page_asked, query_asked, refs_asked, route,
+    Allowed, AskFault, Page, Route, RouteFault, early, page_asked, query_asked, refs_asked,
 };
 use blobref::{NoMemory, Ref, RefList};
 use http_wire::{Head, Wire};
@@ -34,9 +34,10 @@ pub enum Question {
 /// The route of a request, or how it is refused before its body is read.
 pub(crate) fn first(wire: &Wire, head: &Head) -> Result<Route, Question>
     requires { HasPieces wire.now.head head.now }
-    ensures { result ≡ first_of wire.now.head head.now }
+    ensures first { result ≡ first_of wire.now.head head.now }
+    ensures few { IfErr result IsFew }
 {
-    let found = match route(wire.piece(&head.method), wire.piece(&head.path)) {
+    let found = match Route::of(wire.piece(&head.method), wire.piece(&head.path)) {
         Ok(found) => found,
         Err(fault) => return Err(refused_by(fault)),
     };
@@ -63,7 +64,7 @@ fn refused_by(fault: RouteFault) -> Question
 
 fn content_type<'a>(wire: &'a Wire, head: &Head) -> Option<&'a [u8]>
     requires { HasPieces wire.now.head head.now }
-    ensures { option_copied result.entry ≡ option_map (piece wire.now.head) head.now.content_type }
+    ensures { option_copied result ≡ option_map (piece wire.now.head) head.now.content_type }
 {
     match head.content_type {
         Some(place) => Some(wire.piece(&place)),
@@ -72,13 +73,14 @@ fn content_type<'a>(wire: &'a Wire, head: &Head) -> Option<&'a [u8]>
 }
 
 /// What is asked along a route, by the query and the body.
-pub(crate) fn question(
+pub(crate) fn ask(
     alloc: Global,
     found: &Route,
     query: &[u8],
     body: &[u8],
 ) -> Result<Question, NoMemory>
-    ensures { IfOk result (IsAskedAt found.now query.now body.now) }
+    ensures asked { IfOk result (IsAskedAt found.now query.now body.now) }
+    ensures few { IfOk result IsFew }
 {
     match found {
         Route::Blob { r } => Ok(Question::Blob { r: *r }),
@@ -89,7 +91,8 @@ pub(crate) fn question(
     }
 }
 
-fn refused(refusal: Refusal) -> Question
+/// The question that is refused so, without methods to tell.
+pub(crate) fn refused(refusal: Refusal) -> Question
     ensures { result ≡ refused refusal }
 {
     Question::Refused {
@@ -99,7 +102,8 @@ fn refused(refusal: Refusal) -> Question
 }
 
 fn stat(alloc: Global, posted: bool, query: &[u8], body: &[u8]) -> Result<Question, NoMemory>
-    ensures { IfOk result (λ q. q ≡ stat_of (refs_of posted query.now body.now)) }
+    ensures asked { IfOk result (λ q. q ≡ stat_of (refs_of posted query.now body.now)) }
+    ensures few { IfOk result IsFew }
 {
     match refs_asked(alloc, posted, query, body) {
         Ok(refs) => Ok(Question::Stat { refs }),
@@ -109,7 +113,8 @@ fn stat(alloc: Global, posted: bool, query: &[u8], body: &[u8]) -> Result<Questi
 }
 
 fn refs(alloc: Global, query: &[u8]) -> Result<Question, NoMemory>
-    ensures { IfOk result (λ q. q ≡ refs_asked (page_of query.now)) }
+    ensures asked { IfOk result (λ q. q ≡ refs_asked (page_of query.now)) }
+    ensures few { IfOk result IsFew }
 {
     match page_asked(alloc, query) {
         Ok(page) => Ok(Question::Refs { page }),
@@ -119,7 +124,8 @@ fn refs(alloc: Global, query: &[u8]) -> Result<Question, NoMemory>
 }
 
 fn search(alloc: Global, body: &[u8]) -> Result<Question, NoMemory>
-    ensures { IfOk result (IsSearch body.now) }
+    ensures asked { IfOk result (IsSearch body.now) }
+    ensures few { IfOk result IsFew }
 {
     match query_asked(alloc, body) {
         Ok(query) => Ok(Question::Search { query }),

@@ -1,11 +1,11 @@
 //! The texts of replies.
-ghost use Rattle.std.specs.Prelude.{◌≡◌, ◌++◌, [], IsSome, OnOk};
+ghost use Rattle.std.specs.Prelude.{◌≡◌, ◌++◌, [], IsSome, IfOk, OnOk, option_copied};
 ghost use Rattle.http.specs.StatusCode.{IsStatusCode, reason_phrase};
 ghost use Rattle.edge_base.specs.Edge.{Took, TookFront, HasCause};
 ghost use Rattle.answer_text.specs.Search.{search_text};
 ghost use Rattle.answer_text.specs.Listings.{stat_text};
-ghost use Rattle.blob_http.specs.Replies.{kind_text, reply_text, json_reply, blob_reply, refused_reply};
-ghost use Rattle.blob_http.specs.Answers.{allow_text, text_of, IsTold, FaultMade, BlobMade, TextMade, cut_page};
+ghost use Rattle.blob_http.specs.Replies.{kind_text, reply_text, json_reply, blob_reply, refused_reply, memory_reply};
+ghost use Rattle.blob_http.specs.Answers.{allow_text, text_of, IsTold, FaultMade, BlobMade, TextMade, cut_page, last_ref};
 
 use crate::entries::Outcome;
 use answer_text::{Refusal, page_text, refusal_text, search_text, stat_text};
@@ -44,8 +44,12 @@ pub enum Made {
     Memory,
 }
 
-/// The reply where no memory is left.
-const MEMORY: &[u8] = b"HTTP/1.1 503 Service Unavailable\r\nContent-Type: application/json\r\nContent-Length: 18\r\nConnection: close\r\n\r\n{\"error\":\"memory\"}";
+// The reply where no memory is left, which takes none.
+fn memory_reply() -> &'static [u8]
+    ensures { result.now ≡ memory_reply }
+{
+    b"HTTP/1.1 503 Service Unavailable\r\nContent-Type: application/json\r\nContent-Length: 18\r\nConnection: close\r\n\r\n{\"error\":\"memory\"}"
+}
 
 fn allow_text(allow: Option<Allowed>) -> &'static str
     ensures { result.now ≡ allow_text allow }
@@ -198,7 +202,7 @@ fn front_of(alloc: Global, entries: &[(Ref, u64)]) -> Result<Listing, NoMemory>
 }
 
 fn last_ref(shown: &[(Ref, u64)]) -> Option<&Ref>
-    ensures { option_copied result.entry ≡ last_ref shown.now }
+    ensures { option_copied result ≡ last_ref shown.now }
 {
     let entry = shown.last()?;
     Some(&entry.0)
@@ -212,7 +216,7 @@ pub(crate) fn write_made<K: Sink>(sink: &mut K, made: &Made) -> Result<(), Faile
 {
     match made {
         Made::Told { head, body, .. } => write_both(sink, head.as_slice(), body.as_slice()),
-        Made::Memory => write_all(sink, MEMORY),
+        Made::Memory => write_all(sink, memory_reply()),
     }
 }
 

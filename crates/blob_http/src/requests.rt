@@ -1,20 +1,225 @@
 //! One request, from its head to its reply.
-ghost use Rattle.std.specs.Prelude.{◌≡◌, ◌≤◌, ◌||◌, not, IfOk, IfErr, IsErrOf};
+ghost use Rattle.std.specs.Prelude.{◌≡◌, ◌≤◌, ◌||◌, not, ℕ, List, Option, Bool, true, Ok, IfOk, IfErr, IsErrOf};
 ghost use Rattle.edge_base.specs.Edge.{Rose};
-ghost use Rattle.http_wire.specs.Stream.{stream};
+ghost use Rattle.http_wire.specs.Heads.{IsHeadText, HeadSays};
+ghost use Rattle.http_wire.specs.Stream.{Flow, stream};
+ghost use Rattle.http_wire.specs.Wires.{body_of};
 ghost use Rattle.http_wire.specs.declared.body.Body.{Body};
 ghost use Rattle.blob_http.specs.declared.questions.Question.{Question};
-ghost use Rattle.blob_http.specs.Handling.{Answers, Replies, ReadsHead, NoneComes, is_read, is_memory};
+ghost use Rattle.blob_http.specs.Asked.{head_says};
+ghost use Rattle.blob_http.specs.Questions.{IsFew};
+ghost use Rattle.blob_http.specs.Handling.{Answers, Replies, ReadsHead, NoneComes, AlongSays, StopReplies, StopEnds};
+ghost use Rattle.blob_http.specs.Handling.{is_read, is_memory};
 
-use crate::entries::Answered;
+use crate::entries::{Answered, Outcome};
 use crate::gathering::{Stopped, gather};
 use crate::handling::answer;
-use crate::questions::{Question, first, question};
+use crate::questions::{Question, ask, first, refused};
 use crate::replies::Made;
 use crate::serving::Ended;
 use answer_text::Refusal;
+use blob_routes::MOST_BODY;
+use blobref::NoMemory;
 use edge_base::Source;
 use home_core::Home;
 use http_wire::{Framing, Head, Wire, WireEnd};
 use std::alloc::Global;
 use std::sync::Wait;
+
+/// What a request comes to: its entry, its reply, and whether the connection closes behind that.
+#[derive(Drop)]
+pub(crate) struct Replied {
+    pub(crate) entry: Answered,
+    pub(crate) made: Made,
+    pub(crate) closes: bool,
+}
+
+/// Takes the next request and answers it, or says why there is none.
+pub(crate) fn reply_next<H: Home, S: Source, R: Wait>(
+    rt: &R,
+    alloc: Global,
+    home: &H,
+    pass: &mut H::Pass,
+    wire: &mut Wire,
+    source: &mut S,
+) -> Result<Replied, Ended>
+    requires belongs { H.belongs home.now pass.old }
+    requires ready { wire.old.body ≡ Body.Done }
+    ensures own { H.belongs home.now pass.new }
+    ensures replies { IfOk result (λ replied. Replies (S.left source.old) (S.left source.new) wire.old.flow wire.new
+        (H.tells home.now) (H.sight pass.old) (H.sight pass.new) replied.entry replied.made replied.closes) }
+    ensures same { IfErr result (λ ended. H.sight pass.new ≡ H.sight pass.old) }
+    ensures none { IfErr result (NoneComes (stream wire.old.flow.bytes (S.left source.old)) wire.old.flow.taken) }
+    ensures fault { IsErrOf result Ended.ReadFault → Rose (S.faults source.old) (S.faults source.new) }
+    ensures later { S.faults source.old ≤ S.faults source.new }
+{
+    let end = match wire.next_head(source) {
+        Ok(head) => return reply_to(rt, alloc, home, pass, wire, source, &head),
+        Err(end) => end,
+    };
+    match head_says(end) {
+        Ok(refusal) => Ok(reply(rt, alloc, home, pass, &refused(refusal), true)),
+        Err(ended) => Err(ended),
+    }
+}
+
+// What is refused where no head is read, or how the connection ends.
+fn head_says(end: WireEnd) -> Result<Refusal, Ended>
+    ensures { result ≡ head_says end }
+{
+    match end {
+        WireEnd::Closed => Err(Ended::Closed),
+        WireEnd::Cut { at } => Err(Ended::Cut { at }),
+        WireEnd::BadHead { .. } => Ok(Refusal::BadHead),
+        WireEnd::BadLength { .. } => Ok(Refusal::BadLength),
+        WireEnd::TooLong { limit } => Ok(Refusal::TooLong { limit }),
+        WireEnd::ReadFault => Err(Ended::ReadFault),
+    }
+}
+
+// The reply to a request whose head was read.
+fn reply_to<H: Home, S: Source, R: Wait>(
+    rt: &R,
+    alloc: Global,
+    home: &H,
+    pass: &mut H::Pass,
+    wire: &mut Wire,
+    source: &mut S,
+    head: &Head,
+) -> Result<Replied, Ended>
+    requires belongs { H.belongs home.now pass.old }
+    requires read { HeadSays wire.old.head (Ok head.now) }
+    requires ready { wire.old.body ≡ body_of head.now.framing }
+    ensures own { H.belongs home.now pass.new }
+    ensures replies { (x0 : Option (List ℕ)) (flow : Flow) → ReadsHead x0 (S.left source.old) flow wire.old head.now
+        → IfOk result (λ replied. Replies x0 (S.left source.new) flow wire.new (H.tells home.now) (H.sight pass.old)
+          (H.sight pass.new) replied.entry replied.made replied.closes) }
+    ensures same { IfErr result (λ ended. H.sight pass.new ≡ H.sight pass.old) }
+    ensures none { (x0 : Option (List ℕ)) (flow : Flow) → ReadsHead x0 (S.left source.old) flow wire.old head.now
+        → IfErr result (NoneComes (stream flow.bytes x0) flow.taken) }
+    ensures fault { IsErrOf result Ended.ReadFault → Rose (S.faults source.old) (S.faults source.new) }
+    ensures later { S.faults source.old ≤ S.faults source.new }
+{
+    let found = match first(wire, head) {
+        Ok(found) => found,
+        Err(question) => {
+            let closes = head.closes || !is_read(head.framing);
+            return Ok(reply(rt, alloc, home, pass, &question, closes));
+        }
+    };
+    let body = match gather(alloc, wire, source, head.framing) {
+        Ok(body) => body,
+        Err(stopped) => return reply_to_stop(rt, alloc, home, pass, stopped),
+    };
+    let asked = ask(alloc, &found, wire.piece(&head.query), body.as_slice());
+    Ok(reply_along(rt, alloc, home, pass, asked, head.closes))
+}
+
+// Whether a body of this framing is read at once.
+fn is_read(framing: Framing) -> bool
+    ensures { result ≡ is_read framing }
+{
+    match framing {
+        Framing::Empty => true,
+        Framing::Length(n) => n == 0,
+        Framing::Chunked => false,
+    }
+}
+
+// The reply where a body isn't read to its end.
+fn reply_to_stop<H: Home, R: Wait>(
+    rt: &R,
+    alloc: Global,
+    home: &H,
+    pass: &mut H::Pass,
+    stopped: Stopped,
+) -> Result<Replied, Ended>
+    requires { H.belongs home.now pass.old }
+    ensures own { H.belongs home.now pass.new }
+    ensures replies { IfOk result (λ replied. StopReplies (H.tells home.now) stopped (H.sight pass.old)
+        (H.sight pass.new) replied.entry replied.made × (replied.closes ≡ true)) }
+    ensures same { IfErr result (λ ended. H.sight pass.new ≡ H.sight pass.old) }
+    ensures ends { IfErr result (StopEnds stopped) }
+{
+    let refusal = match stopped {
+        Stopped::Cut { at } => return Err(Ended::Cut { at }),
+        Stopped::ReadFault => return Err(Ended::ReadFault),
+        Stopped::Memory => return Ok(out_of_memory(home, pass)),
+        Stopped::Long => Refusal::TooLong { limit: MOST_BODY },
+        Stopped::Broken => Refusal::BadLength,
+    };
+    Ok(reply(rt, alloc, home, pass, &refused(refusal), true))
+}
+
+// The reply to what is asked, where there was memory to find that out.
+fn reply_along<H: Home, R: Wait>(
+    rt: &R,
+    alloc: Global,
+    home: &H,
+    pass: &mut H::Pass,
+    asked: Result<Question, NoMemory>,
+    closes: bool,
+) -> Replied
+    requires belongs { H.belongs home.now pass.old }
+    requires few { IfOk asked IsFew }
+    ensures own { H.belongs home.now pass.new }
+    ensures answers { AlongSays (H.tells home.now) closes asked (H.sight pass.old) (H.sight pass.new)
+        result.entry result.made }
+    ensures closes { result.closes ≡ (closes || is_memory result.made) }
+{
+    match asked {
+        Ok(question) => reply(rt, alloc, home, pass, &question, closes),
+        Err(_) => out_of_memory(home, pass),
+    }
+}
+
+// The reply to a question. For want of memory the connection closes behind it.
+fn reply<H: Home, R: Wait>(
+    rt: &R,
+    alloc: Global,
+    home: &H,
+    pass: &mut H::Pass,
+    question: &Question,
+    closes: bool,
+) -> Replied
+    requires belongs { H.belongs home.now pass.old }
+    requires few { IsFew question.now }
+    ensures own { H.belongs home.now pass.new }
+    ensures answers { Answers (H.tells home.now) closes question.now (H.sight pass.old) (H.sight pass.new)
+        result.entry result.made }
+    ensures closes { result.closes ≡ (closes || is_memory result.made) }
+{
+    let (entry, made) = answer(rt, alloc, home, pass, question, closes);
+    let closes = closes || is_memory(&made);
+    Replied {
+        entry,
+        made,
+        closes,
+    }
+}
+
+fn is_memory(made: &Made) -> bool
+    ensures { result ≡ is_memory made.now }
+{
+    matches!(made, Made::Memory)
+}
+
+// The reply where there is no memory to find out what is asked.
+fn out_of_memory<H: Home>(home: &H, pass: &H::Pass) -> Replied
+    ensures answers { (tells closes : Bool) (q : Question) → Answers tells closes q (H.sight pass.now) (H.sight pass.now)
+        result.entry result.made }
+    ensures made { result.made ≡ Made.Memory }
+    ensures closes { result.closes ≡ true }
+{
+    let counts = home.seen(pass);
+    Replied {
+        entry: Answered {
+            store_count: counts.0,
+            index_count: counts.1,
+            kept: 0,
+            outcome: Outcome::Memory,
+        },
+        made: Made::Memory,
+        closes: true,
+    }
+}

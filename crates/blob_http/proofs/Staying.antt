@@ -1,0 +1,78 @@
+-- What was answered stays so as the histories grow.
+use Rattle.std.proofs.Common.{◌≡◌, ℕ, ◌≤◌, List, [], ◌∷◌, ◌++◌, length, take, Bool, Contains, refl, ap, sym, subst, ◌∙◌, arith}
+use Rattle.std.proofs.lemmas.List.Elements.{Contains-append_left}
+use mathlib.Core.List.{IsPrefix}
+use Rattle.claim_verify.specs.Verifier.{Accepts}
+use Rattle.histories.specs.declared.stamped.Stamped.{Stamped}
+use Rattle.histories.specs.declared.events.StoreEvent.{StoreEvent}
+use Rattle.histories.specs.Stores.{Blob, arrivals}
+use Rattle.histories.specs.Indexes.{Insertion}
+use Rattle.histories.proofs.Prefixes.{prefix_self, prefix_trans, prefix_length}
+use Rattle.histories.proofs.Standing.{arrivals_prefix, take_stays}
+use Rattle.home_core.specs.Passes.{Sight}
+use Rattle.blob_http.specs.declared.entries.Answered.{Answered}
+use Rattle.blob_http.specs.declared.entries.Outcome.{Outcome}
+use Rattle.blob_http.specs.declared.entries.Outcome.TheVariants.{Defined, Memory, Disk, Full, Damaged}
+use Rattle.blob_http.specs.Asked.{Asked}
+use Rattle.blob_http.specs.Serving.{IsReply, HasCauseIn, IsAnswered, Longer, Answer, AnswerHolds, Climbs}
+
+contains_stays : {A : Type 0} (xs ys : List A) (x : A) → IsPrefix xs ys → Contains xs x → Contains ys x
+contains_stays xs ys x p c = subst (λ (z : List _). Contains z x) p.1 (Contains-append_left xs p.0 x c)
+
+cause_stays : (turns : List ℕ) (h k : List (Stamped StoreEvent)) (o : Outcome) → IsPrefix h k → HasCauseIn turns h o
+    → HasCauseIn turns k o
+cause_stays turns h k Defined p c = tt
+cause_stays turns h k Memory p c = tt
+cause_stays turns h k Disk p c = (c.0, c.1, c.2, contains_stays h k _ p c.3)
+cause_stays turns h k (Full blobs pack) p c = (c.0, c.1, contains_stays h k _ p c.2)
+cause_stays turns h k (Damaged want is) p c = (c.0, c.1, contains_stays h k _ p c.2)
+
+-- the lemma that the loop rests on
+pub answered_stays : (tells : Bool) (accepts : Accepts) (h k : List (Stamped StoreEvent)) (f g : List Insertion)
+    (asked : Asked) (entry : Answered) (text turns : List ℕ)
+    → IsPrefix h k → IsPrefix f g → IsAnswered tells accepts h f asked entry text turns
+    → IsAnswered tells accepts k g asked entry text turns
+answered_stays tells accepts h k f g asked entry text turns p q a =
+    let n = entry.store_count in
+    let m = entry.index_count in
+    let blobs : take n (arrivals k) ≡ take n (arrivals h) =
+    take_stays (arrivals h) (arrivals k) n (arrivals_prefix h k p) a.store_within in
+    let rows : take m g ≡ take m f = take_stays f g m q a.index_within in
+    record {
+      store_within = let l = prefix_length (arrivals h) (arrivals k) (arrivals_prefix h k p) in let s = a.store_within in omega arith;
+      index_within = let l = prefix_length f g q in let s = a.index_within in omega arith;
+      replied = subst (λ (z : List Blob). IsReply tells accepts z (take m g) asked entry.outcome text) (sym blobs)
+      (subst (λ (z : List Insertion). IsReply tells accepts (take n (arrivals h)) z asked entry.outcome text) (sym rows) a.replied);
+      kept = a.kept;
+      cause = cause_stays turns h k entry.outcome p a.cause;
+    }
+
+pub holds_stays : (tells : Bool) (accepts : Accepts) (h k : List (Stamped StoreEvent)) (f g : List Insertion) (a : Answer)
+    → IsPrefix h k → IsPrefix f g → AnswerHolds tells accepts h f a → AnswerHolds tells accepts k g a
+holds_stays tells accepts h k f g a p q is = answered_stays tells accepts h k f g a.asked a.entry a.text a.turns p q is
+
+pub longer_none : (v : Sight) → Longer v v
+longer_none v = record {
+  store = prefix_self v.store.history;
+  index = prefix_self v.index.history;
+  shown = prefix_self v.index.shown;
+  limits = refl;
+  accepts = refl;
+}
+
+pub longer_chain : (v w x : Sight) → Longer v w → Longer w x → Longer v x
+longer_chain v w x p q = record {
+  store = prefix_trans v.store.history w.store.history x.store.history p.store q.store;
+  index = prefix_trans v.index.history w.index.history x.index.history p.index q.index;
+  shown = prefix_trans v.index.shown w.index.shown x.index.shown p.shown q.shown;
+  limits = q.limits ∙ p.limits;
+  accepts = q.accepts ∙ p.accepts;
+}
+
+-- one more entry, whose counts are at or above what was seen before it
+pub climbs_more : (m n : ℕ) (rest : List Answer) (p q : ℕ) (a : Answer) (r s : ℕ) → Climbs m n rest p q
+    → p ≤ a.entry.store_count → q ≤ a.entry.index_count → a.entry.store_count ≤ r → a.entry.index_count ≤ s
+    → Climbs m n (rest ++ a ∷ []) r s
+climbs_more m n [] p q a r s c lp lq lr ls = (let x = c.0 in omega arith, let y = c.1 in omega arith, (lr, ls))
+climbs_more m n (b ∷ rest) p q a r s c lp lq lr ls =
+    (c.0, c.1, climbs_more b.entry.store_count b.entry.index_count rest p q a r s c.2 lp lq lr ls)

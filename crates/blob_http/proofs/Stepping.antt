@@ -1,0 +1,104 @@
+-- One more answer extends what was served.
+use Rattle.std.proofs.Common.{◌≡◌, ℕ, ◌+◌, ◌≤◌, List, [], ◌∷◌, ◌++◌, map, length, All, Bool, true, false, refl, ap, sym, subst, ◌∙◌, arith, append_assoc, Option, Some, None, inl, inr, ◌⊎◌}
+use Rattle.std.specs.Option.{IfSome}
+use Rattle.std.specs.List.{flat_map}
+use Rattle.std.proofs.lemmas.List.{append-nil}
+use Rattle.std.proofs.lemmas.List.Concat.{flat_map-append}
+use Rattle.std.proofs.lemmas.List.Elements.{All-push, All-weaker, All-nil}
+use mathlib.Core.List.{map-append}
+use Rattle.edge_base.specs.Edge.{Gave, Took, TookFront, Rose, one_more}
+use Rattle.edge_base.proofs.Moves.{Took-chain}
+use Rattle.histories.specs.Stores.{arrivals}
+use Rattle.home_core.specs.Passes.{Sight}
+use Rattle.blob_http.specs.declared.entries.Answered.{Answered}
+use Rattle.blob_http.specs.declared.serving.Ended.{Ended}
+use Rattle.blob_http.specs.declared.serving.Ended.TheVariants as ended
+use Rattle.blob_http.specs.Asked.{Asked}
+use Rattle.blob_http.specs.Serving.{IsAnswered, Handles, Longer, Answer, AnswerHolds, Climbs, Serves, Wrote, EndCause, StepCause}
+use Rattle.blob_http.proofs.Staying.{holds_stays, longer_none, longer_chain, climbs_more}
+
+pub took_none : (w : Option (List ℕ)) → Took w w []
+took_none None = refl
+took_none (Some w) = ap Some (sym (append-nil w))
+
+pub TookFront-chain : (a b c : Option (List ℕ)) (xs ys : List ℕ) → Took a b xs → TookFront b c ys → TookFront a c (xs ++ ys)
+TookFront-chain a b c xs ys h k =
+    (xs ++ k.0, k.1, ap (λ (z : List ℕ). xs ++ z) k.2 ∙ sym (append_assoc xs k.0 k.1), Took-chain a b c xs k.0 h k.3)
+
+-- a front of the first text is a front of both
+pub TookFront-more : (a b : Option (List ℕ)) (xs ys : List ℕ) → TookFront a b xs → TookFront a b (xs ++ ys)
+TookFront-more a b xs ys h =
+    (h.0, h.1 ++ ys, ap (λ (z : List ℕ). z ++ ys) h.2 ∙ append_assoc h.0 h.1 ys, h.3)
+
+flat_push : {A B : Type 0} (f : A → List B) (xs : List A) (x : A) → flat_map f (xs ++ x ∷ []) ≡ flat_map f xs ++ f x
+flat_push f xs x = flat_map-append f xs (x ∷ []) ∙ ap (λ (t : List _). flat_map f xs ++ t) (append-nil (f x))
+
+module _ (tells : Bool) where
+  -- nothing was served yet
+  pub serves_none : (v : Sight) (told : List Answered) (heard : List Asked → Type 0) (wrote : List ℕ → Type 0)
+      → heard [] → wrote [] → Serves tells v v told told heard wrote
+  serves_none v told heard wrote h w = record {
+    answers = [];
+    entries = sym (append-nil told);
+    heard = h;
+    written = w;
+    each = All-nil (AnswerHolds tells v.index.accepts v.store.history v.index.shown);
+    climbs = (omega arith, omega arith);
+    turns = sym (append-nil v.store.turns);
+    longer = longer_none v;
+  }
+
+  -- one more answer
+  pub serves_more : (v w x : Sight) (told told' : List Answered) (heard heard' : List Asked → Type 0)
+      (wrote wrote' : List ℕ → Type 0) (asked : Asked) (entry : Answered) (text : List ℕ)
+      → Serves tells v w told told' heard wrote → Handles tells asked w x entry text
+      → ((before : List Asked) → heard before → heard' (before ++ asked ∷ []))
+      → ((texts : List ℕ) → wrote texts → wrote' (texts ++ text))
+      → Serves tells v x told (told' ++ entry ∷ []) heard' wrote'
+  serves_more v w x told told' heard heard' wrote wrote' asked entry text s h more_heard more_text =
+      let a : Answer = record { asked = asked; entry = entry; text = text; turns = h.turns } in
+      let same : x.index.accepts ≡ v.index.accepts = h.longer.accepts ∙ s.longer.accepts in
+      record {
+        answers = s.answers ++ a ∷ [];
+        entries = ap (λ (z : List Answered). z ++ entry ∷ []) s.entries
+        ∙ (append_assoc told (map (λ (b : Answer). b.entry) s.answers) (entry ∷ [])
+          ∙ ap (λ (z : List Answered). told ++ z) (sym (map-append (λ (b : Answer). b.entry) s.answers (a ∷ []))));
+        heard = subst heard' (sym (map-append (λ (b : Answer). b.asked) s.answers (a ∷ []))) (more_heard _ s.heard);
+        written = subst wrote' (sym (flat_push (λ (b : Answer). b.text) s.answers a)) (more_text _ s.written);
+        each = All-push (AnswerHolds tells v.index.accepts x.store.history x.index.shown) s.answers a
+          (All-weaker (AnswerHolds tells v.index.accepts w.store.history w.index.shown) (AnswerHolds tells v.index.accepts x.store.history x.index.shown)
+            (λ b p. holds_stays tells v.index.accepts w.store.history x.store.history w.index.shown x.index.shown b h.longer.store h.longer.shown p) s.answers s.each)
+          (subst (λ acc. IsAnswered tells acc x.store.history x.index.shown asked entry text h.turns) same h.answered);
+        climbs = climbs_more (length (arrivals v.store.history)) (length v.index.shown) s.answers (length (arrivals w.store.history)) (length w.index.shown) a
+          (length (arrivals x.store.history)) (length x.index.shown) s.climbs h.store_low h.index_low h.answered.store_within h.answered.index_within;
+        turns = h.drawn ∙ (ap (λ (z : List ℕ). z ++ h.turns) s.turns
+          ∙ (append_assoc v.store.turns (flat_map (λ (b : Answer). b.turns) s.answers) h.turns
+            ∙ ap (λ (z : List ℕ). v.store.turns ++ z) (sym (flat_push (λ (b : Answer). b.turns) s.answers a))));
+        longer = longer_chain v w x s.longer h.longer;
+      }
+
+  -- no further answer: what is said of the stream and of the replies is another thing
+  pub serves_ends : (v w : Sight) (told told' : List Answered) (heard heard' : List Asked → Type 0) (wrote wrote' : List ℕ → Type 0)
+      → Serves tells v w told told' heard wrote → ((asked : List Asked) → heard asked → heard' asked)
+      → ((texts : List ℕ) → wrote texts → wrote' texts) → Serves tells v w told told' heard' wrote'
+  serves_ends v w told told' heard heard' wrote wrote' s f g = record {
+    answers = s.answers;
+    entries = s.entries;
+    heard = f _ s.heard;
+    written = g _ s.written;
+    each = s.each;
+    climbs = s.climbs;
+    turns = s.turns;
+    longer = s.longer;
+  }
+
+rose_since : (a b c : ℕ) → a ≤ b → Rose b c → Rose a c
+rose_since a b c le r = let h : one_more b ≤ c = r in omega (arith, h)
+
+-- the cause of the last step is one of the whole
+pub cause_since : (a b c d e f : ℕ) (end : Ended) → a ≤ b → d ≤ e → EndCause b c e f end → EndCause a c d f end
+cause_since a b c d e f ended.Closed p q h = tt
+cause_since a b c d e f (ended.Cut n) p q h = tt
+cause_since a b c d e f ended.ReadFault p q h = rose_since a b c p h
+cause_since a b c d e f ended.WriteFault p q h = rose_since d e f q h
+cause_since a b c d e f ended.NoMemory p q h = tt

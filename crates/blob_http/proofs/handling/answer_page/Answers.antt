@@ -1,0 +1,13 @@
+use Rattle.std.proofs.Common.{sym, subst}
+use Rattle.blob_http.specs.declared.questions.Question.TheVariants as question
+use Rattle.blob_http.specs.Handling.{Answers}
+use Rattle.blob_http.proofs.Answering.{page_answers}
+use Rattle.blob_http.proofs.handling.answer_page.Goals as goal
+
+pub returns-clause-answers : goal.returns-clause-answers
+returns-clause-answers g c =
+    let v = g.H.Home.sight c.args.pass.now in
+    let w = g.H.Home.sight c.list-found.new.pass in
+    let tells = g.H.Home.tells c.args.home.now in
+    subst (λ e. Answers tells c.args.closes (question.Refs c.args.page.now) v w e c.page_reply-made.result) (sym c.entry.ensures)
+    (page_answers tells c.args.closes c.args.page.now c.list-found.result c.page_reply-made.result v w c.seen-counts.result c.page_reply-made.ensures ? c.seen-counts.ensures)
