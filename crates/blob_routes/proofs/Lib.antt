@@ -1,0 +1,4 @@
+pub mod First
+pub mod Gathering
+pub mod Named
+pub mod Digits
