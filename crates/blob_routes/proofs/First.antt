@@ -1,5 +1,5 @@
 -- What stands before the first element that passes.
-use Rattle.std.proofs.Common.{◌≡◌, ℕ, ◌<◌, ◌≤◌, Bool, true, false, cond, List, length, take, Some, None, refl, sym, ap, ◌∙◌, arith, not, nat_lt}
+use Rattle.std.proofs.Common.{◌≡◌, ℕ, ◌≤◌, Bool, true, false, cond, List, length, take, Some, None, refl, sym, ap, arith, not, nat_lt}
 use Rattle.std.specs.List.{position, position_or_len, before_first}
 use Rattle.std.proofs.lemmas.List.{take_all}
 use Rattle.std.proofs.lemmas.List.Sums.{prefix_len-le-length}

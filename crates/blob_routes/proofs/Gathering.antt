@@ -1,6 +1,6 @@
 -- What is gathered, one parameter after the other, is what is asked under each number.
 use Rattle.std.proofs.Common.{◌≡◌, ◌≢◌, ◌<◌, ◌≤◌, ◌^◌, ◌+◌, ◌-◌, ℕ, Bool, true, false, cond, ◌&&◌, List, [], ◌∷◌, map, length, take, drop, ◌++◌, set, get_or, replicate, fold, Option, Some, None, refl, sym, ap, ◌∙◌, arith}
-use Rattle.std.specs.Prelude.{bytes_eq, ◌==◌, nat_le}
+use Rattle.std.specs.Prelude.{◌==◌, nat_le}
 use Rattle.std.specs.List.{range_with_len}
 use Rattle.std.proofs.lemmas.Bool.{cond-true, and_from, and_parts, le-leb, leb-true}
 use Rattle.std.proofs.lemmas.Bool.Decides.{Decides-eqb}
@@ -87,7 +87,7 @@ gathered_at (pair ∷ pairs) places i fits few =
     gathered_at pairs (taken places pair) i (omega (arith, fits, same)) (omega (arith, few, same))
     ∙ by_name places i (number_of (meant pair.0)) (meant pair.1) (first_value (name_of (i + 1)) pairs) fits
     ∙ ap (λ (b : Bool). earlier (get_or places i Missing) (place_of (cond b (Some (meant pair.1)) (first_value (name_of (i + 1)) pairs))))
-      (sym (told_by_number (meant pair.0) (i + 1) (omega (arith, fits, few))))
+    (sym (told_by_number (meant pair.0) (i + 1) (omega (arith, fits, few))))
 
 -- from places where nothing stands, all that is asked
 pub gathered : (most : ℕ) (pairs : List (List ℕ × List ℕ)) → most < 10 ^ 9 → fold taken (replicate most Missing) pairs ≡ places_of most pairs
@@ -99,10 +99,10 @@ gathered most pairs few =
     ext_get_or Missing (fold taken empty pairs) (map (asked_at pairs) (range_with_len 1 most))
     (all ∙ sym (length-map-range_with_len (asked_at pairs) 1 most))
     (λ i h.
-        let fits : i < most = omega (arith, h, all) in
-        gathered_at pairs empty i (omega (arith, fits, size)) (omega (arith, few, size))
-        ∙ ap (λ (p : Place). earlier p (asked_at pairs (i + 1))) (get_or-replicate most i Missing Missing fits)
-        ∙ sym (get_or-map-range_with_len (asked_at pairs) 1 most i (i + 1) Missing fits (omega arith)))
+    let fits : i < most = omega (arith, h, all) in
+    gathered_at pairs empty i (omega (arith, fits, size)) (omega (arith, few, size))
+    ∙ ap (λ (p : Place). earlier p (asked_at pairs (i + 1))) (get_or-replicate most i Missing Missing fits)
+    ∙ sym (get_or-map-range_with_len (asked_at pairs) 1 most i (i + 1) Missing fits (omega arith)))
 
 -- the same where they are a front of a vector
 pub gathered_in : (most len : ℕ) (start items new : List Place) (pairs : List (List ℕ × List ℕ)) → most < 10 ^ 9 → items ≡ replicate most Missing → len ≡ most

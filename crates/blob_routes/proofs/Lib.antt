@@ -1,4 +1,4 @@
+pub mod Digits
 pub mod First
 pub mod Gathering
 pub mod Named
-pub mod Digits

@@ -1,5 +1,5 @@
 -- The number of a name that asks for a ref.
-use Rattle.std.proofs.Common.{◌≡◌, ◌≢◌, ◌<◌, ◌^◌, ℕ, Bool, true, false, cond, List, ◌++◌, take, drop, Option, Some, None, refl, sym, ap, ◌∙◌, arith}
+use Rattle.std.proofs.Common.{◌≡◌, ◌<◌, ◌^◌, ℕ, Bool, true, false, cond, List, ◌++◌, take, drop, Option, Some, None, refl, sym, ap, ◌∙◌}
 use Rattle.std.specs.Prelude.{decimal, codes, bytes_eq, ◌==◌, option_and_then}
 use Rattle.std.specs.Bool.{Decides}
 use Rattle.std.proofs.lemmas.Bool.{cond-true}
@@ -43,9 +43,10 @@ numbered n small =
 
 by_number : (name : List ℕ) (n : ℕ) (o : Option ℕ) → number_of name ≡ o → n < 10 ^ 9 → Decides (is_number n o) (name ≡ name_of n)
 by_number name n None h small = ((λ e. absurd (cc e)), λ e. absurd (cc (sym h ∙ ap number_of e ∙ numbered n small)))
-by_number name n (Some k) h small =
-    ((λ e. number_is name k h ∙ ap name_of ((Decides-eqb k n).0 e)),
-     λ e. (Decides-eqb k n).1 (cc (sym h ∙ ap number_of e ∙ numbered n small)))
+by_number name n (Some k) h small = (
+  (λ e. number_is name k h ∙ ap name_of ((Decides-eqb k n).0 e)),
+  λ e. (Decides-eqb k n).1 (cc (sym h ∙ ap number_of e ∙ numbered n small)),
+)
 
 -- so names are told apart by their numbers
 pub told_by_number : (name : List ℕ) (n : ℕ) → n < 10 ^ 9 → bytes_eq name (name_of n) ≡ is_number n (number_of name)

@@ -3,6 +3,7 @@ pub mod Faults
 pub mod Pages
 pub mod Parameters
 pub mod Places
+pub mod Queries
 pub mod Routes
 pub mod Stats
 pub mod Taking

@@ -7,11 +7,13 @@ mod numbers;
 mod pages;
 mod parameters;
 mod places;
+mod queries;
 mod routes;
 mod stats;
 
 pub use before::{MOST_BODY, MOST_UPLOAD, early};
 pub use faults::AskFault;
 pub use pages::{MOST_PAGE, Page, page_asked};
+pub use queries::query_asked;
 pub use routes::{Allowed, Route, RouteFault};
 pub use stats::{MOST_REFS, refs_asked};

@@ -103,7 +103,12 @@ fn told<'a>(posted: bool, query: &'a [u8], body: &'a [u8]) -> &'a [u8]
 /// The refs that a request asks after (`docs/http.md`, "Routes"), in the order of their numbers. The error is
 /// `NoMemory`, or the refusal. Each parameter is looked at twice, however many refs are asked.
 #[tactic(auto, unfolding(crate::specs::Stats::refs_of))]
-pub fn refs_asked(alloc: Global, posted: bool, query: &[u8], body: &[u8]) -> Result<RefList, AskFault>
+pub fn refs_asked(
+    alloc: Global,
+    posted: bool,
+    query: &[u8],
+    body: &[u8],
+) -> Result<RefList, AskFault>
     ensures ok { IfOk result (λ refs. refs_of posted query.now body.now ≡ Ok refs) }
     ensures err { IfErr result (Refuses (refs_of posted query.now body.now)) }
 {

@@ -1,5 +1,5 @@
 use Rattle.blob_routes.specs.Stats.{is_missing}
-use Rattle.blob_routes.proofs.First.{within_len, before_some, before_none}
+use Rattle.blob_routes.proofs.First.{before_some, before_none}
 use Rattle.blob_routes.proofs.stats.before_missing.Goals as goal
 
 pub returns-in-Some : goal.returns-in-Some
