@@ -4,7 +4,7 @@ ghost use Rattle.std.specs.Cow.{cow_str_bytes};
 ghost use Rattle.std.specs.List.{before_first, position, list_any, flat_map};
 ghost use Rattle.form_urlencoded.specs.Form.{raw_pairs};
 ghost use Rattle.blob_routes.specs.Faults.{Refuses};
-ghost use Rattle.blob_routes.specs.Stats.{is_missing, is_wrong, ref_at, refs_at, is_version, told, refs_of};
+ghost use Rattle.blob_routes.specs.Stats.{is_missing, is_wrong, right_ref, refs_at, is_version, told, refs_of};
 
 use crate::faults::AskFault;
 use crate::parameters::first_value;
@@ -53,7 +53,7 @@ fn some_wrong(places: &[Place]) -> bool
 }
 
 fn push(refs: &mut RefList, place: &Place) -> Result<(), NoMemory>
-    ensures { OnOk result (refs.new ≡ refs.old ++ ref_at place.now) }
+    ensures { OnOk result (refs.new ≡ refs.old ++ right_ref place.now) }
 {
     match place {
         Place::Missing | Place::Wrong => Ok(()),
@@ -62,7 +62,7 @@ fn push(refs: &mut RefList, place: &Place) -> Result<(), NoMemory>
 }
 
 fn all_refs(alloc: Global, places: &[Place]) -> Result<RefList, NoMemory>
-    ensures { IfOk result (λ refs. refs ≡ flat_map ref_at places.now) }
+    ensures { IfOk result (λ refs. refs ≡ flat_map right_ref places.now) }
 {
     let mut refs = RefList::empty(alloc);
     for place in places {
