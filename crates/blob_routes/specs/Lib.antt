@@ -1,5 +1,6 @@
 pub mod Before
 pub mod Faults
+pub mod Laws
 pub mod Pages
 pub mod Parameters
 pub mod Places

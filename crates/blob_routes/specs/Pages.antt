@@ -1,5 +1,5 @@
 -- Which page of the refs is asked.
-use Rattle.std.specs.Prelude.{ℕ, Bool, List, [], ◌∷◌, min, codes, Option, Some, None, option_map, option_and_then, Result, Ok, Err, if◌then◌else◌, nat_lt}
+use Rattle.std.specs.Prelude.{ℕ, List, [], ◌∷◌, min, codes, Option, Some, None, Result, Ok, Err, if◌then◌else◌, nat_lt}
 use Rattle.form_urlencoded.specs.Form.{raw_pairs}
 use Rattle.blobref.specs.Blobref.{blobref_in}
 use Rattle.answer_text.specs.declared.refusal.Refusal.{Refusal}

@@ -1,6 +1,6 @@
 -- The refs that a text asks for by number: `blob1`, `blob2` and so on.
-use Rattle.std.specs.Prelude.{ℕ, ◌+◌, List, ◌++◌, map, codes, decimal, Option, Some, None}
-use Rattle.std.specs.List.{before_first, range_with_len}
+use Rattle.std.specs.Prelude.{ℕ, List, ◌++◌, map, codes, decimal, Option, Some, None}
+use Rattle.std.specs.List.{range_with_len}
 use Rattle.blobref.specs.Blobref.{blobref_in}
 use Rattle.blob_routes.specs.declared.places.Place.{Place}
 use Rattle.blob_routes.specs.declared.places.Place.TheVariants.{Missing, Wrong, Right}

@@ -1,5 +1,5 @@
 -- Which refs are asked after.
-use Rattle.std.specs.Prelude.{ℕ, ◌+◌, Bool, true, false, not, List, [], ◌∷◌, length, codes, Option, Some, None, Result, Ok, Err, if◌then◌else◌, bytes_eq, nat_lt}
+use Rattle.std.specs.Prelude.{ℕ, ◌+◌, Bool, true, false, List, [], ◌∷◌, length, codes, Option, Some, None, Result, Ok, Err, if◌then◌else◌, bytes_eq, nat_lt}
 use Rattle.std.specs.List.{before_first, list_any, flat_map}
 use Rattle.form_urlencoded.specs.Form.{raw_pairs}
 use Rattle.answer_text.specs.declared.refusal.Refusal.{Refusal}
@@ -23,17 +23,17 @@ is_wrong Missing = false
 is_wrong Wrong = true
 is_wrong (Right r) = false
 
-abbrev pub ref_at : Place → List (List ℕ)
-ref_at Missing = []
-ref_at Wrong = []
-ref_at (Right r) = r ∷ []
+abbrev pub right_ref : Place → List (List ℕ)
+right_ref Missing = []
+right_ref Wrong = []
+right_ref (Right r) = r ∷ []
 
 -- the refs of these places, of which so many may stand
 abbrev pub refs_at : ℕ → List Place → Result (List (List ℕ)) Refusal
 refs_at most places =
     if nat_lt most (length places) then Err (TooLong most)
     else if list_any is_wrong places then Err BadRef
-    else Ok (flat_map ref_at places)
+    else Ok (flat_map right_ref places)
 
 -- those under 1, 2 and so on, up to the first number under which nothing is asked. One above the limit tells enough
 abbrev pub refs_in : ℕ → List (List ℕ × List ℕ) → Result (List (List ℕ)) Refusal

@@ -2,8 +2,8 @@
 ghost use Rattle.std.specs.Prelude.{◌≡◌, IfOk, IfErr, Ok, Err, option_copied};
 ghost use Rattle.blob_routes.specs.Before.{announced, within, boundary_in, upload_of, early_of};
 
-use answer_text::Refusal;
 use crate::routes::Route;
+use answer_text::Refusal;
 use http_wire::Framing;
 use multipart_read::boundary_of;
 
@@ -23,7 +23,11 @@ fn announced(framing: &Framing) -> u64
 }
 
 // Something that the body may not be too long for.
-fn within<'a>(most: u64, framing: &Framing, boundary: Option<&'a [u8]>) -> Result<Option<&'a [u8]>, Refusal>
+fn within<'a>(
+    most: u64,
+    framing: &Framing,
+    boundary: Option<&'a [u8]>,
+) -> Result<Option<&'a [u8]>, Refusal>
     ensures ok { IfOk result (λ b. within most framing.now (option_copied boundary.entry) ≡ Ok (option_copied b)) }
     ensures err { IfErr result (λ refusal. within most framing.now (option_copied boundary.entry) ≡ Err refusal) }
 {

@@ -3,6 +3,7 @@
 
 mod before;
 mod faults;
+mod laws;
 mod numbers;
 mod pages;
 mod parameters;
@@ -13,6 +14,7 @@ mod stats;
 
 pub use before::{MOST_BODY, MOST_UPLOAD, early};
 pub use faults::AskFault;
+pub use laws::further_numbers_tell_nothing;
 pub use pages::{MOST_PAGE, Page, page_asked};
 pub use queries::query_asked;
 pub use routes::{Allowed, Route, RouteFault};

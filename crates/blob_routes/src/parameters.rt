@@ -25,7 +25,11 @@ fn means(alloc: Global, bytes: &[u8], name: &[u8]) -> Result<bool, NoMemory>
 }
 
 /// The first value of a name.
-pub fn first_value<'a>(alloc: Global, text: &'a [u8], name: &[u8]) -> Result<Option<CowStr<'a>>, NoMemory>
+pub fn first_value<'a>(
+    alloc: Global,
+    text: &'a [u8],
+    name: &[u8],
+) -> Result<Option<CowStr<'a>>, NoMemory>
     ensures { IfOk result (λ found. option_map cow_str_bytes found ≡ first_value name.now (raw_pairs text.now)) }
 {
     for pair in raw_pairs(text) {

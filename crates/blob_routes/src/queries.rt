@@ -3,7 +3,7 @@ ghost use Rattle.std.specs.Prelude.{◌≡◌, IfOk, IfErr, Ok};
 ghost use Rattle.search_query.specs.View.{question};
 ghost use Rattle.search_query.specs.Valid.{IsValid};
 ghost use Rattle.blob_routes.specs.Faults.{Refuses};
-ghost use Rattle.blob_routes.specs.Queries.{ask_fault, question_of};
+ghost use Rattle.blob_routes.specs.Queries.{Means, question_of};
 
 use crate::faults::AskFault;
 use answer_text::{BadKind, Refusal};
@@ -12,8 +12,19 @@ use query_read::{QueryFault, read};
 use search_query::Query;
 use std::alloc::Global;
 
+// A refusal without a place.
+fn not_json(alloc: Global) -> AskFault
+    ensures { Means QueryFault.NotJson result }
+{
+    let kind = BadKind::NotJson;
+    match Text::copy(alloc, "") {
+        Ok(at) => AskFault::Refused(Refusal::BadQuery { kind, at }),
+        Err(_) => AskFault::NoMemory,
+    }
+}
+
 fn bad_query(kind: BadKind, at: Text) -> AskFault
-    ensures { result ≡ Refused (BadQuery kind at) }
+    ensures { result ≡ AskFault.Refused (Refusal.BadQuery kind at) }
 {
     AskFault::Refused(Refusal::BadQuery { kind, at })
 }
@@ -23,7 +34,7 @@ fn ask_fault(alloc: Global, fault: QueryFault) -> AskFault
     ensures { Means fault result }
 {
     match fault {
-        QueryFault::NotJson => bad_query(BadKind::NotJson, at),
+        QueryFault::NotJson => not_json(alloc),
         QueryFault::BadKey { at } => bad_query(BadKind::BadKey, at),
         QueryFault::BadValue { at } => bad_query(BadKind::BadValue, at),
         QueryFault::TooDeep { at } => bad_query(BadKind::TooDeep, at),

@@ -65,7 +65,12 @@ fn stat_by(method: &[u8]) -> Result<Route, RouteFault>
     if method == b"GET".as_slice() {
         return Ok(Route::Stat { posted: false });
     }
-    asked_by(b"POST", Allowed::GetPost, Route::Stat { posted: true }, method)
+    asked_by(
+        b"POST",
+        Allowed::GetPost,
+        Route::Stat { posted: true },
+        method,
+    )
 }
 
 // The ref that a path names.

@@ -1,10 +1,10 @@
 //! Which refs are asked after.
 ghost use Rattle.std.specs.Prelude.{◌≡◌, ◌++◌, IfOk, IfErr, OnOk, Ok, option_map};
 ghost use Rattle.std.specs.Cow.{cow_str_bytes};
-ghost use Rattle.std.specs.List.{before_first, list_any, flat_map};
+ghost use Rattle.std.specs.List.{before_first, position, list_any, flat_map};
 ghost use Rattle.form_urlencoded.specs.Form.{raw_pairs};
 ghost use Rattle.blob_routes.specs.Faults.{Refuses};
-ghost use Rattle.blob_routes.specs.Stats.{is_missing, is_wrong, ref_at, refs_at, is_version, told, refs_of};
+ghost use Rattle.blob_routes.specs.Stats.{is_missing, is_wrong, right_ref, refs_at, is_version, told, refs_of};
 
 use crate::faults::AskFault;
 use crate::parameters::first_value;
@@ -17,20 +17,27 @@ use std::borrow::CowStr;
 /// The most refs that may be asked after at once.
 pub const MOST_REFS: usize = 1000;
 
-// The places before the first that is missing.
-fn before_missing(places: &[Place]) -> &[Place]
-    ensures { result.now ≡ before_first is_missing places.now }
-{
-    match places.iter().position(|place| is_missing(place)) {
-        Some(n) => &places[..n],
-        None => places,
-    }
-}
-
 fn is_missing(place: &Place) -> bool
     ensures { result ≡ is_missing place.now }
 {
     matches!(place, Place::Missing)
+}
+
+// Where the first place that is missing stands.
+fn missing_at(places: &[Place]) -> Option<usize>
+    ensures { result ≡ position is_missing places.now }
+{
+    places.iter().position(|place| is_missing(place))
+}
+
+// The places before it, or all.
+fn before_missing(places: &[Place]) -> &[Place]
+    ensures { result.now ≡ before_first is_missing places.now }
+{
+    match missing_at(places) {
+        Some(n) => &places[..n],
+        None => places,
+    }
 }
 
 fn is_wrong(place: &Place) -> bool
@@ -39,8 +46,14 @@ fn is_wrong(place: &Place) -> bool
     matches!(place, Place::Wrong)
 }
 
+fn some_wrong(places: &[Place]) -> bool
+    ensures { result ≡ list_any is_wrong places.now }
+{
+    places.iter().any(|place| is_wrong(place))
+}
+
 fn push(refs: &mut RefList, place: &Place) -> Result<(), NoMemory>
-    ensures { OnOk result (refs.new ≡ refs.old ++ ref_at place.now) }
+    ensures { OnOk result (refs.new ≡ refs.old ++ right_ref place.now) }
 {
     match place {
         Place::Missing | Place::Wrong => Ok(()),
@@ -49,7 +62,7 @@ fn push(refs: &mut RefList, place: &Place) -> Result<(), NoMemory>
 }
 
 fn all_refs(alloc: Global, places: &[Place]) -> Result<RefList, NoMemory>
-    ensures { IfOk result (λ refs. refs ≡ flat_map ref_at places.now) }
+    ensures { IfOk result (λ refs. refs ≡ flat_map right_ref places.now) }
 {
     let mut refs = RefList::empty(alloc);
     for place in places {
@@ -66,7 +79,7 @@ fn refs_at(alloc: Global, places: &[Place], most: usize) -> Result<RefList, AskF
         let limit = most as u64;
         return Err(AskFault::Refused(Refusal::TooLong { limit }));
     }
-    if places.iter().any(|place| is_wrong(place)) {
+    if some_wrong(places) {
         return Err(AskFault::Refused(Refusal::BadRef));
     }
     Ok(all_refs(alloc, places)?)
@@ -90,7 +103,12 @@ fn told<'a>(posted: bool, query: &'a [u8], body: &'a [u8]) -> &'a [u8]
 /// The refs that a request asks after (`docs/http.md`, "Routes"), in the order of their numbers. The error is
 /// `NoMemory`, or the refusal. Each parameter is looked at twice, however many refs are asked.
 #[tactic(auto, unfolding(crate::specs::Stats::refs_of))]
-pub fn refs_asked(alloc: Global, posted: bool, query: &[u8], body: &[u8]) -> Result<RefList, AskFault>
+pub fn refs_asked(
+    alloc: Global,
+    posted: bool,
+    query: &[u8],
+    body: &[u8],
+) -> Result<RefList, AskFault>
     ensures ok { IfOk result (λ refs. refs_of posted query.now body.now ≡ Ok refs) }
     ensures err { IfErr result (Refuses (refs_of posted query.now body.now)) }
 {
