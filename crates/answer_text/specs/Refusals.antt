@@ -50,20 +50,30 @@ kind_text kind.BadKey = codes "BadKey"
 kind_text kind.BadValue = codes "BadValue"
 kind_text kind.TooDeep = codes "TooDeep"
 
--- two refs, each under a key of its own
-abbrev pub two_refs : List ℕ → List ℕ → List ℕ → List ℕ → List ℕ
-two_refs first_key first second_key second =
-    codes ",\"" ++ first_key ++ codes "\":\"" ++ first ++ codes "\",\"" ++ second_key ++ codes "\":\"" ++ second ++ codes "\""
+-- a number under a key
+abbrev pub number_detail : List ℕ → ℕ → List ℕ
+number_detail key number = codes ",\"" ++ key ++ codes "\":" ++ decimal number
 
--- what the text says beside the name. A ref has no byte that JSON escapes
+-- a ref under a key. A ref has no byte that JSON escapes
+abbrev pub ref_field : List ℕ → List ℕ → List ℕ
+ref_field key r = codes "\"" ++ key ++ codes "\":\"" ++ r ++ codes "\""
+
+abbrev pub ref_detail : List ℕ → List ℕ → List ℕ
+ref_detail key r = codes "," ++ ref_field key r
+
+-- which rule a query breaks, and where
+abbrev pub query_detail : BadKind → List ℕ → List ℕ
+query_detail kind at = codes ",\"kind\":\"" ++ kind_text kind ++ codes "\",\"at\":" ++ quoted at
+
+-- what the text says beside the name
 abbrev pub detail_of : Refusal → List ℕ
-detail_of (BadMultipart at) = codes ",\"at\":" ++ decimal at
-detail_of (BadDigest said is) = two_refs (codes "said") said (codes "is") is
-detail_of (BadQuery kind at) = codes ",\"kind\":\"" ++ kind_text kind ++ codes "\",\"at\":" ++ quoted at
-detail_of (Absent r) = codes ",\"blobRef\":\"" ++ r ++ codes "\""
-detail_of (TooLong limit) = codes ",\"limit\":" ++ decimal limit
-detail_of (Damaged want is) = two_refs (codes "want") want (codes "is") is
-detail_of (Full blobs pack) = codes ",\"blobs\":" ++ decimal blobs ++ codes ",\"pack\":" ++ decimal pack
+detail_of (BadMultipart at) = number_detail (codes "at") at
+detail_of (BadDigest said is) = ref_detail (codes "said") said ++ ref_detail (codes "is") is
+detail_of (BadQuery kind at) = query_detail kind at
+detail_of (Absent r) = ref_detail (codes "blobRef") r
+detail_of (TooLong limit) = number_detail (codes "limit") limit
+detail_of (Damaged want is) = ref_detail (codes "want") want ++ ref_detail (codes "is") is
+detail_of (Full blobs pack) = number_detail (codes "blobs") blobs ++ number_detail (codes "pack") pack
 detail_of BadHead = []
 detail_of BadLength = []
 detail_of BadVersion = []
