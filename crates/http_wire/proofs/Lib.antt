@@ -1,6 +1,7 @@
 pub mod Behind
 pub mod Closings
 pub mod Digits
+pub mod EndLines
 pub mod Ending
 pub mod Fetching
 pub mod HeadParts
