@@ -1,5 +1,5 @@
 -- The machine that finds where lines end, in words of lines.
-use Rattle.std.proofs.Common.{◌≡◌, ℕ, zero, suc, ◌+◌, ◌<◌, ◌≤◌, Bool, true, false, not, cond, ◌&&◌, List, [], ◌∷◌, ◌++◌, length, take, All, Option, Some, None, refl, sym, ap, subst, ◌∙◌, arith, append_assoc, length-append}
+use Rattle.std.proofs.Common.{◌≡◌, ℕ, zero, suc, ◌+◌, ◌≤◌, Bool, true, false, not, cond, ◌&&◌, List, [], ◌∷◌, ◌++◌, length, All, Option, Some, None, refl, sym, ap, subst, ◌∙◌, arith, append_assoc, length-append}
 use Rattle.std.specs.List.{flat_map}
 use Rattle.std.proofs.lemmas.List.{append-nil, nil_from_length, take_all}
 use Rattle.std.specs.Prelude.{◌==◌, ◌↔◌}
@@ -174,7 +174,7 @@ split_push b bs (l ∷ ls) tail each rest is false e = record {
 }
 
 split : (text : List ℕ) → IsSplit text
-split [] = record { lines = []; tail = []; each = λ k d small. absurd (omega arith); rest = refl; text_is = refl; }
+split [] = record { lines = []; tail = []; each = λ k d small. absurd (omega arith); rest = refl; text_is = refl }
 split (b ∷ bs) = let s = split bs in split_push b bs s.lines s.tail s.each s.rest s.text_is (b == 10) refl
 
 -- bytes without a line feed don't end
@@ -269,13 +269,19 @@ whole p limit text h =
     (few, ap (scanned p) (sym (take_all limit text few)) ∙ h)
 
 pub trailer_lines : (text : List ℕ) → Reaches Next 16384 text (length text) ↔ (length text ≤ 16384) × AreLines text
-trailer_lines text = (λ h.
-    let w = whole Next 16384 text h in
-    let s = split text in
-    (w.0, subst AreLines (sym s.text_is) (from_next s.lines s.tail s.each s.rest (subst (λ (xs : List ℕ). scanned Next xs ≡ End (length xs)) s.text_is w.1))), λ h. ap (scanned Next) (take_all 16384 text h.0) ∙ lines_next text h.1)
+trailer_lines text = (
+  λ h.
+      let w = whole Next 16384 text h in
+      let s = split text in
+      (w.0, subst AreLines (sym s.text_is) (from_next s.lines s.tail s.each s.rest (subst (λ (xs : List ℕ). scanned Next xs ≡ End (length xs)) s.text_is w.1))),
+  λ h. ap (scanned Next) (take_all 16384 text h.0) ∙ lines_next text h.1,
+)
 
 pub head_lines : (text : List ℕ) → IsHeadText text ↔ (length text ≤ 16384) × AreHeadLines text
-head_lines text = (λ h.
-    let w = whole Start 16384 text h in
-    let s = split text in
-    (w.0, subst AreHeadLines (sym s.text_is) (from_start s.lines s.tail s.each s.rest (subst (λ (xs : List ℕ). scanned Start xs ≡ End (length xs)) s.text_is w.1))), λ h. ap (scanned Start) (take_all 16384 text h.0) ∙ lines_start text h.1)
+head_lines text = (
+  λ h.
+      let w = whole Start 16384 text h in
+      let s = split text in
+      (w.0, subst AreHeadLines (sym s.text_is) (from_start s.lines s.tail s.each s.rest (subst (λ (xs : List ℕ). scanned Start xs ≡ End (length xs)) s.text_is w.1))),
+  λ h. ap (scanned Start) (take_all 16384 text h.0) ∙ lines_start text h.1,
+)

@@ -1,5 +1,5 @@
 -- Where heads, trailers and chunk lines end, in words of lines.
-use Rattle.std.specs.Prelude.{◌≡◌, ℕ, ◌<◌, ◌≤◌, Bool, true, false, not, List, [], ◌∷◌, ◌++◌, length, All, IsTrue, ◌==◌}
+use Rattle.std.specs.Prelude.{◌≡◌, ℕ, Bool, true, false, not, List, [], ◌∷◌, ◌++◌, All, ◌==◌}
 use Rattle.std.specs.List.{flat_map, list_all}
 
 -- a line, without its line feed

@@ -29,8 +29,8 @@ pub use body::Body;
 pub use ends::WireEnd;
 pub use head::{Framing, Head, HeadFault, Piece};
 pub use laws::{
-    ends_are_last, ends_begin_no_request, heads_are_lines, one_head_text, one_more_request, phrases,
-    trailers_are_lines,
+    ends_are_last, ends_begin_no_request, heads_are_lines, one_head_text, one_more_request,
+    phrases, trailers_are_lines,
 };
 pub use replies::reply_head;
 pub use wire::Wire;
