@@ -11,4 +11,5 @@ pub mod Refusals
 pub mod Seams
 pub mod Speaking
 pub mod Targets
+pub mod Unfinished
 pub mod Values
