@@ -3,7 +3,7 @@ use Rattle.serde_json.specs.View.{view}
 use Rattle.search_query.specs.View.{view as asks}
 use Rattle.query_read.specs.Faults.{Tells}
 use Rattle.query_read.specs.Faults.{has_key}
-use Rattle.query_read.specs.Grammar.{constraint_fault, permanode_fault, parts_keys}
+use Rattle.query_read.specs.Grammar.{constraint_fault, permanode_fault, permanode_keys, permanode_whole, parts_keys}
 use Rattle.query_read.proofs.Levels.{fault_level, value_level}
 use Rattle.query_read.proofs.Telling.{told_whole, told_under, sound_under}
 use Rattle.query_read.proofs.constraints.+read.Goals as goal
@@ -49,3 +49,22 @@ pub permanode_under-returns-clause-ok : goal.permanode_under-returns-clause-ok
 permanode_under-returns-clause-ok t c =
     sound_under (permanode_fault (constraint_fault c.args.left)) c.args.key.now c.args.path.now c.as_str.result.now (view c.args.value.now) (view c.in-Some.below.now)
     (sym c.in-Some.ensures) (c.as_str.ensures ∙ c.in_ok-at.ensures) c.in_ok-permanode.ensures.ok
+
+pub permanode-returns-then-not-permanode_whole-clause-err :
+    goal.permanode-returns-then-not-permanode_whole-clause-err
+permanode-returns-then-not-permanode_whole-clause-err t c =
+    told_whole _ (permanode_keys (constraint_fault c.args.left)) c.args.path.now (view c.args.value.now) (permanode_whole (view c.args.value.now)) c.bad_value.result
+    c.in_ok-shape.ensures.ok (
+      c.in_ok-at.ensures.ok,
+      (
+        c.in_ok-attr.ensures.ok,
+        (
+          c.in_ok-num_value.ensures.ok,
+          (
+            c.in_ok-relation.ensures.ok,
+            (c.in_ok-wanted.ensures.ok, (c.in_ok-value_in_set.ensures.ok, (c.in_ok-value_matches.ensures.ok, tt))),
+          ),
+        ),
+      ),
+    )
+    (sym c.permanode_whole.ensures ∙ c.if-not-permanode_whole.true) c.bad_value.ensures
