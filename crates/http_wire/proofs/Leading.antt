@@ -2,9 +2,9 @@
 use Rattle.std.proofs.Common.{◌≡◌, ℕ, zero, suc, ◌+◌, ◌<◌, ◌≤◌, List, [], ◌∷◌, ◌++◌, length, take, drop, All, Option, Some, None, inl, inr, refl, sym, ap, subst, ◌∙◌, arith, append_assoc, length-append, length-drop, get_or, ◌⊎◌}
 use Rattle.std.specs.Option.{IfSome}
 use Rattle.std.specs.List.{flat_map}
-use Rattle.std.proofs.lemmas.List.{append-nil}
+use Rattle.std.proofs.lemmas.List.{append-nil, append_cancel_left, nil_from_length}
 use Rattle.httparse.specs.Ascii.{crlf_bytes}
-use Rattle.httparse.specs.Grammar.{ChunkLine, ReadsChunkLine, print_chunk_line, Field, LineEnd, ReadsSection}
+use Rattle.httparse.specs.Grammar.{ChunkLine, ReadsChunkLine, chunk_size, print_chunk_line, Field, LineEnd, ReadsSection}
 use Rattle.httparse.specs.Spans.{IsChunkLineAt}
 use Rattle.httparse.proofs.ChunkLemmas.{chunk_line_unique}
 use Rattle.http_wire.specs.declared.body.Body.{Body}
@@ -12,74 +12,199 @@ use Rattle.http_wire.specs.declared.body.Body.TheVariants as body
 use Rattle.http_wire.specs.declared.place.Place.TheVariants.{Last, Next}
 use Rattle.http_wire.specs.Lines.{Reaches, Lacks}
 use Rattle.http_wire.specs.Stream.{stream, Flow, Begins}
-use Rattle.http_wire.specs.Bodies.{IsLine, IsBadLine, IsTrailers, IsBadTrailers, Chunk, print_chunk, IsChunk, RestOf, Leads, Moves, IsBadEnd, Breaks}
-use Rattle.http_wire.proofs.Passing.{Passed-chain, begins_stream}
+use Rattle.http_wire.specs.Bodies.{IsLine, IsBadLine, IsTrailers, IsBadTrailers, IsChunked, Chunk, print_chunk, content_of, IsChunk, RestOf, Leads, Moves, IsBadEnd, Breaks}
+use Rattle.http_wire.proofs.Passing.{Passed-chain, begins_stream, one_text}
+
+-- a list that begins as another one, and isn't shorter, begins with it
+begins_with : (xs ys zs ws : List ℕ) → xs ++ ys ≡ zs ++ ws → length zs ≤ length xs → (rest : List ℕ) × (xs ≡ zs ++ rest)
+begins_with xs ys [] ws e fits = (xs, refl)
+begins_with [] ys (z ∷ zs) ws e fits = absurd (omega (arith, fits))
+begins_with (x ∷ xs) ys (z ∷ zs) ws e fits =
+    let tails = begins_with xs ys zs ws (ap (drop 1) e) (omega (arith, fits)) in
+    let head : x ≡ z = ap (λ (l : List ℕ). get_or l 0 0) e in
+    (tails.0, λ i. head i ∷ tails.1 i)
+
+-- what follows a front of two equal lists
+behind_front : (front xs after tail whole : List ℕ) → whole ≡ front ++ xs → whole ++ after ≡ front ++ tail → xs ++ after ≡ tail
+behind_front front xs after tail whole is e =
+    append_cancel_left front (xs ++ after) tail (sym (append_assoc front xs after) ∙ ap (λ (t : List ℕ). t ++ after) (sym is) ∙ e)
 
 pub Leads-none : (b : Body) → Leads b b [] []
-Leads-none b = λ rest bytes h. h
+Leads-none b = record { on = λ rest bytes h. h; back = λ whole all after tail r e. (whole, all, refl, refl, r) }
 
 pub Leads-chain : (a b c : Body) (s t x y : List ℕ) → Leads a b s x → Leads b c t y → Leads a c (s ++ t) (x ++ y)
-Leads-chain a b c s t x y h k = λ rest bytes r.
-    let whole = h (t ++ rest) (y ++ bytes) (k rest bytes r) in
-    subst (λ (u : List ℕ). RestOf a u ((x ++ y) ++ bytes)) (sym (append_assoc s t rest)) (subst (λ (u : List ℕ). RestOf a (s ++ (t ++ rest)) u) (sym (append_assoc x y bytes)) whole)
+Leads-chain a b c s t x y h k = record {
+  on = λ rest bytes r.
+      let whole = h.on (t ++ rest) (y ++ bytes) (k.on rest bytes r) in
+      subst (λ (u : List ℕ). RestOf a u ((x ++ y) ++ bytes)) (sym (append_assoc s t rest)) (subst (λ (u : List ℕ). RestOf a (s ++ (t ++ rest)) u) (sym (append_assoc x y bytes)) whole);
+  back = λ whole all after tail r e.
+      let first = h.back whole all after (t ++ tail) r (e ∙ append_assoc s t tail) in
+      let second = k.back first.0 first.1 after tail first.4 (behind_front s first.0 after (t ++ tail) whole first.2 (e ∙ append_assoc s t tail)) in (
+        second.0,
+        second.1,
+        first.2 ∙ ap (λ (u : List ℕ). s ++ u) second.2 ∙ sym (append_assoc s t second.0),
+        first.3 ∙ ap (λ (u : List ℕ). x ++ u) second.3 ∙ sym (append_assoc x y second.1),
+        second.4,
+      );
+}
 
 pub Moves-chain : (p q r : Option (List ℕ)) (u v w : Flow) (a b c : Body) (x y : List ℕ) → Moves p q u v a b x → Moves q r v w b c y → Moves p r u w a c (x ++ y)
 Moves-chain p q r u v w a b c x y h k = (h.0 ++ k.0, Passed-chain p q r u v w h.0 k.0 h.1 k.1, Leads-chain a b c h.0 k.0 x y h.2 k.2)
 
 -- bytes of a body of a known length
 pub leads_exactly : (m n : ℕ) (text : List ℕ) → n + length text ≡ m → Leads (body.Exactly m) (body.Exactly n) text text
-leads_exactly m n text len = λ rest bytes h.
-    (ap (λ (u : List ℕ). text ++ u) h.0, length-append text bytes ∙ omega (arith, h.1))
+leads_exactly m n text len = record {
+  on = λ rest bytes h. (ap (λ (u : List ℕ). text ++ u) h.0, length-append text bytes ∙ omega (arith, h.1));
+  back = λ whole all after tail h e.
+      let rest = begins_with whole after text tail e (omega (arith, len, h.1, ap length h.0)) in
+      let left : length rest.0 ≡ n = omega (arith, len, h.1, ap length h.0, ap length rest.1, length-append text rest.0) in
+      (rest.0, rest.0, rest.1, sym h.0 ∙ rest.1, (refl, left));
+}
 
 -- bytes of a chunk
 pub leads_chunk : (m n : ℕ) (text : List ℕ) → n + length text ≡ m → Leads (body.Chunk m) (body.Chunk n) text text
-leads_chunk m n text len = λ rest bytes h. (
-  text ++ h.0,
-  h.1,
-  h.2,
-  length-append text h.0 ∙ omega (arith, h.3),
-  h.4,
-  ap (λ (u : List ℕ). text ++ u) h.5 ∙ sym (append_assoc text h.0 (crlf_bytes ++ h.1)),
-  ap (λ (u : List ℕ). text ++ u) h.6 ∙ sym (append_assoc text h.0 h.2),
-)
+leads_chunk m n text len = record {
+  on = λ rest bytes h. (
+    text ++ h.0,
+    h.1,
+    h.2,
+    length-append text h.0 ∙ omega (arith, h.3),
+    h.4,
+    ap (λ (u : List ℕ). text ++ u) h.5 ∙ sym (append_assoc text h.0 (crlf_bytes ++ h.1)),
+    ap (λ (u : List ℕ). text ++ u) h.6 ∙ sym (append_assoc text h.0 h.2),
+  );
+  back = λ whole all after tail h e.
+      let split : h.0 ++ ((crlf_bytes ++ h.1) ++ after) ≡ text ++ tail = sym (append_assoc h.0 (crlf_bytes ++ h.1) after) ∙ ap (λ (t : List ℕ). t ++ after) (sym h.5) ∙ e in
+      let rest = begins_with h.0 ((crlf_bytes ++ h.1) ++ after) text tail split (omega (arith, len, h.3)) in
+      let left : length rest.0 ≡ n = omega (arith, len, h.3, ap length rest.1, length-append text rest.0) in (
+        rest.0 ++ (crlf_bytes ++ h.1),
+        rest.0 ++ h.2,
+        h.5 ∙ ap (λ (t : List ℕ). t ++ (crlf_bytes ++ h.1)) rest.1 ∙ append_assoc text rest.0 (crlf_bytes ++ h.1),
+        h.6 ∙ ap (λ (t : List ℕ). t ++ h.2) rest.1 ∙ append_assoc text rest.0 h.2,
+        (rest.0, h.1, h.2, left, h.4, refl, refl),
+      );
+}
 
 -- the end of a chunk
 pub leads_end : Leads (body.Chunk 0) body.ChunkLine crlf_bytes []
-leads_end = λ rest bytes h. ([], rest, bytes, refl, h, refl, refl)
+leads_end = record {
+  on = λ rest bytes h. ([], rest, bytes, refl, h, refl, refl);
+  back = λ whole all after tail h e.
+      let none : h.0 ≡ [] = nil_from_length h.0 h.3 in
+      (h.1, h.2, h.5 ∙ ap (λ (t : List ℕ). t ++ (crlf_bytes ++ h.1)) none, h.6 ∙ ap (λ (t : List ℕ). t ++ h.2) none, h.4);
+}
+
+-- a chunk line has one size
+one_size : (a b : List ℕ) (m n : ℕ) → a ≡ b → IsLine a m → IsLine b n → m ≡ n
+one_size a b m n same is other =
+    let there : ReadsChunkLine a other.1.0 [] = subst (λ (t : List ℕ). ReadsChunkLine t other.1.0 []) (sym same) other.1.1 in
+    sym is.1.2 ∙ ap chunk_size (chunk_line_unique a is.1.0 other.1.0 [] [] is.1.1 there).0 ∙ other.1.2
+
+-- the text of a chunk line with which some bytes begin
+same_line : (line other x after tail : List ℕ) (m n : ℕ) → IsLine line m → IsLine other n → x ≡ line ++ after → x ≡ other ++ tail → line ≡ other
+same_line line other x after tail m n is also e f = one_text Last 4096 x line other after tail e f is.0 also.0
+
+-- the first chunk of a body, and what follows it
+pub print_first : (c : Chunk) (cs : List Chunk) (end after : List ℕ) → (flat_map print_chunk (c ∷ cs) ++ end) ++ after ≡ c.line ++ ((c.content ++ (crlf_bytes ++ (flat_map print_chunk cs ++ end))) ++ after)
+print_first c cs end after = first c.line c.content crlf_bytes (flat_map print_chunk cs) end after
+  where
+    first : (a b c f t rest : List ℕ) → (((a ++ (b ++ c)) ++ f) ++ t) ++ rest ≡ a ++ ((b ++ (c ++ (f ++ t))) ++ rest)
+    first a b c f t rest = simp append_assoc
+
+-- where a body goes on behind the last chunk line
+last_goes : (line last trailers after tail whole all : List ℕ) (chunks : List Chunk) → IsLine line 0 → All IsChunk chunks → IsLine last 0 → IsTrailers trailers
+    → whole ≡ flat_map print_chunk chunks ++ (last ++ trailers) → all ≡ flat_map content_of chunks → whole ++ after ≡ line ++ tail
+    → (rest : List ℕ) × (more : List ℕ) × (whole ≡ line ++ rest) × (all ≡ [] ++ more) × RestOf body.Trailers rest more
+last_goes line last trailers after tail whole all [] is each last_is trailers_are text bytes e =
+    let parts : whole ++ after ≡ last ++ (trailers ++ after) = ap (λ (t : List ℕ). t ++ after) text ∙ append_assoc last trailers after in
+    let same : last ≡ line = same_line last line (whole ++ after) (trailers ++ after) tail 0 0 last_is is parts e in
+    (trailers, [], text ∙ ap (λ (t : List ℕ). t ++ trailers) same, bytes, (trailers_are, refl))
+last_goes line last trailers after tail whole all (c ∷ cs) is each last_is trailers_are text bytes e =
+    let parts = ap (λ (t : List ℕ). t ++ after) text ∙ print_first c cs (last ++ trailers) after in
+    let first : IsChunk c = each 0 c (omega arith) in
+    let same : c.line ≡ line = same_line c.line line (whole ++ after) ((c.content ++ (crlf_bytes ++ (flat_map print_chunk cs ++ (last ++ trailers)))) ++ after) tail (length c.content) 0 first.1 is parts e in
+    let size : length c.content ≡ 0 = one_size c.line line (length c.content) 0 same first.1 is in
+    absurd (omega (arith, size, first.0))
 
 -- the last chunk line
 pub leads_last : (line : List ℕ) (size : ℕ) → IsLine line size → size ≡ 0 → Leads body.ChunkLine body.Trailers line []
-leads_last line size is none = λ rest bytes h. record {
-  chunks = [];
-  last = line;
-  trailers = rest;
-  each = λ k d small. absurd (omega arith);
-  last_line = subst (IsLine line) none is;
-  rest = h.0;
-  text_is = refl;
-  bytes_are = h.1;
+leads_last line size is none = record {
+  on = λ rest bytes h. record {
+    chunks = [];
+    last = line;
+    trailers = rest;
+    each = λ k d small. absurd (omega arith);
+    last_line = subst (IsLine line) none is;
+    rest = h.0;
+    text_is = refl;
+    bytes_are = h.1;
+  };
+  back = λ whole all after tail h e.
+      last_goes line h.last h.trailers after tail whole all h.chunks (subst (IsLine line) none is) h.each h.last_line h.rest h.text_is h.bytes_are e;
 }
 
 all_more : (c : Chunk) (cs : List Chunk) → IsChunk c → All IsChunk cs → All IsChunk (c ∷ cs)
 all_more c cs one each zero d small = one
 all_more c cs one each (suc k) d small = each k d (omega arith)
 
+all_fewer : (c : Chunk) (cs : List Chunk) → All IsChunk (c ∷ cs) → All IsChunk cs
+all_fewer c cs each k d small = each (suc k) d (omega (arith, small))
+
+-- where a body goes on behind another chunk line
+line_goes : (line last trailers after tail whole all : List ℕ) (size : ℕ) (chunks : List Chunk) → IsLine line size → 0 < size → All IsChunk chunks → IsLine last 0 → IsTrailers trailers
+    → whole ≡ flat_map print_chunk chunks ++ (last ++ trailers) → all ≡ flat_map content_of chunks → whole ++ after ≡ line ++ tail
+    → (rest : List ℕ) × (more : List ℕ) × (whole ≡ line ++ rest) × (all ≡ [] ++ more) × RestOf (body.Chunk size) rest more
+line_goes line last trailers after tail whole all size [] is some each last_is trailers_are text bytes e =
+    let parts : whole ++ after ≡ last ++ (trailers ++ after) = ap (λ (t : List ℕ). t ++ after) text ∙ append_assoc last trailers after in
+    let same : last ≡ line = same_line last line (whole ++ after) (trailers ++ after) tail 0 size last_is is parts e in
+    let none : 0 ≡ size = one_size last line 0 size same last_is is in
+    absurd (omega (arith, none, some))
+line_goes line last trailers after tail whole all size (c ∷ cs) is some each last_is trailers_are text bytes e =
+    let parts = ap (λ (t : List ℕ). t ++ after) text ∙ print_first c cs (last ++ trailers) after in
+    let first : IsChunk c = each 0 c (omega arith) in
+    let left : List ℕ = flat_map print_chunk cs ++ (last ++ trailers) in
+    let same : c.line ≡ line = same_line c.line line (whole ++ after) ((c.content ++ (crlf_bytes ++ left)) ++ after) tail (length c.content) size first.1 is parts e in
+    let sized : length c.content ≡ size = one_size c.line line (length c.content) size same first.1 is in
+    let others : IsChunked left (flat_map content_of cs) = record {
+      chunks = cs;
+      last = last;
+      trailers = trailers;
+      each = all_fewer c cs each;
+      last_line = last_is;
+      rest = trailers_are;
+      text_is = refl;
+      bytes_are = refl;
+    } in (
+      c.content ++ (crlf_bytes ++ left),
+      c.content ++ flat_map content_of cs,
+      text ∙ first_of c.line c.content crlf_bytes (flat_map print_chunk cs) (last ++ trailers) ∙ ap (λ (t : List ℕ). t ++ (c.content ++ (crlf_bytes ++ left))) same,
+      bytes,
+      (c.content, left, flat_map content_of cs, sized, others, refl, refl),
+    )
+  where
+    first_of : (a b c f t : List ℕ) → ((a ++ (b ++ c)) ++ f) ++ t ≡ a ++ (b ++ (c ++ (f ++ t)))
+    first_of a b c f t = simp append_assoc
+
 -- another chunk line
 pub leads_line : (line : List ℕ) (size : ℕ) → IsLine line size → 0 < size → Leads body.ChunkLine (body.Chunk size) line []
-leads_line line size is some = λ rest bytes h.
-    let c : Chunk = record { line = line; content = h.0 } in
-    let some_content : 0 < length h.0 = omega (arith, h.3) in
-    let is_sized : IsLine line (length h.0) = subst (IsLine line) (sym h.3) is in
-    record {
-      chunks = c ∷ h.4.chunks;
-      last = h.4.last;
-      trailers = h.4.trailers;
-      each = all_more c h.4.chunks (some_content, is_sized) h.4.each;
-      last_line = h.4.last_line;
-      rest = h.4.rest;
-      text_is = text_parts line h.0 crlf_bytes h.1 (flat_map print_chunk h.4.chunks) (h.4.last ++ h.4.trailers) rest h.5 h.4.text_is;
-      bytes_are = h.6 ∙ ap (λ (u : List ℕ). h.0 ++ u) h.4.bytes_are;
-    }
+leads_line line size is some = record {
+  on = λ rest bytes h.
+      let c : Chunk = record { line = line; content = h.0 } in
+      let some_content : 0 < length h.0 = omega (arith, h.3) in
+      let is_sized : IsLine line (length h.0) = subst (IsLine line) (sym h.3) is in
+      record {
+        chunks = c ∷ h.4.chunks;
+        last = h.4.last;
+        trailers = h.4.trailers;
+        each = all_more c h.4.chunks (some_content, is_sized) h.4.each;
+        last_line = h.4.last_line;
+        rest = h.4.rest;
+        text_is = text_parts line h.0 crlf_bytes h.1 (flat_map print_chunk h.4.chunks) (h.4.last ++ h.4.trailers) rest h.5 h.4.text_is;
+        bytes_are = h.6 ∙ ap (λ (u : List ℕ). h.0 ++ u) h.4.bytes_are;
+      };
+  back = λ whole all after tail h e.
+      line_goes line h.last h.trailers after tail whole all size h.chunks is some h.each h.last_line h.rest h.text_is h.bytes_are e;
+}
   where
     text_parts : (a b c r f t rest : List ℕ) → rest ≡ b ++ (c ++ r) → r ≡ f ++ t → a ++ rest ≡ ((a ++ (b ++ c)) ++ f) ++ t
     text_parts a b c r f t rest e g = ap (λ (u : List ℕ). a ++ u) (e ∙ ap (λ (u : List ℕ). b ++ (c ++ u)) g) ∙ simp append_assoc
@@ -91,8 +216,13 @@ leads_on line (suc n) at is last more = subst (λ (b : Body). Leads body.ChunkLi
 
 -- the trailers
 pub leads_trailers : (text : List ℕ) → IsTrailers text → Leads body.Trailers body.Done text []
-leads_trailers text is = λ rest bytes h.
-    (subst IsTrailers (sym (ap (λ (u : List ℕ). text ++ u) h.0 ∙ append-nil text)) is, h.1)
+leads_trailers text is = record {
+  on = λ rest bytes h.
+      (subst IsTrailers (sym (ap (λ (u : List ℕ). text ++ u) h.0 ∙ append-nil text)) is, h.1);
+  back = λ whole all after tail h e.
+      let same : whole ≡ text = one_text Next 16384 (whole ++ after) whole text after tail refl e h.0.0 is.0 in
+      ([], [], same ∙ sym (append-nil text), h.1, (refl, refl));
+}
 
 -- a text has one chunk line
 pub whole_line : (text : List ℕ) (len size : ℕ) (k l : ChunkLine) → IsChunkLineAt text len size k → ReadsChunkLine text l [] → len ≡ length text

@@ -1,6 +1,7 @@
 pub mod Behind
 pub mod Closings
 pub mod Digits
+pub mod EndLines
 pub mod Ending
 pub mod Fetching
 pub mod HeadParts
@@ -10,4 +11,5 @@ pub mod Refusals
 pub mod Seams
 pub mod Speaking
 pub mod Targets
+pub mod Unfinished
 pub mod Values

@@ -22,7 +22,7 @@ use Rattle.http_wire.proofs.Seams.{scanned-append, reached}
 use Rattle.http_wire.proofs.Passing.{one_text}
 
 -- where lines end within the limit, they don't lack an end
-not_lacking : (p : Place) (limit : ℕ) (x a after : List ℕ) → x ≡ a ++ after → Reaches p limit a (length a) → Lacks p limit x → ⊥
+pub not_lacking : (p : Place) (limit : ℕ) (x a after : List ℕ) → x ≡ a ++ after → Reaches p limit a (length a) → Lacks p limit x → ⊥
 not_lacking p limit x a after e h lacks =
     let fits = reached p limit (length a) a h in
     let room : limit ≡ length a + (limit - length a) = omega (arith, fits.1) in

@@ -28,7 +28,7 @@ pub request_read : (head framed given : List ℕ) (says : Head) → IsHeadText h
 request_read head framed given says lines read leads = record {
   lines = lines;
   read = read;
-  rest = subst (λ (t : List ℕ). RestOf (body_of says.framing) t given) (append-nil framed) (subst (λ (b : List ℕ). RestOf (body_of says.framing) (framed ++ []) b) (append-nil given) (leads [] [] (refl, refl)));
+  rest = subst (λ (t : List ℕ). RestOf (body_of says.framing) t given) (append-nil framed) (subst (λ (b : List ℕ). RestOf (body_of says.framing) (framed ++ []) b) (append-nil given) (leads.on [] [] (refl, refl)));
 }
 
 -- what a server's loop keeps: the requests so far are what was taken since the connection began

@@ -62,9 +62,15 @@ RestOf body.ChunkLine text bytes = IsChunked text bytes
 RestOf (body.Chunk n) text bytes = (content : List ℕ) × (rest : List ℕ) × (more : List ℕ) × (length content ≡ n) × IsChunked rest more × (text ≡ content ++ (crlf_bytes ++ rest)) × (bytes ≡ content ++ more)
 RestOf body.Trailers text bytes = IsTrailers text × (bytes ≡ [])
 
+-- each text of a body that begins with this text goes on behind it as is said, and begins with these bytes
+abbrev pub GoesOnFrom : Body → Body → List ℕ → List ℕ → Type 0
+GoesOnFrom before now text given = (whole all after tail : List ℕ) → RestOf before whole all → whole ++ after ≡ text ++ tail
+    → (rest : List ℕ) × (more : List ℕ) × (whole ≡ text ++ rest) × (all ≡ given ++ more) × RestOf now rest more
+
 -- this text leads from there to there, and gives these bytes of the body
-abbrev pub Leads : Body → Body → List ℕ → List ℕ → Type 0
-Leads before now text given = (rest bytes : List ℕ) → RestOf now rest bytes → RestOf before (text ++ rest) (given ++ bytes)
+pub record Leads (before now : Body) (text given : List ℕ) : Type 0 where
+  pub on : (rest bytes : List ℕ) → RestOf now rest bytes → RestOf before (text ++ rest) (given ++ bytes)
+  pub back : GoesOnFrom before now text given
 
 -- what stands there isn't a carriage return and a line feed
 abbrev pub IsBadEnd : List ℕ → Type 0

@@ -1,11 +1,25 @@
 //! Laws of streams of requests, and of replies.
-ghost use Rattle.std.specs.Prelude.{◌≡◌, ◌∷◌, ◌++◌, [], List, ℕ, All, Some, codes};
+ghost use Rattle.std.specs.Prelude.{◌≡◌, ◌≤◌, ◌⊎◌, ◌↔◌, ◌∷◌, ◌++◌, [], List, ℕ, length, All, Some, codes};
+ghost use Rattle.http_wire.specs.LineForms.{AreLines, AreHeadLines};
 ghost use Rattle.http_wire.specs.Heads.{IsHeadText};
+ghost use Rattle.http_wire.specs.Lines.{Reaches};
 ghost use Rattle.http_wire.specs.Replies.{phrase_of};
 ghost use Rattle.http_wire.specs.Speaking.{Request, IsRequest, Speaks, text_of, HasNoRequest, IsOpen, SpeaksTo};
-ghost use Rattle.http_wire.specs.Speaking.{place_behind, last_of};
+ghost use Rattle.http_wire.specs.Speaking.{place_behind, last_of, Begun, IsBegun};
+ghost use Rattle.http_wire.specs.Bodies.{Stops, Breaks};
 ghost use Rattle.http_wire.specs.Wires.{HeadEnds};
 ghost use Rattle.http_wire.specs.declared.ends.WireEnd.{WireEnd};
+ghost use Rattle.http_wire.specs.declared.place.Place.{Place};
+
+/// The text of a head, in words of lines.
+pub fn heads_are_lines()
+    ensures { (text : List ℕ) → IsHeadText text ↔ (length text ≤ 16384) × AreHeadLines text }
+{}
+
+/// The text of trailers, in words of lines.
+pub fn trailers_are_lines()
+    ensures { (text : List ℕ) → Reaches Place.Next 16384 text (length text) ↔ (length text ≤ 16384) × AreLines text }
+{}
 
 /// The phrases of the codes that a server replies with.
 pub fn phrases()
@@ -35,6 +49,12 @@ pub fn one_head_text()
 pub fn ends_begin_no_request()
     ensures { (x : List ℕ) (place : ℕ) (end : WireEnd) → HeadEnds (Some x) place end
         → (end ≡ WireEnd.ReadFault → ⊥) → HasNoRequest x }
+{}
+
+/// Where the source ends inside the body of a request, or the body breaks, no whole request begins with that head.
+pub fn unfinished_bodies_begin_no_request()
+    ensures { (x tail : List ℕ) (b : Begun) → IsBegun b → x ≡ b.head ++ (b.framed ++ tail)
+        → Stops b.at tail ⊎ Breaks b.at tail → HasNoRequest x }
 {}
 
 /// Where no head is read behind requests that leave the connection open, and no read failed, that is how the stream's

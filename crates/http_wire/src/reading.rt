@@ -136,11 +136,12 @@ fn give<S: Source>(
     ensures later { S.faults source.old ≤ S.faults source.new }
 {
     match *body {
-        Body::Done | Body::Exactly(0) => {
-            *body = Body::Done;
-            Ok(0)
-        }
+        Body::Done => Ok(0),
         Body::Exactly(left) => {
+            if left == 0 {
+                *body = Body::Done;
+                return Ok(0);
+            }
             let n = take_content(ahead, source, buf, left)?;
             *body = Body::Exactly(left - n as u64);
             Ok(n)

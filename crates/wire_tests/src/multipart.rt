@@ -106,63 +106,20 @@ fn uploads_of_three_parts_and_of_two(rt: HostRuntime) -> Result<(), NoMemory> {
 }
 
 #[test]
-fn marks_and_what_is_none(rt: HostRuntime) -> Result<(), NoMemory> {
+fn preambles_and_closes(rt: HostRuntime) -> Result<(), NoMemory> {
     let bad = |at| Some(PartFault::Bad { at });
-    for (body, told, fault) in [
-        ("", "", bad(0)),
-        ("--b--", "", None),
-        ("\r\n--b--", "", None),
-        ("before\r\n--b--behind\r\n--b\r\n", "", None),
-        ("before--b--", "", bad(0)),
-        ("--c--", "", bad(0)),
-        ("--b", "", bad(0)),
-        ("--b\r\n", "", bad(5)),
-        ("--b\r\nContent-Dispo", "", bad(5)),
-        (
-            "--b \t\r\nContent-Disposition: form-data; name=n\r\n\r\nx\r\n--b--",
-            "<n>x|",
-            None,
-        ),
-        (
-            "--b                \r\nContent-Disposition: form-data; name=n\r\n\r\n\r\n--b--",
-            "<n>|",
-            None,
-        ),
-        (
-            "--b                 \r\nContent-Disposition: form-data; name=n\r\n\r\n\r\n--b-",
-            "",
-            bad(0),
-        ),
-        (
-            "--b\r\nContent-Disposition: form-data; name=n\r\n\r\n--b\r\n\r\n--bx\r\n--b-\r\n--b\r\r\n--b--",
-            "<n>--b\r\n\r\n--bx\r\n--b-\r\n--b\r|",
-            None,
-        ),
-        (
-            "--b\r\nContent-Disposition: form-data; name=n\r\n\r\n--b--",
-            "<n>--b--",
-            bad(47),
-        ),
-        (
-            "--b\r\nContent-Disposition: form-data; name=n\r\n\r\nxy\r\n--",
-            "<n>xy",
-            bad(47),
-        ),
-        (
-            "--b\nContent-Disposition: form-data; name=n\n\nx\r\n--b--",
-            "",
-            None,
-        ),
-        (
-            "--b\r\nContent-Disposition: form-data; name=n\n\nx\n--b\r\n--b--",
-            "<n>x\n--b|",
-            None,
-        ),
+    for (body, fault) in [
+        ("", bad(0)),
+        ("--b--", None),
+        ("\r\n--b--", None),
+        ("before\r\n--b--behind\r\n--b\r\n", None),
+        ("before--b--", bad(0)),
+        ("--c--", bad(0)),
+        ("--b", bad(0)),
+        ("--b\r\n", bad(5)),
+        ("--b\r\nContent-Dispo", bad(5)),
     ] {
-        assert!(rt;
-            is_read(rt.alloc(), body.as_bytes(), told.as_bytes(), fault)?,
-            "{body}"
-        );
+        assert!(rt; is_read(rt.alloc(), body.as_bytes(), b"", fault)?, "{body}");
     }
     Ok(())
 }
@@ -181,6 +138,50 @@ fn repeated(
     }
     bytes.extend_from_slice(back.as_bytes())?;
     Ok(bytes)
+}
+
+const HEADER: &str = "Content-Disposition: form-data; name=n";
+
+// Whether the body of this header between two texts is read so.
+fn is_part_read(
+    alloc: Global,
+    body: (&str, &str),
+    told: &str,
+    fault: Option<PartFault>,
+) -> Result<bool, NoMemory> {
+    let body = repeated(alloc, body.0, HEADER, 1, body.1)?;
+    is_read(alloc, body.as_slice(), told.as_bytes(), fault)
+}
+
+#[test]
+fn delimiters_and_what_is_none(rt: HostRuntime) -> Result<(), NoMemory> {
+    let bad = |at| Some(PartFault::Bad { at });
+    for (body, told, fault) in [
+        (("--b \t\r\n", "\r\n\r\nx\r\n--b--"), "<n>x|", None),
+        (
+            ("--b                \r\n", "\r\n\r\n\r\n--b--"),
+            "<n>|",
+            None,
+        ),
+        (("--b                 \r\n", "\r\n\r\n\r\n--b-"), "", bad(0)),
+        (("--b\n", "\n\nx\r\n--b--"), "", None),
+        (("--b\r\n", "\n\nx\n--b\r\n--b--"), "<n>x\n--b|", None),
+        (
+            ("--b\r\n", "\r\n\r\n--b\r\n--bx\r\n--b--"),
+            "<n>--b\r\n--bx|",
+            None,
+        ),
+        (
+            ("--b\r\n", "\r\n\r\n\r\n--b-\r\n--b\r\r\n--b--"),
+            "<n>\r\n--b-\r\n--b\r|",
+            None,
+        ),
+        (("--b\r\n", "\r\n\r\n--b--"), "<n>--b--", bad(47)),
+        (("--b\r\n", "\r\n\r\nxy\r\n--"), "<n>xy", bad(47)),
+    ] {
+        assert!(rt; is_part_read(rt.alloc(), body, told, fault)?, "{told}");
+    }
+    Ok(())
 }
 
 // Whether the head between a delimiter and an empty content gives this name; without one it is bad.
