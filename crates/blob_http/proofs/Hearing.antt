@@ -1,5 +1,5 @@
 -- What was answered of a stream.
-use Rattle.std.proofs.Common.{◌≡◌, ℕ, ◌+◌, ◌≤◌, List, [], ◌∷◌, ◌++◌, map, length, All, Bool, true, false, refl, ap, sym, subst, ◌∙◌, arith, append_assoc, Option, Some, None, Result, Ok, Err, inl, inr, ◌⊎◌}
+use Rattle.std.proofs.Common.{◌≡◌, ℕ, ◌+◌, ◌≤◌, List, [], ◌∷◌, ◌++◌, map, length, All, Bool, true, false, refl, ap, sym, subst, ◌∙◌, arith, append_assoc, Option, Some, None, Result, Ok, Err, inl, inr, ◌⊎◌, ⊎_elim}
 use Rattle.std.specs.Option.{IfSome}
 use Rattle.std.specs.List.{flat_map}
 use Rattle.std.proofs.lemmas.List.{append-nil}
@@ -14,6 +14,7 @@ use Rattle.http_wire.specs.Speaking.{Request, IsRequest, Speaks, SpeaksTo, Begun
 use Rattle.http_wire.proofs.Passing.{Passed-chain, Passed-none}
 use Rattle.http_wire.proofs.Speaking.{texts_push}
 use Rattle.http_wire.proofs.Refusals.{no_request}
+use Rattle.http_wire.proofs.Unfinished.{no_whole_request}
 use Rattle.blob_http.specs.declared.serving.Ended.{Ended}
 use Rattle.blob_http.specs.declared.serving.Ended.TheVariants as ended
 use Rattle.answer_text.specs.declared.refusal.Refusal.{Refusal}
@@ -59,12 +60,23 @@ told_rest P o rest h is = subst (λ (z : Option (List ℕ)). IfSome z P) is h
 closed_not_fault : ends.Closed ≡ ends.ReadFault → ⊥
 closed_not_fault e = absurd (cc e)
 
+cut_not_fault : (n : ℕ) → ends.Cut n ≡ ends.ReadFault → ⊥
+cut_not_fault n e = absurd (cc e)
+
+-- no whole request begins where the source ends inside one
+cut_no_request : (place n : ℕ) (rest : List ℕ) → IsCut place n rest → HasNoRequest rest
+cut_no_request place n rest cut =
+    ⊎_elim (λ head. no_request rest place (ends.Cut n) head (cut_not_fault n))
+    (λ body. no_whole_request rest body.1.1 body.1.0 body.1.2 body.1.3 (inl body.1.4)) cut
+
 pub heard_none : (x0 now : Option (List ℕ)) (flow : Flow) (asked : List Asked) (end : Ended)
     → Open x0 now fresh_flow flow asked → NoneComes (stream flow.bytes now) flow.taken end → Heard x0 end asked
 heard_none x0 now flow asked ended.Closed o none = stands x0 now flow asked ended.Closed o
     (λ rest rs is place still. inl (still, no_request rest 0 ends.Closed (told_rest _ (stream flow.bytes now) rest none is) closed_not_fault))
 heard_none x0 now flow asked (ended.Cut n) o none = stands x0 now flow asked (ended.Cut n) o
-    (λ rest rs is place still. ((still, refl), subst (λ (k : ℕ). IsCut k n rest) place (told_rest (IsCut flow.taken n) (stream flow.bytes now) rest none is)))
+    (λ rest rs is place still.
+      let cut : IsCut flow.taken n rest = told_rest (IsCut flow.taken n) (stream flow.bytes now) rest none is in
+      ((still, refl), cut_no_request flow.taken n rest cut, subst (λ (k : ℕ). IsCut k n rest) place cut))
 heard_none x0 now flow asked ended.ReadFault o none = stands x0 now flow asked ended.ReadFault o (λ rest rs is place still. (still, refl))
 heard_none x0 now flow asked ended.WriteFault o none = absurd none
 heard_none x0 now flow asked ended.NoMemory o none = absurd none

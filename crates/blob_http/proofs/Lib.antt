@@ -4,3 +4,4 @@ pub mod Stepping
 pub mod Hearing
 pub mod Codes
 pub mod Answering
+pub mod Requesting

@@ -19,7 +19,7 @@ use Rattle.http_wire.specs.declared.ends.WireEnd.TheVariants as ends
 use Rattle.http_wire.specs.Stream.{Flow, Passed}
 use Rattle.http_wire.specs.Bodies.{Stops, Breaks}
 use Rattle.http_wire.specs.Wires.{HeadEnds}
-use Rattle.http_wire.specs.Speaking.{Request, IsRequest, Speaks, Begun, IsBegun, Last, Nothing, Refused, Unfinished, IsOpen, GoesOn, place_behind, text_of}
+use Rattle.http_wire.specs.Speaking.{Request, IsRequest, Speaks, Begun, IsBegun, Last, Nothing, Refused, Unfinished, IsOpen, GoesOn, HasNoRequest, place_behind, text_of}
 use Rattle.blob_http.specs.declared.entries.Outcome.{Outcome}
 use Rattle.blob_http.specs.declared.entries.Outcome.TheVariants.{Defined, Memory, Disk, Full, Damaged}
 use Rattle.blob_http.specs.declared.entries.Answered.{Answered}
@@ -175,7 +175,7 @@ StoodOpen requests last = All IsOpen requests × (last ≡ Nothing)
 -- what follows the requests that were answered
 abbrev pub Follows : Ended → ℕ → List Request → Last → List ℕ → Type 0
 Follows ended.Closed place requests last rest = GoesOn place requests last rest
-Follows (ended.Cut n) place requests last rest = StoodOpen requests last × IsCut place n rest
+Follows (ended.Cut n) place requests last rest = StoodOpen requests last × HasNoRequest rest × IsCut place n rest
 Follows ended.ReadFault place requests last rest = StoodOpen requests last
 Follows ended.WriteFault place requests last rest = StoodOpen requests last ⊎ GoesOn place requests last rest
 Follows ended.NoMemory place requests last rest = StoodOpen requests last

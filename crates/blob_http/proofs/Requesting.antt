@@ -1,0 +1,326 @@
+-- What one request comes to, from its head to its reply.
+use Rattle.std.proofs.Common.{◌≡◌, ℕ, ◌≤◌, ◌==◌, if◌then◌else◌, List, [], ◌++◌, length, Bool, true, false, ◌||◌, not, Option, Some, None, Result, Ok, Err, IfOk, refl, ap, sym, subst, ◌∙◌, inl, inr, append_assoc}
+use Rattle.std.specs.Option.{IfSome, option_map}
+use Rattle.std.proofs.lemmas.List.{append-nil}
+use Rattle.blobref.specs.declared.memory.NoMemory.{NoMemory}
+use Rattle.claim_verify.specs.Verifier.{Accepts}
+use Rattle.answer_text.specs.declared.refusal.Refusal.{Refusal}
+use Rattle.answer_text.specs.declared.refusal.Refusal.TheVariants as refusal
+use Rattle.histories.specs.Stores.{Blob}
+use Rattle.histories.specs.Indexes.{Insertion}
+use Rattle.home_core.specs.Passes.{Sight}
+use Rattle.http_wire.specs.declared.body.Body.{Body}
+use Rattle.http_wire.specs.declared.body.Body.TheVariants as body
+use Rattle.http_wire.specs.declared.head.Head.{Head}
+use Rattle.http_wire.specs.declared.head.Piece.{Piece}
+use Rattle.http_wire.specs.declared.head.Framing.{Framing}
+use Rattle.http_wire.specs.declared.head.Framing.TheVariants.{Empty, Length, Chunked}
+use Rattle.http_wire.specs.declared.ends.WireEnd.{WireEnd}
+use Rattle.http_wire.specs.declared.ends.WireEnd.TheVariants as ends
+use Rattle.http_wire.specs.Stream.{Flow, Passed, stream}
+use Rattle.http_wire.specs.Heads.{IsHeadText, HeadSays, IsFirstOf, IsPlaceIn}
+use Rattle.http_wire.specs.Bodies.{Moves, Leads, Stops}
+use Rattle.http_wire.specs.Wires.{WireView, body_of, HeadEnds, to_come}
+use Rattle.http_wire.specs.Speaking.{Request, IsRequest, Begun, IsBegun}
+use Rattle.http_wire.proofs.Passing.{Passed-chain}
+use Rattle.http_wire.proofs.Speaking.{request_read}
+use Rattle.edge_base.specs.Edge.{Gave}
+use Rattle.blob_routes.specs.declared.routes.Route.{Route}
+use Rattle.blob_routes.specs.declared.routes.Allowed.{Allowed}
+use Rattle.blob_routes.specs.declared.routes.RouteFault.{RouteFault}
+use Rattle.blob_routes.specs.declared.routes.RouteFault.TheVariants as fault
+use Rattle.blob_routes.specs.Routes.{route_of}
+use Rattle.blob_routes.specs.Before.{most_body, early_of}
+use Rattle.blob_http.specs.declared.entries.Outcome.{Outcome}
+use Rattle.blob_http.specs.declared.entries.Outcome.TheVariants.{Defined, Memory, Disk, Full, Damaged}
+use Rattle.blob_http.specs.declared.entries.Answered.{Answered}
+use Rattle.blob_http.specs.declared.gathering.Stopped.{Stopped}
+use Rattle.blob_http.specs.declared.gathering.Stopped.TheVariants as stopped
+use Rattle.blob_http.specs.declared.questions.Question.{Question}
+use Rattle.blob_http.specs.declared.questions.Question.TheVariants as question
+use Rattle.blob_http.specs.declared.replies.Made.{Made}
+use Rattle.blob_http.specs.declared.replies.Made.TheVariants as made
+use Rattle.blob_http.specs.declared.serving.Ended.{Ended}
+use Rattle.blob_http.specs.declared.serving.Ended.TheVariants as ended
+use Rattle.blob_http.specs.Asked.{Asked, Whole, Front, Head as Refused, Comes, closes_of, head_says}
+use Rattle.blob_http.specs.Gathering.{Gathers, GatherSays}
+use Rattle.blob_http.specs.Questions.{HasPieces, piece, first_of, first_by, early_by, refused_by, refused, IsAskedAt, IsAskedBy, IsAsked}
+use Rattle.blob_http.specs.Replies.{refused_reply, memory_reply}
+use Rattle.blob_http.specs.Answers.{IsAnswer, allow_text, outcome_of, text_of}
+use Rattle.blob_http.specs.Serving.{HasCauseIn, IsReply, IsFrontReply, IsFrontDefined, IsBodyRefusal, IsAnswered, Handles, IsCut}
+use Rattle.blob_http.specs.Handling.{IsMade, is_memory, is_read, Answers, ReadsHead, Replies, AlongSays, StopReplies, StopEnds, NoneComes}
+use Rattle.blob_http.proofs.Bodies.{moves_none}
+
+true_not : true ≡ false → ⊥
+true_not e = absurd (cc e)
+
+-- ---- the places of a head
+
+content_place : (text : List ℕ) (found : List (List ℕ)) (p : Option Piece) → IsFirstOf text found p → IfSome p (IsPlaceIn text)
+content_place text found None is = tt
+content_place text found (Some p) is = (is.3.0, is.3.1)
+
+pub has_pieces : (text : List ℕ) (says : Head) → HeadSays text (Ok says) → HasPieces text says
+has_pieces text says h =
+    let at = h.3 in
+    record {
+      method = (at.method.0, at.method.1);
+      path = (at.path.0, at.path.1);
+      query = (at.query.0, at.query.1);
+      content_type = content_place text _ says.content_type at.content_type;
+    }
+
+-- ---- from an answer to what is handled
+
+pub handles_of : (tells closes : Bool) (q : Question) (v w : Sight) (entry : Answered) (m : Made) (asked : Asked)
+    → Answers tells closes q v w entry m
+    → ((accepts : Accepts) (blobs : List Blob) (g : List Insertion) → IsMade tells accepts blobs g closes q m
+      → IsReply tells accepts blobs g asked (outcome_of m) (text_of m))
+    → Handles tells asked v w entry (text_of m)
+handles_of tells closes q v w entry m asked a replied = record {
+  turns = a.turns;
+  drawn = a.drawn;
+  answered = record {
+    store_within = a.store_within;
+    index_within = a.index_within;
+    replied = subst (λ (o : Outcome). IsReply tells w.index.accepts _ _ asked o (text_of m)) (sym a.outcome) (replied w.index.accepts _ _ a.made);
+    kept = a.kept;
+    cause = subst (λ (o : Outcome). HasCauseIn a.turns w.store.history o) (sym a.outcome) a.cause;
+  };
+  store_low = a.store_low;
+  index_low = a.index_low;
+  longer = a.longer;
+}
+
+-- a refusal by a head or by a body that isn't read to its end: only its own text, or want of memory
+refused_says : (tells : Bool) (accepts : Accepts) (blobs : List Blob) (g : List Insertion) (why : Refusal) (allow : Option Allowed)
+    (P : Outcome → List ℕ → Type 0) → P Defined (refused_reply true (allow_text allow) why) → P Memory memory_reply
+    → (m : Made) → IsMade tells accepts blobs g true (question.Refused why allow) m → P (outcome_of m) (text_of m)
+refused_says tells accepts blobs g why allow P defined memory made.Memory is = memory
+refused_says tells accepts blobs g why allow P defined memory (made.Told Defined head body) is = subst (P Defined) (sym is) defined
+refused_says tells accepts blobs g why allow P defined memory (made.Told Memory head body) is = absurd is
+refused_says tells accepts blobs g why allow P defined memory (made.Told Disk head body) is = absurd (cc is.0)
+refused_says tells accepts blobs g why allow P defined memory (made.Told (Full n pack) head body) is = absurd is
+refused_says tells accepts blobs g why allow P defined memory (made.Told (Damaged want was) head body) is = absurd (cc is.0)
+
+-- ---- a head that is refused
+
+pub head_replies : (x0 x1 : Option (List ℕ)) (flow : Flow) (new : WireView) (tells : Bool) (v w : Sight) (entry : Answered) (m : Made)
+    (end : WireEnd) (why : Refusal) (closes : Bool) → head_says end ≡ Ok why → Passed x0 x1 flow new.flow [] → HeadEnds (to_come new x1) flow.taken end
+    → Answers tells true (refused why) v w entry m → closes ≡ (true || is_memory m)
+    → Replies x0 x1 flow new tells v w entry m closes
+head_replies x0 x1 flow new tells v w entry m end why closes says passed stands a closing = record {
+  asked = Refused end;
+  comes = ((why, says), passed, stands);
+  handles = handles_of tells true (refused why) v w entry m (Refused end) a
+  (λ accepts blobs g is. refused_says tells accepts blobs g why None (λ o text. IsReply tells accepts blobs g (Refused end) o text) (why, says, refl) refl m is);
+  closing = closing;
+  ready = λ open_still. absurd (true_not (sym closing ∙ open_still));
+}
+
+gave_same : (a b : Option (List ℕ)) → Gave a b [] → b ≡ a
+gave_same None b h = h
+gave_same (Some x) b h = h.1 ∙ ap Some (sym h.2)
+
+cut_head : (o : Option (List ℕ)) (place n : ℕ) → HeadEnds o place (ends.Cut n) → IfSome o (IsCut place n)
+cut_head None place n h = tt
+cut_head (Some x) place n h = inl h
+
+-- no head came
+pub head_none : (x0 x1 : Option (List ℕ)) (flow : Flow) (new : WireView) (end : WireEnd) (ends_so : Ended) → head_says end ≡ Err ends_so
+    → Passed x0 x1 flow new.flow [] → HeadEnds (to_come new x1) flow.taken end → NoneComes (stream flow.bytes x0) flow.taken ends_so
+head_none x0 x1 flow new end ends_so says passed stood =
+    let same : to_come new x1 ≡ stream flow.bytes x0 = gave_same (stream flow.bytes x0) (to_come new x1) passed.gave in
+    none_at (stream flow.bytes x0) flow.taken end ends_so says (subst (λ (z : Option (List ℕ)). HeadEnds z flow.taken end) same stood)
+  where
+    none_at : (o : Option (List ℕ)) (place : ℕ) (end : WireEnd) (e : Ended) → head_says end ≡ Err e → HeadEnds o place end → NoneComes o place e
+    none_at o place ends.Closed e says h = let is : ended.Closed ≡ e = cc says in subst (NoneComes o place) is h
+    none_at o place (ends.Cut n) e says h = let is : ended.Cut n ≡ e = cc says in subst (NoneComes o place) is (cut_head o place n h)
+    none_at o place (ends.BadHead n) e says h = absurd (cc says)
+    none_at o place (ends.BadLength n) e says h = absurd (cc says)
+    none_at o place (ends.TooLong limit) e says h = absurd (cc says)
+    none_at o place ends.ReadFault e says h = let is : ended.ReadFault ≡ e = cc says in subst (NoneComes o place) is tt
+
+-- ---- a request, as far as it was read
+
+module _ (x0 x1 x2 : Option (List ℕ)) (flow : Flow) (mid new : WireView) (says : Head) (head : ReadsHead x0 x1 flow mid says)
+    (given : List ℕ) (moved : Moves x1 x2 mid.flow new.flow mid.body new.body given) where
+  begun : Begun
+  begun = record { head = mid.head; says = says; framed = moved.0; given = given; at = new.body }
+
+  is_begun : IsBegun begun
+  is_begun = record {
+    lines = head.lines;
+    read = head.read;
+    leads = subst (λ (b : Body). Leads b new.body moved.0 given) head.ready moved.2;
+  }
+
+  passed : Passed x0 x2 flow new.flow (mid.head ++ moved.0)
+  passed = Passed-chain x0 x1 x2 flow mid.flow new.flow mid.head moved.0 head.passed moved.1
+
+  front : Asked
+  front = Front begun (stream new.flow.bytes x2)
+
+  front_comes : Comes x0 x2 flow new.flow front
+  front_comes = (is_begun, passed, refl)
+
+  module _ (tells : Bool) (v w : Sight) (entry : Answered) (m : Made) where
+    -- the connection closes in any case
+    front_replies : (closes with_closes : Bool) (q : Question) → Answers tells with_closes q v w entry m
+        → ((accepts : Accepts) (blobs : List Blob) (g : List Insertion) → IsMade tells accepts blobs g with_closes q m
+          → IsReply tells accepts blobs g front (outcome_of m) (text_of m))
+        → closes ≡ true → Replies x0 x2 flow new tells v w entry m closes
+    front_replies closes with_closes q a replied closing = record {
+      asked = front;
+      comes = front_comes;
+      handles = handles_of tells with_closes q v w entry m front a replied;
+      closing = closing;
+      ready = λ still. absurd (true_not (sym closing ∙ still));
+    }
+
+    pub memory_replies : (closes with_closes : Bool) (q : Question) → Answers tells with_closes q v w entry m → m ≡ made.Memory
+        → closes ≡ true → Replies x0 x2 flow new tells v w entry m closes
+    memory_replies closes with_closes q a none closing = front_replies closes with_closes q a
+        (λ accepts blobs g is. subst (λ (z : Made). IsReply tells accepts blobs g front (outcome_of z) (text_of z)) (sym none) refl) closing
+
+    refused_replies : (closes : Bool) (why : Refusal) (allow : Option Allowed) → Answers tells true (question.Refused why allow) v w entry m
+        → IsFrontDefined begun (stream new.flow.bytes x2) (first_of mid.head says) (refused_reply true (allow_text allow) why)
+        → closes ≡ true → Replies x0 x2 flow new tells v w entry m closes
+    refused_replies closes why allow a defined closing = front_replies closes true (question.Refused why allow) a
+        (λ accepts blobs g is. refused_says tells accepts blobs g why allow (λ o text. IsReply tells accepts blobs g front o text) defined refl m is) closing
+
+  -- the whole body was read
+  module _ (tells : Bool) (v w : Sight) (entry : Answered) where
+    pub whole_replies : (m : Made) (closes : Bool) (q : Question) → new.body ≡ body.Done → IsAsked mid.head says given q
+        → Answers tells says.closes q v w entry m → closes ≡ (says.closes || is_memory m)
+        → Replies x0 x2 flow new tells v w entry m closes
+    whole_replies made.Memory closes q done asked a closing =
+        memory_replies tells v w entry made.Memory closes says.closes q a refl (closing ∙ or_true says.closes)
+      where
+        or_true : (b : Bool) → (b || true) ≡ true
+        or_true true = refl
+        or_true false = refl
+    whole_replies (made.Told o text rest) closes q done asked a closing = record {
+      asked = Whole request;
+      comes = (request_read mid.head moved.0 given says head.lines head.read leads, passed);
+      handles = handles_of tells says.closes q v w entry (made.Told o text rest) (Whole request) a (λ accepts blobs g is. (q, asked, is));
+      closing = closing ∙ or_false says.closes;
+      ready = λ still. done;
+    }
+      where
+        request : Request
+        request = record { head = mid.head; says = says; framed = moved.0; body = given }
+        leads : Leads (body_of says.framing) body.Done moved.0 given
+        leads = subst (λ (b : Body). Leads (body_of says.framing) b moved.0 given) done is_begun.leads
+        or_false : (b : Bool) → (b || false) ≡ b
+        or_false true = refl
+        or_false false = refl
+
+-- what is refused before the body is read
+first_refused : (head : List ℕ) (says : Head) (q : Question) → first_of head says ≡ Err q
+    → (why : Refusal) × (allow : Option Allowed) × (q ≡ question.Refused why allow)
+first_refused head says q is = by_route (route_of (piece head says.method) (piece head says.path)) is
+  where
+    by_early : (r : Route) (e : Result (Option (List ℕ)) Refusal) → early_by r e ≡ Err q → (why : Refusal) × (allow : Option Allowed) × (q ≡ question.Refused why allow)
+    by_early r (Ok boundary) is = absurd (cc is)
+    by_early r (Err why) is = (why, None, sym (cc is))
+    by_fault : (f : RouteFault) → refused_by f ≡ q → (why : Refusal) × (allow : Option Allowed) × (q ≡ question.Refused why allow)
+    by_fault fault.NoRoute is = (refusal.NoRoute, None, sym is)
+    by_fault (fault.Method allow) is = (refusal.Method, Some allow, sym is)
+    by_route : (r : Result Route RouteFault) → first_by head says r ≡ Err q → (why : Refusal) × (allow : Option Allowed) × (q ≡ question.Refused why allow)
+    by_route (Ok r) is = by_early r (early_of r says.framing (option_map (piece head) says.content_type)) is
+    by_route (Err f) is = by_fault f (cc is)
+
+read_done : (f : Framing) → is_read f ≡ true → body_of f ≡ body.Done
+read_done Empty e = refl
+read_done (Length n) e = ap (λ (b : Bool). if b then body.Done else body.Exactly n) e
+read_done Chunked e = absurd (true_not (sym e))
+
+-- a request that is refused before its body is read
+pub early_replies : (x0 x1 : Option (List ℕ)) (flow : Flow) (mid : WireView) (says : Head) → ReadsHead x0 x1 flow mid says
+    → (tells : Bool) (v w : Sight) (entry : Answered) (m : Made) (before closes : Bool) (q : Question) → first_of mid.head says ≡ Err q
+    → before ≡ (says.closes || not (is_read says.framing)) → Answers tells before q v w entry m → closes ≡ (before || is_memory m)
+    → Replies x0 x1 flow mid tells v w entry m closes
+early_replies x0 x1 flow mid says head tells v w entry m before closes q first is a closing = by_read (is_read says.framing) refl
+  where
+    moved : Moves x1 x1 mid.flow mid.flow mid.body mid.body []
+    moved = moves_none x1 mid.flow mid.body
+    or_false : (b : Bool) → (b || false) ≡ b
+    or_false true = refl
+    or_false false = refl
+    or_true : (b : Bool) → (b || true) ≡ true
+    or_true true = refl
+    or_true false = refl
+    refused_q : (why : Refusal) × (allow : Option Allowed) × (q ≡ question.Refused why allow)
+    refused_q = first_refused mid.head says q first
+    asked : IsAsked mid.head says [] q
+    asked = subst (λ (z : Result Route Question). IsAskedBy z (piece mid.head says.query) [] q) (sym first) refl
+    defined : (begun : Begun) (after : Option (List ℕ)) → IsFrontDefined begun after (first_of mid.head says) (refused_reply true (allow_text refused_q.1) refused_q.0)
+    defined begun after =
+        subst (λ (z : Result Route Question). IsFrontDefined begun after z (refused_reply true (allow_text refused_q.1) refused_q.0)) (sym (first ∙ ap Err refused_q.2)) refl
+    by_read : (b : Bool) → is_read says.framing ≡ b → Replies x0 x1 flow mid tells v w entry m closes
+    by_read true read =
+        let same : before ≡ says.closes = is ∙ ap (λ (b : Bool). says.closes || not b) read ∙ or_false says.closes in
+        whole_replies x0 x1 x1 flow mid mid says head [] moved tells v w entry m closes q (head.ready ∙ read_done says.framing read) asked
+        (subst (λ (b : Bool). Answers tells b q v w entry m) same a) (closing ∙ ap (λ (b : Bool). b || is_memory m) same)
+    by_read false read =
+        let same : before ≡ true = is ∙ ap (λ (b : Bool). says.closes || not b) read ∙ or_true says.closes in
+        refused_replies x0 x1 x1 flow mid mid says head [] moved tells v w entry m closes refused_q.0 refused_q.1
+        (subst (λ (z : Question). Answers tells true z v w entry m) refused_q.2 (subst (λ (b : Bool). Answers tells b q v w entry m) same a))
+        (defined _ _) (closing ∙ ap (λ (b : Bool). b || is_memory m) same)
+
+-- a request whose body was read
+pub along_replies : (x0 x1 x2 : Option (List ℕ)) (flow : Flow) (mid new : WireView) (says : Head) → ReadsHead x0 x1 flow mid says
+    → (bytes : List ℕ) → Gathers x1 x2 mid new (Ok bytes)
+    → (tells : Bool) (v w : Sight) (entry : Answered) (m : Made) (closes : Bool) (r : Route) (asked : Result Question NoMemory)
+    → first_of mid.head says ≡ Ok r → IfOk asked (IsAskedAt r (piece mid.head says.query) bytes) → AlongSays tells says.closes asked v w entry m
+    → closes ≡ (says.closes || is_memory m) → Replies x0 x2 flow new tells v w entry m closes
+along_replies x0 x1 x2 flow mid new says head bytes gathered tells v w entry m closes r (Ok q) first at a closing =
+    let moved : Moves x1 x2 mid.flow new.flow mid.body new.body bytes =
+    subst (λ (z : List ℕ). Moves x1 x2 mid.flow new.flow mid.body new.body z) gathered.says.0 gathered.moved in
+    whole_replies x0 x1 x2 flow mid new says head bytes moved tells v w entry m closes q gathered.says.2
+    (subst (λ (z : Result Route Question). IsAskedBy z (piece mid.head says.query) bytes q) (sym first) at) a closing
+along_replies x0 x1 x2 flow mid new says head bytes gathered tells v w entry m closes r (Err e) first at a closing =
+    memory_replies x0 x1 x2 flow mid new says head gathered.given gathered.moved tells v w entry m closes says.closes (refused refusal.Memory) (a.1 _) a.0
+    (closing ∙ ap (λ (z : Made). says.closes || is_memory z) a.0 ∙ or_true says.closes)
+  where
+    or_true : (b : Bool) → (b || true) ≡ true
+    or_true true = refl
+    or_true false = refl
+
+-- a request whose body wasn't read to its end
+pub stop_replies : (x0 x1 x2 : Option (List ℕ)) (flow : Flow) (mid new : WireView) (says : Head) → ReadsHead x0 x1 flow mid says
+    → (why : Stopped) → Gathers x1 x2 mid new (Err why)
+    → (tells : Bool) (v w : Sight) (entry : Answered) (m : Made) (closes : Bool) (r : Route)
+    → first_of mid.head says ≡ Ok r → StopReplies tells why v w entry m → closes ≡ true → Replies x0 x2 flow new tells v w entry m closes
+stop_replies x0 x1 x2 flow mid new says head stopped.Long gathered tells v w entry m closes r first a closing =
+    refused_replies x0 x1 x2 flow mid new says head gathered.given gathered.moved tells v w entry m closes (refusal.TooLong most_body) None a
+    (subst (λ (z : Result Route Question). IsFrontDefined _ _ z _) (sym first) (refusal.TooLong most_body, inl (refl, gathered.says), refl)) closing
+stop_replies x0 x1 x2 flow mid new says head stopped.Broken gathered tells v w entry m closes r first a closing =
+    refused_replies x0 x1 x2 flow mid new says head gathered.given gathered.moved tells v w entry m closes refusal.BadLength None a
+    (subst (λ (z : Result Route Question). IsFrontDefined _ _ z _) (sym first) (refusal.BadLength, inr (refl, gathered.says), refl)) closing
+stop_replies x0 x1 x2 flow mid new says head stopped.Memory gathered tells v w entry m closes r first a closing =
+    memory_replies x0 x1 x2 flow mid new says head gathered.given gathered.moved tells v w entry m closes true (refused refusal.Memory) (a.1 _) a.0 closing
+stop_replies x0 x1 x2 flow mid new says head (stopped.Cut n) gathered tells v w entry m closes r first a closing = absurd a
+stop_replies x0 x1 x2 flow mid new says head stopped.ReadFault gathered tells v w entry m closes r first a closing = absurd a
+
+-- ---- the source ended inside a body, or a read failed
+
+cut_body : (before now : Option (List ℕ)) (place n : ℕ) (b : Begun) → IsBegun b → Gave before now (b.head ++ b.framed) → n ≡ place
+    → IfSome now (Stops b.at) → IfSome before (IsCut place n)
+cut_body None now place n b is gave at stops = tt
+cut_body (Some x) now place n b is gave at stops =
+    inr (at, (b, gave.0, is, gave.2 ∙ append_assoc b.head b.framed gave.0, subst (λ (z : Option (List ℕ)). IfSome z (Stops b.at)) gave.1 stops))
+
+pub stop_none : (x0 x1 x2 : Option (List ℕ)) (flow : Flow) (mid new : WireView) (says : Head) → ReadsHead x0 x1 flow mid says
+    → (why : Stopped) → Gathers x1 x2 mid new (Err why) → (end : Ended) → StopEnds why end
+    → NoneComes (stream flow.bytes x0) flow.taken end
+stop_none x0 x1 x2 flow mid new says head stopped.Long gathered end is = absurd is
+stop_none x0 x1 x2 flow mid new says head stopped.Broken gathered end is = absurd is
+stop_none x0 x1 x2 flow mid new says head stopped.Memory gathered end is = absurd is
+stop_none x0 x1 x2 flow mid new says head (stopped.Cut n) gathered end is =
+    subst (NoneComes (stream flow.bytes x0) flow.taken) (sym is)
+    (cut_body (stream flow.bytes x0) (stream new.flow.bytes x2) flow.taken n (begun x0 x1 x2 flow mid new says head gathered.given gathered.moved)
+      (is_begun x0 x1 x2 flow mid new says head gathered.given gathered.moved) (passed x0 x1 x2 flow mid new says head gathered.given gathered.moved).gave
+      (gathered.says.0 ∙ head.begun) gathered.says.1)
+stop_none x0 x1 x2 flow mid new says head stopped.ReadFault gathered end is = subst (NoneComes (stream flow.bytes x0) flow.taken) (sym is) tt
