@@ -5,3 +5,5 @@ pub mod Hearing
 pub mod Codes
 pub mod Answering
 pub mod Requesting
+pub mod Pages
+pub mod Connecting

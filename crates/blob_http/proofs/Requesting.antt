@@ -1,12 +1,12 @@
 -- What one request comes to, from its head to its reply.
-use Rattle.std.proofs.Common.{◌≡◌, ℕ, ◌≤◌, ◌==◌, if◌then◌else◌, List, [], ◌++◌, length, Bool, true, false, ◌||◌, not, Option, Some, None, Result, Ok, Err, IfOk, refl, ap, sym, subst, ◌∙◌, inl, inr, append_assoc}
+use Rattle.std.proofs.Common.{◌≡◌, ℕ, ◌≤◌, ◌==◌, if◌then◌else◌, List, [], ◌++◌, length, take, Bool, true, false, ◌||◌, not, Option, Some, None, Result, Ok, Err, IfOk, refl, ap, sym, subst, ◌∙◌, inl, inr, append_assoc}
 use Rattle.std.specs.Option.{IfSome, option_map}
 use Rattle.std.proofs.lemmas.List.{append-nil}
 use Rattle.blobref.specs.declared.memory.NoMemory.{NoMemory}
 use Rattle.claim_verify.specs.Verifier.{Accepts}
 use Rattle.answer_text.specs.declared.refusal.Refusal.{Refusal}
 use Rattle.answer_text.specs.declared.refusal.Refusal.TheVariants as refusal
-use Rattle.histories.specs.Stores.{Blob}
+use Rattle.histories.specs.Stores.{Blob, arrivals}
 use Rattle.histories.specs.Indexes.{Insertion}
 use Rattle.home_core.specs.Passes.{Sight}
 use Rattle.http_wire.specs.declared.body.Body.{Body}
@@ -83,7 +83,8 @@ handles_of tells closes q v w entry m asked a replied = record {
   answered = record {
     store_within = a.store_within;
     index_within = a.index_within;
-    replied = subst (λ (o : Outcome). IsReply tells w.index.accepts _ _ asked o (text_of m)) (sym a.outcome) (replied w.index.accepts _ _ a.made);
+    replied = subst (λ (o : Outcome). IsReply tells w.index.accepts (take entry.store_count (arrivals w.store.history)) (take entry.index_count w.index.shown) asked o (text_of m)) (sym a.outcome)
+    (replied w.index.accepts (take entry.store_count (arrivals w.store.history)) (take entry.index_count w.index.shown) a.made);
     kept = a.kept;
     cause = subst (λ (o : Outcome). HasCauseIn a.turns w.store.history o) (sym a.outcome) a.cause;
   };
@@ -145,7 +146,7 @@ head_none x0 x1 flow new end ends_so says passed stood =
 
 module _ (x0 x1 x2 : Option (List ℕ)) (flow : Flow) (mid new : WireView) (says : Head) (head : ReadsHead x0 x1 flow mid says)
     (given : List ℕ) (moved : Moves x1 x2 mid.flow new.flow mid.body new.body given) where
-  begun : Begun
+  abbrev begun : Begun
   begun = record { head = mid.head; says = says; framed = moved.0; given = given; at = new.body }
 
   is_begun : IsBegun begun
@@ -158,7 +159,7 @@ module _ (x0 x1 x2 : Option (List ℕ)) (flow : Flow) (mid new : WireView) (says
   passed : Passed x0 x2 flow new.flow (mid.head ++ moved.0)
   passed = Passed-chain x0 x1 x2 flow mid.flow new.flow mid.head moved.0 head.passed moved.1
 
-  front : Asked
+  abbrev front : Asked
   front = Front begun (stream new.flow.bytes x2)
 
   front_comes : Comes x0 x2 flow new.flow front
@@ -255,9 +256,9 @@ early_replies x0 x1 flow mid says head tells v w entry m before closes q first i
     refused_q = first_refused mid.head says q first
     asked : IsAsked mid.head says [] q
     asked = subst (λ (z : Result Route Question). IsAskedBy z (piece mid.head says.query) [] q) (sym first) refl
-    defined : (begun : Begun) (after : Option (List ℕ)) → IsFrontDefined begun after (first_of mid.head says) (refused_reply true (allow_text refused_q.1) refused_q.0)
-    defined begun after =
-        subst (λ (z : Result Route Question). IsFrontDefined begun after z (refused_reply true (allow_text refused_q.1) refused_q.0)) (sym (first ∙ ap Err refused_q.2)) refl
+    defined : (b : Begun) (after : Option (List ℕ)) → IsFrontDefined b after (first_of mid.head says) (refused_reply true (allow_text refused_q.1) refused_q.0)
+    defined b after =
+        subst (λ (z : Result Route Question). IsFrontDefined b after z (refused_reply true (allow_text refused_q.1) refused_q.0)) (sym (first ∙ ap Err refused_q.2)) refl
     by_read : (b : Bool) → is_read says.framing ≡ b → Replies x0 x1 flow mid tells v w entry m closes
     by_read true read =
         let same : before ≡ says.closes = is ∙ ap (λ (b : Bool). says.closes || not b) read ∙ or_false says.closes in
@@ -267,7 +268,7 @@ early_replies x0 x1 flow mid says head tells v w entry m before closes q first i
         let same : before ≡ true = is ∙ ap (λ (b : Bool). says.closes || not b) read ∙ or_true says.closes in
         refused_replies x0 x1 x1 flow mid mid says head [] moved tells v w entry m closes refused_q.0 refused_q.1
         (subst (λ (z : Question). Answers tells true z v w entry m) refused_q.2 (subst (λ (b : Bool). Answers tells b q v w entry m) same a))
-        (defined _ _) (closing ∙ ap (λ (b : Bool). b || is_memory m) same)
+        (defined (begun x0 x1 x1 flow mid mid says head [] moved) (stream mid.flow.bytes x1)) (closing ∙ ap (λ (b : Bool). b || is_memory m) same)
 
 -- a request whose body was read
 pub along_replies : (x0 x1 x2 : Option (List ℕ)) (flow : Flow) (mid new : WireView) (says : Head) → ReadsHead x0 x1 flow mid says
@@ -288,6 +289,11 @@ along_replies x0 x1 x2 flow mid new says head bytes gathered tells v w entry m c
     or_true true = refl
     or_true false = refl
 
+body_defined : (b : Begun) (after : Option (List ℕ)) (first : Result Route Question) (r : Route) (why : Refusal) → first ≡ Ok r
+    → IsBodyRefusal b after why → IsFrontDefined b after first (refused_reply true [] why)
+body_defined b after first r why is fault =
+    subst (λ (z : Result Route Question). IsFrontDefined b after z (refused_reply true [] why)) (sym is) (why, fault, refl)
+
 -- a request whose body wasn't read to its end
 pub stop_replies : (x0 x1 x2 : Option (List ℕ)) (flow : Flow) (mid new : WireView) (says : Head) → ReadsHead x0 x1 flow mid says
     → (why : Stopped) → Gathers x1 x2 mid new (Err why)
@@ -295,10 +301,12 @@ pub stop_replies : (x0 x1 x2 : Option (List ℕ)) (flow : Flow) (mid new : WireV
     → first_of mid.head says ≡ Ok r → StopReplies tells why v w entry m → closes ≡ true → Replies x0 x2 flow new tells v w entry m closes
 stop_replies x0 x1 x2 flow mid new says head stopped.Long gathered tells v w entry m closes r first a closing =
     refused_replies x0 x1 x2 flow mid new says head gathered.given gathered.moved tells v w entry m closes (refusal.TooLong most_body) None a
-    (subst (λ (z : Result Route Question). IsFrontDefined _ _ z _) (sym first) (refusal.TooLong most_body, inl (refl, gathered.says), refl)) closing
+    (body_defined (begun x0 x1 x2 flow mid new says head gathered.given gathered.moved) (stream new.flow.bytes x2) (first_of mid.head says) r
+      (refusal.TooLong most_body) first (inl (refl, gathered.says))) closing
 stop_replies x0 x1 x2 flow mid new says head stopped.Broken gathered tells v w entry m closes r first a closing =
     refused_replies x0 x1 x2 flow mid new says head gathered.given gathered.moved tells v w entry m closes refusal.BadLength None a
-    (subst (λ (z : Result Route Question). IsFrontDefined _ _ z _) (sym first) (refusal.BadLength, inr (refl, gathered.says), refl)) closing
+    (body_defined (begun x0 x1 x2 flow mid new says head gathered.given gathered.moved) (stream new.flow.bytes x2) (first_of mid.head says) r
+      refusal.BadLength first (inr (refl, gathered.says))) closing
 stop_replies x0 x1 x2 flow mid new says head stopped.Memory gathered tells v w entry m closes r first a closing =
     memory_replies x0 x1 x2 flow mid new says head gathered.given gathered.moved tells v w entry m closes true (refused refusal.Memory) (a.1 _) a.0 closing
 stop_replies x0 x1 x2 flow mid new says head (stopped.Cut n) gathered tells v w entry m closes r first a closing = absurd a

@@ -58,7 +58,7 @@ pub(crate) fn reply_next<H: Home, S: Source, R: Wait>(
         Err(end) => end,
     };
     match head_says(end) {
-        Ok(refusal) => Ok(reply(rt, alloc, home, pass, &refused(refusal), true)),
+        Ok(refusal) => Ok(reply_along(rt, alloc, home, pass, Ok(refused(refusal)), true)),
         Err(ended) => Err(ended),
     }
 }
@@ -103,8 +103,7 @@ fn reply_to<H: Home, S: Source, R: Wait>(
     let found = match first(wire, head) {
         Ok(found) => found,
         Err(question) => {
-            let closes = head.closes || !is_read(head.framing);
-            return Ok(reply(rt, alloc, home, pass, &question, closes));
+            return Ok(reply_along(rt, alloc, home, pass, Ok(question), closes_early(head)));
         }
     };
     let body = match gather(alloc, wire, source, head.framing) {
@@ -124,6 +123,13 @@ fn is_read(framing: Framing) -> bool
         Framing::Length(n) => n == 0,
         Framing::Chunked => false,
     }
+}
+
+// Whether the connection closes behind a refusal that comes before the body is read.
+fn closes_early(head: &Head) -> bool
+    ensures { result ≡ (head.now.closes || not (is_read head.now.framing)) }
+{
+    head.closes || !is_read(head.framing)
 }
 
 // The reply where a body isn't read to its end.
@@ -148,7 +154,7 @@ fn reply_to_stop<H: Home, R: Wait>(
         Stopped::Long => Refusal::TooLong { limit: MOST_BODY },
         Stopped::Broken => Refusal::BadLength,
     };
-    Ok(reply(rt, alloc, home, pass, &refused(refusal), true))
+    Ok(reply_along(rt, alloc, home, pass, Ok(refused(refusal)), true))
 }
 
 // The reply to what is asked, where there was memory to find that out.

@@ -92,18 +92,21 @@ fn serve_one<H: Home, S: Source, K: Sink, R: Wait>(
     ensures cause { StepCause (S.faults source.old) (S.faults source.new) (K.faults sink.old) (K.faults sink.new)
         result }
 {
-    if make_room(told).is_err() {
+    let Ok(()) = make_room(told) else {
         return Some(Ended::NoMemory);
-    }
+    };
     let replied = match reply_next(rt, alloc, home, pass, wire, source) {
         Ok(replied) => replied,
         Err(ended) => return Some(ended),
     };
     push_entry(told, replied.entry);
-    if write_made(sink, &replied.made).is_err() {
+    let Ok(()) = write_made(sink, &replied.made) else {
         return Some(Ended::WriteFault);
+    };
+    if replied.closes {
+        return Some(Ended::Closed);
     }
-    if replied.closes { Some(Ended::Closed) } else { None }
+    None
 }
 
 // Makes room for one entry more.
