@@ -89,6 +89,7 @@ refused_answers tells closes why allow m v counts is count = record {
     refused_made made.Memory is blobs g = tt
     refused_made (made.Told o head body) is blobs g =
         subst (λ (z : Outcome). IsAnswer tells v.index.accepts blobs g closes (question.Refused why allow) z (head ++ body)) (sym is.0) is.1
+
     refused_cause : (m : Made) → IsTold Defined (refused_reply closes (allow_text allow) why) m → HasCauseIn [] v.store.history (outcome_of m)
     refused_cause made.Memory is = tt
     refused_cause (made.Told o head body) is = subst (HasCauseIn [] v.store.history) (sym is.0) tt
@@ -147,9 +148,9 @@ module _ (tells closes : Bool) (q : Question) (m : Made) where
 
   module _ (says : List Blob → Option StoreEvent → Type 0)
       (replied : (accepts : Accepts) (before blobs : List Blob) (g : List Insertion) (e : Option StoreEvent)
-        → (IsQuiet e → blobs ≡ before) → says before e → IsMade tells accepts blobs g closes q m)
+      → (IsQuiet e → blobs ≡ before) → says before e → IsMade tells accepts blobs g closes q m)
       (caused : (before : List Blob) (h : List (Stamped StoreEvent)) (t : ℕ) (e : Option StoreEvent)
-        → says before e → HasCauseIn (t ∷ []) (h ++ stamped t e) (outcome_of m)) where
+      → says before e → HasCauseIn (t ∷ []) (h ++ stamped t e) (outcome_of m)) where
     turned_answers : (v w : Sight) (counts : ℕ × ℕ) → StoreTurned says v w → Counts w counts
         → Answers tells closes q v w (entry_of counts.0 counts.1 m) m
     turned_answers v w counts turned count =
@@ -357,8 +358,8 @@ module _ (tells closes : Bool) where
         store_within = let p = first.puts in omega arith;
         index_within = let p = last.inserts in omega arith;
         made = search_made query found m is w.index.accepts (take before.0 (arrivals w.store.history)) (take after.1 w.index.shown)
-        (subst (λ (z : List Insertion). SearchSays w.index.accepts query z found) (sym all) a.search.answer)
-        (subst (λ (n : ℕ). HasAllBelow n (take after.1 w.index.shown)) (sym count) (subst (HasAllBelow (length (arrivals v.store.history))) (sym all) below));
+            (subst (λ (z : List Insertion). SearchSays w.index.accepts query z found) (sym all) a.search.answer)
+            (subst (λ (n : ℕ). HasAllBelow n (take after.1 w.index.shown)) (sym count) (subst (HasAllBelow (length (arrivals v.store.history))) (sym all) below));
         outcome = refl;
         kept = refl;
         cause = text_cause closes search_text found m s.store.further w.store.history is;

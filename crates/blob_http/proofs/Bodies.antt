@@ -6,7 +6,7 @@ use Rattle.http_wire.specs.declared.body.Body.{Body}
 use Rattle.http_wire.specs.declared.body.Body.TheVariants.{Done}
 use Rattle.http_wire.specs.declared.ends.WireEnd.{WireEnd}
 use Rattle.http_wire.specs.declared.ends.WireEnd.TheVariants as ends
-use Rattle.http_wire.specs.Stream.{Flow}
+use Rattle.http_wire.specs.Stream.{Flow, Passed}
 use Rattle.http_wire.specs.Bodies.{Moves}
 use Rattle.http_wire.specs.Wires.{WireView, to_come, BodyEnds}
 use Rattle.http_wire.proofs.Passing.{Passed-none}
@@ -20,9 +20,12 @@ gave_none : (x : Option (List ℕ)) → Gave x x []
 gave_none None = refl
 gave_none (Some x) = (x, refl, refl)
 
+pub passed_none : (x : Option (List ℕ)) (flow : Flow) → Passed x x flow flow []
+passed_none x flow = Passed-none x x flow flow ([], sym (append-nil flow.bytes), gave_none x) refl
+
 -- nothing is taken
 pub moves_none : (x : Option (List ℕ)) (flow : Flow) (at : Body) → Moves x x flow flow at at []
-moves_none x flow at = ([], Passed-none x x flow flow ([], sym (append-nil flow.bytes), gave_none x) refl, Leads-none at)
+moves_none x flow at = ([], passed_none x flow, Leads-none at)
 
 -- what was given before, and then
 pub gathered : (p q r : Option (List ℕ)) (u v w : WireView) (all given : List ℕ) (result : Result (List ℕ) Stopped)

@@ -25,8 +25,8 @@ module _ (tells : Bool) (v w : Sight) (told0 told told' : List Answered) (x0 x1 
   step_goes_on x entry m x2 w2 new closes pushed r still took =
       subst (λ (z : List Answered). Serves tells v x told0 z (Open x0 x2 fresh_flow new.flow) (Took w0 w2)) (sym pushed)
       (serves_more tells v w x told0 told (Open x0 x1 fresh_flow flow) (Open x0 x2 fresh_flow new.flow) (Took w0 w1) (Took w0 w2) r.asked entry (text_of m) s r.handles
-        (λ before o. heard_more x0 x1 x2 flow new.flow before r.asked o r.comes (sym r.closing ∙ still))
-        (λ texts t. Took-chain w0 w1 w2 texts (text_of m) t took))
+      (λ before o. heard_more x0 x1 x2 flow new.flow before r.asked o r.comes (sym r.closing ∙ still))
+      (λ texts t. Took-chain w0 w1 w2 texts (text_of m) t took))
 
   -- a request was answered, and the connection closes
   pub step_closes : (x : Sight) (entry : Answered) (m : Made) (x2 w2 : Option (List ℕ)) (new : WireView) (closes : Bool)
@@ -35,8 +35,8 @@ module _ (tells : Bool) (v w : Sight) (told0 told told' : List Answered) (x0 x1 
   step_closes x entry m x2 w2 new closes pushed r closed took =
       subst (λ (z : List Answered). Serves tells v x told0 z (Heard x0 ended.Closed) (Wrote w0 w2 ended.Closed)) (sym pushed)
       (serves_more tells v w x told0 told (Open x0 x1 fresh_flow flow) (Heard x0 ended.Closed) (Took w0 w1) (Wrote w0 w2 ended.Closed) r.asked entry (text_of m) s r.handles
-        (λ before o. heard_last x0 x1 x2 flow new.flow before r.asked o r.comes (sym r.closing ∙ closed))
-        (λ texts t. Took-chain w0 w1 w2 texts (text_of m) t took))
+      (λ before o. heard_last x0 x1 x2 flow new.flow before r.asked o r.comes (sym r.closing ∙ closed))
+      (λ texts t. Took-chain w0 w1 w2 texts (text_of m) t took))
 
   -- the reply wasn't written whole
   pub step_breaks : (x : Sight) (entry : Answered) (m : Made) (x2 w2 : Option (List ℕ)) (new : WireView) (closes : Bool)
@@ -45,8 +45,8 @@ module _ (tells : Bool) (v w : Sight) (told0 told told' : List Answered) (x0 x1 
   step_breaks x entry m x2 w2 new closes pushed r took =
       subst (λ (z : List Answered). Serves tells v x told0 z (Heard x0 ended.WriteFault) (Wrote w0 w2 ended.WriteFault)) (sym pushed)
       (serves_more tells v w x told0 told (Open x0 x1 fresh_flow flow) (Heard x0 ended.WriteFault) (Took w0 w1) (Wrote w0 w2 ended.WriteFault) r.asked entry (text_of m) s r.handles
-        (λ before o. heard_breaks x0 x1 x2 flow new.flow before r.asked closes o r.comes (sym r.closing))
-        (λ texts t. TookFront-chain w0 w1 w2 texts (text_of m) t took))
+      (λ before o. heard_breaks x0 x1 x2 flow new.flow before r.asked closes o r.comes (sym r.closing))
+      (λ texts t. TookFront-chain w0 w1 w2 texts (text_of m) t took))
 
   -- no request came
   pub step_ends : (end : Ended) → told' ≡ told → NoneComes (stream flow.bytes x1) flow.taken end
@@ -54,7 +54,7 @@ module _ (tells : Bool) (v w : Sight) (told0 told told' : List Answered) (x0 x1 
   step_ends end same none =
       subst (λ (z : List Answered). Serves tells v w told0 z (Heard x0 end) (Wrote w0 w1 end)) (sym same)
       (serves_ends tells v w told0 told (Open x0 x1 fresh_flow flow) (Heard x0 end) (Took w0 w1) (Wrote w0 w1 end) s
-        (λ asked o. heard_none x0 x1 flow asked end o none) (written end none))
+      (λ asked o. heard_none x0 x1 flow asked end o none) (written end none))
     where
       written : (end : Ended) → NoneComes (stream flow.bytes x1) flow.taken end → (texts : List ℕ) → Took w0 w1 texts → Wrote w0 w1 end texts
       written ended.Closed none texts t = t
@@ -68,7 +68,7 @@ module _ (tells : Bool) (v w : Sight) (told0 told told' : List Answered) (x0 x1 
   step_full same =
       subst (λ (z : List Answered). Serves tells v w told0 z (Heard x0 ended.NoMemory) (Wrote w0 w1 ended.NoMemory)) (sym same)
       (serves_ends tells v w told0 told (Open x0 x1 fresh_flow flow) (Heard x0 ended.NoMemory) (Took w0 w1) (Wrote w0 w1 ended.NoMemory) s
-        (λ asked o. heard_full x0 x1 flow asked o) (λ texts t. t))
+      (λ asked o. heard_full x0 x1 flow asked o) (λ texts t. t))
 
 -- a connection for which there was no memory
 pub no_memory : (tells : Bool) (v : Sight) (told : List Answered) (x w : Option (List ℕ))

@@ -21,14 +21,14 @@ use Rattle.answer_text.specs.declared.refusal.Refusal.{Refusal}
 use Rattle.blob_http.specs.Asked.{Asked, Whole, Front, Head, Comes, closes_of, head_says}
 use Rattle.blob_http.specs.Handling.{NoneComes}
 use Rattle.blob_http.specs.Serving.{Stays, Open, AreAnswers, IsCut, StoodOpen, Follows, Hears, Heard, fresh_flow}
-use Rattle.blob_http.proofs.Bodies.{moves_none}
+use Rattle.blob_http.proofs.Bodies.{passed_none}
 
 -- nothing was taken yet
 pub open_none : (x : Option (List ℕ)) → Open x x fresh_flow fresh_flow []
 open_none x = record {
   requests = [];
   stays = record { answered = refl; are = All-nil IsRequest; stay = All-nil IsOpen };
-  passed = (moves_none x fresh_flow _).1;
+  passed = passed_none x fresh_flow;
 }
 
 -- the requests that were taken are what the stream begins with
@@ -40,7 +40,7 @@ spoken x now flow rs are p = (p.gave.0, p.gave.1, record { whole = p.gave.2; eac
 -- no further request was taken
 stands : (x0 now : Option (List ℕ)) (flow : Flow) (asked : List Asked) (end : Ended) → Open x0 now fresh_flow flow asked
     → ((rest : List ℕ) (rs : List Request) → stream flow.bytes now ≡ Some rest → flow.taken ≡ place_behind rs → All IsOpen rs
-      → Follows end (place_behind rs) rs Nothing rest)
+    → Follows end (place_behind rs) rs Nothing rest)
     → Heard x0 end asked
 stands None now flow asked end o follows = tt
 stands (Some x) now flow asked end o follows =
@@ -75,8 +75,8 @@ heard_none x0 now flow asked ended.Closed o none = stands x0 now flow asked ende
     (λ rest rs is place still. inl (still, no_request rest 0 ends.Closed (told_rest _ (stream flow.bytes now) rest none is) closed_not_fault))
 heard_none x0 now flow asked (ended.Cut n) o none = stands x0 now flow asked (ended.Cut n) o
     (λ rest rs is place still.
-      let cut : IsCut flow.taken n rest = told_rest (IsCut flow.taken n) (stream flow.bytes now) rest none is in
-      ((still, refl), cut_no_request flow.taken n rest cut, subst (λ (k : ℕ). IsCut k n rest) place cut))
+    let cut : IsCut flow.taken n rest = told_rest (IsCut flow.taken n) (stream flow.bytes now) rest none is in
+    ((still, refl), cut_no_request flow.taken n rest cut, subst (λ (k : ℕ). IsCut k n rest) place cut))
 heard_none x0 now flow asked ended.ReadFault o none = stands x0 now flow asked ended.ReadFault o (λ rest rs is place still. (still, refl))
 heard_none x0 now flow asked ended.WriteFault o none = absurd none
 heard_none x0 now flow asked ended.NoMemory o none = absurd none
@@ -156,7 +156,7 @@ heard_last (Some x) mid now flow next before (Front b after) o c closes =
       answers = (
         g.0,
         ap (λ (z : List Asked). z ++ Front b after ∷ []) o.stays.answered
-        ∙ ap (λ (z : Option (List ℕ)). map Whole o.requests ++ Front b z ∷ []) (c.2 ∙ g.1),
+            ∙ ap (λ (z : Option (List ℕ)). map Whole o.requests ++ Front b z ∷ []) (c.2 ∙ g.1),
         parts,
       );
       follows = (o.stays.stay, c.0, (g.0, parts));

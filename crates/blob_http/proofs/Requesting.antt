@@ -75,7 +75,7 @@ has_pieces text says h =
 pub handles_of : (tells closes : Bool) (q : Question) (v w : Sight) (entry : Answered) (m : Made) (asked : Asked)
     → Answers tells closes q v w entry m
     → ((accepts : Accepts) (blobs : List Blob) (g : List Insertion) → IsMade tells accepts blobs g closes q m
-      → IsReply tells accepts blobs g asked (outcome_of m) (text_of m))
+    → IsReply tells accepts blobs g asked (outcome_of m) (text_of m))
     → Handles tells asked v w entry (text_of m)
 handles_of tells closes q v w entry m asked a replied = record {
   turns = a.turns;
@@ -84,7 +84,7 @@ handles_of tells closes q v w entry m asked a replied = record {
     store_within = a.store_within;
     index_within = a.index_within;
     replied = subst (λ (o : Outcome). IsReply tells w.index.accepts (take entry.store_count (arrivals w.store.history)) (take entry.index_count w.index.shown) asked o (text_of m)) (sym a.outcome)
-    (replied w.index.accepts (take entry.store_count (arrivals w.store.history)) (take entry.index_count w.index.shown) a.made);
+        (replied w.index.accepts (take entry.store_count (arrivals w.store.history)) (take entry.index_count w.index.shown) a.made);
     kept = a.kept;
     cause = subst (λ (o : Outcome). HasCauseIn a.turns w.store.history o) (sym a.outcome) a.cause;
   };
@@ -114,7 +114,7 @@ head_replies x0 x1 flow new tells v w entry m end why closes says passed stands 
   asked = Refused end;
   comes = ((why, says), passed, stands);
   handles = handles_of tells true (refused why) v w entry m (Refused end) a
-  (λ accepts blobs g is. refused_says tells accepts blobs g why None (λ o text. IsReply tells accepts blobs g (Refused end) o text) (why, says, refl) refl m is);
+      (λ accepts blobs g is. refused_says tells accepts blobs g why None (λ o text. IsReply tells accepts blobs g (Refused end) o text) (why, says, refl) refl m is);
   closing = closing;
   ready = λ open_still. absurd (true_not (sym closing ∙ open_still));
 }
@@ -169,7 +169,7 @@ module _ (x0 x1 x2 : Option (List ℕ)) (flow : Flow) (mid new : WireView) (says
     -- the connection closes in any case
     front_replies : (closes with_closes : Bool) (q : Question) → Answers tells with_closes q v w entry m
         → ((accepts : Accepts) (blobs : List Blob) (g : List Insertion) → IsMade tells accepts blobs g with_closes q m
-          → IsReply tells accepts blobs g front (outcome_of m) (text_of m))
+        → IsReply tells accepts blobs g front (outcome_of m) (text_of m))
         → closes ≡ true → Replies x0 x2 flow new tells v w entry m closes
     front_replies closes with_closes q a replied closing = record {
       asked = front;
@@ -211,8 +211,10 @@ module _ (x0 x1 x2 : Option (List ℕ)) (flow : Flow) (mid new : WireView) (says
       where
         request : Request
         request = record { head = mid.head; says = says; framed = moved.0; body = given }
+
         leads : Leads (body_of says.framing) body.Done moved.0 given
         leads = subst (λ (b : Body). Leads (body_of says.framing) b moved.0 given) done is_begun.leads
+
         or_false : (b : Bool) → (b || false) ≡ b
         or_false true = refl
         or_false false = refl
@@ -225,9 +227,11 @@ first_refused head says q is = by_route (route_of (piece head says.method) (piec
     by_early : (r : Route) (e : Result (Option (List ℕ)) Refusal) → early_by r e ≡ Err q → (why : Refusal) × (allow : Option Allowed) × (q ≡ question.Refused why allow)
     by_early r (Ok boundary) is = absurd (cc is)
     by_early r (Err why) is = (why, None, sym (cc is))
+
     by_fault : (f : RouteFault) → refused_by f ≡ q → (why : Refusal) × (allow : Option Allowed) × (q ≡ question.Refused why allow)
     by_fault fault.NoRoute is = (refusal.NoRoute, None, sym is)
     by_fault (fault.Method allow) is = (refusal.Method, Some allow, sym is)
+
     by_route : (r : Result Route RouteFault) → first_by head says r ≡ Err q → (why : Refusal) × (allow : Option Allowed) × (q ≡ question.Refused why allow)
     by_route (Ok r) is = by_early r (early_of r says.framing (option_map (piece head) says.content_type)) is
     by_route (Err f) is = by_fault f (cc is)
@@ -246,19 +250,25 @@ early_replies x0 x1 flow mid says head tells v w entry m before closes q first i
   where
     moved : Moves x1 x1 mid.flow mid.flow mid.body mid.body []
     moved = moves_none x1 mid.flow mid.body
+
     or_false : (b : Bool) → (b || false) ≡ b
     or_false true = refl
     or_false false = refl
+
     or_true : (b : Bool) → (b || true) ≡ true
     or_true true = refl
     or_true false = refl
+
     refused_q : (why : Refusal) × (allow : Option Allowed) × (q ≡ question.Refused why allow)
     refused_q = first_refused mid.head says q first
+
     asked : IsAsked mid.head says [] q
     asked = subst (λ (z : Result Route Question). IsAskedBy z (piece mid.head says.query) [] q) (sym first) refl
+
     defined : (b : Begun) (after : Option (List ℕ)) → IsFrontDefined b after (first_of mid.head says) (refused_reply true (allow_text refused_q.1) refused_q.0)
     defined b after =
         subst (λ (z : Result Route Question). IsFrontDefined b after z (refused_reply true (allow_text refused_q.1) refused_q.0)) (sym (first ∙ ap Err refused_q.2)) refl
+
     by_read : (b : Bool) → is_read says.framing ≡ b → Replies x0 x1 flow mid tells v w entry m closes
     by_read true read =
         let same : before ≡ says.closes = is ∙ ap (λ (b : Bool). says.closes || not b) read ∙ or_false says.closes in
@@ -302,11 +312,11 @@ pub stop_replies : (x0 x1 x2 : Option (List ℕ)) (flow : Flow) (mid new : WireV
 stop_replies x0 x1 x2 flow mid new says head stopped.Long gathered tells v w entry m closes r first a closing =
     refused_replies x0 x1 x2 flow mid new says head gathered.given gathered.moved tells v w entry m closes (refusal.TooLong most_body) None a
     (body_defined (begun x0 x1 x2 flow mid new says head gathered.given gathered.moved) (stream new.flow.bytes x2) (first_of mid.head says) r
-      (refusal.TooLong most_body) first (inl (refl, gathered.says))) closing
+    (refusal.TooLong most_body) first (inl (refl, gathered.says))) closing
 stop_replies x0 x1 x2 flow mid new says head stopped.Broken gathered tells v w entry m closes r first a closing =
     refused_replies x0 x1 x2 flow mid new says head gathered.given gathered.moved tells v w entry m closes refusal.BadLength None a
     (body_defined (begun x0 x1 x2 flow mid new says head gathered.given gathered.moved) (stream new.flow.bytes x2) (first_of mid.head says) r
-      refusal.BadLength first (inr (refl, gathered.says))) closing
+    refusal.BadLength first (inr (refl, gathered.says))) closing
 stop_replies x0 x1 x2 flow mid new says head stopped.Memory gathered tells v w entry m closes r first a closing =
     memory_replies x0 x1 x2 flow mid new says head gathered.given gathered.moved tells v w entry m closes true (refused refusal.Memory) (a.1 _) a.0 closing
 stop_replies x0 x1 x2 flow mid new says head (stopped.Cut n) gathered tells v w entry m closes r first a closing = absurd a
@@ -329,6 +339,6 @@ stop_none x0 x1 x2 flow mid new says head stopped.Memory gathered end is = absur
 stop_none x0 x1 x2 flow mid new says head (stopped.Cut n) gathered end is =
     subst (NoneComes (stream flow.bytes x0) flow.taken) (sym is)
     (cut_body (stream flow.bytes x0) (stream new.flow.bytes x2) flow.taken n (begun x0 x1 x2 flow mid new says head gathered.given gathered.moved)
-      (is_begun x0 x1 x2 flow mid new says head gathered.given gathered.moved) (passed x0 x1 x2 flow mid new says head gathered.given gathered.moved).gave
-      (gathered.says.0 ∙ head.begun) gathered.says.1)
+    (is_begun x0 x1 x2 flow mid new says head gathered.given gathered.moved) (passed x0 x1 x2 flow mid new says head gathered.given gathered.moved).gave
+    (gathered.says.0 ∙ head.begun) gathered.says.1)
 stop_none x0 x1 x2 flow mid new says head stopped.ReadFault gathered end is = subst (NoneComes (stream flow.bytes x0) flow.taken) (sym is) tt

@@ -42,7 +42,7 @@ answered_stays tells accepts h k f g asked entry text turns p q a =
       store_within = let l = prefix_length (arrivals h) (arrivals k) (arrivals_prefix h k p) in let s = a.store_within in omega arith;
       index_within = let l = prefix_length f g q in let s = a.index_within in omega arith;
       replied = subst (λ (z : List Blob). IsReply tells accepts z (take m g) asked entry.outcome text) (sym blobs)
-      (subst (λ (z : List Insertion). IsReply tells accepts (take n (arrivals h)) z asked entry.outcome text) (sym rows) a.replied);
+          (subst (λ (z : List Insertion). IsReply tells accepts (take n (arrivals h)) z asked entry.outcome text) (sym rows) a.replied);
       kept = a.kept;
       cause = cause_stays turns h k entry.outcome p a.cause;
     }

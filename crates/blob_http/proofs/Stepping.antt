@@ -61,18 +61,18 @@ module _ (tells : Bool) where
       record {
         answers = s.answers ++ a ∷ [];
         entries = ap (λ (z : List Answered). z ++ entry ∷ []) s.entries
-        ∙ (append_assoc told (map (λ (b : Answer). b.entry) s.answers) (entry ∷ [])
-          ∙ ap (λ (z : List Answered). told ++ z) (sym (map-append (λ (b : Answer). b.entry) s.answers (a ∷ []))));
+            ∙ (append_assoc told (map (λ (b : Answer). b.entry) s.answers) (entry ∷ [])
+            ∙ ap (λ (z : List Answered). told ++ z) (sym (map-append (λ (b : Answer). b.entry) s.answers (a ∷ []))));
         heard = subst heard' (sym (map-append (λ (b : Answer). b.asked) s.answers (a ∷ []))) (more_heard _ s.heard);
         written = subst wrote' (sym (flat_push (λ (b : Answer). b.text) s.answers a)) (more_text _ s.written);
         each = All-push (AnswerHolds tells v.index.accepts x.store.history x.index.shown) s.answers a
-          (All-weaker (AnswerHolds tells v.index.accepts w.store.history w.index.shown) (AnswerHolds tells v.index.accepts x.store.history x.index.shown)
+            (All-weaker (AnswerHolds tells v.index.accepts w.store.history w.index.shown) (AnswerHolds tells v.index.accepts x.store.history x.index.shown)
             (λ b p. holds_stays tells v.index.accepts w.store.history x.store.history w.index.shown x.index.shown b h.longer.store h.longer.shown p) s.answers s.each)
-          (subst (λ acc. IsAnswered tells acc x.store.history x.index.shown asked entry text h.turns) same h.answered);
+            (subst (λ acc. IsAnswered tells acc x.store.history x.index.shown asked entry text h.turns) same h.answered);
         climbs = climbs_more (length (arrivals v.store.history)) (length v.index.shown) s.answers (length (arrivals w.store.history)) (length w.index.shown) a
-          (length (arrivals x.store.history)) (length x.index.shown) s.climbs h.store_low h.index_low h.answered.store_within h.answered.index_within;
+            (length (arrivals x.store.history)) (length x.index.shown) s.climbs h.store_low h.index_low h.answered.store_within h.answered.index_within;
         turns = h.drawn ∙ (ap (λ (z : List ℕ). z ++ h.turns) s.turns
-          ∙ (append_assoc v.store.turns (flat_map (λ (b : Answer). b.turns) s.answers) h.turns
+            ∙ (append_assoc v.store.turns (flat_map (λ (b : Answer). b.turns) s.answers) h.turns
             ∙ ap (λ (z : List ℕ). v.store.turns ++ z) (sym (flat_push (λ (b : Answer). b.turns) s.answers a))));
         longer = longer_chain v w x s.longer h.longer;
       }

@@ -51,11 +51,7 @@ pub(crate) fn gather<S: Source>(
 }
 
 // The same of any framing.
-fn gather_on<S: Source>(
-    alloc: Global,
-    wire: &mut Wire,
-    source: &mut S,
-) -> Result<Octets, Stopped>
+fn gather_on<S: Source>(alloc: Global, wire: &mut Wire, source: &mut S) -> Result<Octets, Stopped>
     ensures gathers { Gathers (S.left source.old) (S.left source.new) wire.old wire.new result }
     ensures fault { IsErrOf result Stopped.ReadFault → Rose (S.faults source.old) (S.faults source.new) }
     ensures later { S.faults source.old ≤ S.faults source.new }

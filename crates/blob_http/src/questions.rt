@@ -22,13 +22,21 @@ pub enum Question {
         allow: Option<Allowed>,
     },
     /// The bytes of a blob.
-    Blob { r: Ref },
+    Blob {
+        r: Ref,
+    },
     /// Which of these refs stand.
-    Stat { refs: RefList },
+    Stat {
+        refs: RefList,
+    },
     /// A page of the refs.
-    Refs { page: Page },
+    Refs {
+        page: Page,
+    },
     /// The answer to a query.
-    Search { query: Query },
+    Search {
+        query: Query,
+    },
 }
 
 /// The route of a request, or how it is refused before its body is read.

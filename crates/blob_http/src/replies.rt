@@ -76,7 +76,11 @@ fn told(
 {
     let len = body.as_slice().len() as u64;
     match reply_head(alloc, code, kind.text(), len, closes, allow_text(allow)) {
-        Ok(head) => Made::Told { outcome, head, body },
+        Ok(head) => Made::Told {
+            outcome,
+            head,
+            body,
+        },
         Err(_) => Made::Memory,
     }
 }
@@ -94,7 +98,15 @@ pub(crate) fn refused(
     let Ok(body) = refusal_text(alloc, refusal) else {
         return Made::Memory;
     };
-    told(alloc, outcome, refusal.code(), Kind::Json, closes, allow, body)
+    told(
+        alloc,
+        outcome,
+        refusal.code(),
+        Kind::Json,
+        closes,
+        allow,
+        body,
+    )
 }
 
 /// The reply to what a fetch gave.
@@ -107,8 +119,22 @@ pub(crate) fn blob_reply(
     ensures { BlobMade closes r.now fetched result }
 {
     match fetched {
-        Ok(Some(bytes)) => told(alloc, Outcome::Defined, 200, Kind::Bytes, closes, None, bytes),
-        Ok(None) => refused(alloc, Outcome::Defined, closes, None, &Refusal::Absent { r: *r }),
+        Ok(Some(bytes)) => told(
+            alloc,
+            Outcome::Defined,
+            200,
+            Kind::Bytes,
+            closes,
+            None,
+            bytes,
+        ),
+        Ok(None) => refused(
+            alloc,
+            Outcome::Defined,
+            closes,
+            None,
+            &Refusal::Absent { r: *r },
+        ),
         Err(fault) => fault_reply(alloc, closes, fault),
     }
 }

@@ -93,7 +93,7 @@ fn reply_to<H: Home, S: Source, R: Wait>(
     ensures own { H.belongs home.now pass.new }
     ensures replies { (x0 : Option (List ℕ)) (flow : Flow) → ReadsHead x0 (S.left source.old) flow wire.old head.now
         → IfOk result (λ replied. Replies x0 (S.left source.new) flow wire.new (H.tells home.now) (H.sight pass.old)
-          (H.sight pass.new) replied.entry replied.made replied.closes) }
+        (H.sight pass.new) replied.entry replied.made replied.closes) }
     ensures same { IfErr result (λ ended. H.sight pass.new ≡ H.sight pass.old) }
     ensures none { (x0 : Option (List ℕ)) (flow : Flow) → ReadsHead x0 (S.left source.old) flow wire.old head.now
         → IfErr result (NoneComes (stream flow.bytes x0) flow.taken) }

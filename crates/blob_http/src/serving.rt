@@ -84,9 +84,9 @@ fn serve_one<H: Home, S: Source, K: Sink, R: Wait>(
     ensures ready { result ≡ None → wire.new.body ≡ Body.Done }
     ensures serves { (v : Sight) (told0 : List Answered) (x0 w0 : Option (List ℕ))
         → Serves (H.tells home.now) v (H.sight pass.old) told0 told.old.items
-          (Open x0 (S.left source.old) fresh_flow wire.old.flow) (Took w0 (K.written sink.old))
+        (Open x0 (S.left source.old) fresh_flow wire.old.flow) (Took w0 (K.written sink.old))
         → Serves (H.tells home.now) v (H.sight pass.new) told0 told.new.items
-          (HeardBy x0 (S.left source.new) fresh_flow wire.new.flow result) (WroteBy w0 (K.written sink.new) result) }
+        (HeardBy x0 (S.left source.new) fresh_flow wire.new.flow result) (WroteBy w0 (K.written sink.new) result) }
     ensures read { S.faults source.old ≤ S.faults source.new }
     ensures wrote { K.faults sink.old ≤ K.faults sink.new }
     ensures cause { StepCause (S.faults source.old) (S.faults source.new) (K.faults sink.old) (K.faults sink.new)

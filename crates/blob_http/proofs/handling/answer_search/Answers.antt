@@ -11,7 +11,7 @@ returns-in-Err-clause-answers g c =
     let tells = g.H.Home.tells c.args.home.now in
     subst (λ e. Answers tells c.args.closes (question.Search c.args.query.now) v x e c.fault_reply-made.result) (sym c.entry.ensures)
     (search_failed tells c.args.closes c.args.query.now c.in-Err.fault c.fault_reply-made.result v x c.seen-before.result c.seen-after.result
-      c.in-Err.ensures.settled c.fault_reply-made.ensures c.seen-before.ensures c.seen-after.ensures)
+    c.in-Err.ensures.settled c.fault_reply-made.ensures c.seen-before.ensures c.seen-after.ensures)
 
 pub returns-in-Ok-clause-answers : goal.returns-in-Ok-clause-answers
 returns-in-Ok-clause-answers g c =
@@ -21,4 +21,4 @@ returns-in-Ok-clause-answers g c =
     let tells = g.H.Home.tells c.args.home.now in
     subst (λ e. Answers tells c.args.closes (question.Search c.args.query.now) v w e c.search_reply-made.result) (sym c.entry-in-Ok.ensures)
     (search_answers tells c.args.closes c.in-Ok.field-0 c.args.query.now c.search-found.result c.search_reply-made.result v x w c.seen-before.result c.seen-after-in-Ok.result
-      c.in-Ok.ensures.settled (g.met.H.Home.is_legal c.settle.new.pass) c.search-found.ensures.search c.search_reply-made.ensures c.seen-before.ensures c.seen-after-in-Ok.ensures)
+    c.in-Ok.ensures.settled (g.met.H.Home.is_legal c.settle.new.pass) c.search-found.ensures.search c.search_reply-made.ensures c.seen-before.ensures c.seen-after-in-Ok.ensures)

@@ -19,14 +19,14 @@ returns-in-Err-gather-clause-replies g c x0 flow read =
     let w = g.H.Home.sight c.reply_to_stop.new.pass in
     IfOk-weaker c.reply_to_stop.result (λ replied. StopReplies tells c.in-Err-gather.stopped v w replied.entry replied.made × (replied.closes ≡ true)) _
     (λ replied h. stop_replies x0 (g.S.Source.left c.args.source.now) (g.S.Source.left c.gather.new.source) flow c.args.wire.now c.gather.new.wire c.args.head.now read
-      c.in-Err-gather.stopped c.in-Err-gather.ensures.gathers tells v w replied.entry replied.made replied.closes c.in-Ok.found (sym c.in-Ok.ensures.first) h.0 h.1)
+    c.in-Err-gather.stopped c.in-Err-gather.ensures.gathers tells v w replied.entry replied.made replied.closes c.in-Ok.found (sym c.in-Ok.ensures.first) h.0 h.1)
     c.reply_to_stop.ensures.replies
 
 pub returns-in-Err-gather-clause-none : goal.returns-in-Err-gather-clause-none
 returns-in-Err-gather-clause-none g c x0 flow read =
     IfErr-weaker c.reply_to_stop.result (StopEnds c.in-Err-gather.stopped) _
     (λ end h. stop_none x0 (g.S.Source.left c.args.source.now) (g.S.Source.left c.gather.new.source) flow c.args.wire.now c.gather.new.wire c.args.head.now read
-      c.in-Err-gather.stopped c.in-Err-gather.ensures.gathers end h)
+    c.in-Err-gather.stopped c.in-Err-gather.ensures.gathers end h)
     c.reply_to_stop.ensures.ends
 
 pub returns-clause-replies : goal.returns-clause-replies
@@ -35,6 +35,6 @@ returns-clause-replies g c x0 flow read =
     c.in-Ok-gather.body c.in-Ok-gather.ensures.gathers (g.H.Home.tells c.args.home.now) (g.H.Home.sight c.args.pass.now) (g.H.Home.sight c.reply_along-2.new.pass)
     c.reply_along-2.result.entry c.reply_along-2.result.made c.reply_along-2.result.closes c.in-Ok.found c.ask-asked.result (sym c.in-Ok.ensures.first)
     (subst (λ (q : List ℕ). IfOk c.ask-asked.result (IsAskedAt c.in-Ok.found q c.in-Ok-gather.body))
-      (c.piece.ensures ∙ ap (λ (h : List ℕ). piece h c.args.head.now.query) c.in-Ok-gather.ensures.gathers.head)
-      (subst (λ (b : List ℕ). IfOk c.ask-asked.result (IsAskedAt c.in-Ok.found c.piece.result.now b)) c.as_slice.ensures c.ask-asked.ensures.asked))
+    (c.piece.ensures ∙ ap (λ (h : List ℕ). piece h c.args.head.now.query) c.in-Ok-gather.ensures.gathers.head)
+    (subst (λ (b : List ℕ). IfOk c.ask-asked.result (IsAskedAt c.in-Ok.found c.piece.result.now b)) c.as_slice.ensures c.ask-asked.ensures.asked))
     c.reply_along-2.ensures.answers c.reply_along-2.ensures.closes
