@@ -1,0 +1,10 @@
+pub mod Before
+pub mod Faults
+pub mod Laws
+pub mod Pages
+pub mod Parameters
+pub mod Places
+pub mod Queries
+pub mod Routes
+pub mod Stats
+pub mod Taking

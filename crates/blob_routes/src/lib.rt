@@ -1,0 +1,21 @@
+//! What a request asks, or why it is refused (`docs/http.md`, "Routes").
+#![tactic(auto)]
+
+mod before;
+mod faults;
+mod laws;
+mod numbers;
+mod pages;
+mod parameters;
+mod places;
+mod queries;
+mod routes;
+mod stats;
+
+pub use before::{MOST_BODY, MOST_UPLOAD, early};
+pub use faults::AskFault;
+pub use laws::further_numbers_tell_nothing;
+pub use pages::{MOST_PAGE, Page, page_asked};
+pub use queries::query_asked;
+pub use routes::{Allowed, Route, RouteFault};
+pub use stats::{MOST_REFS, refs_asked};
