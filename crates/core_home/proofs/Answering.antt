@@ -18,7 +18,7 @@ use Rattle.home_core.specs.Passes.{Searches, Counts}
 use Rattle.core_home.specs.declared.turns.Turns.{Turns}
 use Rattle.core_home.specs.Keeping.{IsKept, upto, store_of, index_of}
 use Rattle.core_home.specs.Sights.{alone}
-use Rattle.core_home.proofs.Counting.{are_below}
+use Rattle.core_home.proofs.Counting.{indexed_below}
 use Rattle.core_home.proofs.Blobs.{arrivals_of}
 use Rattle.core_home.proofs.Numbers.{facts_are, inserts_length}
 
@@ -29,7 +29,7 @@ module _ (s : CoreState) (ts : List ℕ) (us : List Turns) (stores indexes : ℕ
   -- the facts shown are those indexed
   shown_facts : IsSound s → indexed (inserts rows) ≡ indexed_facts s
   shown_facts sound = ap from_entries (facts_are s.store us s.indexed kept.each_insert
-      (are_below (length s.store) s.indexed (λ n high. let b = sound.arrived n high in omega (arith, b))))
+      (indexed_below s sound))
 
   pub searches : (query : Query) (result : Result (List (List ℕ)) NoMemory) → IsSound s → IfOk result (λ refs. refs ≡ answer (indexed_facts s) a query)
       → Searches query result (alone a (store_of ts s.store) stores rows indexes spent) (alone a (store_of ts s.store) stores rows indexes spent)

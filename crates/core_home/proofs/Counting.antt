@@ -1,7 +1,7 @@
 -- How many numbers lack.
 use Rattle.std.proofs.Common.{◌≡◌, ℕ, zero, suc, ◌+◌, ◌-◌, ◌<◌, ◌≤◌, ◌⊎◌, inl, inr, ⊎_elim, Bool, true, false, not, ◌||◌, cond, nat_eq, List, [], ◌∷◌, ◌++◌, length, length-append, refl, ap, sym, subst, ◌∙◌, arith}
 use Rattle.std.proofs.lemmas.Bool.{eqb-true, eq-eqb, ne_eqb}
-use Rattle.home_core.specs.State.{has, times, numbers_below, without}
+use Rattle.home_core.specs.State.{CoreState, IsSound, has, times, numbers_below, without}
 use Rattle.home_core.proofs.Times.{times_absent, times_present, below_once, has_below}
 
 -- ---- numbers that stand in a list once, and below a bound
@@ -38,9 +38,13 @@ are_below bound (n ∷ ns) none = (
   are_below bound ns (λ m high. let z = none m high in let r = times_rest m n ns in omega (arith, z, r)),
 )
 
-pub below_append : (bound : ℕ) (xs ys : List ℕ) → AreBelow bound xs → AreBelow bound ys → AreBelow bound (xs ++ ys)
-below_append bound [] ys a b = b
-below_append bound (x ∷ xs) ys a b = (a.0, below_append bound xs ys a.1 b)
+module _ (s : CoreState) (sound : IsSound s) where
+  -- what is indexed has arrived, and stands there once
+  pub indexed_below : AreBelow (length s.store) s.indexed
+  indexed_below = are_below (length s.store) s.indexed (λ n high. let a = sound.arrived n high in omega (arith, a))
+
+  pub indexed_once : (n : ℕ) → times n s.indexed ≤ 1
+  indexed_once n = let o = sound.once n in omega (arith, o)
 
 -- ---- how many are left
 

@@ -5,7 +5,7 @@ use Rattle.std.specs.List.{list_any, filter_map, cons_option, AllByRecursion, Is
 use Rattle.std.specs.Cmp.{eq_by_cmp_equiv}
 use Rattle.std.specs.Cmp.Lexicographic.{nat_list_cmp_total}
 use Rattle.std.specs.Map.{keys_of}
-use Rattle.std.proofs.lemmas.Bool.{and_parts}
+use Rattle.std.proofs.lemmas.Bool.{and_parts, not-true}
 use Rattle.std.proofs.lemmas.List.{append-nil}
 use Rattle.std.proofs.lemmas.List.Elements.{filter_map-append}
 use Rattle.std.proofs.lemmas.Map.Text.{is_eq-slice_cmp}
@@ -58,17 +58,13 @@ not_any_last p (y ∷ xs) x e = not_any_last p xs x (go (p y) (list_any p (xs ++
     go true b e = absurd cc
     go false b e = e
 
-not_false : (b : Bool) → not b ≡ true → b ≡ false
-not_false true e = absurd cc
-not_false false e = refl
-
 all_apart : (r : List ℕ) (before bs : List Blob) → ((q : List ℕ) → has_ref q before ≡ false → is_ref q r ≡ false) → is_legal_after may_arrive before bs ≡ true
     → AllByRecursion (λ (q : List ℕ). eq_by_cmp ref_cmp r q ≡ false) (keys_of (sizes bs))
 all_apart r before [] apart ok = tt
 all_apart r before (b ∷ bs) apart ok =
     let p = and_parts (may_arrive before b) (is_legal_after may_arrive (before ++ b ∷ []) bs) ok in
     let q = and_parts (nat_le (length b.1) max_size && is_own_ref b.0 b.1) (not (has_ref b.0 before)) p.0 in (
-      (eq_by_cmp_equiv nat_list_cmp_total).symm r b.0 ∙ (is_eq-slice_cmp b.0 r ∙ apart b.0 (not_false (has_ref b.0 before) q.1)),
+      (eq_by_cmp_equiv nat_list_cmp_total).symm r b.0 ∙ (is_eq-slice_cmp b.0 r ∙ apart b.0 (not-true (has_ref b.0 before) q.1)),
       all_apart r (before ++ b ∷ []) bs (λ q none. apart q (not_any_front (λ (c : Blob). is_ref q c.0) before (b ∷ []) none)) p.1,
     )
 

@@ -1,9 +1,10 @@
 -- Indexed numbers as a history.
 use Rattle.std.proofs.Common.{◌≡◌, ℕ, zero, suc, ◌+◌, ◌<◌, ◌≤◌, Bool, true, false, not, ◌&&◌, ◌||◌, cond, nat_eq, List, [], ◌∷◌, ◌++◌, map, length, slice_get, append_assoc, refl, ap, sym, subst, ◌∙◌, arith, Option, Some, None}
-use Rattle.std.specs.Option.{option_map, unwrap_or}
+use Rattle.std.specs.Option.{unwrap_or}
 use Rattle.std.specs.List.{filter_map, cons_option, list_any}
 use Rattle.std.proofs.lemmas.List.{append-nil}
 use Rattle.std.proofs.lemmas.Bool.{and_from}
+use Rattle.std.proofs.lemmas.Option.{slice_get-get_or, unwrap_or-slice_get}
 use mathlib.Core.List.{IsPrefix}
 use Rattle.claim_model.specs.Facts.{Entry}
 use Rattle.schema_json.specs.Facts.{fact_of}
@@ -18,7 +19,7 @@ use Rattle.home_core.specs.State.{has, times}
 use Rattle.home_core.specs.Steps.{blobs_at, entry_of}
 use Rattle.home_core.proofs.Times.{times_append, times_present}
 use Rattle.core_home.specs.declared.turns.Turns.{Turns}
-use Rattle.core_home.specs.Keeping.{insert_of, take_of, index_of, inserted_from}
+use Rattle.core_home.specs.Keeping.{blob_at, insert_of, take_of, index_of}
 use Rattle.core_home.proofs.Counting.{AreBelow, times_first, not_there}
 
 -- ---- longer lists
@@ -77,15 +78,9 @@ inserts_length bs (t ∷ ts) (n ∷ ns) e =
 abbrev entry_in : Insertion → Entry
 entry_in i = (i.r, i.fact)
 
-some_there : (bs : List Blob) (n : ℕ) (rest : List Blob) (o : Option Blob) → n < length bs → slice_get bs n ≡ o
-    → map entry_of (cons_option o rest) ≡ ((unwrap_or o ([], [])).0, fact_of (unwrap_or o ([], [])).1) ∷ map entry_of rest
-some_there bs n rest None lt is = absurd (past bs n lt is)
-  where
-    past : (cs : List Blob) (k : ℕ) → k < length cs → slice_get cs k ≡ None → ⊥
-    past [] k low none = omega (arith, low)
-    past (c ∷ cs) zero low none = cc none
-    past (c ∷ cs) (suc k) low none = past cs k (omega (arith, low)) none
-some_there bs n rest (Some b) lt is = refl
+-- a number below the count of blobs has one
+pub blob_there : (bs : List Blob) (n : ℕ) → n < length bs → slice_get bs n ≡ Some (blob_at bs n)
+blob_there bs n lt = slice_get-get_or bs n ([], []) lt ∙ ap (λ (b : Blob). Some b) (sym (unwrap_or-slice_get bs n ([], [])))
 
 -- with the refs and the facts of their blobs
 pub facts_are : (bs : List Blob) (ts : List Turns) (ns : List ℕ) → length ts ≡ length ns → AreBelow (length bs) ns
@@ -95,8 +90,8 @@ facts_are bs [] (n ∷ ns) e below = absurd (omega (arith, e))
 facts_are bs (t ∷ ts) [] e below = absurd (omega (arith, e))
 facts_are bs (t ∷ ts) (n ∷ ns) e below =
     ap (map entry_in) (taken_inserts t.taken n (stamp t.inserted (insert_of bs n) ∷ index_of bs ts ns))
-    ∙ (ap (λ (z : List Entry). ((unwrap_or (slice_get bs n) ([], [])).0, fact_of (unwrap_or (slice_get bs n) ([], [])).1) ∷ z) (facts_are bs ts ns (omega (arith, e)) below.1)
-    ∙ sym (some_there bs n (blobs_at bs ns) (slice_get bs n) below.0 refl))
+    ∙ (ap (λ (z : List Entry). entry_of (blob_at bs n) ∷ z) (facts_are bs ts ns (omega (arith, e)) below.1)
+    ∙ sym (ap (λ (o : Option Blob). map entry_of (cons_option o (blobs_at bs ns))) (blob_there bs n below.0)))
 
 -- ---- what waits
 
@@ -145,23 +140,19 @@ NoneHeld xs = (m : ℕ) → in_hand m xs ≡ false
 abbrev AreInserted : List IndexEvent → List ℕ → Type 0
 AreInserted xs ns = (m : ℕ) → is_inserted m xs ≡ has m ns
 
+or_assoc : (a b c : Bool) → (a || (b || c)) ≡ ((a || b) || c)
+or_assoc true b c = refl
+or_assoc false b c = refl
+
 inserted_append : (m : ℕ) (xs ys : List IndexEvent) → is_inserted m (xs ++ ys) ≡ (is_inserted m xs || is_inserted m ys)
 inserted_append m [] ys = refl
 inserted_append m (Take n ∷ xs) ys = inserted_append m xs ys
 inserted_append m (Insert n r fact ∷ xs) ys = ap (λ (b : Bool). nat_eq n m || b) (inserted_append m xs ys) ∙ or_assoc (nat_eq n m) (is_inserted m xs) (is_inserted m ys)
-  where
-    or_assoc : (a b c : Bool) → (a || (b || c)) ≡ ((a || b) || c)
-    or_assoc true b c = refl
-    or_assoc false b c = refl
 inserted_append m (Return n ∷ xs) ys = inserted_append m xs ys
 
 has_append : (m : ℕ) (xs ys : List ℕ) → has m (xs ++ ys) ≡ (has m xs || has m ys)
 has_append m [] ys = refl
 has_append m (n ∷ xs) ys = ap (λ (b : Bool). nat_eq n m || b) (has_append m xs ys) ∙ or_assoc (nat_eq n m) (has m xs) (has m ys)
-  where
-    or_assoc : (a b c : Bool) → (a || (b || c)) ≡ ((a || b) || c)
-    or_assoc true b c = refl
-    or_assoc false b c = refl
 
 more_inserted : (before : List IndexEvent) (done : List ℕ) (bs : List Blob) (n : ℕ) → AreInserted before done → AreInserted (before ++ insert_of bs n ∷ []) (done ++ n ∷ [])
 more_inserted before done bs n are m =

@@ -1,6 +1,6 @@
 -- Every number that lacks is inserted, each in a turn of its own.
 use Rattle.std.proofs.Common.{◌≡◌, ℕ, zero, suc, ◌+◌, ◌-◌, ◌<◌, ◌≤◌, ◌⊎◌, inl, inr, Bool, true, false, not, cond, nat_eq, List, [], ◌∷◌, ◌++◌, length, length-append, min, max, slice_get, append_assoc, refl, ap, sym, subst, ◌∙◌, arith, Option, Some, None, Result, Ok, Err, OnOk, OnErr}
-use Rattle.std.specs.Option.{option_map, unwrap_or}
+use Rattle.std.specs.Option.{option_map}
 use Rattle.std.proofs.lemmas.List.{append-nil}
 use Rattle.std.proofs.lemmas.Bool.{eqb-true}
 use mathlib.Core.List.{IsPrefix}
@@ -27,28 +27,21 @@ use Rattle.home_core.proofs.Times.{times_less, below_none}
 use Rattle.home_core.proofs.Owning.{own_after}
 use Rattle.home_core.proofs.Promised.{found_by}
 use Rattle.core_home.specs.declared.turns.Turns.{Turns}
-use Rattle.core_home.specs.Keeping.{IsKept, upto, is_within, store_of, insert_of, index_of, inserted_from}
+use Rattle.core_home.specs.Keeping.{IsKept, upto, is_within, store_of, blob_at, insert_of, index_of, inserted_from}
 use Rattle.core_home.specs.Answers.{lacking, lacking_count, settled, after_settle}
 use Rattle.core_home.specs.Sights.{alone}
 use Rattle.core_home.proofs.Turning.{turn_ran, turn_within, turn_rises, now_spent}
-use Rattle.core_home.proofs.Counting.{AreBelow, are_below, how_many_lack}
+use Rattle.core_home.proofs.Counting.{AreBelow, are_below, indexed_below, indexed_once, how_many_lack}
 use Rattle.core_home.proofs.Blobs.{arrivals_of, store_legal}
-use Rattle.core_home.proofs.Numbers.{index_append, numbers_are, index_legal}
+use Rattle.core_home.proofs.Numbers.{blob_there, index_append, numbers_are, index_legal}
 
 -- ---- an Insert agrees with the blobs
 
-agrees_by : (bs : List Blob) (n : ℕ) (o : Option Blob) → slice_get bs n ≡ o → n < length bs → are_arrivals bs ≡ true
-    → Agrees bs (Insert n (unwrap_or o ([], [])).0 (fact_of (unwrap_or o ([], [])).1))
-agrees_by bs n None is lt ok = absurd (past bs n lt is)
-  where
-    past : (cs : List Blob) (k : ℕ) → k < length cs → slice_get cs k ≡ None → ⊥
-    past [] k low none = omega (arith, low)
-    past (c ∷ cs) zero low none = cc none
-    past (c ∷ cs) (suc k) low none = past cs k (omega (arith, low)) none
-agrees_by bs n (Some b) is lt ok = (b.1, ap (option_map (λ (c : Blob). c.0)) is, is_own_ref-true b.0 b.1 (own_after [] bs n b ok is), refl)
-
 pub insert_agrees : (bs : List Blob) (n : ℕ) → n < length bs → are_arrivals bs ≡ true → Agrees bs (insert_of bs n)
-insert_agrees bs n lt ok = agrees_by bs n (slice_get bs n) refl lt ok
+insert_agrees bs n lt ok =
+    let b = blob_at bs n in
+    let there = blob_there bs n lt in
+    (b.1, ap (option_map (λ (c : Blob). c.0)) there, is_own_ref-true b.0 b.1 (own_after [] bs n b ok there), refl)
 
 -- ---- Inserts in turns of their own
 
@@ -208,16 +201,13 @@ module _ (s : CoreState) where
       go true = none
       go false = ap (without (unindexed_below (settle_bound 0 (length s.store) s) s)) none
 
-  numbers_below_all : IsSound s → AreBelow (length s.store) s.indexed
-  numbers_below_all sound = are_below (length s.store) s.indexed (λ n high. let a = sound.arrived n high in omega (arith, a))
-
   lacking_below : AreBelow (length s.store) (lacking s)
   lacking_below = are_below (length s.store) (lacking s)
       (λ n high. let less = times_less s.indexed (numbers_below (length s.store)) n in let none = below_none (length s.store) n high in omega (arith, less, none))
 
   -- as many as have arrived and aren't indexed
   pub count_of_lacking : IsSound s → lacking_count s + length s.indexed ≡ length s.store
-  count_of_lacking sound = how_many_lack (length s.store) s.indexed (λ n. let o = sound.once n in omega (arith, o)) (numbers_below_all sound)
+  count_of_lacking sound = how_many_lack (length s.store) s.indexed (indexed_once s sound) (indexed_below s sound)
 
   module _ (ts : List ℕ) (us us' : List Turns) (stores i j k : ℕ) (s' : CoreState) (kept : IsKept ts us s stores i) (sound : IsSound s)
       (count : k ≡ lacking_count s) (last : j ≡ i + k) (more : us' ≡ us ++ inserted_from i k) (step : s' ≡ settled s) where
@@ -247,7 +237,7 @@ module _ (s : CoreState) where
       store_legal = store_legal ts s'.store sound'.arrivals;
       store_rises = subst (λ (b : List Blob). rises 0 (store_of ts b) ≡ true) (sym blobs) kept.store_rises;
       store_within = subst (λ (b : List Blob). is_within stores (store_of ts b) ≡ true) (sym blobs) kept.store_within;
-      index_legal = index_legal s'.store us' s'.indexed (λ n. let o = sound'.once n in omega (arith, o));
+      index_legal = index_legal s'.store us' s'.indexed (indexed_once s' sound');
       index_rises = subst (λ (g : List (Stamped IndexEvent)). rises 0 g ≡ true) (sym history) whole.rising;
       index_within = subst (λ (g : List (Stamped IndexEvent)). is_within j g ≡ true) (sym history) whole.within;
     }

@@ -14,6 +14,7 @@ use Rattle.core_home.specs.Keeping.{IsKept, is_within, from_the_start, store_fro
 use Rattle.core_home.specs.Starts.{puts_from, first_sight}
 use Rattle.core_home.specs.Sights.{alone}
 use Rattle.core_home.proofs.Turning.{within_from}
+use Rattle.core_home.proofs.Counting.{indexed_once}
 use Rattle.core_home.proofs.Blobs.{store_legal}
 use Rattle.core_home.proofs.Numbers.{index_legal}
 
@@ -45,7 +46,7 @@ module _ (s : CoreState) (ts : List ℕ) (us : List Turns) (puts : ts ≡ replic
     store_rises = subst (λ (h : List (Stamped StoreEvent)). rises 0 h ≡ true) (sym blobs) (rises_start (puts_from 0 s.store));
     store_within = subst (λ (h : List (Stamped StoreEvent)). is_within 0 h ≡ true) (sym blobs)
         (within_from 0 (map (stamp 0) (puts_from 0 s.store)) (within_start (puts_from 0 s.store)));
-    index_legal = index_legal s.store us s.indexed (λ n. let o = sound.once n in omega (arith, o));
+    index_legal = index_legal s.store us s.indexed (indexed_once s sound);
     index_rises = subst (λ (h : List (Stamped IndexEvent)). rises 0 h ≡ true) (sym numbers) (rises_start (map (insert_of s.store) s.indexed));
     index_within = subst (λ (h : List (Stamped IndexEvent)). is_within 0 h ≡ true) (sym numbers)
         (within_from 0 (map (stamp 0) (map (insert_of s.store) s.indexed)) (within_start (map (insert_of s.store) s.indexed)));

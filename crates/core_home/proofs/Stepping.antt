@@ -1,8 +1,7 @@
 -- A step of a worker.
 use Rattle.std.proofs.Common.{◌≡◌, ℕ, zero, suc, ◌+◌, ◌<◌, ◌≤◌, ◌⊎◌, inl, inr, ⊎_elim, Bool, true, false, not, ◌&&◌, ◌||◌, cond, nat_lt, nat_eq, List, [], ◌∷◌, ◌++◌, length, length-append, min, slice_get, append_assoc, refl, ap, sym, subst, ◌∙◌, arith, Option, Some, None, find, Result, Ok, Err, OnOk, OnErr, is_some}
-use Rattle.std.specs.Option.{unwrap_or}
 use Rattle.std.proofs.lemmas.List.{append-nil}
-use Rattle.std.proofs.lemmas.Bool.{and_from, lt-ltb}
+use Rattle.std.proofs.lemmas.Bool.{and_from, lt-ltb, not-true}
 use Rattle.blobref.specs.declared.memory.NoMemory.{NoMemory}
 use Rattle.edge_base.specs.declared.answers.GetFault.{GetFault}
 use Rattle.edge_base.specs.declared.answers.GetFault.TheVariants as unread
@@ -28,11 +27,12 @@ use Rattle.home_core.specs.Passes.{Sight, StoreTurned, IndexTurned, Agrees}
 use Rattle.home_core.specs.Working.{Takes, TakesAnd, Indexes, Refuses, IndexesNext}
 use Rattle.home_core.proofs.Counting.{find_last, find_front}
 use Rattle.core_home.specs.declared.turns.Turns.{Turns}
-use Rattle.core_home.specs.Keeping.{IsKept, no_limits, upto, is_within, store_of, insert_of, index_of}
+use Rattle.core_home.specs.Keeping.{IsKept, no_limits, upto, is_within, store_of, blob_at, insert_of, index_of}
 use Rattle.core_home.specs.Sights.{alone}
 use Rattle.core_home.proofs.Turning.{kept_later, within_later, turn_within, turn_rises, store_turn, index_turn, now_spent}
+use Rattle.core_home.proofs.Counting.{indexed_once}
 use Rattle.core_home.proofs.Blobs.{arrivals_of}
-use Rattle.core_home.proofs.Numbers.{index_append, inserted_has, waits_are, index_legal}
+use Rattle.core_home.proofs.Numbers.{blob_there, index_append, inserted_has, waits_are, index_legal}
 use Rattle.core_home.proofs.Settling.{insert_agrees}
 
 -- ---- the least of the numbers below a bound
@@ -98,22 +98,13 @@ module _ (a : Accepts) (bs : List Blob) (h : List (Stamped StoreEvent)) (are : a
   count_turn n g i spent w r = store_turn a (λ before entry. CountSays before (length bs) entry) h h n (n + 1) None g g i spent spent w r
       (sym (append-nil h)) refl refl refl (ap length (sym are), tt)
 
-  there_by : (n : ℕ) (o : Option Blob) → slice_get bs n ≡ o → n < length bs → slice_get bs n ≡ Some (unwrap_or o ([], []))
-  there_by n (Some b) is lt = is
-  there_by n None is lt = absurd (past bs n lt is)
-    where
-      past : (cs : List Blob) (k : ℕ) → k < length cs → slice_get cs k ≡ None → ⊥
-      past [] k low none = omega (arith, low)
-      past (c ∷ cs) zero low none = cc none
-      past (c ∷ cs) (suc k) low none = past cs k (omega (arith, low)) none
-
   arrival_turn : (k n : ℕ) (g : List (Stamped IndexEvent)) (i : ℕ) (spent : Bool) → k < length bs → is_within n h ≡ true → rises 0 h ≡ true
-      → StoreTurned (λ before entry. ArrivalSays true k before (Ok (Some (unwrap_or (slice_get bs k) ([], [])))) entry) (alone a h n g i spent) (alone a h (n + 1) g i spent)
+      → StoreTurned (λ before entry. ArrivalSays true k before (Ok (Some (blob_at bs k))) entry) (alone a h n g i spent) (alone a h (n + 1) g i spent)
   arrival_turn k n g i spent lt w r =
-      let found : Blob = unwrap_or (slice_get bs k) ([], []) in
+      let found : Blob = blob_at bs k in
       store_turn a (λ before entry. ArrivalSays true k before (Ok (Some found)) entry) h h n (n + 1) None g g i spent spent w r
       (sym (append-nil h)) refl refl refl
-      (subst (λ (b : List Blob). ArrivalSays true k b (Ok (Some found)) None) (sym are) ((found.1, there_by k (slice_get bs k) refl lt, refl), tt))
+      (subst (λ (b : List Blob). ArrivalSays true k b (Ok (Some found)) None) (sym are) ((found.1, blob_there bs k lt, refl), tt))
 
   -- a turn of the index that adds nothing
   quiet_turn : (taken : Result (Option ℕ) NoMemory) (n : ℕ) (g : List (Stamped IndexEvent)) (i : ℕ) (spent : Bool) → is_within i g ≡ true → rises 0 g ≡ true
@@ -159,11 +150,11 @@ module _ (a : Accepts) (bs : List Blob) (h : List (Stamped StoreEvent)) (are : a
       };
       rest = record {
         middle = alone a h (n + 1 + 1) taking (i + 1) spent;
-        found = unwrap_or (slice_get bs k) ([], []);
-        fact = fact_of (unwrap_or (slice_get bs k) ([], [])).1;
+        found = blob_at bs k;
+        fact = fact_of (blob_at bs k).1;
         arrival = arrival_turn k (n + 1) taking (i + 1) spent least.low (within_later n (n + 1) h (omega arith) w) r;
         agrees = subst (λ (b : List Blob). Agrees b (insert_of bs k)) (sym are) (insert_agrees bs k least.low own);
-        insert = index_turn a (λ before entry. InsertSays k (unwrap_or (slice_get bs k) ([], [])).0 (fact_of (unwrap_or (slice_get bs k) ([], [])).1) before (Ok inserted.New) entry)
+        insert = index_turn a (λ before entry. InsertSays k (blob_at bs k).0 (fact_of (blob_at bs k).1) before (Ok inserted.New) entry)
             h (n + 1 + 1) taking (i + 1) (Some (insert_of bs k)) spent (turn_within i g (Some (Take k)) wi) (turn_rises i g (Some (Take k)) wi ri) (still_new, refl);
       };
     }
@@ -231,11 +222,7 @@ module _ (s : CoreState) (ts : List ℕ) (us : List Turns) (stores indexes : ℕ
     least = least_is k found
 
     not_indexed : has k s.indexed ≡ false
-    not_indexed = is_false (has k s.indexed) (sym (waits_are s.store us s.indexed kept.each_insert k) ∙ least.passing)
-      where
-        is_false : (b : Bool) → not b ≡ true → b ≡ false
-        is_false true e = absurd cc
-        is_false false e = refl
+    not_indexed = not-true (has k s.indexed) (sym (waits_are s.store us s.indexed kept.each_insert k) ∙ least.passing)
 
     may : may_insert k s ≡ true
     may = and_from (nat_lt k (length s.store)) (not (has k s.indexed)) (lt-ltb k (length s.store) least.low) (ap not not_indexed)
@@ -300,7 +287,7 @@ module _ (s : CoreState) (ts : List ℕ) (us : List Turns) (stores indexes : ℕ
         store_legal = subst (λ (b : List Blob). is_legal_store no_limits (store_of ts b) ≡ true) (sym blobs) kept.store_legal;
         store_rises = subst (λ (b : List Blob). rises 0 (store_of ts b) ≡ true) (sym blobs) kept.store_rises;
         store_within = subst (λ (b : List Blob). is_within stores' (store_of ts b) ≡ true) (sym blobs) (within_later stores stores' history (omega (arith, next)) kept.store_within);
-        index_legal = index_legal s'.store us' s'.indexed (λ n. let o = sound'.once n in omega (arith, o));
+        index_legal = index_legal s'.store us' s'.indexed (indexed_once s' sound');
         index_rises = rises_two;
         index_within = within_two;
       }

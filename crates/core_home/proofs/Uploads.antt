@@ -27,7 +27,7 @@ use Rattle.core_home.specs.Keeping.{IsKept, is_within, store_of, index_of}
 use Rattle.core_home.specs.Answers.{is_stored, put_entry, after_put, after_upload, IsRefusal}
 use Rattle.core_home.specs.Sights.{alone}
 use Rattle.core_home.proofs.Turning.{turn_within, turn_rises, store_turn}
-use Rattle.core_home.proofs.Counting.{AreBelow, are_below}
+use Rattle.core_home.proofs.Counting.{AreBelow, indexed_below}
 use Rattle.core_home.proofs.Blobs.{arrivals_of, store_push, store_legal}
 use Rattle.core_home.proofs.Numbers.{index_same}
 
@@ -83,10 +83,7 @@ module _ (said bytes : List ℕ) where
           ∙ ap (λ (n : ℕ). store_of ts s.store ++ stamped n (put_entry said bytes r)) next)
 
       index : index_of s'.store us s'.indexed ≡ index_of s.store us s.indexed
-      index = (λ i. index_of (step i).store us (step i).indexed) ∙ upload_index r (below_of s sound)
-        where
-          below_of : (s : CoreState) → IsSound s → AreBelow (length s.store) s.indexed
-          below_of s sound = are_below (length s.store) s.indexed (λ n high. let a = sound.arrived n high in omega (arith, a))
+      index = (λ i. index_of (step i).store us (step i).indexed) ∙ upload_index r (indexed_below s sound)
 
       -- the pass stays as each is
       pub upload_kept : IsSound s' → IsKept ts' us s' t indexes

@@ -58,11 +58,13 @@ store_of = store_from 0
 
 -- ---- the index
 
--- the Insert of a number: with the ref and the fact of the blob that arrived under it
+-- the blob that arrived under a number
+abbrev pub blob_at : List Blob → ℕ → Blob
+blob_at blobs n = unwrap_or (slice_get blobs n) ([], [])
+
+-- the Insert of a number: with the ref and the fact of its blob
 abbrev pub insert_of : List Blob → ℕ → IndexEvent
-insert_of blobs n =
-    let b = unwrap_or (slice_get blobs n) ([], []) in
-    index.Insert n b.0 (fact_of b.1)
+insert_of blobs n = index.Insert n (blob_at blobs n).0 (fact_of (blob_at blobs n).1)
 
 -- the Take of a number, where it was taken
 abbrev pub take_of : Option ℕ → ℕ → List (Stamped IndexEvent)

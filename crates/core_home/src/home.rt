@@ -9,8 +9,9 @@ use search_query::Query;
 use std::marker::PhantomData;
 use std::sync::Wait;
 
-/// The home of one actor (`docs/core.md`). It has no state: each pass has a core of its own, and its calls are events of
-/// that core, in the session 0. It tells its bytes.
+/// The home of one actor (`docs/core.md`). It has no state: each pass has a core of its own, and the calls that change
+/// it are events of that core, in the session 0. It tells its bytes.
+#[derive(Drop)]
 pub struct CoreHome<V> {
     of: PhantomData<V>,
 }

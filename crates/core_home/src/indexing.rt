@@ -42,8 +42,8 @@ pub(crate) fn settle<V: Verifier>(
     Ok(())
 }
 
-/// Inserts a number, which was taken in the turn before, and keeps these two turns. After a refusal for memory all is as
-/// it was.
+/// Inserts a number, which was taken in the turn before, and keeps these two turns. After a refusal for memory all is
+/// as it was.
 pub(crate) fn insert<V: Verifier>(
     core: &mut Core<V>,
     inserts: &mut Vec<Turns>,

@@ -78,8 +78,8 @@ impl<V: Verifier> CorePass<V> {
         self.core
     }
 
-    /// Puts a blob under its ref, in one turn of the store. Where it is stored, that is a put of the core; else the core
-    /// is as it was. Of the errors `TooBig`, `BadDigest` and `NoMemory` come.
+    /// Puts a blob under its ref, in one turn of the store. Where it is stored, that is a put of the core; else the
+    /// core is as it was. Of the errors `TooBig`, `BadDigest` and `NoMemory` come. It looks through the refs.
     pub fn upload(&mut self, said: &Ref, bytes: &[u8]) -> Result<Put, PutFault>
         ensures turn { StoreCall (result ≡ Err PutFault.NoMemory)
             (λ before entry. PutSays said.now bytes.now before result entry)

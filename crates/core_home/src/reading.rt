@@ -119,7 +119,8 @@ pub(crate) fn list(
 // Puts an entry behind the others where its ref is greater.
 fn keep_after(after: Option<&Ref>, entry: &(Ref, u64), found: &mut Listing) -> Result<(), NoMemory>
     ensures { OnOk result
-        (found.new ≡ (if is_after (option_copied after.entry) entry.now.0 then found.old ++ entry.now ∷ [] else found.old)) }
+        (found.new ≡ (if is_after (option_copied after.entry) entry.now.0 then found.old ++ entry.now ∷ []
+        else found.old)) }
 {
     if is_after(after, &entry.0) {
         found.push(*entry)?;
