@@ -263,9 +263,7 @@ PARAMETER = rb"[ \t]*;[ \t]*(%b)=(?:(%b)|\"([\t\x20\x21\x23-\x5b\x5d-\x7e\x80-\x
 PARAMETERS = re.compile(rb"(?:%b)*[ \t]*" % PARAMETER)
 PARAMETER = re.compile(PARAMETER)
 BOUNDARY = re.compile(rb"[0-9A-Za-z'()+_,./:=? -]{0,69}[0-9A-Za-z'()+_,./:=?-]")
-# A line of a part's head with its end, and what may become one, by the least number of bytes that lead to the head's
-# end.
-PART_LINE = HEADER
+# What may become a line of a part's head, by the least number of bytes that lead from it to the end of that head.
 BEGINNINGS = {
     1: re.compile(rb"\r?"),
     2: re.compile(rb"%b:[\t\x20-\x7e\x80-\xff]*\r?" % TOKEN),
@@ -360,7 +358,7 @@ class Multipart:
                 raise fault
             if self.text[line:behind] in (b"\n", b"\r\n"):
                 break
-            header = PART_LINE.fullmatch(self.text, line, behind)
+            header = HEADER.fullmatch(self.text, line, behind)
             if header is None or len(headers) == MOST_PART_LINES or behind - start == LONGEST_PART_HEAD:
                 raise fault
             headers.append((header[1].lower(), header[2].strip(BLANKS)))

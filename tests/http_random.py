@@ -20,7 +20,8 @@ class RandomConnection:
     def __init__(self, number):
         random = chance("connection store", number)
         self.store = RandomStore(random)
-        self.pack = pack(*random.sample(self.store.blobs, random.randrange(len(self.store.blobs) + 1)))
+        most = len(self.store.blobs)
+        self.pack = pack(*random.sample(self.store.blobs, max(random.randint(0, most), random.randint(0, most))))
         self.others = [octets(f"blob {place}\r\n--b\r\n") for place in range(3)]
 
     def stream(self, random):

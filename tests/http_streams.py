@@ -145,7 +145,8 @@ def pages(program):
         lambda stream=stream, example=example: compare(f"{stream}", "the reference", example, seen(stream))
         for stream, example in zip(streams, EXAMPLES)
     ]
-    return checks + [multipart_example] + [lambda text=text: pairs_alike(text) for text in PAIRS]
+    checks += [lambda text=text: pairs_alike(text) for text in PAIRS]
+    return checks + [multipart_example] + [lambda case=case: beginnings(case) for case in http_inputs.rows()]
 
 
 def seen(stream):
@@ -177,7 +178,16 @@ def multipart_example():
         told.extend(connections.Multipart(body[: body.index(b"abc") + 3], b"b").events())
     except connections.Unfinished as unfinished:
         told.append(unfinished.at)
-    compare("the body of the page, cut", "where it is bad", [51], told)
+    compare("the body of the page, cut", "where it is bad", [("one", None), 51], told)
+
+
+def beginnings(case):
+    """What is answered stays answered, whatever comes behind it."""
+    blobs = reference.content(reference.salvage(http_inputs.STORES[case.store])[0])
+    whole = connections.replies(case.stream, blobs, KEYS)
+    for place in range(0, len(case.stream), 1 + len(case.stream) // 500):
+        some = connections.replies(case.stream[:place], blobs, KEYS)
+        compare(f"{case.what}, {place} bytes of it", "the first replies", whole[: len(some)], some)
 
 
 def pairs_alike(text):
@@ -194,7 +204,7 @@ def random_streams():
 
 
 class Shelves:
-    """The stores of all groups, each made once."""
+    """The stores of a group, each made once."""
 
     def __init__(self, program):
         self.program = program
