@@ -13,7 +13,7 @@ import reference
 import writing
 from connections import LISTING, LONGEST_BODY, LONGEST_HEAD, QUERY, STAT, UPLOAD
 from inputs import ABSENT, CLAIM, KEY, NODE
-from query_inputs import KEYRING, spell
+from query_inputs import spell
 from reference import ref_of
 from writing import octets, pack
 

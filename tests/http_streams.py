@@ -22,9 +22,10 @@ import reference
 from connections import Cut
 from harness import Difference, chance, check, compare, compare_ending, run_quickly
 from http_inputs import Case
+from query_inputs import KEYRING
 
 DOCS = pathlib.Path(__file__).resolve().parent.parent / "docs"
-KEYS = reference.read_keyring(http_inputs.KEYRING)
+KEYS = reference.read_keyring(KEYRING)
 # Longer streams aren't handed over byte by byte.
 LONGEST_BYTE_BY_BYTE = 4_000_000
 # So many bytes are shown before the first that differs.
@@ -41,7 +42,7 @@ class Shelf:
         self.blobs = reference.content(reference.salvage(pack)[0])
         self.pack, self.keyring = program.new_path(), program.new_path()
         self.pack.write_bytes(pack)
-        self.keyring.write_bytes(http_inputs.KEYRING)
+        self.keyring.write_bytes(KEYRING)
 
     def answers(self, case):
         """Hands a stream over whole and in pieces; the replies have to be the reference's each time."""
