@@ -1,0 +1,5 @@
+pub mod Ordering
+pub mod Putting
+pub mod Telling
+pub mod Pieces
+pub mod Ending

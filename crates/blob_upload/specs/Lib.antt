@@ -1,0 +1,5 @@
+pub mod Faults
+pub mod Puts
+pub mod Ends
+pub mod Uploads
+pub mod Taking
