@@ -3,3 +3,4 @@ pub mod Putting
 pub mod Telling
 pub mod Pieces
 pub mod Ending
+pub mod Adding

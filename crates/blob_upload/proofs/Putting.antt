@@ -29,7 +29,7 @@ use Rattle.multipart_read.specs.PartLists.{Part}
 use Rattle.blob_upload.specs.Faults.{content_fault, part_fault}
 use Rattle.blob_upload.specs.Puts.{IsArrivalOf, Puts, Keeps}
 
-abbrev stands : Sight → Part → Type 0
+abbrev pub stands : Sight → Part → Type 0
 stands w part = has_ref part.0 (arrivals w.store.history) ≡ true
 
 -- ---- a blob that was put stands
@@ -59,7 +59,7 @@ any_placed p k n (x ∷ xs) e = by (p x) (position_from p (k + 1) xs) (list_any 
     by false o b f e = f e
 
 -- what stood stands in every longer history
-stands_longer : (v w : Sight) (part : Part) → IsPrefix v.store.history w.store.history → stands v part → stands w part
+pub stands_longer : (v w : Sight) (part : Part) → IsPrefix v.store.history w.store.history → stands v part → stands w part
 stands_longer v w part longer stood =
     let further = arrivals_prefix v.store.history w.store.history longer in
     subst (λ blobs. has_ref part.0 blobs ≡ true) further.1
@@ -69,7 +69,7 @@ stands_longer v w part longer stood =
 
 module _ (part : Part) (before : List Blob) where
   -- the answer that comes before anything is done, by its two tests
-  abbrev settled_by : (long other : Bool) (place : Option ℕ) → Option (Result Put PutFault)
+  abbrev pub settled_by : (long other : Bool) (place : Option ℕ) → Option (Result Put PutFault)
   settled_by long other place =
       if long then Some (Err (fault.TooBig (length part.1)))
       else if other then Some (Err (fault.BadDigest part.0 (ref_like part.0 part.1)))

@@ -3,3 +3,4 @@ pub mod Puts
 pub mod Ends
 pub mod Uploads
 pub mod Taking
+pub mod Adds

@@ -3,9 +3,11 @@
 
 mod came;
 mod feeding;
+mod laws;
 mod opened;
 mod parts;
 mod uploading;
 
 pub use came::Came;
+pub use laws::uploads_add;
 pub use uploading::take_parts;
