@@ -1,6 +1,6 @@
 -- What an upload has added.
-use Rattle.std.proofs.Common.{◌≡◌, ◌⊎◌, inl, inr, ℕ, ◌+◌, Bool, true, false, not, nat_eq, nat_lt, List, [], ◌∷◌, ◌++◌, length, Contains, refl, sym, ap, subst, ◌∙◌, arith, length-append, Option, Some, None, Result, Ok, Err}
-use Rattle.std.proofs.lemmas.Bool.{eq-eqb}
+use Rattle.std.proofs.Common.{◌≡◌, ◌⊎◌, inl, inr, ℕ, ◌+◌, ◌≤◌, Bool, true, false, not, nat_eq, nat_lt, List, [], ◌∷◌, ◌++◌, length, Contains, refl, sym, ap, subst, ◌∙◌, arith, length-append, Option, Some, None, Result, Ok, Err}
+use Rattle.std.proofs.lemmas.Bool.{eq-eqb, ltb-true}
 use Rattle.std.proofs.lemmas.List.Elements.{All-weaker, Contains-append_right}
 use mathlib.Core.List.{IsPrefix}
 use Rattle.blobref.specs.Blobref.{is_own_ref}
@@ -31,8 +31,9 @@ use Rattle.blob_upload.specs.declared.came.Came.{Came}
 use Rattle.blob_upload.specs.declared.came.Came.TheVariants.{Whole, Refused, Full, Disk, Memory}
 use Rattle.blob_upload.specs.Faults.{most_bytes, came_of_part, came_of_wire, came_of_put}
 use Rattle.blob_upload.specs.Puts.{IsArrivalOf, Puts, EndsBy, LastPut}
-use Rattle.blob_upload.specs.Ends.{StopsAt, StopsIn, Ends}
+use Rattle.blob_upload.specs.Ends.{StopsAt, Told, StopsIn, Ends}
 use Rattle.blob_upload.specs.Adds.{IsAddedBy, Turns, ShowsWhy, Adds, UploadsAdd}
+use Rattle.blob_upload.proofs.Fitting.{contents_fit}
 use Rattle.blob_upload.proofs.Putting.{stands, stands_longer, settled_by}
 
 -- ---- an upload that ends without a further put
@@ -44,7 +45,7 @@ Quiet came = ((n : ℕ) → Turns came n n) × ((turns : List ℕ) (h : List (St
 quiet_part : (fault : PartFault) → Quiet (came_of_part fault)
 quiet_part part_faults.BadBoundary = (λ n. refl, λ turns h. tt)
 quiet_part (part_faults.Bad at) = (λ n. refl, λ turns h. tt)
-quiet_part (part_faults.TooLong limit) = (λ n. inl refl, λ turns h. tt)
+quiet_part (part_faults.TooLong limit) = (λ n. refl, λ turns h. tt)
 quiet_part part_faults.NoMemory = (λ n. inl refl, λ turns h. tt)
 
 quiet_wire : (end : WireEnd) → Quiet (came_of_wire end)
@@ -117,19 +118,36 @@ put_adds parts part before None (Err put.Disk) came e ends said =
     let is : e ≡ store.Fault (said.0) = cc (said.1) in subst (IsAddedBy parts came) (sym is) ends
 put_adds parts part before None (Err put.NoMemory) came e ends said = absurd (cc said)
 
-turned : (answer : Result Put PutFault) (came : Came) (n : ℕ) → EndsBy answer came → Turns came n (n + 1)
-turned answer came n ends = by answer ends
+-- a part that is told of a body isn't too big
+big_by : (part : Part) (before : List Blob) (long other : Bool) (place : Option ℕ) (size : ℕ) (entry : Option StoreEvent)
+    → PutAnswers part.0 part.1 before (settled_by part before long other place) (Err (put.TooBig size)) entry → long ≡ true
+big_by part before true other place size entry said = refl
+big_by part before false true place size entry said = absurd (cc (said.0))
+big_by part before false false None size entry said = absurd said
+big_by part before false false (Some n) size entry said = absurd (cc (said.0))
+
+never_big : (part : Part) (before : List Blob) (size : ℕ) (entry : Option StoreEvent) → length part.1 ≤ max_size
+    → PutSays part.0 part.1 before (Err (put.TooBig size)) entry → ⊥
+never_big part before size entry few said =
+    let long : nat_lt max_size (length part.1) ≡ true =
+    big_by part before (nat_lt max_size (length part.1)) (not (is_own_ref part.0 part.1)) (number_of part.0 before) size entry said in
+    let many = ltb-true max_size (length part.1) long in
+    absurd (omega (arith, few, many))
+
+turned : (part : Part) (before : List Blob) (answer : Result Put PutFault) (entry : Option StoreEvent) (came : Came) (n : ℕ)
+    → length part.1 ≤ max_size → PutSays part.0 part.1 before answer entry → EndsBy answer came → Turns came n (n + 1)
+turned part before answer entry came n few said ends = by answer ends said
   where
     at : (is : Came) → Turns is n (n + 1) → came ≡ is → Turns came n (n + 1)
     at is turns same = subst (λ c. Turns c n (n + 1)) (sym same) turns
 
-    by : (answer : Result Put PutFault) → EndsBy answer came → Turns came n (n + 1)
-    by (Ok stored) ends = at Memory (inr refl) ends
-    by (Err (put.TooBig size)) ends = at (came_of_put (put.TooBig size)) (inr refl) ends
-    by (Err (put.BadDigest a b)) ends = at (came_of_put (put.BadDigest a b)) refl ends
-    by (Err (put.Full blobs pack)) ends = at (Full blobs pack) refl ends
-    by (Err put.Disk) ends = at Disk refl ends
-    by (Err put.NoMemory) ends = at Memory (inr refl) ends
+    by : (answer : Result Put PutFault) → EndsBy answer came → PutSays part.0 part.1 before answer entry → Turns came n (n + 1)
+    by (Ok stored) ends said = at Memory (inr refl) ends
+    by (Err (put.TooBig size)) ends said = absurd (never_big part before size entry few said)
+    by (Err (put.BadDigest a b)) ends said = at (came_of_put (put.BadDigest a b)) refl ends
+    by (Err (put.Full blobs pack)) ends said = at (Full blobs pack) refl ends
+    by (Err put.Disk) ends said = at Disk refl ends
+    by (Err put.NoMemory) ends said = at Memory (inr refl) ends
 
 full_by : (part : Part) (before : List Blob) (long other : Bool) (place : Option ℕ) (blobs pack : ℕ) (entry : Option StoreEvent)
     → PutAnswers part.0 part.1 before (settled_by part before long other place) (Err (put.Full blobs pack)) entry
@@ -171,7 +189,7 @@ shows_why part answer came h turns t entry ends said = by answer ends said
         at Disk (t, is.0, has_rest turns (t ∷ []) t (has_one t), stamped_stands h t entry (store.Fault (is.0)) (is.1)) ends
     by (Err put.NoMemory) ends said = at Memory tt ends
 
-module _ (parts : List Part) (part : Part) (came : Came) (v m w : Sight) (puts : Puts parts v m) where
+module _ (parts : List Part) (part : Part) (came : Came) (v m w : Sight) (puts : Puts parts v m) (few : length part.1 ≤ max_size) where
   adds_turned : (answer : Result Put PutFault) → EndsBy answer came
       → StoreTurned (λ before entry. PutSays part.0 part.1 before answer entry) m w → Adds parts came v w
   adds_turned answer ends t =
@@ -186,7 +204,7 @@ module _ (parts : List Part) (part : Part) (came : Came) (v m w : Sight) (puts :
             (ran_grew (λ before turn entry. PutSays part.0 part.1 (arrivals before) answer entry) (IsAddedBy parts came)
             m.store.history w.store.history m.store.turns w.store.turns
             (λ h n e said. put_adds parts part (arrivals h) (put_settled part.0 part.1 (arrivals h)) answer came e ends said) r);
-        turns = subst (λ n. Turns came (length parts) n) (sym count) (turned answer came (length parts) ends);
+        turns = subst (λ n. Turns came (length parts) n) (sym count) (turned part (arrivals r.before) answer r.entry came (length parts) few r.said ends);
         why = subst (λ h. ShowsWhy came (puts.grew.further ++ (r.ticket + 1) ∷ []) h) (sym r.added)
             (shows_why part answer came r.before puts.grew.further (r.ticket + 1) r.entry ends r.said);
         stand = All-weaker (stands m) (stands w) (λ other stood. stands_longer m w other longer stood) parts puts.stand;
@@ -222,18 +240,22 @@ module _ (parts : List Part) (part : Part) (came : Came) (v m w : Sight) (puts :
       by (inr spent) = adds_spent (memory last.answer (spent.0) last.ends) (spent.1)
 
 module _ (parts : List Part) (came : Came) (v m w : Sight) (puts : Puts parts v m) where
-  adds_at : (after : List Token) → StopsAt after came m w → Adds parts came v w
-  adds_at after (StopsAt.AtName name later told bad ends same) =
+  adds_at : (boundary given : List ℕ) (after : List Token) → Told boundary given parts after → StopsAt after came m w
+      → Adds parts came v w
+  adds_at boundary given after front (StopsAt.AtName name later told bad ends same) =
       adds_quiet parts v m w puts came (Refused BadRef) (λ n. refl, λ turns h. tt) ends same
-  adds_at after (StopsAt.AtPart part later told good last) = adds_last parts part came v m w puts last
-  adds_at after (StopsAt.ForMemory ends same) = adds_quiet parts v m w puts came Memory (λ n. inl refl, λ turns h. tt) ends same
+  adds_at boundary given after front (StopsAt.AtPart part later told good last) =
+      let few = contents_fit boundary given parts part later (subst (λ ts. Told boundary given parts ts) told front) in
+      adds_last parts part came v m w puts few last
+  adds_at boundary given after front (StopsAt.ForMemory ends same) =
+      adds_quiet parts v m w puts came Memory (λ n. inl refl, λ turns h. tt) ends same
 
   adds_in : (boundary given : List ℕ) → StopsIn boundary given parts came m w → Adds parts came v w
-  adds_in boundary given (StopsIn.AtToken after told stops) = adds_at after stops
+  adds_in boundary given (StopsIn.AtToken after told stops) = adds_at boundary given after told stops
   adds_in boundary given (StopsIn.AtFault fault faulty ends same) =
       adds_quiet parts v m w puts came (came_of_part fault) (quiet_part fault) ends same
   adds_in boundary given (StopsIn.AtLimit front rest whole full some reads ends same) =
-      adds_quiet parts v m w puts came (Refused (TooLong most_bytes)) (λ n. inl refl, λ turns h. tt) ends same
+      adds_quiet parts v m w puts came (Refused (TooLong most_bytes)) (λ n. refl, λ turns h. tt) ends same
 
   adds_ends : (boundary given : List ℕ) (wire : WireView) (x : Option (List ℕ)) → Ends boundary given parts wire x came m w
       → Adds parts came v w

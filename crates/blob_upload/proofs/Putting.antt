@@ -24,9 +24,9 @@ use Rattle.histories.proofs.Standing.{arrivals_append, arrivals_prefix}
 use Rattle.home_core.specs.Seats.{StoreGrew}
 use Rattle.home_core.specs.Passes.{Sight, StoreTurned}
 use Rattle.answer_text.specs.declared.refusal.Refusal.{Refusal}
-use Rattle.answer_text.specs.declared.refusal.Refusal.TheVariants.{TooLong, BadDigest, BadRef}
+use Rattle.answer_text.specs.declared.refusal.Refusal.TheVariants.{BadDigest, BadRef}
 use Rattle.multipart_read.specs.PartLists.{Part}
-use Rattle.blob_upload.specs.Faults.{content_fault, part_fault}
+use Rattle.blob_upload.specs.Faults.{part_fault}
 use Rattle.blob_upload.specs.Puts.{IsArrivalOf, Puts, Keeps}
 
 abbrev pub stands : Sight → Part → Type 0
@@ -75,23 +75,24 @@ module _ (part : Part) (before : List Blob) where
       else if other then Some (Err (fault.BadDigest part.0 (ref_like part.0 part.1)))
       else option_map (λ (n : ℕ). Ok (Already n)) place
 
-  abbrev fault_by : (long other : Bool) → Option Refusal
-  fault_by long other =
-      if long then Some (TooLong max_size)
+  abbrev fault_by : (unnamed other : Bool) → Option Refusal
+  fault_by unnamed other =
+      if unnamed then Some BadRef
       else if other then Some (BadDigest part.0 (ref_like part.0 part.1))
       else None
 
   sound_by : (long other : Bool) (place : Option ℕ) (put : Put) (entry : Option StoreEvent)
-      → PutAnswers part.0 part.1 before (settled_by long other place) (Ok put) entry → fault_by long other ≡ None
+      → PutAnswers part.0 part.1 before (settled_by long other place) (Ok put) entry → fault_by false other ≡ None
   sound_by true other place put entry said = absurd (cc (said.0))
   sound_by false true place put entry said = absurd (cc (said.0))
   sound_by false false place put entry said = refl
 
   -- a part that was put has no fault
   pub put_sound : (put : Put) (entry : Option StoreEvent) → PutSays part.0 part.1 before (Ok put) entry
-      → content_fault part ≡ None
-  put_sound put entry said =
-      sound_by (nat_lt max_size (length part.1)) (not (is_own_ref part.0 part.1)) (number_of part.0 before) put entry said
+      → is_blobref part.0 ≡ true → part_fault part ≡ None
+  put_sound put entry said named =
+      ap (λ b. fault_by (not b) (not (is_own_ref part.0 part.1))) named
+      ∙ sound_by (nat_lt max_size (length part.1)) (not (is_own_ref part.0 part.1)) (number_of part.0 before) put entry said
 
   -- what it adds is its arrival
   put_adds : (answer : Option (Result Put PutFault)) (put : Put) (parts : List Part) (e : StoreEvent)
@@ -205,7 +206,7 @@ pub keeps_more : (parts : List Part) (part : Part) (put : Put) (first kept kept'
 keeps_more parts part put first kept kept' u v w k named listed t =
     let r = t.turn.ran in
     let sound : part_fault part ≡ None =
-    ap (λ b. cond b (content_fault part) (Some BadRef)) named ∙ put_sound part (arrivals r.before) put r.entry r.said in
+    put_sound part (arrivals r.before) put r.entry r.said named in
     record {
       sound = All-push (λ (p : Part). part_fault p ≡ None) parts part k.sound sound;
       listed = listed ∙ ap (λ l. l ++ (part.0, length part.1) ∷ []) k.listed

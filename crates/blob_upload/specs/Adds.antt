@@ -10,7 +10,7 @@ use Rattle.multipart_read.specs.PartLists.{Part}
 use Rattle.home_core.specs.Seats.{StoreGrew}
 use Rattle.home_core.specs.Passes.{Sight}
 use Rattle.answer_text.specs.declared.refusal.Refusal.{Refusal}
-use Rattle.answer_text.specs.declared.refusal.Refusal.TheVariants.{BadDigest, TooLong}
+use Rattle.answer_text.specs.declared.refusal.Refusal.TheVariants.{BadDigest}
 use Rattle.blob_upload.specs.declared.came.Came.{Came}
 use Rattle.blob_upload.specs.declared.came.Came.TheVariants.{Whole, Refused, Full, Disk, Memory, Ended}
 use Rattle.blob_upload.specs.Uploads.{Uploads}
@@ -26,11 +26,9 @@ IsAddedBy parts came (store.Full blobs pack) = came ≡ Full blobs pack
 -- how many turns of the store are drawn where a body is refused behind so many parts that were kept
 abbrev pub TurnsRefused : Refusal → ℕ → ℕ → Type 0
 TurnsRefused (BadDigest said is) kept turns = turns ≡ kept + 1
-TurnsRefused (TooLong limit) kept turns = (turns ≡ kept) ⊎ (turns ≡ kept + 1)
 TurnsRefused refusal kept turns = turns ≡ kept
 
--- One for each part that was kept, and one for the part that was tried at the end. A part that is too long is no part
--- by the rules of multipart bodies, and where it is one it was tried.
+-- one for each part that was kept, and one for the part that was tried at the end
 abbrev pub Turns : Came → ℕ → ℕ → Type 0
 Turns Whole kept turns = turns ≡ kept
 Turns (Refused refusal) kept turns = TurnsRefused refusal kept turns

@@ -1,5 +1,5 @@
 -- Why the parts of an upload are refused, and what the upload then ends with.
-use Rattle.std.specs.Prelude.{ℕ, length, not, nat_lt, if◌then◌else◌, Option, Some, None}
+use Rattle.std.specs.Prelude.{ℕ, not, if◌then◌else◌, Option, Some, None}
 use Rattle.blobref.specs.Blobref.{is_blobref, is_own_ref, ref_like}
 use Rattle.edge_base.specs.declared.answers.PutFault.{PutFault}
 use Rattle.edge_base.specs.declared.answers.PutFault.TheVariants as put
@@ -18,18 +18,14 @@ use Rattle.blob_upload.specs.declared.came.Came.TheVariants.{Refused, Full, Disk
 abbrev pub most_bytes : ℕ
 most_bytes = 17000000000
 
--- why a whole part is refused, if it is: its content is too long, or its name isn't a ref of it
-abbrev pub content_fault : Part → Option Refusal
-content_fault part =
-    if nat_lt max_size (length part.1) then Some (TooLong max_size)
+-- why a whole part is refused, if it is: its name is no ref, or another one than its content has
+abbrev pub part_fault : Part → Option Refusal
+part_fault part =
+    if not (is_blobref part.0) then Some BadRef
     else if not (is_own_ref part.0 part.1) then Some (BadDigest part.0 (ref_like part.0 part.1))
     else None
 
--- the same, where its name comes first
-abbrev pub part_fault : Part → Option Refusal
-part_fault part = if is_blobref part.0 then content_fault part else Some BadRef
-
--- what an upload ends with where a part isn't put
+-- What an upload ends with where a part isn't put. No part that is told of a body is too big.
 abbrev pub came_of_put : PutFault → Came
 came_of_put (put.TooBig size) = Refused (TooLong max_size)
 came_of_put (put.BadDigest said is) = Refused (BadDigest said is)

@@ -4,3 +4,4 @@ pub mod Ends
 pub mod Uploads
 pub mod Taking
 pub mod Adds
+pub mod Laws

@@ -24,7 +24,7 @@ pub enum Came {
     Ended(WireEnd),
 }
 
-/// What an upload ends with where a part isn't put.
+/// What an upload ends with where a part isn't put. No part that is told of a body is too big.
 pub(crate) fn came_of_put(fault: PutFault) -> Came
     ensures { result ≡ came_of_put fault }
 {
