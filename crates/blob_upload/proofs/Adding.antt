@@ -259,7 +259,7 @@ module _ (parts : List Part) (came : Came) (v m w : Sight) (puts : Puts parts v 
 
   adds_ends : (boundary given : List ℕ) (wire : WireView) (x : Option (List ℕ)) → Ends boundary given parts wire x came m w
       → Adds parts came v w
-  adds_ends boundary given wire x (Ends.Inside stops) = adds_in boundary given stops
+  adds_ends boundary given wire x (Ends.Inside front piece whole few over stops) = adds_in boundary given stops
   adds_ends boundary given wire x (Ends.AtClose done short is ends same) =
       adds_quiet parts v m w puts came Whole (λ n. refl, λ turns h. tt) ends same
   adds_ends boundary given wire x (Ends.AtEnd fault done all ends same) =

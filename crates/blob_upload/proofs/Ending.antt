@@ -18,7 +18,7 @@ use Rattle.multipart_read.specs.declared.steps.Stage.TheVariants as stages
 use Rattle.multipart_read.specs.Tokens.{Token}
 use Rattle.multipart_read.specs.Body.{End}
 use Rattle.multipart_read.specs.Reader.{Reader, fresh, Gives, Tells, IsBody}
-use Rattle.multipart_read.specs.PartLists.{Part}
+use Rattle.multipart_read.specs.PartLists.{Part, between}
 use Rattle.multipart_read.proofs.Feeding.{fresh_waits}
 use Rattle.multipart_read.proofs.Unique.{whole_body}
 use Rattle.home_core.specs.Passes.{Sight}
@@ -27,7 +27,7 @@ use Rattle.blob_upload.specs.declared.came.Came.TheVariants.{Memory, Ended}
 use Rattle.blob_upload.specs.declared.uploading.Reading.{Reading}
 use Rattle.blob_upload.specs.Faults.{most_bytes, came_of_put, came_of_part, came_of_wire}
 use Rattle.blob_upload.specs.Puts.{EndsBy}
-use Rattle.blob_upload.specs.Ends.{StopsAt, IsSound, StopsIn, Ends}
+use Rattle.blob_upload.specs.Ends.{StopsAt, IsSound, Reads, StopsIn, Ends}
 use Rattle.blob_upload.specs.Uploads.{Uploads}
 use Rattle.blob_upload.specs.Taking.{cut_of, Going, TakesPiece, came_of_end, Finishes}
 use Rattle.blob_upload.proofs.Putting.{keeps_none}
@@ -116,7 +116,18 @@ no_room boundary left wire v kept = record {
   parts = [];
   middle = v;
   keeps = keeps_none kept v;
-  ends = Ends.Inside (StopsIn.AtToken [] (record {
+  ends = Ends.Inside [] [] refl (omega arith) (record {
+    parts = [];
+    sound = (keeps_none kept v).sound;
+    reads = record {
+      short = omega arith;
+      cut = between;
+      is_named = tt;
+      reader = fresh boundary;
+      tells = λ more tokens end gives. gives;
+      sound = sound_none boundary;
+    };
+  }) (StopsIn.AtToken [] (record {
     fed = [];
     rest = [];
     whole = refl;
@@ -156,10 +167,23 @@ module _ (boundary : List ℕ) (left left' left'' : Option (List ℕ)) (wire wir
         sound = after.1;
       }
 
+  short_given : length so_far.given ≤ most_bytes
+  short_given = let few = so_far.short in omega (arith, so_far.count, few)
+
+  abbrev reads_given : Reads boundary so_far.given so_far.going.took.parts
+  reads_given = record {
+    short = short_given;
+    cut = cut_of reading.opened;
+    is_named = so_far.going.took.is_named;
+    reader = reading.parts;
+    tells = subst (λ ts. Tells (fresh boundary) so_far.given ts reading.parts) so_far.going.took.told so_far.going.tells;
+    sound = so_far.sound;
+  }
+
   -- the upload ends inside a piece
   pub uploading_stops : (piece : List ℕ) (x : Sight) (kept'' : List (List ℕ × ℕ)) (reading' : Reading) (came : Came) → moves piece
-      → TakesPiece piece reading reading' kept' kept'' w x (Err came) → Uploads boundary left left'' wire wire'' v x kept kept'' came
-  uploading_stops piece x kept'' reading' came moved takes =
+      → length piece ≤ 65536 → TakesPiece piece reading reading' kept' kept'' w x (Err came) → Uploads boundary left left'' wire wire'' v x kept kept'' came
+  uploading_stops piece x kept'' reading' came moved few takes =
       let halted = takes boundary kept v so_far.given so_far.count so_far.going in
       record {
         given = so_far.given ++ piece;
@@ -167,7 +191,11 @@ module _ (boundary : List ℕ) (left left' left'' : Option (List ℕ)) (wire wir
         parts = halted.parts;
         middle = halted.middle;
         keeps = halted.keeps;
-        ends = Ends.Inside halted.stops;
+        ends = Ends.Inside so_far.given piece refl few (record {
+          parts = so_far.going.took.parts;
+          sound = so_far.going.took.keeps.sound;
+          reads = reads_given;
+        }) halted.stops;
       }
 
   -- it doesn't end there for the source
@@ -176,9 +204,6 @@ module _ (boundary : List ℕ) (left left' left'' : Option (List ℕ)) (wire wir
   never_ended piece x kept'' reading' came end takes is =
       let halted = takes boundary kept v so_far.given so_far.count so_far.going in
       stops_otherwise boundary (so_far.given ++ piece) halted.parts came halted.middle x end halted.stops is
-
-  short_given : length so_far.given ≤ most_bytes
-  short_given = let few = so_far.short in omega (arith, so_far.count, few)
 
   -- no more of the body is read
   pub uploading_breaks : (end : WireEnd) → moves [] → BodyEnds (to_come wire'' left'') wire''.body wire''.begun end
@@ -189,14 +214,7 @@ module _ (boundary : List ℕ) (left left' left'' : Option (List ℕ)) (wire wir
     parts = so_far.going.took.parts;
     middle = w;
     keeps = so_far.going.took.keeps;
-    ends = Ends.AtBreak end (record {
-      short = short_given;
-      cut = cut_of reading.opened;
-      is_named = so_far.going.took.is_named;
-      reader = reading.parts;
-      tells = subst (λ ts. Tells (fresh boundary) so_far.given ts reading.parts) so_far.going.took.told so_far.going.tells;
-      sound = so_far.sound;
-    }) says refl refl;
+    ends = Ends.AtBreak end reads_given says refl refl;
   }
 
   ends_by : (end : End) (came : Came) → wire''.body ≡ Done → IsBody boundary so_far.given so_far.going.tokens end

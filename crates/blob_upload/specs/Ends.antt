@@ -1,6 +1,6 @@
 -- Why an upload ends. `parts` are those that were put, one after the other, and kept; `v` is the pass behind them, and
 -- `w` the pass in the end.
-use Rattle.std.specs.Prelude.{◌≡◌, ◌≤◌, ◌<◌, ℕ, List, ◌∷◌, ◌++◌, length, true, false, Option, Result, Ok, Err, flat_map}
+use Rattle.std.specs.Prelude.{◌≡◌, ◌≤◌, ◌<◌, ℕ, List, ◌∷◌, ◌++◌, length, All, true, false, Option, None, Result, Ok, Err, flat_map}
 use Rattle.blobref.specs.Blobref.{is_blobref}
 use Rattle.http_wire.specs.declared.body.Body.TheVariants.{Done}
 use Rattle.http_wire.specs.declared.ends.WireEnd.{WireEnd}
@@ -15,7 +15,7 @@ use Rattle.home_core.specs.Passes.{Sight}
 use Rattle.answer_text.specs.declared.refusal.Refusal.TheVariants.{BadRef, TooLong}
 use Rattle.blob_upload.specs.declared.came.Came.{Came}
 use Rattle.blob_upload.specs.declared.came.Came.TheVariants.{Whole, Refused, Memory}
-use Rattle.blob_upload.specs.Faults.{most_bytes, came_of_part, came_of_wire}
+use Rattle.blob_upload.specs.Faults.{most_bytes, part_fault, came_of_part, came_of_wire}
 use Rattle.blob_upload.specs.Puts.{LastPut}
 
 -- ---- at what was told behind the parts
@@ -88,10 +88,19 @@ pub record IsAll (boundary given : List ℕ) (parts : List Part) (end : Result (
   pub is_named : IsNamed cut
   pub tells : IsBody boundary given (flat_map part_tokens parts ++ cut_tokens cut) end
 
+-- the upload hasn't ended where these bytes of the body came: they tell parts without a fault, and no fault
+pub record IsNotOver (boundary given : List ℕ) : Type 0 where
+  pub parts : List Part
+  pub sound : All (λ (part : Part). part_fault part ≡ None) parts
+  pub reads : Reads boundary given parts
+
+-- Inside the body: in the last piece that was read, of at most 64 KiB. At its close, at its end where its parts aren't
+-- closed, or at a break of what carries it.
 -- `wire` is the reader of the connection in the end, and `x` what is then still to come on the connection
 pub data Ends (boundary given : List ℕ) (parts : List Part) (wire : WireView) (x : Option (List ℕ)) (came : Came)
     (v w : Sight) : Type 0 where
-  Inside : StopsIn boundary given parts came v w → Ends boundary given parts wire x came v w
+  Inside : (front piece : List ℕ) → given ≡ front ++ piece → length piece ≤ 65536 → IsNotOver boundary front
+      → StopsIn boundary given parts came v w → Ends boundary given parts wire x came v w
   AtClose : wire.body ≡ Done → length given ≤ most_bytes → IsMultipart boundary given parts (Ok tt) → came ≡ Whole
       → w ≡ v → Ends boundary given parts wire x came v w
   AtEnd : (fault : PartFault) → wire.body ≡ Done → IsAll boundary given parts (Err fault) → came ≡ came_of_part fault

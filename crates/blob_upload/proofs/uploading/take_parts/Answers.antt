@@ -1,4 +1,5 @@
 use Rattle.std.proofs.Common.{ℕ, length, take, refl, sym, subst, ap, arith, ◌∙◌}
+use Rattle.std.proofs.lemmas.List.{length-take}
 use Rattle.http_wire.specs.Bodies.{Moves}
 use Rattle.http_wire.specs.Wires.{to_come, BodyEnds}
 use Rattle.blob_upload.specs.declared.came.Came.{Came}
@@ -66,7 +67,9 @@ returns-in-Err-take_piece-clause-uploads g c =
     uploading_stops c.args.boundary.now (g.S.Source.left c.args.source.now) (g.S.Source.left c.pieces.source) (g.S.Source.left c.body.new.source)
     c.args.wire.now c.pieces.wire c.body.new.self (g.H.Home.sight c.args.pass.now) (g.H.Home.sight c.pieces.pass) c.args.kept.now c.pieces.kept
     c.pieces.reading c.pieces.invariant.so_far (take c.in-Ok-body.n c.body.new.buf) (g.H.Home.sight c.take_piece.new.pass) c.take_piece.new.kept
-    c.take_piece.new.reading c.in-Err-take_piece.came c.in-Ok-body.ensures.moved c.in-Err-take_piece.ensures.takes
+    c.take_piece.new.reading c.in-Err-take_piece.came c.in-Ok-body.ensures.moved
+    (let room = c.pieces.invariant.room in omega (arith, length-take c.in-Ok-body.n c.body.new.buf, c.body.auto.buf, room))
+    c.in-Err-take_piece.ensures.takes
 
 pub returns-in-Err-take_piece-clause-fault : goal.returns-in-Err-take_piece-clause-fault
 returns-in-Err-take_piece-clause-fault g c = λ is. absurd
