@@ -126,7 +126,7 @@ big_by part before false true place size entry said = absurd (cc (said.0))
 big_by part before false false None size entry said = absurd said
 big_by part before false false (Some n) size entry said = absurd (cc (said.0))
 
-never_big : (part : Part) (before : List Blob) (size : ℕ) (entry : Option StoreEvent) → length part.1 ≤ max_size
+pub never_big : (part : Part) (before : List Blob) (size : ℕ) (entry : Option StoreEvent) → length part.1 ≤ max_size
     → PutSays part.0 part.1 before (Err (put.TooBig size)) entry → ⊥
 never_big part before size entry few said =
     let long : nat_lt max_size (length part.1) ≡ true =

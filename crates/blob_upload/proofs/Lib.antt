@@ -6,3 +6,4 @@ pub mod Ending
 pub mod Fronts
 pub mod Fitting
 pub mod Adding
+pub mod Coming

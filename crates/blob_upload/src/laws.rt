@@ -1,5 +1,6 @@
 //! Laws of uploads.
 ghost use Rattle.blob_upload.specs.Adds.{UploadsAdd};
+ghost use Rattle.blob_upload.specs.Comes.{UploadsCome};
 ghost use Rattle.blob_upload.specs.Laws.{ContentsFit, ToldFirst};
 
 /// However an upload ends, the store's history only grows. Of the turns drawn there is one for each part that was kept,
@@ -8,6 +9,12 @@ ghost use Rattle.blob_upload.specs.Laws.{ContentsFit, ToldFirst};
 /// index is as it was.
 pub fn uploads_add()
     ensures { UploadsAdd }
+{}
+
+/// What an upload came to, said of the bytes that came of its body alone: which parts were kept, and what then ended it,
+/// by how it ended. A refusal is the first fault in these bytes.
+pub fn uploads_come()
+    ensures { UploadsCome }
 {}
 
 /// What the front of a body tells, the whole body tells first, however it goes on. No part that is told has more bytes
