@@ -1,5 +1,7 @@
 -- What an upload has added.
-use Rattle.std.proofs.Common.{◌≡◌, ◌⊎◌, inl, inr, ℕ, ◌+◌, ◌≤◌, Bool, true, false, not, nat_eq, nat_lt, List, [], ◌∷◌, ◌++◌, length, Contains, refl, sym, ap, subst, ◌∙◌, arith, length-append, Option, Some, None, Result, Ok, Err}
+use Rattle.std.proofs.Common.{◌≡◌, ◌⊎◌, inl, inr, ℕ, ◌+◌, ◌≤◌, Bool, true, false, not, nat_eq, nat_lt, List, [], ◌∷◌}
+use Rattle.std.proofs.Common.{◌++◌, length, Contains, refl, sym, ap, subst, ◌∙◌, arith, length-append, Option, Some}
+use Rattle.std.proofs.Common.{None, Result, Ok, Err}
 use Rattle.std.proofs.lemmas.Bool.{eq-eqb, ltb-true}
 use Rattle.std.proofs.lemmas.List.Elements.{All-weaker, Contains-append_right}
 use mathlib.Core.List.{IsPrefix}
@@ -104,8 +106,10 @@ stamped_stands h t entry e is =
     (Contains-append_right h (stamp t e ∷ []) (stamp t e) (0, omega arith, refl))
 
 -- the entry that a put adds
-put_adds : (parts : List Part) (part : Part) (before : List Blob) (o : Option (Result Put PutFault)) (answer : Result Put PutFault)
-    (came : Came) (e : StoreEvent) → EndsBy answer came → PutAnswers part.0 part.1 before o answer (Some e) → IsAddedBy parts came e
+put_adds : (parts : List Part) (part : Part) (before : List Blob) (o : Option (Result Put PutFault))
+    (answer : Result Put PutFault)
+    (came : Came) (e : StoreEvent) → EndsBy answer came → PutAnswers part.0 part.1 before o answer (Some e)
+    → IsAddedBy parts came e
 put_adds parts part before (Some settled) answer came e ends said = absurd (cc (said.1))
 put_adds parts part before None (Ok (Stored n)) came e ends said =
     let is : e ≡ store.Put n part.0 part.1 = cc (said.1) in subst (IsAddedBy parts came) (sym is) (inr ends)
@@ -119,8 +123,10 @@ put_adds parts part before None (Err put.Disk) came e ends said =
 put_adds parts part before None (Err put.NoMemory) came e ends said = absurd (cc said)
 
 -- a part that is told of a body isn't too big
-big_by : (part : Part) (before : List Blob) (long other : Bool) (place : Option ℕ) (size : ℕ) (entry : Option StoreEvent)
-    → PutAnswers part.0 part.1 before (settled_by part before long other place) (Err (put.TooBig size)) entry → long ≡ true
+big_by : (part : Part) (before : List Blob) (long other : Bool) (place : Option ℕ) (size : ℕ)
+    (entry : Option StoreEvent)
+    → PutAnswers part.0 part.1 before (settled_by part before long other place) (Err (put.TooBig size)) entry
+    → long ≡ true
 big_by part before true other place size entry said = refl
 big_by part before false true place size entry said = absurd (cc (said.0))
 big_by part before false false None size entry said = absurd said
@@ -130,18 +136,21 @@ pub never_big : (part : Part) (before : List Blob) (size : ℕ) (entry : Option 
     → PutSays part.0 part.1 before (Err (put.TooBig size)) entry → ⊥
 never_big part before size entry few said =
     let long : nat_lt max_size (length part.1) ≡ true =
-    big_by part before (nat_lt max_size (length part.1)) (not (is_own_ref part.0 part.1)) (number_of part.0 before) size entry said in
+    big_by part before (nat_lt max_size (length part.1)) (not (is_own_ref part.0 part.1))
+    (number_of part.0 before) size entry said in
     let many = ltb-true max_size (length part.1) long in
     absurd (omega (arith, few, many))
 
-turned : (part : Part) (before : List Blob) (answer : Result Put PutFault) (entry : Option StoreEvent) (came : Came) (n : ℕ)
+turned : (part : Part) (before : List Blob) (answer : Result Put PutFault) (entry : Option StoreEvent) (came : Came)
+    (n : ℕ)
     → length part.1 ≤ max_size → PutSays part.0 part.1 before answer entry → EndsBy answer came → Turns came n (n + 1)
 turned part before answer entry came n few said ends = by answer ends said
   where
     at : (is : Came) → Turns is n (n + 1) → came ≡ is → Turns came n (n + 1)
     at is turns same = subst (λ c. Turns c n (n + 1)) (sym same) turns
 
-    by : (answer : Result Put PutFault) → EndsBy answer came → PutSays part.0 part.1 before answer entry → Turns came n (n + 1)
+    by : (answer : Result Put PutFault) → EndsBy answer came → PutSays part.0 part.1 before answer entry
+        → Turns came n (n + 1)
     by (Ok stored) ends said = at Memory (inr refl) ends
     by (Err (put.TooBig size)) ends said = absurd (never_big part before size entry few said)
     by (Err (put.BadDigest a b)) ends said = at (came_of_put (put.BadDigest a b)) refl ends
@@ -149,7 +158,8 @@ turned part before answer entry came n few said ends = by answer ends said
     by (Err put.Disk) ends said = at Disk refl ends
     by (Err put.NoMemory) ends said = at Memory (inr refl) ends
 
-full_by : (part : Part) (before : List Blob) (long other : Bool) (place : Option ℕ) (blobs pack : ℕ) (entry : Option StoreEvent)
+full_by : (part : Part) (before : List Blob) (long other : Bool) (place : Option ℕ) (blobs pack : ℕ)
+    (entry : Option StoreEvent)
     → PutAnswers part.0 part.1 before (settled_by part before long other place) (Err (put.Full blobs pack)) entry
     → entry ≡ Some (store.Full blobs pack)
 full_by part before true other place blobs pack entry said = absurd (cc (said.0))
@@ -165,7 +175,8 @@ disk_by part before false true place entry said = absurd (cc (said.0))
 disk_by part before false false None entry said = said
 disk_by part before false false (Some n) entry said = absurd (cc (said.0))
 
-shows_why : (part : Part) (answer : Result Put PutFault) (came : Came) (h : List (Stamped StoreEvent)) (turns : List ℕ) (t : ℕ)
+shows_why : (part : Part) (answer : Result Put PutFault) (came : Came) (h : List (Stamped StoreEvent)) (turns : List ℕ)
+    (t : ℕ)
     (entry : Option StoreEvent) → EndsBy answer came → PutSays part.0 part.1 (arrivals h) answer entry
     → ShowsWhy came (turns ++ t ∷ []) (h ++ stamped t entry)
 shows_why part answer came h turns t entry ends said = by answer ends said
@@ -182,14 +193,26 @@ shows_why part answer came h turns t entry ends said = by answer ends said
     by (Err (put.Full blobs pack)) ends said =
         let is = full_by part (arrivals h) (nat_lt max_size (length part.1)) (not (is_own_ref part.0 part.1))
         (number_of part.0 (arrivals h)) blobs pack entry said in
-        at (Full blobs pack) (t, has_rest turns (t ∷ []) t (has_one t), stamped_stands h t entry (store.Full blobs pack) is) ends
+        at (Full blobs pack) (
+          t,
+          has_rest turns (t ∷ []) t (has_one t),
+          stamped_stands h t entry
+              (store.Full blobs pack) is,
+        ) ends
     by (Err put.Disk) ends said =
         let is = disk_by part (arrivals h) (nat_lt max_size (length part.1)) (not (is_own_ref part.0 part.1))
         (number_of part.0 (arrivals h)) entry said in
-        at Disk (t, is.0, has_rest turns (t ∷ []) t (has_one t), stamped_stands h t entry (store.Fault (is.0)) (is.1)) ends
+        at Disk (
+          t,
+          is.0,
+          has_rest turns (t ∷ []) t (has_one t),
+          stamped_stands h t entry (store.Fault (is.0))
+              (is.1),
+        ) ends
     by (Err put.NoMemory) ends said = at Memory tt ends
 
-module _ (parts : List Part) (part : Part) (came : Came) (v m w : Sight) (puts : Puts parts v m) (few : length part.1 ≤ max_size) where
+module _ (parts : List Part) (part : Part) (came : Came) (v m w : Sight) (puts : Puts parts v m)
+    (few : length part.1 ≤ max_size) where
   adds_turned : (answer : Result Put PutFault) → EndsBy answer came
       → StoreTurned (λ before entry. PutSays part.0 part.1 before answer entry) m w → Adds parts came v w
   adds_turned answer ends t =
@@ -199,12 +222,15 @@ module _ (parts : List Part) (part : Part) (came : Came) (v m w : Sight) (puts :
       let count : length (puts.grew.further ++ (r.ticket + 1) ∷ []) ≡ length parts + 1 =
       length-append puts.grew.further ((r.ticket + 1) ∷ []) ∙ ap (λ n. n + 1) puts.turns in
       record {
-        grew = grew_chain (IsAddedBy parts came) v.store.history m.store.history w.store.history v.store.turns m.store.turns
+        grew = grew_chain (IsAddedBy parts came) v.store.history m.store.history w.store.history v.store.turns
+            m.store.turns
             w.store.turns (wider parts came v m puts.grew)
             (ran_grew (λ before turn entry. PutSays part.0 part.1 (arrivals before) answer entry) (IsAddedBy parts came)
             m.store.history w.store.history m.store.turns w.store.turns
-            (λ h n e said. put_adds parts part (arrivals h) (put_settled part.0 part.1 (arrivals h)) answer came e ends said) r);
-        turns = subst (λ n. Turns came (length parts) n) (sym count) (turned part (arrivals r.before) answer r.entry came (length parts) few r.said ends);
+            (λ h n e said. put_adds parts part (arrivals h)
+            (put_settled part.0 part.1 (arrivals h)) answer came e ends said) r);
+        turns = subst (λ n. Turns came (length parts) n) (sym count)
+            (turned part (arrivals r.before) answer r.entry came (length parts) few r.said ends);
         why = subst (λ h. ShowsWhy came (puts.grew.further ++ (r.ticket + 1) ∷ []) h) (sym r.added)
             (shows_why part answer came r.before puts.grew.further (r.ticket + 1) r.entry ends r.said);
         stand = All-weaker (stands m) (stands w) (λ other stood. stands_longer m w other longer stood) parts puts.stand;
@@ -257,7 +283,8 @@ module _ (parts : List Part) (came : Came) (v m w : Sight) (puts : Puts parts v 
   adds_in boundary given (StopsIn.AtLimit front rest whole full some reads ends same) =
       adds_quiet parts v m w puts came (Refused (TooLong most_bytes)) (λ n. refl, λ turns h. tt) ends same
 
-  adds_ends : (boundary given : List ℕ) (wire : WireView) (x : Option (List ℕ)) → Ends boundary given parts wire x came m w
+  adds_ends : (boundary given : List ℕ) (wire : WireView) (x : Option (List ℕ))
+      → Ends boundary given parts wire x came m w
       → Adds parts came v w
   adds_ends boundary given wire x (Ends.Inside front piece whole few over stops) = adds_in boundary given stops
   adds_ends boundary given wire x (Ends.AtClose done short is ends same) =

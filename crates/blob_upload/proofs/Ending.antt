@@ -1,5 +1,6 @@
 -- A whole body.
-use Rattle.std.proofs.Common.{◌≡◌, ◌+◌, ◌≤◌, ℕ, List, [], ◌++◌, length, refl, sym, subst, ◌∙◌, arith, length-append, Option, Some, None, Result, Ok, Err}
+use Rattle.std.proofs.Common.{◌≡◌, ◌+◌, ◌≤◌, ℕ, List, [], ◌++◌, length, refl, sym, subst, ◌∙◌, arith, length-append}
+use Rattle.std.proofs.Common.{Option, Some, None, Result, Ok, Err}
 use Rattle.std.proofs.lemmas.List.{append-nil}
 use Rattle.edge_base.specs.Edge.{Gave}
 use Rattle.edge_base.specs.declared.answers.Put.{Put}
@@ -69,20 +70,26 @@ part_otherwise (Bad at) end is = absurd cc
 part_otherwise (TooLong limit) end is = absurd cc
 part_otherwise NoMemory end is = absurd cc
 
-last_otherwise : (answer : Result Put PutFault) (came : Came) (end : WireEnd) → EndsBy answer came → came ≡ Ended end → ⊥
+last_otherwise : (answer : Result Put PutFault) (came : Came) (end : WireEnd) → EndsBy answer came → came ≡ Ended end
+    → ⊥
 last_otherwise (Ok stored) came end ends is = absurd (cc (ends, is))
 last_otherwise (Err fault) came end ends is = put_otherwise fault end (sym ends ∙ is)
 
-at_otherwise : (after : List Token) (came : Came) (v w : Sight) (end : WireEnd) → StopsAt after came v w → came ≡ Ended end → ⊥
+at_otherwise : (after : List Token) (came : Came) (v w : Sight) (end : WireEnd) → StopsAt after came v w
+    → came ≡ Ended end → ⊥
 at_otherwise after came v w end (StopsAt.AtName name later told bad ends same) is = absurd (cc (ends, is))
-at_otherwise after came v w end (StopsAt.AtPart part later told good last) is = last_otherwise last.answer came end last.ends is
+at_otherwise after came v w end (StopsAt.AtPart part later told good last) is =
+    last_otherwise last.answer came end last.ends is
 at_otherwise after came v w end (StopsAt.ForMemory ends same) is = absurd (cc (ends, is))
 
 stops_otherwise : (boundary given : List ℕ) (parts : List Part) (came : Came) (v w : Sight) (end : WireEnd)
     → StopsIn boundary given parts came v w → came ≡ Ended end → ⊥
-stops_otherwise boundary given parts came v w end (StopsIn.AtToken after told stops) is = at_otherwise after came v w end stops is
-stops_otherwise boundary given parts came v w end (StopsIn.AtFault fault faulty ends same) is = part_otherwise fault end (sym ends ∙ is)
-stops_otherwise boundary given parts came v w end (StopsIn.AtLimit front rest whole full some reads ends same) is = absurd (cc (ends, is))
+stops_otherwise boundary given parts came v w end (StopsIn.AtToken after told stops) is =
+    at_otherwise after came v w end stops is
+stops_otherwise boundary given parts came v w end (StopsIn.AtFault fault faulty ends same) is =
+    part_otherwise fault end (sym ends ∙ is)
+stops_otherwise boundary given parts came v w end (StopsIn.AtLimit front rest whole full some reads ends same) is =
+    absurd (cc (ends, is))
 
 -- ---- after some pieces
 
@@ -96,17 +103,19 @@ pub record Uploading (boundary : List ℕ) (left left' : Option (List ℕ)) (wir
   pub going : Going boundary kept v given reading.parts reading.opened kept' w
   pub sound : IsSound reading.parts
 
-pub uploading_none : (boundary : List ℕ) (left : Option (List ℕ)) (wire : WireView) (v : Sight) (kept : List (List ℕ × ℕ))
+pub uploading_none : (boundary : List ℕ) (left : Option (List ℕ)) (wire : WireView) (v : Sight)
+    (kept : List (List ℕ × ℕ))
     (reading : Reading) → reading ≡ record { parts = fresh boundary; opened = None; taken = 0 }
     → Uploading boundary left left wire wire v v kept kept reading
-uploading_none boundary left wire v kept reading is = subst (λ r. Uploading boundary left left wire wire v v kept kept r) (sym is) (record {
-  given = [];
-  moved = moves_none left wire.flow wire.body;
-  count = refl;
-  short = omega arith;
-  going = going_none boundary kept v;
-  sound = sound_none boundary;
-})
+uploading_none boundary left wire v kept reading is =
+    subst (λ r. Uploading boundary left left wire wire v v kept kept r) (sym is) (record {
+      given = [];
+      moved = moves_none left wire.flow wire.body;
+      count = refl;
+      short = omega arith;
+      going = going_none boundary kept v;
+      sound = sound_none boundary;
+    })
 
 pub no_room : (boundary : List ℕ) (left : Option (List ℕ)) (wire : WireView) (v : Sight) (kept : List (List ℕ × ℕ))
     → Uploads boundary left left wire wire v v kept kept Memory
@@ -176,13 +185,16 @@ module _ (boundary : List ℕ) (left left' left'' : Option (List ℕ)) (wire wir
     cut = cut_of reading.opened;
     is_named = so_far.going.took.is_named;
     reader = reading.parts;
-    tells = subst (λ ts. Tells (fresh boundary) so_far.given ts reading.parts) so_far.going.took.told so_far.going.tells;
+    tells = subst (λ ts. Tells (fresh boundary) so_far.given ts reading.parts) so_far.going.took.told
+        so_far.going.tells;
     sound = so_far.sound;
   }
 
   -- the upload ends inside a piece
-  pub uploading_stops : (piece : List ℕ) (x : Sight) (kept'' : List (List ℕ × ℕ)) (reading' : Reading) (came : Came) → moves piece
-      → length piece ≤ 65536 → TakesPiece piece reading reading' kept' kept'' w x (Err came) → Uploads boundary left left'' wire wire'' v x kept kept'' came
+  pub uploading_stops : (piece : List ℕ) (x : Sight) (kept'' : List (List ℕ × ℕ)) (reading' : Reading) (came : Came)
+      → moves piece
+      → length piece ≤ 65536 → TakesPiece piece reading reading' kept' kept'' w x (Err came)
+      → Uploads boundary left left'' wire wire'' v x kept kept'' came
   uploading_stops piece x kept'' reading' came moved few takes =
       let halted = takes boundary kept v so_far.given so_far.count so_far.going in
       record {
@@ -199,7 +211,8 @@ module _ (boundary : List ℕ) (left left' left'' : Option (List ℕ)) (wire wir
       }
 
   -- it doesn't end there for the source
-  pub never_ended : (piece : List ℕ) (x : Sight) (kept'' : List (List ℕ × ℕ)) (reading' : Reading) (came : Came) (end : WireEnd)
+  pub never_ended : (piece : List ℕ) (x : Sight) (kept'' : List (List ℕ × ℕ)) (reading' : Reading) (came : Came)
+      (end : WireEnd)
       → TakesPiece piece reading reading' kept' kept'' w x (Err came) → came ≡ Ended end → ⊥
   never_ended piece x kept'' reading' came end takes is =
       let halted = takes boundary kept v so_far.given so_far.count so_far.going in

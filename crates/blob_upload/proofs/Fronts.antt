@@ -1,5 +1,6 @@
 -- What the front of a body tells, the whole body tells first.
-use Rattle.std.proofs.Common.{◌≡◌, Bool, true, false, ◌&&◌, nat_eq, List, [], ◌∷◌, ◌++◌, refl, sym, ap, subst, ◌∙◌, append_assoc, flat_map}
+use Rattle.std.proofs.Common.{◌≡◌, Bool, true, false, ◌&&◌, nat_eq, List, [], ◌∷◌, ◌++◌, refl, sym, ap, subst, ◌∙◌}
+use Rattle.std.proofs.Common.{append_assoc, flat_map}
 use Rattle.std.specs.Cmp.Lexicographic.{pointwise, same_text, nat_list_eq_equiv}
 use Rattle.std.proofs.lemmas.Bool.{false≢true, true_from_ne_false, and_parts, and_from, eqb-true, eq-eqb}
 use Rattle.multipart_read.specs.Tokens.{Token, named, byte, ended}
@@ -60,8 +61,10 @@ rest_of (s ∷ ss) (t ∷ ts) e =
 pub told_first : ToldFirst
 told_first boundary given parts after t more tokens end is =
     let told : List Token = flat_map part_tokens parts ++ after in
-    let whole : given ++ more ≡ t.fed ++ (t.rest ++ more) = ap (λ l. l ++ more) t.whole ∙ append_assoc t.fed t.rest more in
-    let body : IsBody boundary (t.fed ++ (t.rest ++ more)) tokens end = subst (λ l. IsBody boundary l tokens end) whole is in
+    let whole : given ++ more ≡ t.fed ++ (t.rest ++ more) = ap (λ l. l ++ more) t.whole
+    ∙ append_assoc t.fed t.rest more in
+    let body : IsBody boundary (t.fed ++ (t.rest ++ more)) tokens end =
+    subst (λ l. IsBody boundary l tokens end) whole is in
     rest_of told tokens (true_from_ne_false (begins told tokens) (λ no.
     some_reading t.reader (t.rest ++ more) (λ later last gives.
     let other = t.tells (t.rest ++ more) later last gives in

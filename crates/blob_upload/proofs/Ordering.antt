@@ -1,5 +1,6 @@
 -- Tokens come in order: so a name comes where no part is open, and the rest where one is.
-use Rattle.std.proofs.Common.{◌≡◌, Bool, true, false, List, [], ◌∷◌, ◌++◌, ℕ, refl, sym, ap, ◌∙◌, append_assoc, flat_map}
+use Rattle.std.proofs.Common.{◌≡◌, Bool, true, false, List, [], ◌∷◌, ◌++◌, ℕ, refl, sym, ap, ◌∙◌, append_assoc}
+use Rattle.std.proofs.Common.{flat_map}
 use Rattle.std.proofs.lemmas.List.{append-nil}
 use Rattle.std.proofs.lemmas.Bool.{false≢true}
 use Rattle.multipart_read.specs.declared.events.PartEvent.{PartEvent}
@@ -45,7 +46,8 @@ ordered_behind (part ∷ parts) cut ts =
     ∙ append_assoc (content part.1) (ended ∷ []) rest)
     ∙ content_ordered part.1 (ended ∷ rest) ∙ ordered_behind parts cut ts
 
-fits_by : (cut : Cut) (event : PartEvent) (later : List Token) → ordered (is_inside cut) (tokens_in event ++ later) ≡ true
+fits_by : (cut : Cut) (event : PartEvent) (later : List Token)
+    → ordered (is_inside cut) (tokens_in event ++ later) ≡ true
     → Fits cut event
 fits_by between (Name name) later e = tt
 fits_by between (Content []) later e = refl

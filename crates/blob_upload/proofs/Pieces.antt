@@ -1,5 +1,7 @@
 -- Pieces of a body, one after the other.
-use Rattle.std.proofs.Common.{◌≡◌, ◌≢◌, ◌+◌, ◌-◌, ◌<◌, ◌≤◌, ℕ, Bool, false, ltb, List, [], ◌++◌, length, take, drop, min, refl, sym, ap, subst, ◌∙◌, arith, append_assoc, length-append, Option, Result, Ok, Err}
+use Rattle.std.proofs.Common.{◌≡◌, ◌≢◌, ◌+◌, ◌-◌, ◌<◌, ◌≤◌, ℕ, Bool, false, ltb, List, [], ◌++◌, length, take, drop}
+use Rattle.std.proofs.Common.{min, refl, sym, ap, subst, ◌∙◌, arith, append_assoc, length-append, Option, Result, Ok}
+use Rattle.std.proofs.Common.{Err}
 use Rattle.std.proofs.lemmas.List.{append-nil, take-append-drop, take_all, length-take, length-drop, nil_from_length}
 use Rattle.std.proofs.lemmas.Bool.{false≢true, lt-ltb}
 use Rattle.multipart_read.specs.declared.events.PartFault.{PartFault}
@@ -33,7 +35,8 @@ told_longer boundary given more parts after t = record {
   tells = t.tells;
 }
 
-faulty_longer : (boundary given more : List ℕ) (parts : List Part) (fault : PartFault) → Faulty boundary given parts fault
+faulty_longer : (boundary given more : List ℕ) (parts : List Part) (fault : PartFault)
+    → Faulty boundary given parts fault
     → Faulty boundary (given ++ more) parts fault
 faulty_longer boundary given more parts fault f = record {
   fed = f.fed;
@@ -71,17 +74,21 @@ halted_longer boundary first u given more came kept w h = record {
 refused_ends : (reader : Reader) (fault : PartFault) (more : List ℕ) → reader.stage ≡ stages.Refused fault
     → Gives reader more [] (Err fault)
 refused_ends reader fault more is =
-    subst (λ stage. Rest reader.start (reader.fed + length more) stage (reader.held ++ more) [] (Err fault)) (sym is) (refl, refl)
+    subst (λ stage. Rest reader.start (reader.fed + length more) stage (reader.held ++ more) [] (Err fault)) (sym is)
+    (refl, refl)
 
 module _ (piece : List ℕ) (r s : Reader) (o p : Option Opened) (k l : List (List ℕ × ℕ)) (v w : Sight) where
   -- the tokens told so far, and those of the piece
-  abbrev joined : (boundary given : List ℕ) (tokens these : List Token) → Tells (fresh boundary) given tokens r → Tells r piece these s
+  abbrev joined : (boundary given : List ℕ) (tokens these : List Token) → Tells (fresh boundary) given tokens r
+      → Tells r piece these s
       → Tells (fresh boundary) (given ++ piece) (tokens ++ these) s
   joined boundary given tokens these before now =
       pieces_join (fresh boundary) r s given piece tokens these before now
 
-  in_order : (boundary given : List ℕ) (tokens : List Token) → Tells (fresh boundary) given tokens s → IsInOrder (tokens ++ [])
-  in_order boundary given tokens tells = subst IsInOrder (sym (append-nil tokens)) (told_in_order boundary given tokens s tells)
+  in_order : (boundary given : List ℕ) (tokens : List Token) → Tells (fresh boundary) given tokens s
+      → IsInOrder (tokens ++ [])
+  in_order boundary given tokens tells = subst IsInOrder (sym (append-nil tokens))
+      (told_in_order boundary given tokens s tells)
 
   -- what it told was taken
   pub feed_takes : (these taken : List Token) (more : Bool) → taken ≡ these → Tells r piece these s
@@ -90,8 +97,11 @@ module _ (piece : List ℕ) (r s : Reader) (o p : Option Opened) (k l : List (Li
       let takes : Takes these o p k l v w (Ok tt) = subst (λ ts. Takes ts o p k l v w (Ok tt)) same take in
       let all = joined boundary given going.tokens these going.tells tells in
       let order : IsInOrder (going.tokens ++ (these ++ [])) =
-      subst IsInOrder (append_assoc going.tokens these []) (in_order boundary (given ++ piece) (going.tokens ++ these) all) in
-      (record { tokens = going.tokens ++ these; tells = all; took = takes first u going.tokens [] order going.took }, sound)
+      subst IsInOrder (append_assoc going.tokens these [])
+      (in_order boundary (given ++ piece) (going.tokens ++ these) all) in (
+        record { tokens = going.tokens ++ these; tells = all; took = takes first u going.tokens [] order going.took },
+        sound,
+      )
 
   -- the upload ended at it
   pub feed_stops : (these taken : List Token) (came : Came) → taken ≡ these → Tells r piece these s
@@ -100,7 +110,8 @@ module _ (piece : List ℕ) (r s : Reader) (o p : Option Opened) (k l : List (Li
       let takes : Takes these o p k l v w (Err came) = subst (λ ts. Takes ts o p k l v w (Err came)) same take in
       let all = joined boundary given going.tokens these going.tells tells in
       let order : IsInOrder (going.tokens ++ (these ++ [])) =
-      subst IsInOrder (append_assoc going.tokens these []) (in_order boundary (given ++ piece) (going.tokens ++ these) all) in
+      subst IsInOrder (append_assoc going.tokens these [])
+      (in_order boundary (given ++ piece) (going.tokens ++ these) all) in
       let stopped = takes first u going.tokens [] order going.took in
       record {
         parts = stopped.parts;
@@ -119,7 +130,8 @@ module _ (piece : List ℕ) (r s : Reader) (o p : Option Opened) (k l : List (Li
 -- no fault waits behind what told nothing
 pub sound_at_last : (s : Reader) (count n : ℕ) → count ≡ n → Waits s.start s.stage s.held
     → ((fault : PartFault) → s.stage ≡ stages.Refused fault → 0 < n) → SoundAtLast (ltb 0 count) s
-sound_at_last s count n is waits some none = (waits, λ fault refused. false≢true (sym none ∙ lt-ltb 0 count (omega (arith, some fault refused, is))))
+sound_at_last s count n is waits some none =
+    (waits, λ fault refused. false≢true (sym none ∙ lt-ltb 0 count (omega (arith, some fault refused, is))))
 
 -- the piece has a fault
 module _ (piece : List ℕ) (r s : Reader) (o : Option Opened) (k : List (List ℕ × ℕ)) (v : Sight) where
@@ -179,9 +191,11 @@ pub feeds_none : (r : Reader) (o : Option Opened) (k : List (List ℕ × ℕ)) (
 feeds_none r o k v boundary first u given short going =
     (subst (λ l. Going boundary first u l r o k v) (sym (append-nil given)) going, tt)
 
-pub feeds_more : {S T : Type 0} (holds : S → Reader → Type 0) (then : T → Reader → Type 0) (xs ys : List ℕ) (r s t : Reader)
+pub feeds_more : {S T : Type 0} (holds : S → Reader → Type 0) (then : T → Reader → Type 0) (xs ys : List ℕ)
+    (r s t : Reader)
     (o p q : Option Opened) (k l m : List (List ℕ × ℕ)) (u v w : Sight) (done : S) (result : Result T Came)
-    → Feeds holds xs r s o p k l u v (Ok done) → Feeds then ys s t p q l m v w result → Feeds then (xs ++ ys) r t o q k m u w result
+    → Feeds holds xs r s o p k l u v (Ok done) → Feeds then ys s t p q l m v w result
+    → Feeds then (xs ++ ys) r t o q k m u w result
 feeds_more holds then xs ys r s t o p q k l m u v w done result f g boundary first start given short going =
     let same : (given ++ xs) ++ ys ≡ given ++ (xs ++ ys) = append_assoc given xs ys in
     let front : length (given ++ xs) ≤ most_bytes =
@@ -192,7 +206,8 @@ feeds_more holds then xs ys r s t o p q k l m u v w done result f g boundary fir
     (g boundary first start (given ++ xs) (subst (λ l. length l ≤ most_bytes) (sym same) short) (mid.0))
 
 pub feeds_on : (xs : List ℕ) (r s : Reader) (o p : Option Opened) (k l : List (List ℕ × ℕ)) (v w : Sight) (more : Bool)
-    → Feeds SoundAtLast xs r s o p k l v w (Ok more) → Feeds (λ (done : Unit {0}) s. Unit {0}) xs r s o p k l v w (Ok tt)
+    → Feeds SoundAtLast xs r s o p k l v w (Ok more)
+    → Feeds (λ (done : Unit {0}) s. Unit {0}) xs r s o p k l v w (Ok tt)
 feeds_on xs r s o p k l v w more f boundary first u given short going = ((f boundary first u given short going).0, tt)
 
 pub feeds_last : (xs : List ℕ) (r s : Reader) (o p : Option Opened) (k l : List (List ℕ × ℕ)) (v w : Sight)
@@ -202,7 +217,8 @@ feeds_last xs r s o p k l v w f boundary first u given short going =
 
 -- ---- a piece of any length
 
-module _ (piece : List ℕ) (n taken : ℕ) (within : n ≡ min (length piece) (most_bytes - taken)) (few : taken ≤ most_bytes) where
+module _ (piece : List ℕ) (n taken : ℕ) (within : n ≡ min (length piece) (most_bytes - taken))
+    (few : taken ≤ most_bytes) where
   front_short : (given : List ℕ) → length given ≡ taken → length (given ++ take n piece) ≤ most_bytes
   front_short given count = omega (arith, length-append given (take n piece), length-take n piece, within, few, count)
 
@@ -214,12 +230,14 @@ module _ (piece : List ℕ) (n taken : ℕ) (within : n ≡ min (length piece) (
         → After result (λ done. Going boundary first u (given ++ piece) s p l w × IsSound s)
         (λ came. Halted boundary first u (given ++ piece) came l w)
 
-    pub piece_whole : length piece ≤ n → Feeds (λ (done : Unit {0}). IsSound) (take n piece) r s o p k l v w (Ok tt) → says (Ok tt)
+    pub piece_whole : length piece ≤ n → Feeds (λ (done : Unit {0}). IsSound) (take n piece) r s o p k l v w (Ok tt)
+        → says (Ok tt)
     piece_whole all f boundary first u given count going =
         subst (λ l'. Going boundary first u (given ++ l') s p l w × IsSound s) (take_all n piece all)
         (f boundary first u given (front_short given count) going)
 
-    pub piece_stops : (came : Came) → Feeds (λ (done : Unit {0}). IsSound) (take n piece) r s o p k l v w (Err came) → says (Err came)
+    pub piece_stops : (came : Came) → Feeds (λ (done : Unit {0}). IsSound) (take n piece) r s o p k l v w (Err came)
+        → says (Err came)
     piece_stops came f boundary first u given count going =
         subst (λ l'. Halted boundary first u l' came l w)
         (append_assoc given (take n piece) (drop n piece) ∙ ap (λ l'. given ++ l') (take-append-drop n piece))
@@ -237,7 +255,8 @@ module _ (piece : List ℕ) (n taken : ℕ) (within : n ≡ min (length piece) (
           middle = w;
           keeps = after.0.took.keeps;
           stops = StopsIn.AtLimit front (drop n piece)
-              (sym (append_assoc given (take n piece) (drop n piece) ∙ ap (λ l'. given ++ l') (take-append-drop n piece)))
+              (sym (append_assoc given (take n piece) (drop n piece)
+              ∙ ap (λ l'. given ++ l') (take-append-drop n piece)))
               (omega (arith, length-append given (take n piece), length-take n piece, within, part, count))
               (omega (arith, length-drop n piece, part))
               (record {

@@ -1,5 +1,7 @@
 -- Parts that are put one after the other.
-use Rattle.std.proofs.Common.{◌≡◌, ℕ, ◌+◌, Bool, true, false, cond, not, ◌||◌, List, [], ◌∷◌, ◌++◌, length, refl, sym, ap, subst, ◌∙◌, append_assoc, length-append, Option, Some, None, Result, Ok, Err, nat_lt, if◌then◌else◌}
+use Rattle.std.proofs.Common.{◌≡◌, ℕ, ◌+◌, Bool, true, false, cond, not, ◌||◌, List, [], ◌∷◌, ◌++◌, length, refl, sym}
+use Rattle.std.proofs.Common.{ap, subst, ◌∙◌, append_assoc, length-append, Option, Some, None, Result, Ok, Err, nat_lt}
+use Rattle.std.proofs.Common.{if◌then◌else◌}
 use Rattle.std.specs.Cmp.Lexicographic.{nat_list_eq_equiv}
 use Rattle.std.specs.Option.{option_map}
 use Rattle.std.specs.List.{list_any, position_from}
@@ -59,7 +61,8 @@ any_placed p k n (x ∷ xs) e = by (p x) (position_from p (k + 1) xs) (list_any 
     by false o b f e = f e
 
 -- what stood stands in every longer history
-pub stands_longer : (v w : Sight) (part : Part) → IsPrefix v.store.history w.store.history → stands v part → stands w part
+pub stands_longer : (v w : Sight) (part : Part) → IsPrefix v.store.history w.store.history → stands v part
+    → stands w part
 stands_longer v w part longer stood =
     let further = arrivals_prefix v.store.history w.store.history longer in
     subst (λ blobs. has_ref part.0 blobs ≡ true) further.1
@@ -92,7 +95,8 @@ module _ (part : Part) (before : List Blob) where
       → is_blobref part.0 ≡ true → part_fault part ≡ None
   put_sound put entry said named =
       ap (λ b. fault_by (not b) (not (is_own_ref part.0 part.1))) named
-      ∙ sound_by (nat_lt max_size (length part.1)) (not (is_own_ref part.0 part.1)) (number_of part.0 before) put entry said
+      ∙ sound_by (nat_lt max_size (length part.1)) (not (is_own_ref part.0 part.1))
+      (number_of part.0 before) put entry said
 
   -- what it adds is its arrival
   put_adds : (answer : Option (Result Put PutFault)) (put : Put) (parts : List Part) (e : StoreEvent)
@@ -123,15 +127,19 @@ module _ (part : Part) (before : List Blob) where
       → PutSays part.0 part.1 before (Ok put) entry → has_ref part.0 (arrivals (h ++ stamped t entry)) ≡ true
   put_has (Stored n) entry h t is said =
       let added : entry ≡ Some (store.Put n part.0 part.1) =
-      stored_by (nat_lt max_size (length part.1)) (not (is_own_ref part.0 part.1)) (number_of part.0 before) n entry said in
+      stored_by (nat_lt max_size (length part.1)) (not (is_own_ref part.0 part.1))
+      (number_of part.0 before) n entry said in
       subst (λ o. has_ref part.0 (arrivals (h ++ stamped t o)) ≡ true) (sym added)
-      (subst (λ blobs. has_ref part.0 blobs ≡ true) (sym (arrivals_append h (stamped t (Some (store.Put n part.0 part.1)))))
+      (subst (λ blobs. has_ref part.0 blobs ≡ true)
+      (sym (arrivals_append h (stamped t (Some (store.Put n part.0 part.1)))))
       (any_last (λ (b : Blob). is_ref part.0 b.0) (arrivals h) part (nat_list_eq_equiv.refl part.0)))
   put_has (Already n) entry h t is said =
       let placed : number_of part.0 before ≡ Some n =
-      placed_by (nat_lt max_size (length part.1)) (not (is_own_ref part.0 part.1)) (number_of part.0 before) n entry said in
+      placed_by (nat_lt max_size (length part.1)) (not (is_own_ref part.0 part.1))
+      (number_of part.0 before) n entry said in
       let stood : has_ref part.0 (arrivals h) ≡ true =
-      subst (λ blobs. has_ref part.0 blobs ≡ true) (sym is) (any_placed (λ (b : Blob). is_ref part.0 b.0) 0 n before placed) in
+      subst (λ blobs. has_ref part.0 blobs ≡ true) (sym is)
+      (any_placed (λ (b : Blob). is_ref part.0 b.0) 0 n before placed) in
       subst (λ blobs. has_ref part.0 blobs ≡ true) (sym (arrivals_append h (stamped t entry)))
       (any_more (λ (b : Blob). is_ref part.0 b.0) (arrivals h) (arrivals (stamped t entry)) stood)
 
@@ -147,7 +155,8 @@ of_more parts part v w g = record {
   added = g.added;
   owned = g.owned;
   each_is = All-weaker (λ (s : Stamped StoreEvent). IsArrivalOf parts s.entry)
-      (λ (s : Stamped StoreEvent). IsArrivalOf (parts ++ part ∷ []) s.entry) (λ s is. wider s.entry is) g.added g.each_is;
+      (λ (s : Stamped StoreEvent). IsArrivalOf (parts ++ part ∷ []) s.entry)
+      (λ s is. wider s.entry is) g.added g.each_is;
   placed = g.placed;
 }
   where
@@ -202,7 +211,8 @@ keeps_none kept v = record {
 -- a part more was put and listed
 pub keeps_more : (parts : List Part) (part : Part) (put : Put) (first kept kept' : List (List ℕ × ℕ)) (u v w : Sight)
     → Keeps parts first kept u v → is_blobref part.0 ≡ true → kept' ≡ kept ++ (part.0, length part.1) ∷ []
-    → StoreTurned (λ before entry. PutSays part.0 part.1 before (Ok put) entry) v w → Keeps (parts ++ part ∷ []) first kept' u w
+    → StoreTurned (λ before entry. PutSays part.0 part.1 before (Ok put) entry) v w
+    → Keeps (parts ++ part ∷ []) first kept' u w
 keeps_more parts part put first kept kept' u v w k named listed t =
     let r = t.turn.ran in
     let sound : part_fault part ≡ None =

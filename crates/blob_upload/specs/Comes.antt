@@ -1,5 +1,6 @@
 -- What an upload came to, over the bytes that came of its body alone.
-use Rattle.std.specs.Prelude.{◌≡◌, ◌≤◌, ◌<◌, ◌⊎◌, ℕ, List, ◌∷◌, ◌++◌, length, false, Option, Some, None, Ok, Err, IfSome}
+use Rattle.std.specs.Prelude.{◌≡◌, ◌≤◌, ◌<◌, ◌⊎◌, ℕ, List, ◌∷◌, ◌++◌, length, false, Option, Some, None, Ok, Err}
+use Rattle.std.specs.Prelude.{IfSome}
 use Rattle.blobref.specs.Blobref.{is_blobref}
 use Rattle.http_wire.specs.declared.body.Body.TheVariants.{Done}
 use Rattle.http_wire.specs.Bodies.{Breaks}

@@ -1,6 +1,7 @@
 -- Why an upload ends. `parts` are those that were put, one after the other, and kept; `v` is the pass behind them, and
 -- `w` the pass in the end.
-use Rattle.std.specs.Prelude.{◌≡◌, ◌≤◌, ◌<◌, ℕ, List, ◌∷◌, ◌++◌, length, All, true, false, Option, None, Result, Ok, Err, flat_map}
+use Rattle.std.specs.Prelude.{◌≡◌, ◌≤◌, ◌<◌, ℕ, List, ◌∷◌, ◌++◌, length, All, true, false, Option, None, Result, Ok}
+use Rattle.std.specs.Prelude.{Err, flat_map}
 use Rattle.blobref.specs.Blobref.{is_blobref}
 use Rattle.http_wire.specs.declared.body.Body.TheVariants.{Done}
 use Rattle.http_wire.specs.declared.ends.WireEnd.{WireEnd}

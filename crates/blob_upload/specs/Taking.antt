@@ -1,5 +1,6 @@
 -- Words of the code that reads an upload: what has come so far, and what each step leads to.
-use Rattle.std.specs.Prelude.{◌≡◌, ◌≤◌, ℕ, List, [], ◌∷◌, ◌++◌, length, Bool, false, Option, Some, None, Result, Ok, Err, flat_map}
+use Rattle.std.specs.Prelude.{◌≡◌, ◌≤◌, ℕ, List, [], ◌∷◌, ◌++◌, length, Bool, false, Option, Some, None, Result, Ok}
+use Rattle.std.specs.Prelude.{Err, flat_map}
 use Rattle.edge_base.specs.declared.answers.Put.{Put}
 use Rattle.histories.specs.StoreCalls.{PutSays}
 use Rattle.multipart_read.specs.Tokens.{Token}

@@ -6,8 +6,18 @@ use Rattle.blob_upload.proofs.Pieces.{feeds_none, feeds_more, feeds_on, feeds_la
 use Rattle.blob_upload.proofs.feeding.feed.Goals as goal
 
 pub asking-init : goal.asking-init
-asking-init g c =
-    (tt, tt, c.requires.own, ([], refl, feeds_none c.args.parts.now c.args.opened.now c.args.kept.now (g.H.Home.sight c.args.pass.now)), refl)
+asking-init g c = (
+  tt,
+  tt,
+  c.requires.own,
+  (
+    [],
+    refl,
+    feeds_none c.args.parts.now c.args.opened.now c.args.kept.now
+        (g.H.Home.sight c.args.pass.now),
+  ),
+  refl,
+)
 
 pub asking-preserved : goal.asking-preserved
 asking-preserved g c =
@@ -23,10 +33,15 @@ asking-preserved g c =
       c.in-Ok-true.ensures.own,
       (
         so_far.0 ++ c.asking.rest.now,
-        ap (λ (l : List ℕ). (so_far.0 ++ c.asking.rest.now) ++ l) none ∙ append-nil (so_far.0 ++ c.asking.rest.now) ∙ so_far.1,
-        feeds_on (so_far.0 ++ c.asking.rest.now) c.args.parts.now c.feed_once.new.parts c.args.opened.now c.feed_once.new.opened c.args.kept.now c.feed_once.new.kept v x c.in-Ok-true.field-0
-            (feeds_more (λ (done : Unit {0}) reader. Unit {0}) SoundAtLast (so_far.0) c.asking.rest.now c.args.parts.now c.asking.parts c.feed_once.new.parts c.args.opened.now c.asking.opened
-            c.feed_once.new.opened c.args.kept.now c.asking.kept c.feed_once.new.kept v w x tt (Ok c.in-Ok-true.field-0) (so_far.2) c.in-Ok-true.ensures.feeds),
+        ap (λ (l : List ℕ). (so_far.0 ++ c.asking.rest.now) ++ l) none ∙ append-nil (so_far.0 ++ c.asking.rest.now)
+            ∙ so_far.1,
+        feeds_on (so_far.0 ++ c.asking.rest.now) c.args.parts.now c.feed_once.new.parts c.args.opened.now
+            c.feed_once.new.opened c.args.kept.now c.feed_once.new.kept v x c.in-Ok-true.field-0
+            (feeds_more (λ (done : Unit {0}) reader. Unit {0}) SoundAtLast
+            (so_far.0) c.asking.rest.now c.args.parts.now c.asking.parts c.feed_once.new.parts c.args.opened.now
+            c.asking.opened
+            c.feed_once.new.opened c.args.kept.now c.asking.kept c.feed_once.new.kept v w x tt
+            (Ok c.in-Ok-true.field-0) (so_far.2) c.in-Ok-true.ensures.feeds),
       ),
       ap (λ (l : List ℕ). c.feed_once.new.parts.fed + length l) none ∙ omega (arith, count, fed),
     )
@@ -37,13 +52,20 @@ returns-in-Ok-false-clause-feeds g c =
     let w = g.H.Home.sight c.asking.pass in
     let x = g.H.Home.sight c.feed_once.new.pass in
     let so_far = c.asking.invariant.3 in
-    let P : List ℕ → Type 0 = λ l. Feeds (λ (done : Unit {0}). IsSound) l c.args.parts.now c.feed_once.new.parts c.args.opened.now c.feed_once.new.opened c.args.kept.now c.feed_once.new.kept v x (Ok tt) in
-    let Q : Bool → Type 0 = λ more. Feeds SoundAtLast (so_far.0 ++ c.asking.rest.now) c.args.parts.now c.feed_once.new.parts c.args.opened.now c.feed_once.new.opened c.args.kept.now c.feed_once.new.kept v x (Ok more) in
+    let P : List ℕ → Type 0 = λ l. Feeds (λ (done : Unit {0}). IsSound) l c.args.parts.now c.feed_once.new.parts
+    c.args.opened.now c.feed_once.new.opened c.args.kept.now c.feed_once.new.kept v x (Ok tt) in
+    let Q : Bool → Type 0 = λ more. Feeds SoundAtLast
+    (so_far.0 ++ c.asking.rest.now) c.args.parts.now c.feed_once.new.parts c.args.opened.now c.feed_once.new.opened
+    c.args.kept.now c.feed_once.new.kept v x (Ok more) in
     subst P (so_far.1)
-    (feeds_last (so_far.0 ++ c.asking.rest.now) c.args.parts.now c.feed_once.new.parts c.args.opened.now c.feed_once.new.opened c.args.kept.now c.feed_once.new.kept v x
+    (feeds_last (so_far.0 ++ c.asking.rest.now) c.args.parts.now c.feed_once.new.parts c.args.opened.now
+    c.feed_once.new.opened c.args.kept.now c.feed_once.new.kept v x
     (subst Q c.in-Ok-false.field-0-test
-    (feeds_more (λ (done : Unit {0}) reader. Unit {0}) SoundAtLast (so_far.0) c.asking.rest.now c.args.parts.now c.asking.parts c.feed_once.new.parts c.args.opened.now c.asking.opened
-    c.feed_once.new.opened c.args.kept.now c.asking.kept c.feed_once.new.kept v w x tt (Ok c.in-Ok-false.field-0) (so_far.2) c.in-Ok-false.ensures.feeds)))
+    (feeds_more (λ (done : Unit {0}) reader. Unit {0}) SoundAtLast
+    (so_far.0) c.asking.rest.now c.args.parts.now c.asking.parts c.feed_once.new.parts c.args.opened.now
+    c.asking.opened
+    c.feed_once.new.opened c.args.kept.now c.asking.kept c.feed_once.new.kept v w x tt (Ok c.in-Ok-false.field-0)
+    (so_far.2) c.in-Ok-false.ensures.feeds)))
 
 pub returns-in-Err-clause-feeds : goal.returns-in-Err-clause-feeds
 returns-in-Err-clause-feeds g c =
@@ -51,7 +73,11 @@ returns-in-Err-clause-feeds g c =
     let w = g.H.Home.sight c.asking.pass in
     let x = g.H.Home.sight c.feed_once.new.pass in
     let so_far = c.asking.invariant.3 in
-    let P : List ℕ → Type 0 = λ l. Feeds SoundAtLast l c.args.parts.now c.feed_once.new.parts c.args.opened.now c.feed_once.new.opened c.args.kept.now c.feed_once.new.kept v x (Err c.in-Err.came) in
+    let P : List ℕ → Type 0 = λ l. Feeds SoundAtLast l c.args.parts.now c.feed_once.new.parts c.args.opened.now
+    c.feed_once.new.opened c.args.kept.now c.feed_once.new.kept v x (Err c.in-Err.came) in
     subst P (so_far.1)
-    (feeds_more (λ (done : Unit {0}) reader. Unit {0}) SoundAtLast (so_far.0) c.asking.rest.now c.args.parts.now c.asking.parts c.feed_once.new.parts c.args.opened.now c.asking.opened
-    c.feed_once.new.opened c.args.kept.now c.asking.kept c.feed_once.new.kept v w x tt (Err c.in-Err.came) (so_far.2) c.in-Err.ensures.feeds)
+    (feeds_more (λ (done : Unit {0}) reader. Unit {0}) SoundAtLast
+    (so_far.0) c.asking.rest.now c.args.parts.now c.asking.parts c.feed_once.new.parts c.args.opened.now
+    c.asking.opened
+    c.feed_once.new.opened c.args.kept.now c.asking.kept c.feed_once.new.kept v w x tt (Err c.in-Err.came)
+    (so_far.2) c.in-Err.ensures.feeds)

@@ -13,10 +13,12 @@ events-preserved g c =
     let w = g.H.Home.sight c.events.pass in
     let x = g.H.Home.sight c.take_event.new.pass in
     let i = c.events.event-index in
-    let P : List Token → Type 0 = λ ts. Takes ts c.args.opened.now c.take_event.new.opened c.args.kept.now c.take_event.new.kept v x (Ok tt) in (
+    let P : List Token → Type 0 = λ ts. Takes ts c.args.opened.now c.take_event.new.opened c.args.kept.now
+    c.take_event.new.kept v x (Ok tt) in (
       c.in-Ok.ensures.own,
       subst P (tokens_to c.args.events.now i c.event-item.result c.events-test.true c.event-item.is)
-          (takes_more (tokens_of (take i c.args.events.now)) (tokens_in c.event-item.result) c.args.opened.now c.events.opened c.take_event.new.opened
+          (takes_more (tokens_of (take i c.args.events.now))
+          (tokens_in c.event-item.result) c.args.opened.now c.events.opened c.take_event.new.opened
           c.args.kept.now c.events.kept c.take_event.new.kept v w x (Ok tt) c.events.invariant.1 c.in-Ok.ensures.takes),
     )
 
@@ -27,13 +29,18 @@ returns-in-Err-clause-takes g c =
     let x = g.H.Home.sight c.take_event.new.pass in
     let i = c.events.event-index in
     let these = tokens_of (take i c.args.events.now) ++ tokens_in c.event-item.result in
-    let P : List Token → Type 0 = λ ts. Takes ts c.args.opened.now c.take_event.new.opened c.args.kept.now c.take_event.new.kept v x (Err c.in-Err.came) in
+    let P : List Token → Type 0 = λ ts. Takes ts c.args.opened.now c.take_event.new.opened c.args.kept.now
+    c.take_event.new.kept v x (Err c.in-Err.came) in
     subst P (tokens_from c.args.events.now i c.event-item.result c.events-test.true c.event-item.is)
-    (takes_stop these (tokens_of (drop (i + 1) c.args.events.now)) c.args.opened.now c.take_event.new.opened c.args.kept.now c.take_event.new.kept v x c.in-Err.came
-    (takes_more (tokens_of (take i c.args.events.now)) (tokens_in c.event-item.result) c.args.opened.now c.events.opened c.take_event.new.opened
-    c.args.kept.now c.events.kept c.take_event.new.kept v w x (Err c.in-Err.came) c.events.invariant.1 c.in-Err.ensures.takes))
+    (takes_stop these (tokens_of (drop (i + 1) c.args.events.now)) c.args.opened.now c.take_event.new.opened
+    c.args.kept.now c.take_event.new.kept v x c.in-Err.came
+    (takes_more (tokens_of (take i c.args.events.now))
+    (tokens_in c.event-item.result) c.args.opened.now c.events.opened c.take_event.new.opened
+    c.args.kept.now c.events.kept c.take_event.new.kept v w x
+    (Err c.in-Err.came) c.events.invariant.1 c.in-Err.ensures.takes))
 
 pub returns-clause-takes : goal.returns-clause-takes
 returns-clause-takes g c =
-    let P : List Token → Type 0 = λ ts. Takes ts c.args.opened.now c.events.opened c.args.kept.now c.events.kept (g.H.Home.sight c.args.pass.now) (g.H.Home.sight c.events.pass) (Ok tt) in
+    let P : List Token → Type 0 = λ ts. Takes ts c.args.opened.now c.events.opened c.args.kept.now c.events.kept
+    (g.H.Home.sight c.args.pass.now) (g.H.Home.sight c.events.pass) (Ok tt) in
     subst P (tokens_all c.args.events.now c.events.event-index c.events-test.false) c.events.invariant.1
