@@ -107,8 +107,7 @@ stamped_stands h t entry e is =
 
 -- the entry that a put adds
 put_adds : (parts : List Part) (part : Part) (before : List Blob) (o : Option (Result Put PutFault))
-    (answer : Result Put PutFault)
-    (came : Came) (e : StoreEvent) → EndsBy answer came → PutAnswers part.0 part.1 before o answer (Some e)
+    (answer : Result Put PutFault) (came : Came) (e : StoreEvent) → EndsBy answer came → PutAnswers part.0 part.1 before o answer (Some e)
     → IsAddedBy parts came e
 put_adds parts part before (Some settled) answer came e ends said = absurd (cc (said.1))
 put_adds parts part before None (Ok (Stored n)) came e ends said =
@@ -193,22 +192,13 @@ shows_why part answer came h turns t entry ends said = by answer ends said
     by (Err (put.Full blobs pack)) ends said =
         let is = full_by part (arrivals h) (nat_lt max_size (length part.1)) (not (is_own_ref part.0 part.1))
         (number_of part.0 (arrivals h)) blobs pack entry said in
-        at (Full blobs pack) (
-          t,
-          has_rest turns (t ∷ []) t (has_one t),
-          stamped_stands h t entry
-              (store.Full blobs pack) is,
-        ) ends
+        let stands = stamped_stands h t entry (store.Full blobs pack) is in
+        at (Full blobs pack) (t, has_rest turns (t ∷ []) t (has_one t), stands) ends
     by (Err put.Disk) ends said =
         let is = disk_by part (arrivals h) (nat_lt max_size (length part.1)) (not (is_own_ref part.0 part.1))
         (number_of part.0 (arrivals h)) entry said in
-        at Disk (
-          t,
-          is.0,
-          has_rest turns (t ∷ []) t (has_one t),
-          stamped_stands h t entry (store.Fault (is.0))
-              (is.1),
-        ) ends
+        let stands = stamped_stands h t entry (store.Fault (is.0)) (is.1) in
+        at Disk (t, is.0, has_rest turns (t ∷ []) t (has_one t), stands) ends
     by (Err put.NoMemory) ends said = at Memory tt ends
 
 module _ (parts : List Part) (part : Part) (came : Came) (v m w : Sight) (puts : Puts parts v m)
@@ -227,8 +217,8 @@ module _ (parts : List Part) (part : Part) (came : Came) (v m w : Sight) (puts :
             w.store.turns (wider parts came v m puts.grew)
             (ran_grew (λ before turn entry. PutSays part.0 part.1 (arrivals before) answer entry) (IsAddedBy parts came)
             m.store.history w.store.history m.store.turns w.store.turns
-            (λ h n e said. put_adds parts part (arrivals h)
-            (put_settled part.0 part.1 (arrivals h)) answer came e ends said) r);
+            (λ h n e said.
+            put_adds parts part (arrivals h) (put_settled part.0 part.1 (arrivals h)) answer came e ends said) r);
         turns = subst (λ n. Turns came (length parts) n) (sym count)
             (turned part (arrivals r.before) answer r.entry came (length parts) few r.said ends);
         why = subst (λ h. ShowsWhy came (puts.grew.further ++ (r.ticket + 1) ∷ []) h) (sym r.added)

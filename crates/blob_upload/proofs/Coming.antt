@@ -140,8 +140,8 @@ module _ (boundary given : List ℕ) (parts : List Part) (wire : WireView) (x : 
     at_part : (came : Came) (v w : Sight) (answer : Result Put PutFault) → EndsBy answer came
         → StoreTurned (λ before entry. PutSays part.0 part.1 before answer entry) v w
         ⊎ ((answer ≡ Err put.NoMemory) × Spends v w) → comes came
-    at_part came v w answer by (inl t) = at_put answer
-        (arrivals t.turn.ran.before) t.turn.ran.entry came by t.turn.ran.said
+    at_part came v w answer by (inl t) =
+        at_put answer (arrivals t.turn.ran.before) t.turn.ran.entry came by t.turn.ran.said
     at_part came v w answer by (inr (none, spends)) =
         as_told came Memory (part_tokens part ++ later, told) (subst (λ a. EndsBy a came) none by)
 

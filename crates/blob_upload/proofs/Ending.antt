@@ -192,8 +192,7 @@ module _ (boundary : List ℕ) (left left' left'' : Option (List ℕ)) (wire wir
 
   -- the upload ends inside a piece
   pub uploading_stops : (piece : List ℕ) (x : Sight) (kept'' : List (List ℕ × ℕ)) (reading' : Reading) (came : Came)
-      → moves piece
-      → length piece ≤ 65536 → TakesPiece piece reading reading' kept' kept'' w x (Err came)
+      → moves piece → length piece ≤ 65536 → TakesPiece piece reading reading' kept' kept'' w x (Err came)
       → Uploads boundary left left'' wire wire'' v x kept kept'' came
   uploading_stops piece x kept'' reading' came moved few takes =
       let halted = takes boundary kept v so_far.given so_far.count so_far.going in

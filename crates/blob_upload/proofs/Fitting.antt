@@ -50,9 +50,8 @@ module _ (most : ℕ) (enough : 16777216 ≤ most) where
   abbrev Fit : (List ℕ → List Token → End → Type 0) → Type 0
   Fit next = (bytes : List ℕ) (tokens : List Token) (end : End) → next bytes tokens end → run_fits 0 tokens ≡ true
 
-  from_mark_fits : (next : List ℕ → List Token → End → Type 0) → Fit next
-      → (e : Element) (m : Mark) (sure : ℕ) (bytes : List ℕ)
-      (tokens : List Token) (end : End) → sure ≤ most → FromMark next e m sure bytes tokens end
+  from_mark_fits : (next : List ℕ → List Token → End → Type 0) → Fit next → (e : Element) (m : Mark) (sure : ℕ)
+      (bytes : List ℕ) (tokens : List Token) (end : End) → sure ≤ most → FromMark next e m sure bytes tokens end
       → run_fits 0 tokens ≡ true
   from_mark_fits next fit e Absent sure bytes tokens end few from = absurd from
   from_mark_fits next fit e Undecided sure bytes tokens end few from =
@@ -75,8 +74,8 @@ module _ (most : ℕ) (enough : 16777216 ≤ most) where
   in_head_fits : (start : List ℕ) (total left : ℕ) → Fit (InHead start total left)
   unfolding InHead
   in_head_fits start total zero = λ bytes tokens end none. ap (run_fits 0) (none.0)
-  in_head_fits start total (suc left) = λ bytes tokens end rest. heads bytes tokens end rest
-      (in_head_fits start total left)
+  in_head_fits start total (suc left) =
+      λ bytes tokens end rest. heads bytes tokens end rest (in_head_fits start total left)
     where
       heads : (bytes : List ℕ) (tokens : List Token) (end : End) → InHead start total (suc left) bytes tokens end
           → Fit (InHead start total left) → run_fits 0 tokens ≡ true
@@ -115,8 +114,8 @@ module _ (most : ℕ) (enough : 16777216 ≤ most) where
       omega (arith, fits)
   parts_fit (p ∷ parts) part ts e =
       let rest : List Token = flat_map part_tokens parts ++ (part_tokens part ++ ts) in
-      let same : ((content p.1 ++ ended ∷ []) ++ flat_map part_tokens parts) ++ (part_tokens part ++ ts) ≡ content
-      p.1 ++ ended ∷ rest =
+      let same : ((content p.1 ++ ended ∷ []) ++ flat_map part_tokens parts) ++ (part_tokens part ++ ts)
+      ≡ content p.1 ++ ended ∷ rest =
       append_assoc (content p.1 ++ ended ∷ []) (flat_map part_tokens parts) (part_tokens part ++ ts)
       ∙ append_assoc (content p.1) (ended ∷ []) rest in
       parts_fit parts part ts ((part_fits 0 (p.1) rest (omega arith) (ap (run_fits 0) (sym same) ∙ e)).1)
@@ -130,11 +129,11 @@ contents_fit boundary given parts part later t = by (nat_lt max_size (length par
         let enough : 16777216 ≤ max_size = omega arith in
         let fits = body_fits max_size enough boundary (t.fed ++ [])
         ((flat_map part_tokens parts ++ (part_tokens part ++ later)) ++ tokens) end (t.tells [] tokens end gives) in
-        let whole : (flat_map part_tokens parts ++ (part_tokens part ++ later)) ++ tokens ≡ flat_map part_tokens
-        parts ++ (part_tokens part ++ (later ++ tokens)) =
+        let whole : (flat_map part_tokens parts ++ (part_tokens part ++ later)) ++ tokens
+        ≡ flat_map part_tokens parts ++ (part_tokens part ++ (later ++ tokens)) =
         append_assoc (flat_map part_tokens parts) (part_tokens part ++ later) tokens
         ∙ ap (λ ts. flat_map part_tokens parts ++ ts) (append_assoc (part_tokens part) later tokens) in
-        let few = parts_fit max_size enough parts part (later ++ tokens) (ap (run_fits max_size enough 0) (sym whole)
-        ∙ fits) in
+        let few = parts_fit max_size enough parts part (later ++ tokens)
+        (ap (run_fits max_size enough 0) (sym whole) ∙ fits) in
         let many = ltb-true max_size (length part.1) is in
         omega (arith, few, many)))

@@ -87,8 +87,8 @@ module _ (piece : List ℕ) (r s : Reader) (o p : Option Opened) (k l : List (Li
 
   in_order : (boundary given : List ℕ) (tokens : List Token) → Tells (fresh boundary) given tokens s
       → IsInOrder (tokens ++ [])
-  in_order boundary given tokens tells = subst IsInOrder (sym (append-nil tokens))
-      (told_in_order boundary given tokens s tells)
+  in_order boundary given tokens tells =
+      subst IsInOrder (sym (append-nil tokens)) (told_in_order boundary given tokens s tells)
 
   -- what it told was taken
   pub feed_takes : (these taken : List Token) (more : Bool) → taken ≡ these → Tells r piece these s

@@ -11,8 +11,8 @@ pub fn uploads_add()
     ensures { UploadsAdd }
 {}
 
-/// What an upload came to, said of the bytes that came of its body alone: which parts were kept, and what then ended it,
-/// by how it ended. A refusal is the first fault in these bytes.
+/// What an upload came to, said of the bytes that came of its body alone: behind the parts that were kept, what ended
+/// it. A refusal is the first fault in these bytes.
 pub fn uploads_come()
     ensures { UploadsCome }
 {}

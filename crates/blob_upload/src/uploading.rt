@@ -105,9 +105,12 @@ fn finish(reading: Reading) -> Came
 /// its content has ended, under the ref that its name is. `docs/http.md` has the rules, and what ends an upload.
 ///
 /// Each part that was put is listed in `kept`, behind what stood there, with its size, also where its blob stood
-/// before. However the upload ends, these stay; nothing more of the body is read, or put. With `Memory` one part more
-/// may be put than is listed. In memory are one part, 64 KiB of the body, and `kept`, of at most 1,000 entries an
-/// upload. The time is linear in the body, beside that of the puts.
+/// before. However the upload ends, these stay, and no further piece of the body is read; a piece has at most 64 KiB.
+/// With `Memory` one part more may be put than is listed. `uploads_come` and `uploads_add` say what follows from the
+/// clause `uploads` for each way to end.
+///
+/// In memory are the content of one part, a piece with its events, and `kept`, to which an upload adds at most 1,000
+/// entries. The time is linear in the body, beside that of the puts.
 pub fn take_parts<H: Home, S: Source, R: Wait>(
     rt: &R,
     alloc: Global,

@@ -4,20 +4,14 @@ use Rattle.blob_upload.proofs.uploading.take_piece.Goals as goal
 pub returns-in-Err-clause-takes : goal.returns-in-Err-clause-takes
 returns-in-Err-clause-takes g c =
     piece_stops c.args.piece.now c.min-within.result c.args.reading.now.taken c.min-within.ensures c.requires.short
-    c.args.reading.now.parts c.feed.new.parts
-    c.args.reading.now.opened c.feed.new.opened c.args.kept.now c.feed.new.kept (g.H.Home.sight c.args.pass.now)
-    (g.H.Home.sight c.feed.new.pass) c.in-Err.came c.in-Err.ensures.feeds
+    _ c.feed.new.parts _ c.feed.new.opened _ _ _ _ c.in-Err.came c.in-Err.ensures.feeds
 
 pub returns-then-within-piece-clause-takes : goal.returns-then-within-piece-clause-takes
 returns-then-within-piece-clause-takes g c =
     piece_long c.args.piece.now c.min-within.result c.args.reading.now.taken c.min-within.ensures c.requires.short
-    c.args.reading.now.parts c.feed.new.parts
-    c.args.reading.now.opened c.feed.new.opened c.args.kept.now c.feed.new.kept (g.H.Home.sight c.args.pass.now)
-    (g.H.Home.sight c.feed.new.pass) c.if-within-piece.true c.in-Ok.ensures.feeds
+    _ _ _ _ _ _ _ _ c.if-within-piece.true c.in-Ok.ensures.feeds
 
 pub returns-clause-takes : goal.returns-clause-takes
 returns-clause-takes g c =
     piece_whole c.args.piece.now c.min-within.result c.args.reading.now.taken c.min-within.ensures c.requires.short
-    c.args.reading.now.parts c.feed.new.parts
-    c.args.reading.now.opened c.feed.new.opened c.args.kept.now c.feed.new.kept (g.H.Home.sight c.args.pass.now)
-    (g.H.Home.sight c.feed.new.pass) c.if-within-piece.false c.in-Ok.ensures.feeds
+    _ _ _ _ _ _ _ _ c.if-within-piece.false c.in-Ok.ensures.feeds
