@@ -2,12 +2,12 @@
 
     http_speed.py LAB PLAIN_HTTP FOLDER
 
-Times are those of the requests alone: from each the time of the same program over nothing is taken off, which is its
-start and the pack's reading. Each of both is the best of three, taken in turn with those that it is compared with.
+Times are those of the requests alone: from the time of a run over a stream that of one over no bytes is taken off,
+which is the program's start and its reading of the pack. Each is the best of three, taken in turn with the others.
 Peaks of memory are those of a whole run.
 
 What is timed is written to /dev/null. The replies are looked at in a run before that: they have to be, byte for byte,
-what the second implementation (tests/connections.py) writes for the blobs that the requests are made of.
+the replies of tests/connections.py with the blobs that the requests are made of.
 """
 
 import os
@@ -94,6 +94,9 @@ class Seconds(NamedTuple):
     def without(self, other):
         return Seconds(*(max(one - some, 1e-9) for one, some in zip(self, other)))
 
+    def over(self, other):
+        return [one / its for one, its in zip(self, other)]
+
 
 def run(words, source, sink):
     """Runs a program that has to end with status 0; answers its seconds."""
@@ -109,7 +112,7 @@ def run(words, source, sink):
 
 
 def best_in_turn(runs):
-    """What programs need for files. A run is a program's words, a file, and by how many starts it is done."""
+    """The seconds of each run beyond those over no bytes. A run is a program's words, a file, and how many starts."""
     both = [(words, source, starts) for words, path, starts in runs for source in (path, os.devnull)]
     rounds = [[in_all(*one) for one in both] for _ in range(TIMES)]
     best = [Seconds(*map(min, zip(*column))) for column in zip(*rounds)]
@@ -139,8 +142,8 @@ class Bench:
         pace = f"{job.count * job.starts / lab.processor:,.0f} {job.unit}"
         peaks = [self.peak(words) for words in self.programs]
         held = (self.stream.stat().st_size + sum(map(len, job.replies))) / MIB
-        beside = "".join(f"{other.processor / lab.processor:12.2f} {other.wall / lab.wall:8.2f}" for other in [plain, *hashing])
-        print(f"{job.what:34} {pace:>18} {beside:42} {held:10.1f} {peaks[0]:>9} {peaks[1]:>9}", flush=True)
+        ratios = [ratio for other in (plain, *hashing) for ratio in other.over(lab)]
+        row(job.what, pace, [f"{ratio:.2f}" for ratio in ratios], f"{held:.1f}", *peaks)
 
     def check(self, job, words):
         run(words, self.stream, self.out)
@@ -154,11 +157,16 @@ class Bench:
         return "" if memory is None else f"{memory / MIB:.1f}"
 
 
+def row(what, pace, ratios, *memory):
+    beside = "".join(f"{ratio:>11}" for ratio in ratios)
+    print(f"{what:34}{pace:>19} {beside:44}" + "".join(f"{one:>10}" for one in memory), flush=True)
+
+
 def main(lab, plain, folder):
     bench = Bench(lab, plain, folder)
-    print("speeds of `lab http`: by processor time and by wall time, that of the other program being 1; memory in MiB")
-    beside = f"{'plain_http':>12} {'by wall':>8}{'openssl':>12} {'by wall':>8}"
-    print(f"{'job':34} {'a processor second':>18} {beside:42} {'streams':>10} {'peak':>9} {'plain':>9}")
+    print("speeds of `lab http`, those of plain_http and of openssl being 1, by processor time and by wall time;")
+    print("MiB of both streams, and of the peaks of memory of both programs, which hold the streams")
+    row("job", "a processor second", ["plain_http", "by wall", "openssl", "by wall"], "streams", "peak", "its peak")
     for job in jobs():
         bench.measure(job)
 

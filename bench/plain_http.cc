@@ -13,6 +13,7 @@
 
 #include <algorithm>
 #include <array>
+#include <cctype>
 #include <charconv>
 #include <cstdio>
 #include <cstdlib>
@@ -20,6 +21,7 @@
 #include <string>
 #include <string_view>
 #include <unordered_map>
+#include <utility>
 #include <vector>
 
 using std::string;
@@ -177,7 +179,6 @@ class Source {
 struct Head {
   string_view method, target, content_type;
   size_t length = 0;
-  bool closes = false;
 };
 
 static Head head_of(string_view text) {
@@ -187,10 +188,9 @@ static Head head_of(string_view text) {
   head.target = split_off(first, " ", "a target");
   expect(is_token(head.method) && is_printed(head.target, '!') && first == "HTTP/1.1", "a first line");
   each_header(text, [&](string_view name, string_view value) {
-    expect(!same(name, "transfer-encoding"), "a body of a known length");
+    expect(!same(name, "transfer-encoding") && !same(name, "connection"), "a header that is known");
     if (same(name, "content-length")) head.length = number(value);
     if (same(name, "content-type") && head.content_type.empty()) head.content_type = value;
-    if (same(name, "connection")) head.closes |= same(value, "close");
   });
   return head;
 }
@@ -212,11 +212,10 @@ class Server {
     replies.back() += bytes;
   }
 
-  void reply(const char *kind, string_view body, bool closes) {
-    static const char *const lines = "HTTP/1.1 200 OK\r\nContent-Type: %s\r\nContent-Length: %zu\r\n%s\r\n";
+  void reply(const char *kind, string_view body) {
+    static const char *const lines = "HTTP/1.1 200 OK\r\nContent-Type: %s\r\nContent-Length: %zu\r\n\r\n";
     char head[160];
-    int length = snprintf(head, sizeof head, lines, kind, body.size(), closes ? "Connection: close\r\n" : "");
-    write(string_view(head, (size_t)length));
+    write(string_view(head, (size_t)snprintf(head, sizeof head, lines, kind, body.size())));
     write(body);
   }
 
@@ -224,7 +223,7 @@ class Server {
     ref = head.target.substr(7);
     auto found = blobs.find(ref);
     expect(head.length == 0 && found != blobs.end(), "a request of a blob");
-    reply("application/octet-stream", found->second, head.closes);
+    reply("application/octet-stream", found->second);
   }
 
   void put(string_view name, string_view content) {
@@ -233,7 +232,7 @@ class Server {
   }
 
   // A body is read as if a line end stood before it. It has no preamble.
-  void upload(Source &source, size_t left, const string &boundary, bool closes) {
+  void upload(Source &source, size_t left, const string &boundary) {
     expect(!boundary.empty(), "a content type with a boundary");
     auto take = [&](size_t length) {
       expect(length <= left, "a body of parts");
@@ -255,7 +254,7 @@ class Server {
       received += "{\"blobRef\":\"" + name + "\",\"size\":" + std::to_string(content.size()) + "}";
     }
     take(left);
-    reply("application/json", "{\"received\":[" + received + "]}", closes);
+    reply("application/json", "{\"received\":[" + received + "]}");
   }
 
  public:
@@ -270,15 +269,14 @@ class Server {
   }
 
   void serve(Source &source) {
-    for (bool closes = false; !closes && !source.is_at_end();) {
+    while (!source.is_at_end()) {
       Head head = head_of(source.take(source.find("\r\n\r\n") + 4));
-      closes = head.closes;
       if (head.method == "GET" && head.target.substr(0, 7) == "/camli/") {
         get(head);
       } else {
         expect(head.method == "POST" && head.target == "/camli/upload", "a request that is known");
         string boundary(parameter(head.content_type, "multipart/form-data", "boundary"));
-        upload(source, head.length, boundary, closes);
+        upload(source, head.length, boundary);
       }
     }
   }
