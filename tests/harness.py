@@ -17,7 +17,9 @@ import mmap
 import os
 import pathlib
 import random
+import select
 import shutil
+import signal
 import subprocess
 import sys
 import tempfile
@@ -153,6 +155,41 @@ def with_broken_source(program, what, line, front, **streams):
         file.truncate(room)
         memory.seek(ctypes.addressof(ctypes.c_char.from_buffer(pages)) + room - len(front))
         with_streams(program, what, line, 5, source=memory.fileno(), **streams)
+
+
+def run_quickly(program, words, source, seconds=SECONDS):
+    """As `Program.run`, in the folder of this process and with files in memory as streams: this takes little time of the
+    script's own."""
+    program.starts[words[0]] += 1
+    files = [os.memfd_create("stream") for _ in range(3)]
+    try:
+        os.pwrite(files[0], source, 0)
+        actions = [(os.POSIX_SPAWN_DUP2, file, stream) for stream, file in enumerate(files)]
+        signals = [signal.SIGPIPE, signal.SIGXFSZ]
+        line = [program.path, *words]
+        child = os.posix_spawn(program.path, line, os.environ, file_actions=actions, setsigdef=signals)
+        in_time = ends_within(child, seconds)
+        status = os.waitstatus_to_exitcode(os.waitpid(child, 0)[1])
+        if not in_time:
+            raise Difference(f"{words}: no end after {seconds} seconds")
+        return status, *(os.pread(file, os.fstat(file).st_size, 0) for file in files[1:])
+    finally:
+        for file in files:
+            os.close(file)
+
+
+def ends_within(child, seconds):
+    """Waits until a process ends, and kills it where that takes too long; answers whether it ended."""
+    handle = os.pidfd_open(child)
+    try:
+        poll = select.poll()
+        poll.register(handle, select.POLLIN)
+        ended = bool(poll.poll(seconds * 1_000))
+        if not ended:
+            os.kill(child, 9)
+        return ended
+    finally:
+        os.close(handle)
 
 
 # What stands in front of a program's words, where it is to start under some condition. (No code of Python's runs between a fork

@@ -10,8 +10,6 @@ import functools
 import os
 import pathlib
 import re
-import select
-import signal
 import subprocess
 
 import harness
@@ -21,7 +19,7 @@ import query_faults
 import query_inputs
 import reference
 import writing
-from harness import SECONDS, Difference, chance, check, compare, compare_ending, finish, limited_to, short
+from harness import chance, check, compare, compare_ending, finish, limited_to, run_quickly, short
 from query_faults import FULL, SMALL
 from query_inputs import ANYTHING, KEYRING, RandomQuery, RandomStore, negated, node, spell, spell_otherwise
 from reference import ref_of
@@ -71,41 +69,6 @@ class Shelf:
         out = reference.search_text(refs) + b"\n"
         compare(f"{what}: {short(text)}", "the reference", (out, 0), self.ending(text))
         asked(self.store, f"{what}: {short(text)}", text, out)
-
-
-def run_quickly(program, words, source, seconds=SECONDS):
-    """As `Program.run` in its usual folder, with files in memory as streams: this takes little time of the script's
-    own."""
-    program.starts[words[0]] += 1
-    files = [os.memfd_create("stream") for _ in range(3)]
-    try:
-        os.pwrite(files[0], source, 0)
-        actions = [(os.POSIX_SPAWN_DUP2, file, stream) for stream, file in enumerate(files)]
-        signals = [signal.SIGPIPE, signal.SIGXFSZ]
-        line = [program.path, *words]
-        child = os.posix_spawn(program.path, line, os.environ, file_actions=actions, setsigdef=signals)
-        in_time = ends_within(child, seconds)
-        status = os.waitstatus_to_exitcode(os.waitpid(child, 0)[1])
-        if not in_time:
-            raise Difference(f"{words}: no end after {seconds} seconds")
-        return status, *(os.pread(file, os.fstat(file).st_size, 0) for file in files[1:])
-    finally:
-        for file in files:
-            os.close(file)
-
-
-def ends_within(child, seconds):
-    """Waits until a process ends, and kills it where that takes too long; answers whether it ended."""
-    handle = os.pidfd_open(child)
-    try:
-        poll = select.poll()
-        poll.register(handle, select.POLLIN)
-        ended = bool(poll.poll(seconds * 1_000))
-        if not ended:
-            os.kill(child, 9)
-        return ended
-    finally:
-        os.close(handle)
 
 
 def first_fault(text):

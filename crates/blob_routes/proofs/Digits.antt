@@ -1,5 +1,6 @@
 -- Numbers in decimal.
-use Rattle.std.proofs.Common.{◌≡◌, ◌<◌, ◌≤◌, ◌^◌, ℕ, true, List, length, Some, Result, arith, rules, ap, ◌∙◌}
+use Rattle.std.proofs.Common.{◌≡◌, ◌<◌, ◌≤◌, ◌^◌, ℕ, true, List, length, Some, Result}
+use Rattle.std.proofs.Common.{arith, rules, ap, ◌∙◌}
 use Rattle.std.specs.Prelude.{decimal}
 use Rattle.std.specs.List.{list_all}
 use Rattle.std.specs.Char.{is_ascii_digit}
@@ -14,8 +15,9 @@ own : IsNumeralModel (λ ds. list_all is_ascii_digit ds ≡ true) (digits_value 
 own = numerals_by_value _ (search rules)
 
 -- few digits are parsed as the number that they are
-pub parsed : {E : Type 0} (digits : List ℕ) (r : Result ℕ E) → ParsesUnsigned 32 10 digits r → list_all is_ascii_digit digits ≡ true
-    → 0 < length digits → length digits ≤ 9 → result_ok r ≡ Some (digits_value 10 digits)
+pub parsed : {E : Type 0} (digits : List ℕ) (r : Result ℕ E) → ParsesUnsigned 32 10 digits r
+    → list_all is_ascii_digit digits ≡ true → 0 < length digits → length digits ≤ 9
+    → result_ok r ≡ Some (digits_value 10 digits)
 parsed digits r h all some few =
     let small : digits_value 10 digits < 10 ^ 9 = digits_value_short own digits 9 all few in
     ap result_ok (parse_gives own 32 digits r h all some (omega (arith, small)))
@@ -26,5 +28,6 @@ number_in-decimal n small =
     let fits : n < 2 ^ 64 = omega (arith, small) in
     let few : length (decimal n) ≤ 9 = length-decimal-le 9 n (omega arith) small fits in
     let some : 1 ≤ length (decimal n) = (decimal_is_IsNumeral n fits).0.0 in
-    cond-true _ _ _ (and_from _ _ (and_from _ _ (le-leb 1 (length (decimal n)) some) (le-leb (length (decimal n)) 9 few)) (digits_decimal own n fits))
+    let within = and_from _ _ (le-leb 1 (length (decimal n)) some) (le-leb (length (decimal n)) 9 few) in
+    cond-true _ _ _ (and_from _ _ within (digits_decimal own n fits))
     ∙ ap Some (digits_value-decimal own n fits)

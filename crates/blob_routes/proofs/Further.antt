@@ -18,7 +18,8 @@ by_first n passes xs = take (cond (not passes) (1 + n) 0) xs
 stops : {X : Type 0} (p : X → Bool) (x : X) (xs : List X) → p x ≡ true → before_first p (x ∷ xs) ≡ []
 stops p x xs h = ap (λ (b : Bool). by_first (position_or_len p xs) b (x ∷ xs)) h
 
-goes_on : {X : Type 0} (p : X → Bool) (x : X) (xs : List X) → p x ≡ false → before_first p (x ∷ xs) ≡ x ∷ before_first p xs
+goes_on : {X : Type 0} (p : X → Bool) (x : X) (xs : List X) → p x ≡ false
+    → before_first p (x ∷ xs) ≡ x ∷ before_first p xs
 goes_on p x xs h =
     let n = position_or_len p xs in
     let one_more : 1 + n ≡ suc n = omega arith in
@@ -34,11 +35,14 @@ longer : {X : Type 0} (p : X → Bool) (k : ℕ) (x : X) (xs : List X) → p x �
     → suc k ≤ length (before_first p (x ∷ xs))
 longer p k x xs h le = let e = ap length (goes_on p x xs h) in omega (arith, le, e)
 
-behind : {X : Type 0} (p : X → Bool) (k : ℕ) (x : X) (xs : List X) → p x ≡ false → Tells p k xs → Tells p (suc k) (x ∷ xs)
-behind p k x xs h (inl same) = inl (goes_on p x (take k xs) h ∙ ap (λ (ys : List _). x ∷ ys) same ∙ sym (goes_on p x xs h))
+behind : {X : Type 0} (p : X → Bool) (k : ℕ) (x : X) (xs : List X) → p x ≡ false → Tells p k xs
+    → Tells p (suc k) (x ∷ xs)
+behind p k x xs h (inl same) =
+    inl (goes_on p x (take k xs) h ∙ ap (λ (ys : List _). x ∷ ys) same ∙ sym (goes_on p x xs h))
 behind p k x xs h (inr many) = inr (longer p k x xs h many.0, longer p k x (take k xs) h many.1)
 
-by_head : {X : Type 0} (p : X → Bool) (k : ℕ) (x : X) (xs : List X) (b : Bool) → p x ≡ b → Tells p k xs → Tells p (suc k) (x ∷ xs)
+by_head : {X : Type 0} (p : X → Bool) (k : ℕ) (x : X) (xs : List X) (b : Bool) → p x ≡ b → Tells p k xs
+    → Tells p (suc k) (x ∷ xs)
 by_head p k x xs true h rest = inl (stops p x (take k xs) h ∙ sym (stops p x xs h))
 by_head p k x xs false h rest = behind p k x xs h rest
 
@@ -60,4 +64,4 @@ unfolding places_of
 further most more pairs le =
     told most (map (asked_at pairs) (range_with_len 1 more)) (front is_missing (most + 1) _)
     ∙ ap (λ (places : List Place). refs_at most (before_first is_missing places))
-      (take-map-range_with_len (asked_at pairs) 1 more (most + 1) le)
+    (take-map-range_with_len (asked_at pairs) 1 more (most + 1) le)

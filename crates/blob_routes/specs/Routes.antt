@@ -1,5 +1,6 @@
 -- The route of a request, by its method and its path.
-use Rattle.std.specs.Prelude.{ℕ, true, false, List, take, drop, codes, Option, Some, None, Result, Ok, Err, if◌then◌else◌}
+use Rattle.std.specs.Prelude.{ℕ, true, false, List, take, drop, codes}
+use Rattle.std.specs.Prelude.{Option, Some, None, Result, Ok, Err, if◌then◌else◌}
 use Rattle.std.specs.Str.{bytes_eq}
 use Rattle.blobref.specs.Blobref.{blobref_in}
 use Rattle.blob_routes.specs.declared.routes.Route.{Route}

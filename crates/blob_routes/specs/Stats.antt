@@ -1,5 +1,6 @@
 -- Which refs are asked after.
-use Rattle.std.specs.Prelude.{ℕ, ◌+◌, Bool, true, false, List, [], ◌∷◌, length, codes, Option, Some, None, Result, Ok, Err, if◌then◌else◌, bytes_eq, nat_lt}
+use Rattle.std.specs.Prelude.{ℕ, ◌+◌, Bool, true, false, List, [], ◌∷◌, length, codes}
+use Rattle.std.specs.Prelude.{Option, Some, None, Result, Ok, Err, if◌then◌else◌, bytes_eq, nat_lt}
 use Rattle.std.specs.List.{before_first, list_any, flat_map}
 use Rattle.form_urlencoded.specs.Form.{raw_pairs}
 use Rattle.answer_text.specs.declared.refusal.Refusal.{Refusal}

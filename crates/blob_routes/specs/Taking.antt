@@ -1,5 +1,6 @@
 -- How what is asked by number is gathered, one parameter after the other.
-use Rattle.std.specs.Prelude.{ℕ, ◌-◌, ◌&&◌, List, set, get_or, take, drop, length, codes, decimal, Option, Some, None, option_and_then, if◌then◌else◌, bytes_eq, nat_le}
+use Rattle.std.specs.Prelude.{ℕ, ◌-◌, ◌&&◌, List, set, get_or, take, drop, length}
+use Rattle.std.specs.Prelude.{codes, decimal, Option, Some, None, option_and_then, if◌then◌else◌, bytes_eq, nat_le}
 use Rattle.blob_routes.specs.declared.places.Place.{Place}
 use Rattle.blob_routes.specs.declared.places.Place.TheVariants.{Missing, Wrong, Right}
 use Rattle.blob_routes.specs.Parameters.{meant, number_in}

@@ -2,5 +2,6 @@ pub mod Counting
 pub mod Putting
 pub mod Sights
 pub mod Times
+pub mod Owning
 pub mod Soundness
 pub mod Promised

@@ -65,7 +65,7 @@ all_seen_after k s (e ∷ es) unseen all =
     let p = and_parts (shows_no_blobs k e) (list_all (shows_no_blobs k) es) unseen in
     all_seen_after k (core_step s e) es p.1 (all_seen_step k s e p.0 all)
 
-found_by : (s : CoreState) (bound n : ℕ) → n < bound → (b : Bool) → has n s.indexed ≡ b → has n (s.indexed ++ unindexed_below bound s) ≡ true
+pub found_by : (s : CoreState) (bound n : ℕ) → n < bound → (b : Bool) → has n s.indexed ≡ b → has n (s.indexed ++ unindexed_below bound s) ≡ true
 found_by s bound n lt true is = has_front n s.indexed (unindexed_below bound s) is
 found_by s bound n lt false is = has_rest n s.indexed (unindexed_below bound s) (has_kept s.indexed (numbers_below bound) n is (has_below bound n lt))
 

@@ -12,6 +12,7 @@ mod running;
 mod searching;
 mod stepping;
 mod storing;
+mod telling;
 
 pub use events::{BlobList, Event, EventList, Reply, ReplyList};
 pub use home::{Home, Indexed};

@@ -131,7 +131,7 @@ impl Lists {
     }
 
     // The least number that arrived, is below a bound, and waits.
-    fn least_waiting(&self, known: u64) -> Option<u64>
+    pub(crate) fn least_waiting(&self, known: u64) -> Option<u64>
         ensures { result ≡ least_waiting known self.now }
     {
         let bound = known.min(self.store.len() as u64);

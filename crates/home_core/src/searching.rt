@@ -21,7 +21,7 @@ use std::alloc::Global;
 use std::marker::Brand;
 use std::sync::ledger::{Blank, Ledger};
 
-/// The answer to a query over exactly the facts indexed. The session sees all indexed numbers.
+/// The bytes of the answer to a query over exactly the facts indexed. The session sees all indexed numbers.
 pub(crate) fn search<V: Verifier>(
     alloc: Global,
     lists: &mut Lists,
@@ -34,25 +34,37 @@ pub(crate) fn search<V: Verifier>(
         reply ≡ Reply.Answer (answer_bytes (indexed_facts lists.old) (V.accepts keys.now) query.now)) }
     ensures refused { OnErr result (lists.new ≡ lists.old) }
 {
-    let facts = indexed_entries(alloc, &lists.store, &lists.indexed)?;
-    let text = answered(alloc, facts, keys, query)?;
+    let refs = found(alloc, lists, keys, query)?;
+    let text = search_text(alloc, &refs)?;
     lists.see_indexed(alloc, session)?;
     Ok(Reply::Answer(text))
 }
 
-// The bytes of the answer to a query over facts.
+/// The answer to a query over exactly the facts indexed.
+pub(crate) fn found<V: Verifier>(
+    alloc: Global,
+    lists: &Lists,
+    keys: &V,
+    query: &Query,
+) -> Result<RefList, NoMemory>
+    ensures { IfOk result (λ refs. refs ≡ answer (indexed_facts lists.now) (V.accepts keys.now) query.now) }
+{
+    let facts = indexed_entries(alloc, &lists.store, &lists.indexed)?;
+    answered(alloc, facts, keys, query)
+}
+
+// The answer to a query over facts.
 fn answered<V: Verifier>(
     alloc: Global,
     facts: FactList,
     keys: &V,
     query: &Query,
-) -> Result<Octets, NoMemory>
+) -> Result<RefList, NoMemory>
     requires { AreValid facts }
-    ensures { IfOk result (λ text. text ≡ answer_bytes (from_entries facts) (V.accepts keys.now) query.now) }
+    ensures { IfOk result (λ refs. refs ≡ answer (from_entries facts) (V.accepts keys.now) query.now) }
 {
     let index = index_of::<_, Brand>(alloc, facts, keys, Blank::new(1))?;
-    let refs = answer_of::<_, Brand>(alloc, &index, query, Blank::new(1))?;
-    search_text(alloc, &refs)
+    answer_of::<_, Brand>(alloc, &index, query, Blank::new(1))
 }
 
 // An index of facts. The steps are counted in the blank ledger, and told to nobody.

@@ -17,9 +17,9 @@ use std::marker::Model;
 /// lists and the keys.
 #[derive(Drop)]
 pub struct Core<V> {
-    alloc: Global,
-    lists: Lists,
-    keys: V,
+    pub(crate) alloc: Global,
+    pub(crate) lists: Lists,
+    pub(crate) keys: V,
 }
 
 impl<V> Model for Core<V> {

@@ -1,5 +1,5 @@
 //! Blobs that are put behind others.
-ghost use Rattle.std.specs.Prelude.{◌≡◌, ◌++◌, ◌∷◌, [], IfOk, OnOk, OnErr, None, length, option_map};
+ghost use Rattle.std.specs.Prelude.{◌≡◌, ◌++◌, ◌∷◌, [], IfOk, OnOk, OnErr, None, length};
 ghost use mathlib.Core.List.{IsPrefix};
 ghost use Rattle.std.specs.List.{position};
 ghost use Rattle.histories.specs.StoreCalls.{put_settled};
@@ -8,7 +8,7 @@ ghost use Rattle.home_core.specs.Steps.{put_blob, put_blobs, put_reply, reply_of
 
 use crate::events::Reply;
 use blobref::{NoMemory, Octets, Ref};
-use edge_base::Put;
+use edge_base::{Put, PutFault};
 use pack_format::MAX_SIZE;
 use std::alloc::Global;
 
@@ -24,7 +24,7 @@ pub(crate) fn put_blob(
     ensures refused { OnErr result (store.new.items ≡ store.old.items) }
 {
     match settled(store.as_slice(), said, bytes) {
-        Some(reply) => Ok(reply),
+        Some(answer) => Ok(reply_of(&answer)),
         None => add_blob(alloc, store, said, bytes),
     }
 }
@@ -47,21 +47,42 @@ fn add_blob(
     Ok(Reply::Kept(Put::Stored { number }))
 }
 
-// The reply to a put that comes before anything is done, if one does.
-fn settled(store: &[(Ref, Octets)], said: &Ref, bytes: &[u8]) -> Option<Reply>
-    ensures { result ≡ option_map reply_of (put_settled said.now bytes.now store.now) }
+/// What a put answers before anything is done, if that is settled.
+pub(crate) fn settled(
+    store: &[(Ref, Octets)],
+    said: &Ref,
+    bytes: &[u8],
+) -> Option<Result<Put, PutFault>>
+    ensures { result ≡ put_settled said.now bytes.now store.now }
 {
     let size = bytes.len() as u64;
     if size > MAX_SIZE {
-        return Some(Reply::TooBig { size });
+        return Some(Err(PutFault::TooBig { size }));
     }
     let is = said.like(bytes);
     if is != *said {
-        return Some(Reply::BadDigest { said: *said, is });
+        return Some(Err(PutFault::BadDigest { said: *said, is }));
     }
     match number_of(store, said) {
-        Some(number) => Some(Reply::Kept(Put::Already { number })),
+        Some(number) => Some(Ok(Put::Already { number })),
         None => None,
+    }
+}
+
+// An answer of a put, as a reply. The faults of a disk and of memory never come.
+fn reply_of(answer: &Result<Put, PutFault>) -> Reply
+    ensures { result ≡ reply_of answer.now }
+{
+    match answer {
+        Ok(put) => Reply::Kept(*put),
+        Err(PutFault::TooBig { size }) => Reply::TooBig { size: *size },
+        Err(PutFault::BadDigest { said, is }) => Reply::BadDigest {
+            said: *said,
+            is: *is,
+        },
+        Err(PutFault::Full { .. }) => Reply::Nothing,
+        Err(PutFault::Disk) => Reply::Nothing,
+        Err(PutFault::NoMemory) => Reply::Nothing,
     }
 }
 

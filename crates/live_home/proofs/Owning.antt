@@ -1,27 +1,12 @@
 -- A blob of a legal history is under a ref of its bytes.
-use Rattle.std.proofs.Common.{◌≡◌, ℕ, zero, suc, true, not, ◌&&◌, nat_le, List, [], ◌∷◌, ◌++◌, length, slice_get, Some, subst}
-use Rattle.std.proofs.lemmas.Bool.{and_parts}
-use Rattle.blobref.specs.Blobref.{IsOwnRef, is_own_ref}
+use Rattle.std.proofs.Common.{◌≡◌, ℕ, true, [], List, slice_get, Some}
+use Rattle.blobref.specs.Blobref.{IsOwnRef}
 use Rattle.blobref.proofs.Digests.{is_own_ref-true}
-use Rattle.pack_format.specs.Header.{max_size}
 use Rattle.histories.specs.declared.stamped.Stamped.{Stamped}
 use Rattle.histories.specs.declared.events.StoreEvent.{StoreEvent}
-use Rattle.histories.specs.History.{is_legal_after}
-use Rattle.histories.specs.Stores.{Blob, StoreLimits, arrivals, has_ref, may_arrive, is_legal_store}
+use Rattle.histories.specs.Stores.{StoreLimits, arrivals, is_legal_store}
 use Rattle.histories.proofs.Owning.{arrivals_are_own}
-
-own_after : (before blobs : List Blob) (n : ℕ) (b : Blob) → is_legal_after may_arrive before blobs ≡ true
-    → slice_get blobs n ≡ Some b → is_own_ref b.0 b.1 ≡ true
-own_after before [] n b ok at = absurd cc
-own_after before (x ∷ xs) zero b ok at =
-    let p = and_parts (may_arrive before x) (is_legal_after may_arrive (before ++ x ∷ []) xs) ok in
-    let q = and_parts (nat_le (length x.1) max_size && is_own_ref x.0 x.1) (not (has_ref x.0 before)) p.0 in
-    let r = and_parts (nat_le (length x.1) max_size) (is_own_ref x.0 x.1) q.0 in
-    let same : x ≡ b = cc at in
-    subst (λ (z : Blob). is_own_ref z.0 z.1 ≡ true) same r.1
-own_after before (x ∷ xs) (suc n) b ok at =
-    let p = and_parts (may_arrive before x) (is_legal_after may_arrive (before ++ x ∷ []) xs) ok in
-    own_after (before ++ x ∷ []) xs n b p.1 at
+use Rattle.home_core.proofs.Owning.{own_after}
 
 pub arrival_own : (limits : StoreLimits) (h : List (Stamped StoreEvent)) (n : ℕ) (r bytes : List ℕ)
     → is_legal_store limits h ≡ true → slice_get (arrivals h) n ≡ Some (r, bytes) → IsOwnRef r bytes

@@ -26,8 +26,9 @@ fn signed_at(alloc: Global, blob: &[u8], end: usize) -> Result<Option<(Value, Si
     requires { end < length blob.now }
     ensures { IfOk result (λ found. option_map (λ pair. (view pair.0, pair.1)) found ≡ signed_at blob.now end) }
 {
-    let payload = &blob[..end];
-    let Some(object) = object_of(alloc, payload)? else {
+    // It is copied before the rest is read, so that it doesn't stand between what is let go of again.
+    let payload = Octets::copy(alloc, &blob[..end])?;
+    let Some(object) = object_of(alloc, payload.as_slice())? else {
         return Ok(None);
     };
     let Some(signer) = ref_at(&object, "camliSigner") else {
@@ -36,7 +37,6 @@ fn signed_at(alloc: Global, blob: &[u8], end: usize) -> Result<Option<(Value, Si
     let Some(sig) = signature_after(alloc, &blob[end + 1..])? else {
         return Ok(None);
     };
-    let payload = Octets::copy(alloc, payload)?;
     Ok(Some((
         object,
         Signed {
@@ -108,7 +108,8 @@ fn are_lower_digits(text: &[u8]) -> bool
 fn joined(alloc: Global, front: &[u8], back: &[u8]) -> Result<Vec<u8>, NoMemory>
     ensures { IfOk result (λ text. text.items ≡ front.now ++ back.now) }
 {
-    let mut text = Vec::from_slice(alloc, front)?;
+    let mut text = Vec::with_capacity(alloc, front.len().saturating_add(back.len()))?;
+    text.extend_from_slice(front)?;
     text.extend_from_slice(back)?;
     Ok(text)
 }

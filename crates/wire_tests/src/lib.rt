@@ -7,3 +7,5 @@ mod multipart;
 mod replies;
 #[cfg(test)]
 mod requests;
+#[cfg(test)]
+mod routes;

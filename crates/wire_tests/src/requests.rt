@@ -3,31 +3,11 @@ ghost use Rattle.std.specs.Prelude.{◌≡◌, IfOk, IfNone, Some, Ok};
 ghost use Rattle.http_wire.specs.Heads.{HeadSays};
 
 use blobref::{NoMemory, Octets};
-use edge_base::{CallList, Failed, MemSource, Source};
+use edge_base::Source;
 use http_wire::{Body, Head, Piece, Wire, WireEnd};
 use itoa::Buffer;
+use piece_source::PieceSource;
 use std::alloc::Global;
-
-// Gives one byte a read.
-#[derive(Drop)]
-struct Drip {
-    inner: MemSource,
-}
-
-impl Source for Drip {
-    ghost left = { λ d. Some d.inner.left };
-
-    ghost faults = { λ d. d.inner.calls.faults };
-
-    fn read(&mut self, buf: &mut [u8]) -> Result<usize, Failed> {
-        let room = buf.len().min(1);
-        self.inner.read(&mut buf[..room])
-    }
-
-    fn faults(&self) -> u64 {
-        self.inner.faults()
-    }
-}
 
 // Tells the method, the path, the query, the content type and whether the connection closes, with a space behind each.
 fn tell_head(wire: &Wire, head: &Head, told: &mut Vec<u8>) -> Result<(), NoMemory>
@@ -148,10 +128,8 @@ fn spelled(alloc: Global, row: &str) -> Result<Octets, NoMemory> {
 // Whether a stream tells this, whole and one byte at a time.
 fn is_read(alloc: Global, row: &str) -> Result<bool, NoMemory> {
     let (stream, want) = row.split_once('|').unwrap_or(("", ""));
-    let mut whole = MemSource::of(spelled(alloc, stream)?, CallList::empty(alloc));
-    let mut drip = Drip {
-        inner: MemSource::of(spelled(alloc, stream)?, CallList::empty(alloc)),
-    };
+    let mut whole = PieceSource::of(alloc, spelled(alloc, stream)?, usize::MAX);
+    let mut drip = PieceSource::of(alloc, spelled(alloc, stream)?, 1);
     Ok(tells(alloc, &mut whole, want.as_bytes())? && tells(alloc, &mut drip, want.as_bytes())?)
 }
 

@@ -1,0 +1,78 @@
+use Rattle.std.proofs.Common.{ℕ, length, take, refl, sym, subst, ap, arith, ◌∙◌}
+use Rattle.std.proofs.lemmas.List.{length-take}
+use Rattle.http_wire.specs.Bodies.{Moves}
+use Rattle.http_wire.specs.Wires.{to_come, BodyEnds}
+use Rattle.blob_upload.specs.declared.came.Came.{Came}
+use Rattle.blob_upload.specs.Uploads.{Uploads}
+use Rattle.blob_upload.proofs.Ending.{no_room, uploading_none, uploading_breaks, uploading_ends, uploading_more}
+use Rattle.blob_upload.proofs.Ending.{uploading_stops, never_ended}
+use Rattle.blob_upload.proofs.uploading.take_parts.Goals as goal
+
+pub returns-in_default-clause-uploads : goal.returns-in_default-clause-uploads
+returns-in_default-clause-uploads g c = no_room _ _ _ _ _
+
+pub returns-in_default-room-clause-uploads : goal.returns-in_default-room-clause-uploads
+returns-in_default-room-clause-uploads g c = no_room _ _ _ _ _
+
+pub pieces-init : goal.pieces-init
+pieces-init g c = record {
+  own = c.requires.own;
+  so_far = uploading_none _ _ _ _ _ c.in-Some.reading c.in-Some.ensures;
+  counted = ap (λ r. r.parts.fed) c.in-Some.ensures ∙ sym (ap (λ r. r.taken) c.in-Some.ensures);
+  head = refl;
+  begun = refl;
+  later = omega arith;
+  room = ap length c.as_mut_slice-space.ensures.value ∙ c.in-Ok.ensures;
+}
+
+pub returns-in-Err-clause-uploads : goal.returns-in-Err-clause-uploads
+returns-in-Err-clause-uploads g c =
+    let left = g.S.Source.left c.body.new.source in
+    let P : Came → Type 0 = λ came.
+    Uploads c.args.boundary.now (g.S.Source.left c.args.source.now) left c.args.wire.now c.body.new.self
+    (g.H.Home.sight c.args.pass.now) (g.H.Home.sight c.pieces.pass) c.args.kept.now c.pieces.kept came in
+    let Q : ℕ → Type 0 = λ begun. BodyEnds (to_come c.body.new.self left) c.body.new.self.body begun c.in-Err.end in
+    subst P (sym c.came_of_wire.ensures)
+    (uploading_breaks _ _ _ _ _ _ _ _ _ _ _ _ c.pieces.invariant.so_far c.in-Err.end c.in-Err.ensures.moved
+    (subst Q (sym c.body.ensures.kept.1) c.in-Err.ensures.err))
+
+pub returns-then-n-eq0-clause-uploads : goal.returns-then-n-eq0-clause-uploads
+returns-then-n-eq0-clause-uploads g c =
+    let left = g.S.Source.left c.pieces.source in
+    let left' = g.S.Source.left c.body.new.source in
+    let room = c.pieces.invariant.room in
+    let P : ℕ → Type 0 = λ n.
+    Moves left left' c.pieces.wire.flow c.body.new.self.flow c.pieces.wire.body c.body.new.self.body
+    (take n c.body.new.buf) in
+    uploading_ends _ _ _ _ _ _ _ _ _ _ _ _ c.pieces.invariant.so_far c.finish.result
+    (subst P c.if-n-eq0.true c.in-Ok-body.ensures.moved)
+    (c.in-Ok-body.ensures.end c.if-n-eq0.true (omega (arith, room))) c.finish.ensures
+
+pub pieces-preserved : goal.pieces-preserved
+pieces-preserved g c =
+    let before = c.pieces.invariant.later in
+    let now = c.body.ensures.later in
+    let took = c.in-Ok-take_piece.ensures in
+    record {
+      own = took.own;
+      so_far = uploading_more _ _ _ _ _ _ _ _ _ _ _ _ c.pieces.invariant.so_far (take c.in-Ok-body.n c.body.new.buf)
+          _ _ _ c.in-Ok-body.ensures.moved took.takes took.taken took.short;
+      counted = took.counted;
+      head = c.body.ensures.kept.0 ∙ c.pieces.invariant.head;
+      begun = c.body.ensures.kept.1 ∙ c.pieces.invariant.begun;
+      later = omega (arith, before, now);
+      room = let room = c.pieces.invariant.room in c.body.auto.buf ∙ room;
+    }
+
+pub returns-in-Err-take_piece-clause-uploads : goal.returns-in-Err-take_piece-clause-uploads
+returns-in-Err-take_piece-clause-uploads g c =
+    let room = c.pieces.invariant.room in
+    uploading_stops _ _ _ _ _ _ _ _ _ _ _ _ c.pieces.invariant.so_far (take c.in-Ok-body.n c.body.new.buf) _ _
+    c.take_piece.new.reading c.in-Err-take_piece.came c.in-Ok-body.ensures.moved
+    (omega (arith, length-take c.in-Ok-body.n c.body.new.buf, c.body.auto.buf, room)) c.in-Err-take_piece.ensures.takes
+
+pub returns-in-Err-take_piece-clause-fault : goal.returns-in-Err-take_piece-clause-fault
+returns-in-Err-take_piece-clause-fault g c = λ is. absurd
+    (never_ended _ _ _ (g.S.Source.left c.body.new.source) _ _ c.body.new.self _ _ _ _ _ c.pieces.invariant.so_far
+    (take c.in-Ok-body.n c.body.new.buf) _ _ c.take_piece.new.reading c.in-Err-take_piece.came _
+    c.in-Err-take_piece.ensures.takes is)

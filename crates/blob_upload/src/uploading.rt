@@ -1,0 +1,153 @@
+//! A whole upload.
+ghost use Rattle.std.specs.Prelude.{◌≡◌, ◌+◌, ◌≤◌, true, length, IfOk, IfSome, OnOk, None};
+ghost use Rattle.edge_base.specs.Edge.{Rose};
+ghost use Rattle.multipart_read.specs.Parameters.{is_boundary};
+ghost use Rattle.multipart_read.specs.Reader.{fresh};
+ghost use Rattle.blob_upload.specs.Faults.{most_bytes};
+ghost use Rattle.blob_upload.specs.Uploads.{Uploads};
+ghost use Rattle.blob_upload.specs.Taking.{TakesPiece, Finishes};
+
+use crate::came::{Came, came_of_part, came_of_wire};
+use crate::feeding::feed;
+use crate::opened::Opened;
+use answer_text::Refusal;
+use blobref::Listing;
+use edge_base::Source;
+use home_core::Home;
+use http_wire::{Wire, WireEnd};
+use multipart_read::Parts;
+use std::alloc::{AllocError, Global};
+use std::sync::Wait;
+
+// The most bytes that a body may have.
+const MOST_BYTES: u64 = 17_000_000_000;
+
+// What was read of a body: its parts, the one that is open, and how many bytes came.
+#[derive(Drop)]
+struct Reading {
+    parts: Parts,
+    opened: Option<Opened>,
+    taken: u64,
+}
+
+// A reading of a body with this boundary, before its first byte.
+fn begin(alloc: Global, boundary: &[u8]) -> Option<Reading>
+    requires { is_boundary boundary.now ≡ true }
+    ensures { IfSome result (λ reading. reading ≡ record { parts = fresh boundary.now; opened = None; taken = 0 }) }
+{
+    let parts = Parts::make(alloc, boundary).ok()?;
+    Some(Reading {
+        parts,
+        opened: None,
+        taken: 0,
+    })
+}
+
+// Room for a piece of a body.
+fn room(alloc: Global) -> Result<Vec<u8>, AllocError>
+    ensures { IfOk result (λ room. length room.items ≡ 65536) }
+{
+    Vec::from_elem(alloc, 0, 65_536)
+}
+
+// Takes a piece, as far as the limit allows.
+fn take_piece<H: Home, R: Wait>(
+    rt: &R,
+    alloc: Global,
+    home: &H,
+    pass: &mut H::Pass,
+    piece: &[u8],
+    reading: &mut Reading,
+    kept: &mut Listing,
+) -> Result<(), Came>
+    requires own { H.belongs home.now pass.old }
+    requires counted { reading.old.parts.fed ≡ reading.old.taken }
+    requires short { reading.old.taken ≤ most_bytes }
+    ensures own { H.belongs home.now pass.new }
+    ensures takes { TakesPiece piece.now reading.old reading.new kept.old kept.new
+        (H.sight pass.old) (H.sight pass.new) result }
+    ensures counted { OnOk result (reading.new.parts.fed ≡ reading.new.taken) }
+    ensures short { OnOk result (reading.new.taken ≤ most_bytes) }
+    ensures taken { OnOk result (reading.new.taken ≡ reading.old.taken + length piece.now) }
+{
+    let within = piece.len().min((MOST_BYTES - reading.taken) as usize);
+    match feed(
+        rt,
+        alloc,
+        home,
+        pass,
+        &piece[..within],
+        &mut reading.parts,
+        &mut reading.opened,
+        kept,
+    ) {
+        Ok(()) => {}
+        Err(came) => return Err(came),
+    }
+    if within < piece.len() {
+        return Err(Came::Refused(Refusal::TooLong { limit: MOST_BYTES }));
+    }
+    reading.taken += within as u64;
+    Ok(())
+}
+
+// What the end of the body says.
+fn finish(reading: Reading) -> Came
+    ensures { Finishes reading.parts result }
+{
+    match reading.parts.end() {
+        Ok(()) => Came::Whole,
+        Err(fault) => came_of_part(fault),
+    }
+}
+
+/// Reads the present body of a connection, which is multipart with this boundary, and puts each of its parts as soon as
+/// its content has ended, under the ref that its name is. `docs/http.md` has the rules, and what ends an upload.
+///
+/// Each part that was put is listed in `kept`, behind what stood there, with its size, also where its blob stood
+/// before. However the upload ends, these stay, and no further piece of the body is read; a piece has at most 64 KiB.
+/// With `Memory` one part more may be put than is listed. `uploads_come` and `uploads_add` say what follows from the
+/// clause `uploads` for each way to end.
+///
+/// In memory are the content of one part, a piece with its events, and `kept`, to which an upload adds at most 1,000
+/// entries. The time is linear in the body, beside that of the puts.
+pub fn take_parts<H: Home, S: Source, R: Wait>(
+    rt: &R,
+    alloc: Global,
+    home: &H,
+    pass: &mut H::Pass,
+    wire: &mut Wire,
+    source: &mut S,
+    boundary: &[u8],
+    kept: &mut Listing,
+) -> Came
+    requires own { H.belongs home.now pass.old }
+    requires boundary { is_boundary boundary.now ≡ true }
+    ensures own { H.belongs home.now pass.new }
+    ensures uploads { Uploads boundary.now (S.left source.old) (S.left source.new) wire.old wire.new
+        (H.sight pass.old) (H.sight pass.new) kept.old kept.new result }
+    ensures head { (wire.new.head ≡ wire.old.head) × (wire.new.begun ≡ wire.old.begun) }
+    ensures fault { result ≡ Came.Ended WireEnd.ReadFault → Rose (S.faults source.old) (S.faults source.new) }
+    ensures later { S.faults source.old ≤ S.faults source.new }
+{
+    let Some(mut reading) = begin(alloc, boundary) else {
+        return Came::Memory;
+    };
+    let Ok(mut space) = room(alloc) else {
+        return Came::Memory;
+    };
+    let space = space.as_mut_slice();
+    'pieces: loop {
+        let n = match wire.body(source, space) {
+            Ok(n) => n,
+            Err(end) => return came_of_wire(end),
+        };
+        if n == 0 {
+            return finish(reading);
+        }
+        match take_piece(rt, alloc, home, pass, &space[..n], &mut reading, kept) {
+            Ok(()) => {}
+            Err(came) => return came,
+        }
+    }
+}

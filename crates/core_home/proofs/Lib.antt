@@ -1,0 +1,10 @@
+pub mod Turning
+pub mod Counting
+pub mod Blobs
+pub mod Numbers
+pub mod Listings
+pub mod Answering
+pub mod Uploads
+pub mod Settling
+pub mod Stepping
+pub mod Starting

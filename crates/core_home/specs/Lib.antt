@@ -1,0 +1,5 @@
+pub mod Keeping
+pub mod Starts
+pub mod Answers
+pub mod Sights
+pub mod Legal

@@ -1,0 +1,150 @@
+"""The random streams of http_streams.py: requests to a random store, good ones and changed ones."""
+
+from connections import LISTING, QUERY, STAT, UPLOAD
+from harness import chance
+from http_inputs import BAD_QUERIES, METHODS, TARGETS, blob_target, chunk, head, part, stat_pairs
+from query_inputs import RandomQuery, RandomStore, spell, spell_otherwise
+from reference import ref_of
+from writing import octets, pack
+
+# So many stores, and streams to each.
+STORES, STREAMS = 40, 55
+OTHER_HEADERS = ("Host: localhost", "User-Agent: x/1.0 (y)", "Accept:*/*", "X-Y:", "Connection: a, b")
+CHUNKED = {"Transfer-Encoding: chunked", "transfer-encoding:Chunked\t"}
+MARKS = b"\r\n\r\n :;-=&%+?,/0129aAbBfFxX\"\t\0\x7f\x80\xff"
+
+
+class RandomConnection:
+    """Makes streams of requests to a random store, of whose blobs some are in its pack."""
+
+    def __init__(self, number):
+        random = chance("connection store", number)
+        self.store = RandomStore(random)
+        most = len(self.store.blobs)
+        self.pack = pack(*random.sample(self.store.blobs, max(random.randint(0, most), random.randint(0, most))))
+        self.others = [octets(f"blob {place}\r\n--b\r\n") for place in range(3)]
+
+    def stream(self, random):
+        """Good requests one behind the other; of two such streams one is cut or changed."""
+        stream = b"".join(self.request(random) for _ in range(random.randrange(1, 8)))
+        kind = random.randrange(10)
+        if kind < 2:
+            return stream[: random.randrange(len(stream))]
+        for _ in range(random.choice((1, 1, 2, 4)) if kind < 5 else 0):
+            stream = changed(random, stream)
+        return stream
+
+    def request(self, random):
+        makers = (self.blob, self.stat, self.page, self.search, self.upload, self.other)
+        method, target, headers, body = random.choices(makers, (10, 15, 12, 25, 33, 5))[0](random)
+        lines = [*headers, *framing(random, body)]
+        lines += random.sample(OTHER_HEADERS, 2)
+        if random.random() < 0.04:
+            lines.append(random.choice(("Connection: close", "connection: x,Close", "CONNECTION:\tCLOSE")))
+        random.shuffle(lines)
+        version = b"1.0" if random.random() < 0.02 else b"1.1"
+        front = random.choice(("", "\r\n", "\n")) if random.random() < 0.1 else ""
+        first = b"%b %b HTTP/%b" % (method, octets(target), version)
+        text = octets(front) + head(first, *lines, end=random.choice(("\r\n", "\r\n", "\n")))
+        return text + (in_chunks(random, body) if CHUNKED & set(lines) else body)
+
+    def ref(self, random):
+        if random.random() < 0.2:
+            return ref_of(random.choice(self.store.blobs + self.others))
+        return self.store.any_ref(random) if random.random() < 0.9 else self.store.odd_ref(random)
+
+    def blob(self, random):
+        return b"GET", blob_target(self.ref(random)), [], b""
+
+    def stat(self, random):
+        refs = [self.ref(random) for _ in range(random.choice((0, 1, 2, 5, 9)))]
+        pairs = stat_pairs(*refs, version=random.choice("1111112")).split(b"&")
+        if random.random() < 0.3:
+            random.shuffle(pairs)
+        text = b"&".join(spelled_pair(random, pair) for pair in pairs)
+        if random.random() < 0.5:
+            return b"GET", STAT + b"?" + text, [], b""
+        return b"POST", STAT, ["Content-Type: application/x-www-form-urlencoded"], text
+
+    def page(self, random):
+        pairs = []
+        if random.random() < 0.6:
+            after = self.ref(random) if random.random() < 0.5 else "sha224-" + random.choice("0123456789abcdef") * 56
+            pairs.append(b"after=" + octets(after))
+        if random.random() < 0.6:
+            pairs.append(b"limit=%d" % random.choice((0, 1, 2, 5, 10, 10, 100, 1_000, 10**9)))
+        random.shuffle(pairs)
+        return b"GET", LISTING + b"?" + b"&".join(spelled_pair(random, pair) for pair in pairs), [], b""
+
+    def search(self, random):
+        if random.random() < 0.1:
+            return b"POST", QUERY, [], random.choice(BAD_QUERIES)
+        value = RandomQuery(random, self.store).query()
+        text = spell(value) if random.random() < 0.5 else spell_otherwise(random, value)
+        return b"POST", QUERY, ["Content-Type: application/json"], octets(text)
+
+    def upload(self, random):
+        boundary = random.choice((b"b", b"x-y", b"--", b"----WebKitFormBoundaryAbc0123456789", b"' '"))
+        written = boundary if b" " not in boundary and random.random() < 0.5 else b'"%b"' % boundary
+        blobs = random.choices(self.store.blobs + self.others, k=random.choice((0, 1, 2, 4, 8, 20)))
+        body = [b"a preamble\r\n"] if random.random() < 0.1 else []
+        body += [self.part(random, blob, boundary) for blob in blobs]
+        if random.random() < 0.95:
+            body.append(b"--%b--" % boundary + random.choice((b"", b"", b"\r\n", b"\r\n--b\r\n")))
+        return b"POST", UPLOAD, [b"Content-Type: multipart/form-data; boundary=" + written], b"".join(body)
+
+    def part(self, random, blob, boundary):
+        kind = random.random()
+        name = ref_of(b"abc") if kind < 0.02 else "file" if kind < 0.03 else ref_of(blob)
+        lines = ["Content-Type: text/plain"] if random.random() < 0.3 else []
+        blanks, end = b" \t"[: random.choice((0, 0, 1, 2))], random.choice((b"\r\n", b"\r\n", b"\n"))
+        return part(name, blob, *lines, blanks=blanks, end=end, boundary=boundary)
+
+    def other(self, random):
+        method, target = random.choice(METHODS), random.choice(TARGETS)
+        return method, target, [], random.choice((b"", b"", b"abc"))
+
+
+def framing(random, body):
+    """The headers that say how long a body is."""
+    if body == b"" and random.random() < 0.9:
+        return []
+    if random.random() < 0.5:
+        return [random.choice(("Content-Length: {}", "content-length:{}", "CONTENT-LENGTH: \t0{}")).format(len(body))]
+    return [random.choice(sorted(CHUNKED))]
+
+
+def in_chunks(random, body):
+    chunks, at = [], 0
+    while at < len(body):
+        size = random.choice((1, 2, 10, 100, 1_000, 10_000))
+        content = body[at : at + size]
+        size = random.choice(("{:x}", "{:X}", "{:04x}", "{:x} ;a=b", "{:x};")).format(len(content))
+        chunks.append(chunk(content, size))
+        at += len(content)
+    trailers = random.choice(("\r\n", "\r\n", "\n", "A: b\r\n\r\n", "A:\nB: c\n\n"))
+    return b"".join(chunks) + random.choice((b"0", b"000", b"0;x")) + b"\r\n" + octets(trailers)
+
+
+def spelled_pair(random, pair):
+    """A pair with some of its bytes escaped."""
+    name, _, value = pair.partition(b"=")
+    return b"=".join(b"".join(spelled_octet(random, octet) for octet in one) for one in (name, value))
+
+
+def spelled_octet(random, octet):
+    return b"%%%02x" % octet if octet < 33 or random.random() < 0.02 else bytes([octet])
+
+
+def changed(random, stream):
+    """A stream with some bytes changed, put in, dropped or repeated."""
+    at, count = random.randrange(len(stream) + 1), random.choice((1, 1, 1, 2, 5, 50))
+    marks = bytes(random.choices(MARKS, k=min(count, 3)))
+    kind = random.randrange(4)
+    if kind == 0:
+        return stream[:at] + marks + stream[at + len(marks) :]
+    if kind == 1:
+        return stream[:at] + marks + stream[at:]
+    if kind == 2:
+        return stream[:at] + stream[at + count :]
+    return stream[: at + count] + stream[at:]
