@@ -69,7 +69,7 @@ same_prefix xs ys e = ([], append-nil xs ∙ sym e)
 -- nothing was called
 pub refused_answers : (tells closes : Bool) (why : Refusal) (allow : Option Allowed) (m : Made) (v : Sight) (counts : ℕ × ℕ)
     → IsTold Defined (refused_reply closes (allow_text allow) why) m → Counts v counts
-    → Answers tells closes (question.Refused why allow) v v (entry_of counts.0 counts.1 m) m
+    → Answers tells closes (question.Refused why allow) v v (entry_of counts.0 counts.1 0 m) m
 refused_answers tells closes why allow m v counts is count = record {
   turns = [];
   drawn = sym (append-nil v.store.turns);
@@ -96,7 +96,7 @@ refused_answers tells closes why allow m v counts is count = record {
 
 -- there was no memory to find out what is asked
 pub memory_answers : (tells closes : Bool) (q : Question) (v : Sight) (counts : ℕ × ℕ) → Counts v counts
-    → Answers tells closes q v v (entry_of counts.0 counts.1 made.Memory) made.Memory
+    → Answers tells closes q v v (entry_of counts.0 counts.1 0 made.Memory) made.Memory
 memory_answers tells closes q v counts count = record {
   turns = [];
   drawn = sym (append-nil v.store.turns);
@@ -122,7 +122,7 @@ memory_cause turns h (made.Told o head body) is = absurd is
 
 module _ (tells closes : Bool) (q : Question) (m : Made) where
   spent_answers : (v w : Sight) (counts : ℕ × ℕ) → IsMemory m → Spends v w → Counts w counts
-      → Answers tells closes q v w (entry_of counts.0 counts.1 m) m
+      → Answers tells closes q v w (entry_of counts.0 counts.1 0 m) m
   spent_answers v w counts is spent count =
       let blobs : arrivals w.store.history ≡ arrivals v.store.history = ap (λ s. arrivals s.history) spent.store in
       let rows : w.index.shown ≡ v.index.shown = ap (λ s. s.shown) spent.index in
@@ -152,7 +152,7 @@ module _ (tells closes : Bool) (q : Question) (m : Made) where
       (caused : (before : List Blob) (h : List (Stamped StoreEvent)) (t : ℕ) (e : Option StoreEvent)
       → says before e → HasCauseIn (t ∷ []) (h ++ stamped t e) (outcome_of m)) where
     turned_answers : (v w : Sight) (counts : ℕ × ℕ) → StoreTurned says v w → Counts w counts
-        → Answers tells closes q v w (entry_of counts.0 counts.1 m) m
+        → Answers tells closes q v w (entry_of counts.0 counts.1 0 m) m
     turned_answers v w counts turned count =
         let ran = turned.turn.ran in
         let t = ran.ticket + 1 in
@@ -185,7 +185,7 @@ module _ (tells closes : Bool) (q : Question) (m : Made) where
         }
 
     pub call_answers : (refused : Type 0) (v w : Sight) (counts : ℕ × ℕ) → (refused → IsMemory m)
-        → StoreCall refused says v w → Counts w counts → Answers tells closes q v w (entry_of counts.0 counts.1 m) m
+        → StoreCall refused says v w → Counts w counts → Answers tells closes q v w (entry_of counts.0 counts.1 0 m) m
     call_answers refused v w counts none call count =
         ⊎_elim (λ (a : StoreTurned says v w). turned_answers v w counts a count)
         (λ (b : refused × Spends v w). spent_answers v w counts (none b.0) b.1 count) call
@@ -251,7 +251,7 @@ module _ (tells closes : Bool) (r : List ℕ) where
 
   pub blob_answers : (result : Result (Option (List ℕ)) GetFault) (m : Made) (v w : Sight) (counts : ℕ × ℕ) → BlobMade closes r result m
       → StoreCall (result ≡ Err unread.NoMemory) (λ before e. GetSays tells r before result e) v w → Counts w counts
-      → Answers tells closes (question.Blob r) v w (entry_of counts.0 counts.1 m) m
+      → Answers tells closes (question.Blob r) v w (entry_of counts.0 counts.1 0 m) m
   blob_answers result m v w counts is call count =
       call_answers tells closes (question.Blob r) m (λ before e. GetSays tells r before result e) (blob_made result m is) (blob_cause result m is)
       (result ≡ Err unread.NoMemory) v w counts (blob_memory result m is) call count
@@ -278,7 +278,7 @@ module _ (tells closes : Bool) where
 
   pub stat_answers : (refs : List (List ℕ)) (result : Result (List (List ℕ × ℕ)) NoMemory) (m : Made) (v w : Sight) (counts : ℕ × ℕ)
       → TextMade closes stat_text result m → StoreCall (IsErr result) (λ before e. StatSays refs before result e) v w → Counts w counts
-      → Answers tells closes (question.Stat refs) v w (entry_of counts.0 counts.1 m) m
+      → Answers tells closes (question.Stat refs) v w (entry_of counts.0 counts.1 0 m) m
   stat_answers refs result m v w counts is call count =
       call_answers tells closes (question.Stat refs) m (λ before e. StatSays refs before result e) (stat_made refs result m is)
       (λ before h t e says. text_cause closes stat_text result m (t ∷ []) (h ++ stamped t e) is)
@@ -299,7 +299,7 @@ module _ (tells closes : Bool) where
 
   pub page_answers : (p : Page) (result : Result (List (List ℕ × ℕ)) NoMemory) (m : Made) (v w : Sight) (counts : ℕ × ℕ)
       → TextMade closes (cut_page p.limit) result m → StoreCall (IsErr result) (λ before e. ListSays p.after (p.limit + 1) before result e) v w → Counts w counts
-      → Answers tells closes (question.Refs p) v w (entry_of counts.0 counts.1 m) m
+      → Answers tells closes (question.Refs p) v w (entry_of counts.0 counts.1 0 m) m
   page_answers p result m v w counts is call count =
       call_answers tells closes (question.Refs p) m (λ before e. ListSays p.after (p.limit + 1) before result e) (page_made p result m is)
       (λ before h t e says. text_cause closes (cut_page p.limit) result m (t ∷ []) (h ++ stamped t e) is)
@@ -309,7 +309,7 @@ module _ (tells closes : Bool) where
 
   pub search_failed : (query : Query) (f : GetFault) (m : Made) (v w : Sight) (before after : ℕ × ℕ)
       → Settles (Err f) v w → FaultMade closes f m → Counts v before → Counts w after
-      → Answers tells closes (question.Search query) v w (entry_of before.0 after.1 m) m
+      → Answers tells closes (question.Search query) v w (entry_of before.0 after.1 0 m) m
   search_failed query f m v w before after s is first last =
       let blobs = prefix_length (arrivals v.store.history) (arrivals w.store.history) (arrivals_prefix v.store.history w.store.history s.store.longer) in
       let rows = prefix_length v.index.shown w.index.shown s.shown in
@@ -337,7 +337,7 @@ module _ (tells closes : Bool) where
   -- a search behind its settling: what was inserted is shown
   pub search_answers : (u : Unit {0}) (query : Query) (found : Result (List (List ℕ)) NoMemory) (m : Made) (v x w : Sight) (before after : ℕ × ℕ)
       → Settles (Ok u) v x → IsSight x → Searches query found x w → TextMade closes search_text found m → Counts v before → Counts w after
-      → Answers tells closes (question.Search query) v w (entry_of before.0 after.1 m) m
+      → Answers tells closes (question.Search query) v w (entry_of before.0 after.1 0 m) m
   search_answers u query found m v x w before after s legal a is first last =
       let grown : IsPrefix v.store.history w.store.history =
       prefix_trans v.store.history x.store.history w.store.history s.store.longer (same_prefix x.store.history w.store.history (ap (λ y. y.history) a.store)) in

@@ -7,3 +7,4 @@ pub mod Answering
 pub mod Requesting
 pub mod Pages
 pub mod Connecting
+pub mod Uploading

@@ -26,6 +26,7 @@ use Rattle.http_wire.proofs.Passing.{Passed-chain}
 use Rattle.http_wire.proofs.Speaking.{request_read}
 use Rattle.edge_base.specs.Edge.{Gave}
 use Rattle.blob_routes.specs.declared.routes.Route.{Route}
+use Rattle.blob_routes.specs.declared.routes.Route.TheVariants as route
 use Rattle.blob_routes.specs.declared.routes.Allowed.{Allowed}
 use Rattle.blob_routes.specs.declared.routes.RouteFault.{RouteFault}
 use Rattle.blob_routes.specs.declared.routes.RouteFault.TheVariants as fault
@@ -44,14 +45,15 @@ use Rattle.blob_http.specs.declared.serving.Ended.{Ended}
 use Rattle.blob_http.specs.declared.serving.Ended.TheVariants as ended
 use Rattle.blob_http.specs.Asked.{Asked, Whole, Front, Head as Refused, Comes, closes_of, head_says}
 use Rattle.blob_http.specs.Gathering.{Gathers, GatherSays}
-use Rattle.blob_http.specs.Questions.{HasPieces, piece, first_of, first_by, early_by, refused_by, refused, IsAskedAt, IsAskedBy, IsAsked}
+use Rattle.blob_http.specs.Questions.{HasPieces, is_upload, piece, first_of, first_by, early_by, refused_by, refused, IsAskedAt, IsAskedBy, IsAsked}
 use Rattle.blob_http.specs.Replies.{refused_reply, memory_reply}
 use Rattle.blob_http.specs.Answers.{IsAnswer, allow_text, outcome_of, text_of}
-use Rattle.blob_http.specs.Serving.{HasCauseIn, IsReply, IsFrontReply, IsFrontDefined, IsBodyRefusal, IsAnswered, Handles, IsCut}
+use Rattle.blob_http.specs.Serving.{HasCauseIn, IsRest, Passes, IsReply, IsFrontReply, IsFrontDefined, IsBodyRefusal, IsAnswered, Handles, IsCut}
 use Rattle.blob_http.specs.Handling.{IsMade, is_memory, is_read, Answers, ReadsHead, Replies, AlongSays, StopReplies, StopEnds, NoneComes}
+use Rattle.blob_http.proofs.Staying.{longer_none}
 use Rattle.blob_http.proofs.Bodies.{moves_none}
 
-true_not : true ≡ false → ⊥
+pub true_not : true ≡ false → ⊥
 true_not e = absurd (cc e)
 
 -- ---- the places of a head
@@ -74,8 +76,8 @@ has_pieces text says h =
 
 pub handles_of : (tells closes : Bool) (q : Question) (v w : Sight) (entry : Answered) (m : Made) (asked : Asked)
     → Answers tells closes q v w entry m
-    → ((accepts : Accepts) (blobs : List Blob) (g : List Insertion) → IsMade tells accepts blobs g closes q m
-    → IsReply tells accepts blobs g asked (outcome_of m) (text_of m))
+    → ((accepts : Accepts) (blobs : List Blob) (g : List Insertion) (turns : List ℕ) → IsMade tells accepts blobs g closes q m
+      → IsReply tells accepts blobs g asked 0 turns (outcome_of m) (text_of m))
     → Handles tells asked v w entry (text_of m)
 handles_of tells closes q v w entry m asked a replied = record {
   turns = a.turns;
@@ -83,15 +85,22 @@ handles_of tells closes q v w entry m asked a replied = record {
   answered = record {
     store_within = a.store_within;
     index_within = a.index_within;
-    replied = subst (λ (o : Outcome). IsReply tells w.index.accepts (take entry.store_count (arrivals w.store.history)) (take entry.index_count w.index.shown) asked o (text_of m)) (sym a.outcome)
-        (replied w.index.accepts (take entry.store_count (arrivals w.store.history)) (take entry.index_count w.index.shown) a.made);
-    kept = a.kept;
+    replied = reply_at tells w.index.accepts (take entry.store_count (arrivals w.store.history)) (take entry.index_count w.index.shown) asked
+    entry.kept a.turns entry.outcome m a.kept a.outcome
+    (replied w.index.accepts (take entry.store_count (arrivals w.store.history)) (take entry.index_count w.index.shown) a.turns a.made);
     cause = subst (λ (o : Outcome). HasCauseIn a.turns w.store.history o) (sym a.outcome) a.cause;
   };
   store_low = a.store_low;
   index_low = a.index_low;
   longer = a.longer;
 }
+  where
+    reply_at : (tells : Bool) (accepts : Accepts) (blobs : List Blob) (g : List Insertion) (asked : Asked) (kept : ℕ) (turns : List ℕ) (o : Outcome) (m : Made)
+        → kept ≡ 0 → o ≡ outcome_of m → IsReply tells accepts blobs g asked 0 turns (outcome_of m) (text_of m)
+        → IsReply tells accepts blobs g asked kept turns o (text_of m)
+    reply_at tells accepts blobs g asked kept turns o m none same h =
+        subst (λ (k : ℕ). IsReply tells accepts blobs g asked k turns o (text_of m)) (sym none)
+        (subst (λ (z : Outcome). IsReply tells accepts blobs g asked 0 turns z (text_of m)) (sym same) h)
 
 -- a refusal by a head or by a body that isn't read to its end: only its own text, or want of memory
 refused_says : (tells : Bool) (accepts : Accepts) (blobs : List Blob) (g : List Insertion) (why : Refusal) (allow : Option Allowed)
@@ -114,7 +123,7 @@ head_replies x0 x1 flow new tells v w entry m end why closes says passed stands 
   asked = Refused end;
   comes = ((why, says), passed, stands);
   handles = handles_of tells true (refused why) v w entry m (Refused end) a
-      (λ accepts blobs g is. refused_says tells accepts blobs g why None (λ o text. IsReply tells accepts blobs g (Refused end) o text) (why, says, refl) refl m is);
+      (λ accepts blobs g turns is. refused_says tells accepts blobs g why None (λ o text. IsReply tells accepts blobs g (Refused end) 0 turns o text) (refl, (why, says, refl)) (refl, refl) m is);
   closing = closing;
   ready = λ open_still. absurd (true_not (sym closing ∙ open_still));
 }
@@ -146,17 +155,17 @@ head_none x0 x1 flow new end ends_so says passed stood =
 
 module _ (x0 x1 x2 : Option (List ℕ)) (flow : Flow) (mid new : WireView) (says : Head) (head : ReadsHead x0 x1 flow mid says)
     (given : List ℕ) (moved : Moves x1 x2 mid.flow new.flow mid.body new.body given) where
-  abbrev begun : Begun
+  abbrev pub begun : Begun
   begun = record { head = mid.head; says = says; framed = moved.0; given = given; at = new.body }
 
-  is_begun : IsBegun begun
+  pub is_begun : IsBegun begun
   is_begun = record {
     lines = head.lines;
     read = head.read;
     leads = subst (λ (b : Body). Leads b new.body moved.0 given) head.ready moved.2;
   }
 
-  passed : Passed x0 x2 flow new.flow (mid.head ++ moved.0)
+  pub passed : Passed x0 x2 flow new.flow (mid.head ++ moved.0)
   passed = Passed-chain x0 x1 x2 flow mid.flow new.flow mid.head moved.0 head.passed moved.1
 
   abbrev front : Asked
@@ -168,8 +177,8 @@ module _ (x0 x1 x2 : Option (List ℕ)) (flow : Flow) (mid new : WireView) (says
   module _ (tells : Bool) (v w : Sight) (entry : Answered) (m : Made) where
     -- the connection closes in any case
     front_replies : (closes with_closes : Bool) (q : Question) → Answers tells with_closes q v w entry m
-        → ((accepts : Accepts) (blobs : List Blob) (g : List Insertion) → IsMade tells accepts blobs g with_closes q m
-        → IsReply tells accepts blobs g front (outcome_of m) (text_of m))
+        → ((accepts : Accepts) (blobs : List Blob) (g : List Insertion) (turns : List ℕ) → IsMade tells accepts blobs g with_closes q m
+        → IsReply tells accepts blobs g front 0 turns (outcome_of m) (text_of m))
         → closes ≡ true → Replies x0 x2 flow new tells v w entry m closes
     front_replies closes with_closes q a replied closing = record {
       asked = front;
@@ -182,13 +191,13 @@ module _ (x0 x1 x2 : Option (List ℕ)) (flow : Flow) (mid new : WireView) (says
     pub memory_replies : (closes with_closes : Bool) (q : Question) → Answers tells with_closes q v w entry m → m ≡ made.Memory
         → closes ≡ true → Replies x0 x2 flow new tells v w entry m closes
     memory_replies closes with_closes q a none closing = front_replies closes with_closes q a
-        (λ accepts blobs g is. subst (λ (z : Made). IsReply tells accepts blobs g front (outcome_of z) (text_of z)) (sym none) refl) closing
+        (λ accepts blobs g turns is. subst (λ (z : Made). IsReply tells accepts blobs g front 0 turns (outcome_of z) (text_of z)) (sym none) (inr (refl, refl))) closing
 
     refused_replies : (closes : Bool) (why : Refusal) (allow : Option Allowed) → Answers tells true (question.Refused why allow) v w entry m
         → IsFrontDefined begun (stream new.flow.bytes x2) (first_of mid.head says) (refused_reply true (allow_text allow) why)
         → closes ≡ true → Replies x0 x2 flow new tells v w entry m closes
     refused_replies closes why allow a defined closing = front_replies closes true (question.Refused why allow) a
-        (λ accepts blobs g is. refused_says tells accepts blobs g why allow (λ o text. IsReply tells accepts blobs g front o text) defined refl m is) closing
+        (λ accepts blobs g turns is. refused_says tells accepts blobs g why allow (λ o text. IsReply tells accepts blobs g front 0 turns o text) (inr (refl, defined)) (inr (refl, refl)) m is) closing
 
   -- the whole body was read
   module _ (tells : Bool) (v w : Sight) (entry : Answered) where
@@ -204,7 +213,7 @@ module _ (x0 x1 x2 : Option (List ℕ)) (flow : Flow) (mid new : WireView) (says
     whole_replies (made.Told o text rest) closes q done asked a closing = record {
       asked = Whole request;
       comes = (request_read mid.head moved.0 given says head.lines head.read leads, passed);
-      handles = handles_of tells says.closes q v w entry (made.Told o text rest) (Whole request) a (λ accepts blobs g is. (q, asked, is));
+      handles = handles_of tells says.closes q v w entry (made.Told o text rest) (Whole request) a (λ accepts blobs g turns is. inr (refl, (q, asked, is)));
       closing = closing ∙ or_false says.closes;
       ready = λ still. done;
     }
@@ -280,6 +289,13 @@ early_replies x0 x1 flow mid says head tells v w entry m before closes q first i
         (subst (λ (z : Question). Answers tells true z v w entry m) refused_q.2 (subst (λ (b : Bool). Answers tells b q v w entry m) same a))
         (defined (begun x0 x1 x1 flow mid mid says head [] moved) (stream mid.flow.bytes x1)) (closing ∙ ap (λ (b : Bool). b || is_memory m) same)
 
+-- there was no memory before anything of the body was read
+pub none_read : (x0 x1 : Option (List ℕ)) (flow : Flow) (mid : WireView) (says : Head) → ReadsHead x0 x1 flow mid says
+    → (tells : Bool) (v w : Sight) (entry : Answered) (m : Made) (closes : Bool) → ((q : Question) → Answers tells true q v w entry m)
+    → m ≡ made.Memory → closes ≡ true → Replies x0 x1 flow mid tells v w entry m closes
+none_read x0 x1 flow mid says head tells v w entry m closes a none closing =
+    memory_replies x0 x1 x1 flow mid mid says head [] (moves_none x1 mid.flow mid.body) tells v w entry m closes true (refused refusal.Memory) (a _) none closing
+
 -- a request whose body was read
 pub along_replies : (x0 x1 x2 : Option (List ℕ)) (flow : Flow) (mid new : WireView) (says : Head) → ReadsHead x0 x1 flow mid says
     → (bytes : List ℕ) → Gathers x1 x2 mid new (Ok bytes)
@@ -299,32 +315,46 @@ along_replies x0 x1 x2 flow mid new says head bytes gathered tells v w entry m c
     or_true true = refl
     or_true false = refl
 
+not_upload : (r : Route) → is_upload r ≡ false → r ≡ route.Upload → ⊥
+not_upload r is same = true_not (sym (ap is_upload same) ∙ is)
+
 body_defined : (b : Begun) (after : Option (List ℕ)) (first : Result Route Question) (r : Route) (why : Refusal) → first ≡ Ok r
-    → IsBodyRefusal b after why → IsFrontDefined b after first (refused_reply true [] why)
-body_defined b after first r why is fault =
-    subst (λ (z : Result Route Question). IsFrontDefined b after z (refused_reply true [] why)) (sym is) (why, fault, refl)
+    → is_upload r ≡ false → IsBodyRefusal b after why → IsFrontDefined b after first (refused_reply true [] why)
+body_defined b after first r why is other fault =
+    subst (λ (z : Result Route Question). IsFrontDefined b after z (refused_reply true [] why)) (sym is) (not_upload r other, (why, fault, refl))
 
 -- a request whose body wasn't read to its end
 pub stop_replies : (x0 x1 x2 : Option (List ℕ)) (flow : Flow) (mid new : WireView) (says : Head) → ReadsHead x0 x1 flow mid says
     → (why : Stopped) → Gathers x1 x2 mid new (Err why)
     → (tells : Bool) (v w : Sight) (entry : Answered) (m : Made) (closes : Bool) (r : Route)
-    → first_of mid.head says ≡ Ok r → StopReplies tells why v w entry m → closes ≡ true → Replies x0 x2 flow new tells v w entry m closes
-stop_replies x0 x1 x2 flow mid new says head stopped.Long gathered tells v w entry m closes r first a closing =
+    → first_of mid.head says ≡ Ok r → is_upload r ≡ false → StopReplies tells why v w entry m → closes ≡ true → Replies x0 x2 flow new tells v w entry m closes
+stop_replies x0 x1 x2 flow mid new says head stopped.Long gathered tells v w entry m closes r first other a closing =
     refused_replies x0 x1 x2 flow mid new says head gathered.given gathered.moved tells v w entry m closes (refusal.TooLong most_body) None a
     (body_defined (begun x0 x1 x2 flow mid new says head gathered.given gathered.moved) (stream new.flow.bytes x2) (first_of mid.head says) r
-    (refusal.TooLong most_body) first (inl (refl, gathered.says))) closing
-stop_replies x0 x1 x2 flow mid new says head stopped.Broken gathered tells v w entry m closes r first a closing =
+    (refusal.TooLong most_body) first other (inl (refl, gathered.says))) closing
+stop_replies x0 x1 x2 flow mid new says head stopped.Broken gathered tells v w entry m closes r first other a closing =
     refused_replies x0 x1 x2 flow mid new says head gathered.given gathered.moved tells v w entry m closes refusal.BadLength None a
     (body_defined (begun x0 x1 x2 flow mid new says head gathered.given gathered.moved) (stream new.flow.bytes x2) (first_of mid.head says) r
-    refusal.BadLength first (inr (refl, gathered.says))) closing
-stop_replies x0 x1 x2 flow mid new says head stopped.Memory gathered tells v w entry m closes r first a closing =
+    refusal.BadLength first other (inr (refl, gathered.says))) closing
+stop_replies x0 x1 x2 flow mid new says head stopped.Memory gathered tells v w entry m closes r first other a closing =
     memory_replies x0 x1 x2 flow mid new says head gathered.given gathered.moved tells v w entry m closes true (refused refusal.Memory) (a.1 _) a.0 closing
-stop_replies x0 x1 x2 flow mid new says head (stopped.Cut n) gathered tells v w entry m closes r first a closing = absurd a
-stop_replies x0 x1 x2 flow mid new says head stopped.ReadFault gathered tells v w entry m closes r first a closing = absurd a
+stop_replies x0 x1 x2 flow mid new says head (stopped.Cut n) gathered tells v w entry m closes r first other a closing = absurd a
+stop_replies x0 x1 x2 flow mid new says head stopped.ReadFault gathered tells v w entry m closes r first other a closing = absurd a
 
 -- ---- the source ended inside a body, or a read failed
 
-cut_body : (before now : Option (List ℕ)) (place n : ℕ) (b : Begun) → IsBegun b → Gave before now (b.head ++ b.framed) → n ≡ place
+no_rest : (end : Ended) → IsRest end []
+no_rest ended.Closed = refl
+no_rest (ended.Cut n) = tt
+no_rest ended.ReadFault = tt
+no_rest ended.WriteFault = refl
+no_rest ended.NoMemory = refl
+
+-- nothing was done
+pub passes_none : (end : Ended) (v : Sight) → Passes end v v
+passes_none end v = record { turns = []; drawn = sym (append-nil v.store.turns); rest = no_rest end; longer = longer_none v }
+
+pub cut_body : (before now : Option (List ℕ)) (place n : ℕ) (b : Begun) → IsBegun b → Gave before now (b.head ++ b.framed) → n ≡ place
     → IfSome now (Stops b.at) → IfSome before (IsCut place n)
 cut_body None now place n b is gave at stops = tt
 cut_body (Some x) now place n b is gave at stops =

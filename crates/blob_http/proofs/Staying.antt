@@ -41,9 +41,8 @@ answered_stays tells accepts h k f g asked entry text turns p q a =
     record {
       store_within = let l = prefix_length (arrivals h) (arrivals k) (arrivals_prefix h k p) in let s = a.store_within in omega arith;
       index_within = let l = prefix_length f g q in let s = a.index_within in omega arith;
-      replied = subst (λ (z : List Blob). IsReply tells accepts z (take m g) asked entry.outcome text) (sym blobs)
-          (subst (λ (z : List Insertion). IsReply tells accepts (take n (arrivals h)) z asked entry.outcome text) (sym rows) a.replied);
-      kept = a.kept;
+      replied = subst (λ (z : List Blob). IsReply tells accepts z (take m g) asked entry.kept turns entry.outcome text) (sym blobs)
+          (subst (λ (z : List Insertion). IsReply tells accepts (take n (arrivals h)) z asked entry.kept turns entry.outcome text) (sym rows) a.replied);
       cause = cause_stays turns h k entry.outcome p a.cause;
     }
 
@@ -76,3 +75,9 @@ pub climbs_more : (m n : ℕ) (rest : List Answer) (p q : ℕ) (a : Answer) (r s
 climbs_more m n [] p q a r s c lp lq lr ls = (let x = c.0 in omega arith, let y = c.1 in omega arith, (lr, ls))
 climbs_more m n (b ∷ rest) p q a r s c lp lq lr ls =
     (c.0, c.1, climbs_more b.entry.store_count b.entry.index_count rest p q a r s c.2 lp lq lr ls)
+
+-- the same entries, where more was seen since
+pub climbs_stay : (m n : ℕ) (rest : List Answer) (p q r s : ℕ) → Climbs m n rest p q → p ≤ r → q ≤ s → Climbs m n rest r s
+climbs_stay m n [] p q r s c lr ls = (let x = c.0 in omega arith, let y = c.1 in omega arith)
+climbs_stay m n (b ∷ rest) p q r s c lr ls =
+    (c.0, c.1, climbs_stay b.entry.store_count b.entry.index_count rest p q r s c.2 lr ls)

@@ -9,13 +9,15 @@ use mathlib.Core.List.{map-append}
 use Rattle.edge_base.specs.Edge.{Gave, Took, TookFront, Rose, one_more}
 use Rattle.edge_base.proofs.Moves.{Took-chain}
 use Rattle.histories.specs.Stores.{arrivals}
+use Rattle.histories.proofs.Prefixes.{prefix_length}
+use Rattle.histories.proofs.Standing.{arrivals_prefix}
 use Rattle.home_core.specs.Passes.{Sight}
 use Rattle.blob_http.specs.declared.entries.Answered.{Answered}
 use Rattle.blob_http.specs.declared.serving.Ended.{Ended}
 use Rattle.blob_http.specs.declared.serving.Ended.TheVariants as ended
 use Rattle.blob_http.specs.Asked.{Asked}
-use Rattle.blob_http.specs.Serving.{IsAnswered, Handles, Longer, Answer, AnswerHolds, Climbs, Serves, Wrote, EndCause, StepCause}
-use Rattle.blob_http.proofs.Staying.{holds_stays, longer_none, longer_chain, climbs_more}
+use Rattle.blob_http.specs.Serving.{IsAnswered, Handles, Longer, Answer, AnswerHolds, Climbs, Serves, Wrote, HasNone, EndCause, StepCause}
+use Rattle.blob_http.proofs.Staying.{holds_stays, longer_none, longer_chain, climbs_more, climbs_stay}
 
 pub took_none : (w : Option (List ℕ)) → Took w w []
 took_none None = refl
@@ -33,10 +35,17 @@ TookFront-more a b xs ys h =
 flat_push : {A B : Type 0} (f : A → List B) (xs : List A) (x : A) → flat_map f (xs ++ x ∷ []) ≡ flat_map f xs ++ f x
 flat_push f xs x = flat_map-append f xs (x ∷ []) ∙ ap (λ (t : List _). flat_map f xs ++ t) (append-nil (f x))
 
+-- the turns of one more answer
+drawn_more : (v w before rest turns all : List ℕ) → w ≡ v ++ (before ++ rest) → rest ≡ [] → all ≡ before ++ turns
+    → w ++ turns ≡ v ++ (all ++ [])
+drawn_more v w before rest turns all drawn none push =
+    let plain : w ≡ v ++ before = drawn ∙ ap (λ (z : List ℕ). v ++ (before ++ z)) none ∙ ap (λ (z : List ℕ). v ++ z) (append-nil before) in
+    ap (λ (z : List ℕ). z ++ turns) plain ∙ append_assoc v before turns ∙ ap (λ (z : List ℕ). v ++ z) (sym push ∙ sym (append-nil all))
+
 module _ (tells : Bool) where
   -- nothing was served yet
   pub serves_none : (v : Sight) (told : List Answered) (heard : List Asked → Type 0) (wrote : List ℕ → Type 0)
-      → heard [] → wrote [] → Serves tells v v told told heard wrote
+      → heard [] → wrote [] → Serves tells v v told told heard wrote HasNone
   serves_none v told heard wrote h w = record {
     answers = [];
     entries = sym (append-nil told);
@@ -44,17 +53,19 @@ module _ (tells : Bool) where
     written = w;
     each = All-nil (AnswerHolds tells v.index.accepts v.store.history v.index.shown);
     climbs = (omega arith, omega arith);
+    rest = [];
     turns = sym (append-nil v.store.turns);
+    rests = refl;
     longer = longer_none v;
   }
 
   -- one more answer
   pub serves_more : (v w x : Sight) (told told' : List Answered) (heard heard' : List Asked → Type 0)
       (wrote wrote' : List ℕ → Type 0) (asked : Asked) (entry : Answered) (text : List ℕ)
-      → Serves tells v w told told' heard wrote → Handles tells asked w x entry text
+      → Serves tells v w told told' heard wrote HasNone → Handles tells asked w x entry text
       → ((before : List Asked) → heard before → heard' (before ++ asked ∷ []))
       → ((texts : List ℕ) → wrote texts → wrote' (texts ++ text))
-      → Serves tells v x told (told' ++ entry ∷ []) heard' wrote'
+      → Serves tells v x told (told' ++ entry ∷ []) heard' wrote' HasNone
   serves_more v w x told told' heard heard' wrote wrote' asked entry text s h more_heard more_text =
       let a : Answer = record { asked = asked; entry = entry; text = text; turns = h.turns } in
       let same : x.index.accepts ≡ v.index.accepts = h.longer.accepts ∙ s.longer.accepts in
@@ -77,20 +88,33 @@ module _ (tells : Bool) where
         longer = longer_chain v w x s.longer h.longer;
       }
 
-  -- no further answer: what is said of the stream and of the replies is another thing
-  pub serves_ends : (v w : Sight) (told told' : List Answered) (heard heard' : List Asked → Type 0) (wrote wrote' : List ℕ → Type 0)
-      → Serves tells v w told told' heard wrote → ((asked : List Asked) → heard asked → heard' asked)
-      → ((texts : List ℕ) → wrote texts → wrote' texts) → Serves tells v w told told' heard' wrote'
-  serves_ends v w told told' heard heard' wrote wrote' s f g = record {
+  -- no further answer, where the pass has maybe seen more, and drawn turns that belong to no answer
+  pub serves_ends : (v w x : Sight) (told told' : List Answered) (heard heard' : List Asked → Type 0) (wrote wrote' : List ℕ → Type 0)
+      (rests : List ℕ → Type 0) (turns : List ℕ) → Serves tells v w told told' heard wrote HasNone
+      → ((asked : List Asked) → heard asked → heard' asked) → ((texts : List ℕ) → wrote texts → wrote' texts)
+      → x.store.turns ≡ w.store.turns ++ turns → rests turns → Longer w x
+      → Serves tells v x told told' heard' wrote' rests
+  serves_ends v w x told told' heard heard' wrote wrote' rests turns s f g drawn r longer = record {
     answers = s.answers;
     entries = s.entries;
     heard = f _ s.heard;
     written = g _ s.written;
-    each = s.each;
-    climbs = s.climbs;
-    turns = s.turns;
-    longer = s.longer;
+    each = All-weaker (AnswerHolds tells v.index.accepts w.store.history w.index.shown) (AnswerHolds tells v.index.accepts x.store.history x.index.shown)
+      (λ b p. holds_stays tells v.index.accepts w.store.history x.store.history w.index.shown x.index.shown b longer.store longer.shown p) s.answers s.each;
+    climbs = climbs_stay (length (arrivals v.store.history)) (length v.index.shown) s.answers (length (arrivals w.store.history)) (length w.index.shown)
+      (length (arrivals x.store.history)) (length x.index.shown) s.climbs
+      (prefix_length (arrivals w.store.history) (arrivals x.store.history) (arrivals_prefix w.store.history x.store.history longer.store))
+      (prefix_length w.index.shown x.index.shown longer.shown);
+    rest = turns;
+    turns = drawn ∙ drawn_rest v.store.turns w.store.turns (flat_map (λ (b : Answer). b.turns) s.answers) s.rest turns s.turns s.rests;
+    rests = r;
+    longer = longer_chain v w x s.longer longer;
   }
+    where
+      drawn_rest : (v w all rest turns : List ℕ) → w ≡ v ++ (all ++ rest) → rest ≡ [] → w ++ turns ≡ v ++ (all ++ turns)
+      drawn_rest v w all rest turns drawn none =
+          let plain : w ≡ v ++ all = drawn ∙ ap (λ (z : List ℕ). v ++ (all ++ z)) none ∙ ap (λ (z : List ℕ). v ++ z) (append-nil all) in
+          ap (λ (z : List ℕ). z ++ turns) plain ∙ append_assoc v all turns
 
 rose_since : (a b c : ℕ) → a ≤ b → Rose b c → Rose a c
 rose_since a b c le r = let h : one_more b ≤ c = r in omega (arith, h)

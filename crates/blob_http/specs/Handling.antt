@@ -50,8 +50,15 @@ pub record Answers (tells closes : Bool) (q : Question) (v w : Sight) (entry : A
   pub longer : Longer v w
 
 -- an entry for a reply
-abbrev pub entry_of : ℕ → ℕ → Made → Answered
-entry_of m n reply = record { store_count = m; index_count = n; kept = 0; outcome = outcome_of reply }
+abbrev pub entry_of : ℕ → ℕ → ℕ → Made → Answered
+entry_of m n kept reply = record { store_count = m; index_count = n; kept = kept; outcome = outcome_of reply }
+
+-- the entry of an upload that kept so many parts
+pub record IsUploadEntry (v : Sight) (n : ℕ) (m : Made) (entry : Answered) : Type 0 where
+  pub store : entry.store_count ≡ length (arrivals v.store.history)
+  pub index : entry.index_count ≡ length v.index.shown
+  pub kept : entry.kept ≡ n
+  pub outcome : entry.outcome ≡ outcome_of m
 
 -- the body is read at once
 abbrev pub is_read : Framing → Bool

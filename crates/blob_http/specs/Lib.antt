@@ -3,5 +3,6 @@ pub mod Asked
 pub mod Replies
 pub mod Questions
 pub mod Answers
+pub mod Keeping
 pub mod Serving
 pub mod Handling

@@ -61,6 +61,13 @@ IsFew (Stat refs) = Unit {0}
 IsFew (Refs page) = page.limit ≤ most_page
 IsFew (Search query) = Unit {0}
 
+abbrev pub is_upload : Route → Bool
+is_upload (route.Blob r) = false
+is_upload (route.Stat posted) = false
+is_upload route.Upload = true
+is_upload route.Page = false
+is_upload route.Search = false
+
 -- ---- by the body too
 
 abbrev pub stat_of : Result (List (List ℕ)) Refusal → Question
@@ -79,13 +86,13 @@ IsSearch body (Blob r) = ⊥
 IsSearch body (Stat refs) = ⊥
 IsSearch body (Refs page) = ⊥
 
--- what is asked along a route
+-- what is asked along a route that isn't an upload's
 abbrev pub IsAskedAt : Route → List ℕ → List ℕ → Question → Type 0
 IsAskedAt (route.Blob r) query body q = q ≡ Blob r
 IsAskedAt (route.Stat posted) query body q = q ≡ stat_of (refs_of posted query body)
 IsAskedAt route.Page query body q = q ≡ refs_asked (page_of query)
 IsAskedAt route.Search query body q = IsSearch body q
-IsAskedAt route.Upload query body q = q ≡ refused refusal.NoRoute
+IsAskedAt route.Upload query body q = ⊥
 
 abbrev pub IsAskedBy : Result Route Question → List ℕ → List ℕ → Question → Type 0
 IsAskedBy (Ok r) query body q = IsAskedAt r query body q

@@ -18,7 +18,7 @@ use Rattle.http_wire.specs.declared.ends.WireEnd.{WireEnd}
 use Rattle.http_wire.specs.declared.ends.WireEnd.TheVariants as ends
 use Rattle.http_wire.specs.Stream.{Flow, Passed}
 use Rattle.http_wire.specs.Bodies.{Stops, Breaks}
-use Rattle.http_wire.specs.Wires.{HeadEnds}
+use Rattle.http_wire.specs.Wires.{WireView, HeadEnds}
 use Rattle.http_wire.specs.Speaking.{Request, IsRequest, Speaks, Begun, IsBegun, Last, Nothing, Refused, Unfinished, IsOpen, GoesOn, HasNoRequest, place_behind, text_of}
 use Rattle.blob_http.specs.declared.entries.Outcome.{Outcome}
 use Rattle.blob_http.specs.declared.entries.Outcome.TheVariants.{Defined, Memory, Disk, Full, Damaged}
@@ -32,7 +32,15 @@ use Rattle.blob_routes.specs.declared.routes.Route.{Route}
 use Rattle.blob_routes.specs.Before.{most_body}
 use Rattle.blob_http.specs.Questions.{IsAsked, first_of}
 use Rattle.blob_http.specs.Answers.{IsAnswer, allow_text}
-use Rattle.blob_http.specs.Replies.{refused_reply, memory_reply}
+use Rattle.blob_http.specs.Replies.{json_reply, refused_reply, memory_reply}
+use Rattle.blob_http.specs.Keeping.{Kept, IsUploadReply}
+use Rattle.answer_text.specs.Listings.{upload_text}
+use Rattle.histories.specs.StoreCalls.{sizes}
+use Rattle.multipart_read.specs.PartLists.{IsMultipart}
+use Rattle.blob_routes.specs.declared.routes.Route.TheVariants as route
+use Rattle.blob_upload.specs.declared.came.Came.{Came}
+use Rattle.blob_upload.specs.Comes.{Comes}
+use Rattle.blob_upload.specs.Adds.{Turns}
 
 -- ---- replies
 
@@ -41,14 +49,15 @@ abbrev pub IsBodyRefusal : Begun → Option (List ℕ) → Refusal → Type 0
 IsBodyRefusal b after r =
     ((r ≡ refusal.TooLong most_body) × (most_body < length b.given)) ⊎ ((r ≡ refusal.BadLength) × IfSome after (Breaks b.at))
 
--- the reply to a request that isn't read to its end: it is refused before its body is read, or by that
+-- a reply that keeps nothing: the request is refused before its body is read, or by that
 abbrev pub IsFrontDefined : Begun → Option (List ℕ) → Result Route Question → List ℕ → Type 0
 IsFrontDefined b after (Err (question.Refused why allow)) text = text ≡ refused_reply true (allow_text allow) why
 IsFrontDefined b after (Err (question.Blob r)) text = ⊥
 IsFrontDefined b after (Err (question.Stat refs)) text = ⊥
 IsFrontDefined b after (Err (question.Refs page)) text = ⊥
 IsFrontDefined b after (Err (question.Search query)) text = ⊥
-IsFrontDefined b after (Ok route) text = (why : Refusal) × IsBodyRefusal b after why × (text ≡ refused_reply true [] why)
+IsFrontDefined b after (Ok r) text =
+    (r ≡ route.Upload → ⊥) × ((why : Refusal) × IsBodyRefusal b after why × (text ≡ refused_reply true [] why))
 
 abbrev pub IsFrontReply : Begun → Option (List ℕ) → Outcome → List ℕ → Type 0
 IsFrontReply b after Defined text = IsFrontDefined b after (first_of b.head b.says) text
@@ -64,12 +73,25 @@ IsHeadReply end Disk text = ⊥
 IsHeadReply end (Full blobs pack) text = ⊥
 IsHeadReply end (Damaged want is) text = ⊥
 
--- the reply over the blobs that arrived and the Inserts
-abbrev pub IsReply : Bool → Accepts → List Blob → List Insertion → Asked → Outcome → List ℕ → Type 0
-IsReply tells accepts blobs g (Whole r) outcome text =
-    (q : Question) × IsAsked r.head r.says r.body q × IsAnswer tells accepts blobs g r.says.closes q outcome text
-IsReply tells accepts blobs g (Front b after) outcome text = IsFrontReply b after outcome text
-IsReply tells accepts blobs g (Head end) outcome text = IsHeadReply end outcome text
+-- the reply to an upload that was whole
+abbrev pub IsWholeUpload : List Blob → Request → ℕ → List ℕ → Outcome → List ℕ → Type 0
+IsWholeUpload blobs r kept turns outcome text = (u : Kept r.head r.says blobs kept)
+    × IsMultipart u.boundary r.body u.parts (Ok tt) × (length turns ≡ kept) × (outcome ≡ Defined)
+    × (text ≡ json_reply r.says.closes (upload_text (sizes u.parts) None))
+
+-- the reply to an upload that ended before it was whole, or for which there was no memory to reply
+abbrev pub IsFrontUpload : List Blob → Begun → Option (List ℕ) → ℕ → List ℕ → Outcome → List ℕ → Type 0
+IsFrontUpload blobs b after kept turns outcome text = (u : Kept b.head b.says blobs kept)
+    × ((came : Came) × (wire : WireView) × (wire.body ≡ b.at) × Comes u.boundary b.given u.parts wire after came
+      × Turns came kept (length turns) × IsUploadReply u.parts came outcome text)
+
+-- the reply over the blobs that arrived and the Inserts; an upload alone keeps parts
+abbrev pub IsReply : Bool → Accepts → List Blob → List Insertion → Asked → ℕ → List ℕ → Outcome → List ℕ → Type 0
+IsReply tells accepts blobs g (Whole r) kept turns outcome text = IsWholeUpload blobs r kept turns outcome text
+    ⊎ ((kept ≡ 0) × ((q : Question) × IsAsked r.head r.says r.body q × IsAnswer tells accepts blobs g r.says.closes q outcome text))
+IsReply tells accepts blobs g (Front b after) kept turns outcome text =
+    IsFrontUpload blobs b after kept turns outcome text ⊎ ((kept ≡ 0) × IsFrontReply b after outcome text)
+IsReply tells accepts blobs g (Head end) kept turns outcome text = (kept ≡ 0) × IsHeadReply end outcome text
 
 -- ---- what was answered
 
@@ -86,8 +108,8 @@ pub record IsAnswered (tells : Bool) (accepts : Accepts) (h : List (Stamped Stor
     (asked : Asked) (entry : Answered) (text turns : List ℕ) : Type 0 where
   pub store_within : entry.store_count ≤ length (arrivals h)
   pub index_within : entry.index_count ≤ length g
-  pub replied : IsReply tells accepts (take entry.store_count (arrivals h)) (take entry.index_count g) asked entry.outcome text
-  pub kept : entry.kept ≡ 0
+  pub replied : IsReply tells accepts (take entry.store_count (arrivals h)) (take entry.index_count g) asked
+      entry.kept turns entry.outcome text
   pub cause : HasCauseIn turns h entry.outcome
 
 -- what a pass has seen grows
@@ -125,9 +147,9 @@ Climbs m n (a ∷ rest) p q = (m ≤ a.entry.store_count) × (n ≤ a.entry.inde
 
 -- What was served, over the histories that the pass has seen by now: the entries are told in order; what was asked and
 -- what was written is as is said; each reply is the one that is defined; the counts never fall; and the turns of the
--- store that were drawn are those of the requests.
+-- store that were drawn are those of the requests, and then such as are said.
 pub record Serves (tells : Bool) (v w : Sight) (told told' : List Answered) (hears : List Asked → Type 0)
-    (wrote : List ℕ → Type 0) : Type 0 where
+    (wrote : List ℕ → Type 0) (rest_is : List ℕ → Type 0) : Type 0 where
   pub answers : List Answer
   pub entries : told' ≡ told ++ map (λ (a : Answer). a.entry) answers
   pub heard : hears (map (λ (a : Answer). a.asked) answers)
@@ -135,7 +157,9 @@ pub record Serves (tells : Bool) (v w : Sight) (told told' : List Answered) (hea
   pub each : All (AnswerHolds tells v.index.accepts w.store.history w.index.shown) answers
   pub climbs : Climbs (length (arrivals v.store.history)) (length v.index.shown) answers
       (length (arrivals w.store.history)) (length w.index.shown)
-  pub turns : w.store.turns ≡ v.store.turns ++ flat_map (λ (a : Answer). a.turns) answers
+  pub rest : List ℕ
+  pub turns : w.store.turns ≡ v.store.turns ++ (flat_map (λ (a : Answer). a.turns) answers ++ rest)
+  pub rests : rest_is rest
   pub longer : Longer v w
 
 -- ---- the stream
@@ -201,6 +225,24 @@ Wrote before now (ended.Cut n) texts = Took before now texts
 Wrote before now ended.ReadFault texts = Took before now texts
 Wrote before now ended.NoMemory texts = Took before now texts
 
+-- the turns of the store that belong to no answer: those of an upload that was cut, or in which a read failed
+abbrev pub IsRest : Ended → List ℕ → Type 0
+IsRest ended.Closed turns = turns ≡ []
+IsRest (ended.Cut n) turns = Unit {0}
+IsRest ended.ReadFault turns = Unit {0}
+IsRest ended.WriteFault turns = turns ≡ []
+IsRest ended.NoMemory turns = turns ≡ []
+
+abbrev pub HasNone : List ℕ → Type 0
+HasNone turns = turns ≡ []
+
+-- a request without an answer: the turns that it drew, where the connection ends so
+pub record Passes (end : Ended) (v w : Sight) : Type 0 where
+  pub turns : List ℕ
+  pub drawn : w.store.turns ≡ v.store.turns ++ turns
+  pub rest : IsRest end turns
+  pub longer : Longer v w
+
 -- why it ended
 abbrev pub EndCause : ℕ → ℕ → ℕ → ℕ → Ended → Type 0
 EndCause read read' wrote wrote' ended.ReadFault = Rose read read'
@@ -218,6 +260,10 @@ HeardBy before now old new (Some end) asked = Heard before end asked
 abbrev pub WroteBy : Option (List ℕ) → Option (List ℕ) → Option Ended → List ℕ → Type 0
 WroteBy before now None texts = Took before now texts
 WroteBy before now (Some end) texts = Wrote before now end texts
+
+abbrev pub RestBy : Option Ended → List ℕ → Type 0
+RestBy None turns = turns ≡ []
+RestBy (Some end) turns = IsRest end turns
 
 abbrev pub StepCause : ℕ → ℕ → ℕ → ℕ → Option Ended → Type 0
 StepCause read read' wrote wrote' None = Unit {0}

@@ -58,7 +58,7 @@ fn answer_refused<H: Home>(
 {
     let made = refused(alloc, Outcome::Defined, closes, allow, refusal);
     let counts = home.seen(pass);
-    (entry(counts.0, counts.1, &made), made)
+    (entry(counts.0, counts.1, 0, &made), made)
 }
 
 fn answer_blob<H: Home, R: Wait>(
@@ -77,7 +77,7 @@ fn answer_blob<H: Home, R: Wait>(
     let fetched = home.fetch(rt, pass, r);
     let counts = home.seen(pass);
     let made = blob_reply(alloc, closes, r, fetched);
-    (entry(counts.0, counts.1, &made), made)
+    (entry(counts.0, counts.1, 0, &made), made)
 }
 
 fn answer_stat<H: Home, R: Wait>(
@@ -96,7 +96,7 @@ fn answer_stat<H: Home, R: Wait>(
     let found = home.stat(rt, pass, refs);
     let counts = home.seen(pass);
     let made = stat_reply(alloc, closes, found);
-    (entry(counts.0, counts.1, &made), made)
+    (entry(counts.0, counts.1, 0, &made), made)
 }
 
 fn answer_page<H: Home, R: Wait>(
@@ -116,7 +116,7 @@ fn answer_page<H: Home, R: Wait>(
     let found = home.list(rt, pass, page.after.as_ref(), page.limit + 1);
     let counts = home.seen(pass);
     let made = page_reply(alloc, closes, page.limit, found);
-    (entry(counts.0, counts.1, &made), made)
+    (entry(counts.0, counts.1, 0, &made), made)
 }
 
 fn answer_search<H: Home, R: Wait>(
@@ -137,19 +137,20 @@ fn answer_search<H: Home, R: Wait>(
         Err(fault) => {
             let after = home.seen(pass);
             let made = fault_reply(alloc, closes, fault);
-            (entry(before.0, after.1, &made), made)
+            (entry(before.0, after.1, 0, &made), made)
         }
         Ok(()) => {
             let found = home.search(rt, pass, query);
             let after = home.seen(pass);
             let made = search_reply(alloc, closes, found);
-            (entry(before.0, after.1, &made), made)
+            (entry(before.0, after.1, 0, &made), made)
         }
     }
 }
 
-fn entry(store_count: u64, index_count: u64, made: &Made) -> Answered
-    ensures { result ≡ entry_of store_count index_count made.now }
+/// The entry of a request with this reply.
+pub(crate) fn entry(store_count: u64, index_count: u64, kept: u64, made: &Made) -> Answered
+    ensures { result ≡ entry_of store_count index_count kept made.now }
 {
     let outcome = match made {
         Made::Told { outcome, .. } => *outcome,
@@ -158,7 +159,7 @@ fn entry(store_count: u64, index_count: u64, made: &Made) -> Answered
     Answered {
         store_count,
         index_count,
-        kept: 0,
+        kept,
         outcome,
     }
 }

@@ -8,6 +8,7 @@ mod questions;
 mod replies;
 mod requests;
 mod serving;
+mod uploads;
 
 pub use entries::{Answered, Outcome};
 pub use gathering::Stopped;

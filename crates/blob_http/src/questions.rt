@@ -1,8 +1,8 @@
 //! What a request asks, by its head and its body.
-ghost use Rattle.std.specs.Prelude.{◌≡◌, ℕ, List, Ok, IfOk, IfErr, option_map, option_copied};
+ghost use Rattle.std.specs.Prelude.{◌≡◌, ℕ, List, false, Ok, IfOk, IfErr, option_map, option_copied};
 ghost use Rattle.blob_routes.specs.Stats.{refs_of};
 ghost use Rattle.blob_routes.specs.Pages.{page_of};
-ghost use Rattle.blob_http.specs.Questions.{IsFew, piece, first_of, refused_by, refused, stat_of, refs_asked, IsSearch, IsAskedAt, HasPieces};
+ghost use Rattle.blob_http.specs.Questions.{IsFew, piece, first_of, refused_by, refused, stat_of, refs_asked, IsSearch, IsAskedAt, HasPieces, is_upload};
 
 use answer_text::Refusal;
 use blob_routes::{
@@ -70,7 +70,8 @@ fn refused_by(fault: RouteFault) -> Question
     }
 }
 
-fn content_type<'a>(wire: &'a Wire, head: &Head) -> Option<&'a [u8]>
+/// The value of the first content type.
+pub(crate) fn content_type<'a>(wire: &'a Wire, head: &Head) -> Option<&'a [u8]>
     requires { HasPieces wire.now.head head.now }
     ensures { option_copied result ≡ option_map (piece wire.now.head) head.now.content_type }
 {
@@ -80,13 +81,21 @@ fn content_type<'a>(wire: &'a Wire, head: &Head) -> Option<&'a [u8]>
     }
 }
 
-/// What is asked along a route, by the query and the body.
+/// Whether the route is an upload's.
+pub(crate) fn is_upload(found: &Route) -> bool
+    ensures { result ≡ is_upload found.now }
+{
+    matches!(found, Route::Upload)
+}
+
+/// What is asked along a route that isn't an upload's, by the query and the body.
 pub(crate) fn ask(
     alloc: Global,
     found: &Route,
     query: &[u8],
     body: &[u8],
 ) -> Result<Question, NoMemory>
+    requires { is_upload found.now ≡ false }
     ensures asked { IfOk result (IsAskedAt found.now query.now body.now) }
     ensures few { IfOk result IsFew }
 {
@@ -95,7 +104,7 @@ pub(crate) fn ask(
         Route::Stat { posted } => stat(alloc, *posted, query, body),
         Route::Page => refs(alloc, query),
         Route::Search => search(alloc, body),
-        Route::Upload => Ok(refused(Refusal::NoRoute)),
+        Route::Upload => unreachable!(),
     }
 }
 

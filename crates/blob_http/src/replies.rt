@@ -60,8 +60,8 @@ fn allow_text(allow: Option<Allowed>) -> &'static str
     }
 }
 
-// The reply with this body.
-fn told(
+/// The reply with this body.
+pub(crate) fn told(
     alloc: Global,
     outcome: Outcome,
     code: u16,
@@ -156,8 +156,8 @@ pub(crate) fn fault_reply(alloc: Global, closes: bool, fault: GetFault) -> Made
     }
 }
 
-// The reply with this text.
-fn json(alloc: Global, closes: bool, text: Octets) -> Made
+/// The reply with this text.
+pub(crate) fn json(alloc: Global, closes: bool, text: Octets) -> Made
     ensures { IsTold Outcome.Defined (json_reply closes text) result }
 {
     told(alloc, Outcome::Defined, 200, Kind::Json, closes, None, text)

@@ -8,15 +8,17 @@ ghost use Rattle.http_wire.specs.declared.body.Body.{Body};
 ghost use Rattle.blob_http.specs.declared.questions.Question.{Question};
 ghost use Rattle.blob_http.specs.Asked.{head_says};
 ghost use Rattle.blob_http.specs.Questions.{IsFew};
+ghost use Rattle.blob_http.specs.Serving.{Passes};
 ghost use Rattle.blob_http.specs.Handling.{Answers, Replies, ReadsHead, NoneComes, AlongSays, StopReplies, StopEnds};
 ghost use Rattle.blob_http.specs.Handling.{is_read, is_memory};
 
 use crate::entries::{Answered, Outcome};
 use crate::gathering::{Stopped, gather};
 use crate::handling::answer;
-use crate::questions::{Question, ask, first, refused};
+use crate::questions::{Question, ask, first, is_upload, refused};
 use crate::replies::Made;
 use crate::serving::Ended;
+use crate::uploads::reply_to_upload;
 use answer_text::Refusal;
 use blob_routes::MOST_BODY;
 use blobref::NoMemory;
@@ -48,7 +50,7 @@ pub(crate) fn reply_next<H: Home, S: Source, R: Wait>(
     ensures own { H.belongs home.now pass.new }
     ensures replies { IfOk result (λ replied. Replies (S.left source.old) (S.left source.new) wire.old.flow wire.new
         (H.tells home.now) (H.sight pass.old) (H.sight pass.new) replied.entry replied.made replied.closes) }
-    ensures same { IfErr result (λ ended. H.sight pass.new ≡ H.sight pass.old) }
+    ensures passes { IfErr result (λ ended. Passes ended (H.sight pass.old) (H.sight pass.new)) }
     ensures none { IfErr result (NoneComes (stream wire.old.flow.bytes (S.left source.old)) wire.old.flow.taken) }
     ensures fault { IsErrOf result Ended.ReadFault → Rose (S.faults source.old) (S.faults source.new) }
     ensures later { S.faults source.old ≤ S.faults source.new }
@@ -94,7 +96,7 @@ fn reply_to<H: Home, S: Source, R: Wait>(
     ensures replies { (x0 : Option (List ℕ)) (flow : Flow) → ReadsHead x0 (S.left source.old) flow wire.old head.now
         → IfOk result (λ replied. Replies x0 (S.left source.new) flow wire.new (H.tells home.now) (H.sight pass.old)
         (H.sight pass.new) replied.entry replied.made replied.closes) }
-    ensures same { IfErr result (λ ended. H.sight pass.new ≡ H.sight pass.old) }
+    ensures passes { IfErr result (λ ended. Passes ended (H.sight pass.old) (H.sight pass.new)) }
     ensures none { (x0 : Option (List ℕ)) (flow : Flow) → ReadsHead x0 (S.left source.old) flow wire.old head.now
         → IfErr result (NoneComes (stream flow.bytes x0) flow.taken) }
     ensures fault { IsErrOf result Ended.ReadFault → Rose (S.faults source.old) (S.faults source.new) }
@@ -106,6 +108,9 @@ fn reply_to<H: Home, S: Source, R: Wait>(
             return Ok(reply_along(rt, alloc, home, pass, Ok(question), closes_early(head)));
         }
     };
+    if is_upload(&found) {
+        return reply_to_upload(rt, alloc, home, pass, wire, source, head);
+    }
     let body = match gather(alloc, wire, source, head.framing) {
         Ok(body) => body,
         Err(stopped) => return reply_to_stop(rt, alloc, home, pass, stopped),
@@ -204,14 +209,15 @@ fn reply<H: Home, R: Wait>(
     }
 }
 
-fn is_memory(made: &Made) -> bool
+/// Whether there was no memory for the reply.
+pub(crate) fn is_memory(made: &Made) -> bool
     ensures { result ≡ is_memory made.now }
 {
     matches!(made, Made::Memory)
 }
 
-// The reply where there is no memory to find out what is asked.
-fn out_of_memory<H: Home>(home: &H, pass: &H::Pass) -> Replied
+/// The reply where there is no memory to find out what is asked.
+pub(crate) fn out_of_memory<H: Home>(home: &H, pass: &H::Pass) -> Replied
     ensures answers { (tells closes : Bool) (q : Question) → Answers tells closes q (H.sight pass.now) (H.sight pass.now)
         result.entry result.made }
     ensures made { result.made ≡ Made.Memory }

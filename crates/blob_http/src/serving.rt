@@ -5,7 +5,8 @@ ghost use Rattle.home_core.specs.Passes.{Sight};
 ghost use Rattle.http_wire.specs.declared.body.Body.{Body};
 ghost use Rattle.blob_http.specs.declared.entries.Answered.{Answered};
 ghost use Rattle.blob_http.specs.Answers.{text_of};
-ghost use Rattle.blob_http.specs.Serving.{Serves, Open, Heard, fresh_flow, Wrote, EndCause, HeardBy, WroteBy, StepCause};
+ghost use Rattle.blob_http.specs.Serving.{Serves, Open, Heard, fresh_flow, Wrote, EndCause, HeardBy, WroteBy};
+ghost use Rattle.blob_http.specs.Serving.{StepCause, IsRest, HasNone, RestBy};
 
 use crate::entries::Answered;
 use crate::replies::write_made;
@@ -52,7 +53,7 @@ pub fn serve_connection<H: Home, S: Source, K: Sink, R: Wait>(
     requires { H.belongs home.now pass.old }
     ensures own { H.belongs home.now pass.new }
     ensures serves { Serves (H.tells home.now) (H.sight pass.old) (H.sight pass.new) told.old.items told.new.items
-        (Heard (S.left source.old) result) (Wrote (K.written sink.old) (K.written sink.new) result) }
+        (Heard (S.left source.old) result) (Wrote (K.written sink.old) (K.written sink.new) result) (IsRest result) }
     ensures cause { EndCause (S.faults source.old) (S.faults source.new) (K.faults sink.old) (K.faults sink.new)
         result }
 {
@@ -84,9 +85,10 @@ fn serve_one<H: Home, S: Source, K: Sink, R: Wait>(
     ensures ready { result ≡ None → wire.new.body ≡ Body.Done }
     ensures serves { (v : Sight) (told0 : List Answered) (x0 w0 : Option (List ℕ))
         → Serves (H.tells home.now) v (H.sight pass.old) told0 told.old.items
-        (Open x0 (S.left source.old) fresh_flow wire.old.flow) (Took w0 (K.written sink.old))
+        (Open x0 (S.left source.old) fresh_flow wire.old.flow) (Took w0 (K.written sink.old)) HasNone
         → Serves (H.tells home.now) v (H.sight pass.new) told0 told.new.items
-        (HeardBy x0 (S.left source.new) fresh_flow wire.new.flow result) (WroteBy w0 (K.written sink.new) result) }
+        (HeardBy x0 (S.left source.new) fresh_flow wire.new.flow result) (WroteBy w0 (K.written sink.new) result)
+          (RestBy result) }
     ensures read { S.faults source.old ≤ S.faults source.new }
     ensures wrote { K.faults sink.old ≤ K.faults sink.new }
     ensures cause { StepCause (S.faults source.old) (S.faults source.new) (K.faults sink.old) (K.faults sink.new)

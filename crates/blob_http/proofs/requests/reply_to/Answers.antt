@@ -3,6 +3,7 @@ use Rattle.std.proofs.lemmas.Result.{IfOk-weaker, IfErr-weaker}
 use Rattle.http_wire.specs.Stream.{stream}
 use Rattle.blob_http.specs.Questions.{piece, IsAskedAt}
 use Rattle.blob_http.specs.Handling.{StopReplies, StopEnds}
+use Rattle.blob_http.specs.Questions.{is_upload}
 use Rattle.blob_http.proofs.Requesting.{early_replies, along_replies, stop_replies, stop_none}
 use Rattle.blob_http.proofs.requests.reply_to.Goals as goal
 
@@ -19,7 +20,7 @@ returns-in-Err-gather-clause-replies g c x0 flow read =
     let w = g.H.Home.sight c.reply_to_stop.new.pass in
     IfOk-weaker c.reply_to_stop.result (λ replied. StopReplies tells c.in-Err-gather.stopped v w replied.entry replied.made × (replied.closes ≡ true)) _
     (λ replied h. stop_replies x0 (g.S.Source.left c.args.source.now) (g.S.Source.left c.gather.new.source) flow c.args.wire.now c.gather.new.wire c.args.head.now read
-    c.in-Err-gather.stopped c.in-Err-gather.ensures.gathers tells v w replied.entry replied.made replied.closes c.in-Ok.found (sym c.in-Ok.ensures.first) h.0 h.1)
+    c.in-Err-gather.stopped c.in-Err-gather.ensures.gathers tells v w replied.entry replied.made replied.closes c.in-Ok.found (sym c.in-Ok.ensures.first) (sym c.is_upload.ensures ∙ c.if-is_upload.false) h.0 h.1)
     c.reply_to_stop.ensures.replies
 
 pub returns-in-Err-gather-clause-none : goal.returns-in-Err-gather-clause-none

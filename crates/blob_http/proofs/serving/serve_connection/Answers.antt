@@ -3,7 +3,7 @@ use Rattle.edge_base.specs.Edge.{Took}
 use Rattle.http_wire.specs.Stream.{Flow}
 use Rattle.http_wire.specs.Wires.{WireView}
 use Rattle.http_wire.specs.declared.body.Body.TheVariants.{Done}
-use Rattle.blob_http.specs.Serving.{Serves, Open, fresh_flow}
+use Rattle.blob_http.specs.Serving.{Serves, Open, fresh_flow, HasNone}
 use Rattle.blob_http.proofs.Stepping.{serves_none, took_none, cause_since}
 use Rattle.blob_http.proofs.Hearing.{open_none}
 use Rattle.blob_http.proofs.Connecting.{no_memory}
@@ -25,7 +25,7 @@ requests-init g c =
       tt,
       c.requires,
       ap (λ (u : WireView). u.body) is,
-      subst (λ (f : Flow). Serves tells v v told told (Open x x fresh_flow f) (Took w w)) (sym (ap (λ (u : WireView). u.flow) is))
+      subst (λ (f : Flow). Serves tells v v told told (Open x x fresh_flow f) (Took w w) HasNone) (sym (ap (λ (u : WireView). u.flow) is))
           (serves_none tells v told (Open x x fresh_flow fresh_flow) (Took w w) (open_none x) (took_none w)),
       omega arith,
       omega arith,

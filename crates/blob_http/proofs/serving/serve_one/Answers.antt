@@ -1,6 +1,4 @@
 use Rattle.std.proofs.Common.{List, ◌++◌, ◌∷◌, [], ap, sym, subst, ◌∙◌}
-use Rattle.home_core.specs.Passes.{Sight}
-use Rattle.blob_http.specs.Serving.{Serves, Heard, Wrote}
 use Rattle.blob_http.specs.declared.entries.Answered.{Answered}
 use Rattle.blob_http.proofs.Connecting.{step_goes_on, step_closes, step_breaks, step_ends, step_full}
 use Rattle.blob_http.proofs.serving.serve_one.Goals as goal
@@ -12,10 +10,9 @@ returns-in_default-clause-serves g c v told0 x0 w0 before =
 
 pub returns-in-Err-clause-serves : goal.returns-in-Err-clause-serves
 returns-in-Err-clause-serves g c v told0 x0 w0 before =
-    subst (λ (w : Sight). Serves (g.H.Home.tells c.args.home.now) v w told0 c.make_room.new.told.items (Heard x0 c.in-Err.ended)
-    (Wrote w0 (g.K.Sink.written c.args.sink.now) c.in-Err.ended)) (sym c.in-Err.ensures.same)
-    (step_ends (g.H.Home.tells c.args.home.now) v (g.H.Home.sight c.args.pass.now) told0 c.args.told.now.items c.make_room.new.told.items
-    x0 (g.S.Source.left c.args.source.now) w0 (g.K.Sink.written c.args.sink.now) c.args.wire.now.flow before c.in-Err.ended c.make_room.ensures.same c.in-Err.ensures.none)
+    step_ends (g.H.Home.tells c.args.home.now) v (g.H.Home.sight c.args.pass.now) told0 c.args.told.now.items c.make_room.new.told.items
+    x0 (g.S.Source.left c.args.source.now) w0 (g.K.Sink.written c.args.sink.now) c.args.wire.now.flow before
+    (g.H.Home.sight c.reply_next.new.pass) c.in-Err.ended c.make_room.ensures.same c.in-Err.ensures.none c.in-Err.ensures.passes
 
 pub returns-in_default-write_made-clause-serves : goal.returns-in_default-write_made-clause-serves
 returns-in_default-write_made-clause-serves g c v told0 x0 w0 before =

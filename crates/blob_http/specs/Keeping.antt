@@ -1,0 +1,97 @@
+-- What an upload keeps, and its reply.
+use Rattle.std.specs.Prelude.{◌≡◌, ℕ, List, [], Bool, true, false, length, All, Option, Some, None, option_map, Result, Ok, Err}
+use Rattle.answer_text.specs.declared.refusal.Refusal.{Refusal}
+use Rattle.answer_text.specs.declared.refusal.Refusal.TheVariants as refusal
+use Rattle.answer_text.specs.Refusals.{code_of}
+use Rattle.answer_text.specs.Listings.{upload_text}
+use Rattle.histories.specs.Stores.{Blob, has_ref}
+use Rattle.histories.specs.StoreCalls.{sizes}
+use Rattle.http_wire.specs.declared.head.Head.{Head}
+use Rattle.http_wire.specs.declared.ends.WireEnd.TheVariants as ends
+use Rattle.multipart_read.specs.PartLists.{Part}
+use Rattle.blob_routes.specs.declared.routes.Route.TheVariants.{Upload}
+use Rattle.blob_routes.specs.Before.{boundary_in}
+use Rattle.blob_upload.specs.declared.came.Came.{Came}
+use Rattle.blob_upload.specs.declared.came.Came.TheVariants as came
+use Rattle.blob_upload.specs.Faults.{part_fault}
+use Rattle.blob_http.specs.declared.entries.Outcome.{Outcome}
+use Rattle.blob_http.specs.declared.entries.Outcome.TheVariants.{Defined, Memory, Disk, Full, Damaged}
+use Rattle.blob_http.specs.declared.replies.Made.{Made}
+use Rattle.blob_http.specs.declared.replies.Kind.TheVariants.{Json}
+use Rattle.blob_http.specs.declared.serving.Ended.{Ended}
+use Rattle.blob_http.specs.declared.serving.Ended.TheVariants as ended
+use Rattle.blob_http.specs.Questions.{piece, first_of}
+use Rattle.blob_http.specs.Replies.{reply_text, json_reply, memory_reply}
+use Rattle.blob_http.specs.Answers.{IsTold, IsMemory}
+
+-- the boundary of an upload, by its head
+abbrev pub boundary_at : List ℕ → Head → Option (List ℕ)
+boundary_at head says = boundary_in (option_map (piece head) says.content_type)
+
+-- parts that were kept of an upload: none has a fault, and a blob that arrived has each ref
+pub record Kept (head : List ℕ) (says : Head) (blobs : List Blob) (kept : ℕ) : Type 0 where
+  pub upload : first_of head says ≡ Ok Upload
+  pub boundary : List ℕ
+  pub bounds : boundary_at head says ≡ Some boundary
+  pub parts : List Part
+  pub count : kept ≡ length parts
+  pub sound : All (λ (part : Part). part_fault part ≡ None) parts
+  pub stand : All (λ (part : Part). has_ref part.0 blobs ≡ true) parts
+
+-- the reply to an upload that isn't whole lists what was kept
+abbrev pub upload_reply : List (List ℕ × ℕ) → Refusal → List ℕ
+upload_reply kept why = reply_text (code_of why) Json true [] (upload_text kept (Some why))
+
+-- the reply to an upload that was refused
+abbrev pub IsUploadRefused : List (List ℕ × ℕ) → Came → List ℕ → Type 0
+IsUploadRefused kept (came.Refused why) text = text ≡ upload_reply kept why
+IsUploadRefused kept came.Whole text = ⊥
+IsUploadRefused kept (came.Full blobs pack) text = ⊥
+IsUploadRefused kept came.Disk text = ⊥
+IsUploadRefused kept came.Memory text = ⊥
+IsUploadRefused kept (came.Ended end) text = ⊥
+
+abbrev pub IsUploadReply : List Part → Came → Outcome → List ℕ → Type 0
+IsUploadReply parts c Defined text = IsUploadRefused (sizes parts) c text
+IsUploadReply parts c Memory text = text ≡ memory_reply
+IsUploadReply parts c Disk text = (c ≡ came.Disk) × (text ≡ upload_reply (sizes parts) refusal.Disk)
+IsUploadReply parts c (Full blobs pack) text =
+    (c ≡ came.Full blobs pack) × (text ≡ upload_reply (sizes parts) (refusal.Full blobs pack))
+IsUploadReply parts c (Damaged want is) text = ⊥
+
+-- ---- as a reply is made
+
+-- What is made of how an upload came; none where the connection ends in it. An upload ends with no other ends than
+-- these two and a break of its chunks.
+abbrev pub UploadMade : Bool → List (List ℕ × ℕ) → Came → Result Made Ended → Type 0
+UploadMade closes kept came.Whole (Ok m) = IsTold Defined (json_reply closes (upload_text kept None)) m
+UploadMade closes kept (came.Refused why) (Ok m) = IsTold Defined (upload_reply kept why) m
+UploadMade closes kept (came.Full blobs pack) (Ok m) = IsTold (Full blobs pack) (upload_reply kept (refusal.Full blobs pack)) m
+UploadMade closes kept came.Disk (Ok m) = IsTold Disk (upload_reply kept refusal.Disk) m
+UploadMade closes kept came.Memory (Ok m) = IsMemory m
+UploadMade closes kept (came.Ended (ends.Cut n)) (Err e) = e ≡ ended.Cut n
+UploadMade closes kept (came.Ended ends.ReadFault) (Err e) = e ≡ ended.ReadFault
+UploadMade closes kept (came.Ended (ends.BadLength n)) (Ok m) = IsTold Defined (upload_reply kept refusal.BadLength) m
+UploadMade closes kept (came.Ended ends.Closed) (Ok m) = IsTold Defined (upload_reply kept refusal.BadLength) m
+UploadMade closes kept (came.Ended (ends.BadHead n)) (Ok m) = IsTold Defined (upload_reply kept refusal.BadLength) m
+UploadMade closes kept (came.Ended (ends.TooLong n)) (Ok m) = IsTold Defined (upload_reply kept refusal.BadLength) m
+UploadMade closes kept came.Whole (Err e) = ⊥
+UploadMade closes kept (came.Refused why) (Err e) = ⊥
+UploadMade closes kept (came.Full blobs pack) (Err e) = ⊥
+UploadMade closes kept came.Disk (Err e) = ⊥
+UploadMade closes kept came.Memory (Err e) = ⊥
+UploadMade closes kept (came.Ended (ends.Cut n)) (Ok m) = ⊥
+UploadMade closes kept (came.Ended ends.ReadFault) (Ok m) = ⊥
+UploadMade closes kept (came.Ended (ends.BadLength n)) (Err e) = ⊥
+UploadMade closes kept (came.Ended ends.Closed) (Err e) = ⊥
+UploadMade closes kept (came.Ended (ends.BadHead n)) (Err e) = ⊥
+UploadMade closes kept (came.Ended (ends.TooLong n)) (Err e) = ⊥
+
+-- whether an upload was whole
+abbrev pub is_whole : Came → Bool
+is_whole came.Whole = true
+is_whole (came.Refused why) = false
+is_whole (came.Full blobs pack) = false
+is_whole came.Disk = false
+is_whole came.Memory = false
+is_whole (came.Ended end) = false
