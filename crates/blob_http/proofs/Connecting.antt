@@ -56,7 +56,7 @@ module _ (tells : Bool) (v w : Sight) (told0 told told' : List Answered) (x0 x1 
   step_ends x end same none passes =
       subst (λ (z : List Answered). Serves tells v x told0 z (Heard x0 end) (Wrote w0 w1 end) (IsRest end)) (sym same)
       (serves_ends tells v w x told0 told (Open x0 x1 fresh_flow flow) (Heard x0 end) (Took w0 w1) (Wrote w0 w1 end) (IsRest end) passes.turns s
-        (λ asked o. heard_none x0 x1 flow asked end o none) (written end none) passes.drawn passes.rest passes.longer)
+      (λ asked o. heard_none x0 x1 flow asked end o none) (written end none) passes.drawn passes.rest passes.longer)
     where
       written : (end : Ended) → NoneComes (stream flow.bytes x1) flow.taken end → (texts : List ℕ) → Took w0 w1 texts → Wrote w0 w1 end texts
       written ended.Closed none texts t = t
@@ -70,7 +70,7 @@ module _ (tells : Bool) (v w : Sight) (told0 told told' : List Answered) (x0 x1 
   step_full same =
       subst (λ (z : List Answered). Serves tells v w told0 z (Heard x0 ended.NoMemory) (Wrote w0 w1 ended.NoMemory) (IsRest ended.NoMemory)) (sym same)
       (serves_ends tells v w w told0 told (Open x0 x1 fresh_flow flow) (Heard x0 ended.NoMemory) (Took w0 w1) (Wrote w0 w1 ended.NoMemory) (IsRest ended.NoMemory) [] s
-        (λ asked o. heard_full x0 x1 flow asked o) (λ texts t. t) (sym (append-nil w.store.turns)) refl (longer_none w))
+      (λ asked o. heard_full x0 x1 flow asked o) (λ texts t. t) (sym (append-nil w.store.turns)) refl (longer_none w))
 
 -- a connection for which there was no memory
 pub no_memory : (tells : Bool) (v : Sight) (told : List Answered) (x w : Option (List ℕ))

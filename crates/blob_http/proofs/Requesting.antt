@@ -77,7 +77,7 @@ has_pieces text says h =
 pub handles_of : (tells closes : Bool) (q : Question) (v w : Sight) (entry : Answered) (m : Made) (asked : Asked)
     → Answers tells closes q v w entry m
     → ((accepts : Accepts) (blobs : List Blob) (g : List Insertion) (turns : List ℕ) → IsMade tells accepts blobs g closes q m
-      → IsReply tells accepts blobs g asked 0 turns (outcome_of m) (text_of m))
+    → IsReply tells accepts blobs g asked 0 turns (outcome_of m) (text_of m))
     → Handles tells asked v w entry (text_of m)
 handles_of tells closes q v w entry m asked a replied = record {
   turns = a.turns;
@@ -86,8 +86,8 @@ handles_of tells closes q v w entry m asked a replied = record {
     store_within = a.store_within;
     index_within = a.index_within;
     replied = reply_at tells w.index.accepts (take entry.store_count (arrivals w.store.history)) (take entry.index_count w.index.shown) asked
-    entry.kept a.turns entry.outcome m a.kept a.outcome
-    (replied w.index.accepts (take entry.store_count (arrivals w.store.history)) (take entry.index_count w.index.shown) a.turns a.made);
+        entry.kept a.turns entry.outcome m a.kept a.outcome
+        (replied w.index.accepts (take entry.store_count (arrivals w.store.history)) (take entry.index_count w.index.shown) a.turns a.made);
     cause = subst (λ (o : Outcome). HasCauseIn a.turns w.store.history o) (sym a.outcome) a.cause;
   };
   store_low = a.store_low;
@@ -315,6 +315,13 @@ along_replies x0 x1 x2 flow mid new says head bytes gathered tells v w entry m c
     or_true true = refl
     or_true false = refl
 
+pub upload_is : (r : Route) → is_upload r ≡ true → r ≡ route.Upload
+upload_is (route.Blob b) is = absurd (true_not (sym is))
+upload_is (route.Stat posted) is = absurd (true_not (sym is))
+upload_is route.Upload is = refl
+upload_is route.Page is = absurd (true_not (sym is))
+upload_is route.Search is = absurd (true_not (sym is))
+
 not_upload : (r : Route) → is_upload r ≡ false → r ≡ route.Upload → ⊥
 not_upload r is same = true_not (sym (ap is_upload same) ∙ is)
 
@@ -372,3 +379,6 @@ stop_none x0 x1 x2 flow mid new says head (stopped.Cut n) gathered end is =
     (is_begun x0 x1 x2 flow mid new says head gathered.given gathered.moved) (passed x0 x1 x2 flow mid new says head gathered.given gathered.moved).gave
     (gathered.says.0 ∙ head.begun) gathered.says.1)
 stop_none x0 x1 x2 flow mid new says head stopped.ReadFault gathered end is = subst (NoneComes (stream flow.bytes x0) flow.taken) (sym is) tt
+
+pub passes_same : (end : Ended) (v w : Sight) → w ≡ v → Passes end v w
+passes_same end v w same = subst (λ (z : Sight). Passes end v z) (sym same) (passes_none end v)

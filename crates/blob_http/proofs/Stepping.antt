@@ -82,9 +82,10 @@ module _ (tells : Bool) where
             (subst (λ acc. IsAnswered tells acc x.store.history x.index.shown asked entry text h.turns) same h.answered);
         climbs = climbs_more (length (arrivals v.store.history)) (length v.index.shown) s.answers (length (arrivals w.store.history)) (length w.index.shown) a
             (length (arrivals x.store.history)) (length x.index.shown) s.climbs h.store_low h.index_low h.answered.store_within h.answered.index_within;
-        turns = h.drawn ∙ (ap (λ (z : List ℕ). z ++ h.turns) s.turns
-            ∙ (append_assoc v.store.turns (flat_map (λ (b : Answer). b.turns) s.answers) h.turns
-            ∙ ap (λ (z : List ℕ). v.store.turns ++ z) (sym (flat_push (λ (b : Answer). b.turns) s.answers a))));
+        rest = [];
+        turns = h.drawn ∙ drawn_more v.store.turns w.store.turns (flat_map (λ (b : Answer). b.turns) s.answers) s.rest h.turns
+            (flat_map (λ (b : Answer). b.turns) (s.answers ++ a ∷ [])) s.turns s.rests (flat_push (λ (b : Answer). b.turns) s.answers a);
+        rests = refl;
         longer = longer_chain v w x s.longer h.longer;
       }
 
@@ -100,11 +101,11 @@ module _ (tells : Bool) where
     heard = f _ s.heard;
     written = g _ s.written;
     each = All-weaker (AnswerHolds tells v.index.accepts w.store.history w.index.shown) (AnswerHolds tells v.index.accepts x.store.history x.index.shown)
-      (λ b p. holds_stays tells v.index.accepts w.store.history x.store.history w.index.shown x.index.shown b longer.store longer.shown p) s.answers s.each;
+        (λ b p. holds_stays tells v.index.accepts w.store.history x.store.history w.index.shown x.index.shown b longer.store longer.shown p) s.answers s.each;
     climbs = climbs_stay (length (arrivals v.store.history)) (length v.index.shown) s.answers (length (arrivals w.store.history)) (length w.index.shown)
-      (length (arrivals x.store.history)) (length x.index.shown) s.climbs
-      (prefix_length (arrivals w.store.history) (arrivals x.store.history) (arrivals_prefix w.store.history x.store.history longer.store))
-      (prefix_length w.index.shown x.index.shown longer.shown);
+        (length (arrivals x.store.history)) (length x.index.shown) s.climbs
+        (prefix_length (arrivals w.store.history) (arrivals x.store.history) (arrivals_prefix w.store.history x.store.history longer.store))
+        (prefix_length w.index.shown x.index.shown longer.shown);
     rest = turns;
     turns = drawn ∙ drawn_rest v.store.turns w.store.turns (flat_map (λ (b : Answer). b.turns) s.answers) s.rest turns s.turns s.rests;
     rests = r;

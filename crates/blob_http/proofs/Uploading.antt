@@ -139,9 +139,12 @@ upload_said boundary given parts wire x closes came.Memory (made.Told o head res
 upload_said boundary given parts wire x closes (came.Ended ends.Closed) (made.Told o head rest) n t is comes turns part = absurd comes.1
 upload_said boundary given parts wire x closes (came.Ended (ends.Cut k)) (made.Told o head rest) n t is comes turns part = absurd is
 upload_said boundary given parts wire x closes (came.Ended (ends.BadHead k)) (made.Told o head rest) n t is comes turns part = absurd comes.1
-upload_said boundary given parts wire x closes (came.Ended (ends.BadLength k)) (made.Told o head rest) n t is comes turns part =
-    (came.Refused refusal.BadLength, (comes.0, comes.1.1), turns,
-      subst (λ (z : Outcome). IsUploadReply parts (came.Refused refusal.BadLength) z (head ++ rest)) (sym is.0) is.1)
+upload_said boundary given parts wire x closes (came.Ended (ends.BadLength k)) (made.Told o head rest) n t is comes turns part = (
+  came.Refused refusal.BadLength,
+  (comes.0, comes.1.1),
+  turns,
+  subst (λ (z : Outcome). IsUploadReply parts (came.Refused refusal.BadLength) z (head ++ rest)) (sym is.0) is.1,
+)
 upload_said boundary given parts wire x closes (came.Ended (ends.TooLong k)) (made.Told o head rest) n t is comes turns part = absurd comes.1
 upload_said boundary given parts wire x closes (came.Ended ends.ReadFault) (made.Told o head rest) n t is comes turns part = absurd is
 
@@ -218,11 +221,11 @@ module _ (x0 x1 x2 : Option (List ℕ)) (flow : Flow) (mid new : WireView) (says
           store_within = let p = e.store in omega arith;
           index_within = let p = e.index in omega arith;
           replied = subst (λ (o : Outcome). IsReply tells w.index.accepts (take entry.store_count (arrivals w.store.history)) (take entry.index_count w.index.shown) asked entry.kept turns o (text_of m))
-          (sym e.outcome)
-          (subst (λ (b : List Blob). IsReply tells w.index.accepts b (take entry.index_count w.index.shown) asked entry.kept turns (outcome_of m) (text_of m)) (sym all)
-            (replied (take entry.index_count w.index.shown)));
+              (sym e.outcome)
+              (subst (λ (b : List Blob). IsReply tells w.index.accepts b (take entry.index_count w.index.shown) asked entry.kept turns (outcome_of m) (text_of m)) (sym all)
+              (replied (take entry.index_count w.index.shown)));
           cause = subst (λ (o : Outcome). HasCauseIn turns w.store.history o) (sym e.outcome)
-          (upload_cause says.closes listed c m turns w.store.history is adds.why);
+              (upload_cause says.closes listed c m turns w.store.history is adds.why);
         };
         store_low = let p = e.store in let l = prefix_length (arrivals v.store.history) (arrivals w.store.history) (arrivals_prefix v.store.history w.store.history adds.grew.longer) in omega arith;
         index_low = let p = e.index in let l = ap (λ i. length i.shown) adds.index in omega arith;
@@ -242,7 +245,7 @@ module _ (x0 x1 x2 : Option (List ℕ)) (flow : Flow) (mid new : WireView) (says
         asked = Front b after;
         comes = (is_begun x0 x1 x2 flow mid new says head u.given u.moved, passed x0 x1 x2 flow mid new says head u.given u.moved, refl);
         handles = handles (Front b after) entry m is e
-        (λ g. inl (kept entry.kept e.kept, (said.0, new, refl, said.1, said.2, said.3)));
+            (λ g. inl (kept entry.kept e.kept, (said.0, new, refl, said.1, said.2, said.3)));
         closing = closing;
         ready = λ still. absurd (true_not (sym closing ∙ still));
       }
@@ -262,7 +265,7 @@ module _ (x0 x1 x2 : Option (List ℕ)) (flow : Flow) (mid new : WireView) (says
         asked = Whole r;
         comes = (request_read mid.head u.moved.0 u.given says head.lines head.read leads, passed x0 x1 x2 flow mid new says head u.given u.moved);
         handles = handles (Whole r) entry (made.Told o text rest) is e
-        (λ g. inl (kept entry.kept e.kept, done.2, count ∙ sym (counted entry.kept e.kept), told.0, told.1));
+            (λ g. inl (kept entry.kept e.kept, done.2, count ∙ sym (counted entry.kept e.kept), told.0, told.1));
         closing = closing;
         ready = λ still. done.0;
       }
@@ -280,9 +283,11 @@ module _ (x0 x1 x2 : Option (List ℕ)) (flow : Flow) (mid new : WireView) (says
       or_true : (b : Bool) → ((b || true) || false) ≡ true
       or_true true = refl
       or_true false = refl
+
       or_false : (b : Bool) → ((b || false) || false) ≡ b
       or_false true = refl
       or_false false = refl
+
       whole_is : (d : Came) → is_whole d ≡ true → d ≡ came.Whole
       whole_is came.Whole is = refl
       whole_is (came.Refused why) is = absurd (true_not (sym is))
@@ -290,6 +295,7 @@ module _ (x0 x1 x2 : Option (List ℕ)) (flow : Flow) (mid new : WireView) (says
       whole_is came.Disk is = absurd (true_not (sym is))
       whole_is came.Memory is = absurd (true_not (sym is))
       whole_is (came.Ended end) is = absurd (true_not (sym is))
+
       by_whole : (b : Bool) → is_whole c ≡ b → Replies x0 x2 flow new tells v w entry (made.Told o text rest) closes
       by_whole true whole = whole_replies entry o text rest closes (whole_is c whole) is e
           (closing ∙ ap (λ (b : Bool). (says.closes || not b) || false) whole ∙ or_false says.closes)
@@ -310,8 +316,8 @@ module _ (x0 x1 x2 : Option (List ℕ)) (flow : Flow) (mid new : WireView) (says
       by_came (came.Ended (ends.Cut n)) end is said =
           subst (NoneComes (stream flow.bytes x0) flow.taken) (sym is)
           (cut_body (stream flow.bytes x0) (stream new.flow.bytes x2) flow.taken n (begun x0 x1 x2 flow mid new says head u.given u.moved)
-            (is_begun x0 x1 x2 flow mid new says head u.given u.moved) (passed x0 x1 x2 flow mid new says head u.given u.moved).gave
-            (said.1.0 ∙ same ∙ head.begun) said.1.1)
+          (is_begun x0 x1 x2 flow mid new says head u.given u.moved) (passed x0 x1 x2 flow mid new says head u.given u.moved).gave
+          (said.1.0 ∙ same ∙ head.begun) said.1.1)
       by_came (came.Ended (ends.BadHead n)) end is said = absurd is
       by_came (came.Ended (ends.BadLength n)) end is said = absurd is
       by_came (came.Ended (ends.TooLong n)) end is said = absurd is

@@ -83,7 +83,7 @@ IsWholeUpload blobs r kept turns outcome text = (u : Kept r.head r.says blobs ke
 abbrev pub IsFrontUpload : List Blob → Begun → Option (List ℕ) → ℕ → List ℕ → Outcome → List ℕ → Type 0
 IsFrontUpload blobs b after kept turns outcome text = (u : Kept b.head b.says blobs kept)
     × ((came : Came) × (wire : WireView) × (wire.body ≡ b.at) × Comes u.boundary b.given u.parts wire after came
-      × Turns came kept (length turns) × IsUploadReply u.parts came outcome text)
+    × Turns came kept (length turns) × IsUploadReply u.parts came outcome text)
 
 -- the reply over the blobs that arrived and the Inserts; an upload alone keeps parts
 abbrev pub IsReply : Bool → Accepts → List Blob → List Insertion → Asked → ℕ → List ℕ → Outcome → List ℕ → Type 0

@@ -88,7 +88,7 @@ fn serve_one<H: Home, S: Source, K: Sink, R: Wait>(
         (Open x0 (S.left source.old) fresh_flow wire.old.flow) (Took w0 (K.written sink.old)) HasNone
         → Serves (H.tells home.now) v (H.sight pass.new) told0 told.new.items
         (HeardBy x0 (S.left source.new) fresh_flow wire.new.flow result) (WroteBy w0 (K.written sink.new) result)
-          (RestBy result) }
+        (RestBy result) }
     ensures read { S.faults source.old ≤ S.faults source.new }
     ensures wrote { K.faults sink.old ≤ K.faults sink.new }
     ensures cause { StepCause (S.faults source.old) (S.faults source.new) (K.faults sink.old) (K.faults sink.new)

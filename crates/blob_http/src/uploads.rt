@@ -46,7 +46,7 @@ pub(crate) fn reply_to_upload<H: Home, S: Source, R: Wait>(
     ensures own { H.belongs home.now pass.new }
     ensures replies { (x0 : Option (List ℕ)) (flow : Flow) → ReadsHead x0 (S.left source.old) flow wire.old head.now
         → IfOk result (λ replied. Replies x0 (S.left source.new) flow wire.new (H.tells home.now) (H.sight pass.old)
-          (H.sight pass.new) replied.entry replied.made replied.closes) }
+        (H.sight pass.new) replied.entry replied.made replied.closes) }
     ensures passes { IfErr result (λ ended. Passes ended (H.sight pass.old) (H.sight pass.new)) }
     ensures none { (x0 : Option (List ℕ)) (flow : Flow) → ReadsHead x0 (S.left source.old) flow wire.old head.now
         → IfErr result (NoneComes (stream flow.bytes x0) flow.taken) }
@@ -57,7 +57,16 @@ pub(crate) fn reply_to_upload<H: Home, S: Source, R: Wait>(
         return Ok(out_of_memory(home, pass));
     };
     let mut kept = Listing::empty(alloc);
-    let came = take_parts(rt, alloc, home, pass, wire, source, boundary.as_slice(), &mut kept);
+    let came = take_parts(
+        rt,
+        alloc,
+        home,
+        pass,
+        wire,
+        source,
+        boundary.as_slice(),
+        &mut kept,
+    );
     reply_to_came(alloc, home, pass, &came, &kept, head.closes)
 }
 
@@ -135,7 +144,12 @@ fn upload_made(alloc: Global, closes: bool, came: &Came, kept: &Listing) -> Resu
 fn full(alloc: Global, blobs: u64, pack: u32, kept: &Listing) -> Made
     ensures { IsTold (Outcome.Full blobs pack) (upload_reply kept.now (Refusal.Full blobs pack)) result }
 {
-    part_kept(alloc, Outcome::Full { blobs, pack }, &Refusal::Full { blobs, pack }, kept)
+    part_kept(
+        alloc,
+        Outcome::Full { blobs, pack },
+        &Refusal::Full { blobs, pack },
+        kept,
+    )
 }
 
 // How the connection ends in an upload. A break of the chunks has been told as a refusal.

@@ -1,10 +1,10 @@
-use Rattle.std.proofs.Common.{◌≡◌, ℕ, List, true, IfOk, sym, ap, subst, ◌∙◌}
+use Rattle.std.proofs.Common.{◌≡◌, ℕ, List, true, Ok, IfOk, sym, ap, subst, ◌∙◌}
 use Rattle.std.proofs.lemmas.Result.{IfOk-weaker, IfErr-weaker}
 use Rattle.http_wire.specs.Stream.{stream}
 use Rattle.blob_http.specs.Questions.{piece, IsAskedAt}
 use Rattle.blob_http.specs.Handling.{StopReplies, StopEnds}
 use Rattle.blob_http.specs.Questions.{is_upload}
-use Rattle.blob_http.proofs.Requesting.{early_replies, along_replies, stop_replies, stop_none}
+use Rattle.blob_http.proofs.Requesting.{upload_is, passes_same, early_replies, along_replies, stop_replies, stop_none}
 use Rattle.blob_http.proofs.requests.reply_to.Goals as goal
 
 pub returns-in-Err-clause-replies : goal.returns-in-Err-clause-replies
@@ -39,3 +39,13 @@ returns-clause-replies g c x0 flow read =
     (c.piece.ensures ∙ ap (λ (h : List ℕ). piece h c.args.head.now.query) c.in-Ok-gather.ensures.gathers.head)
     (subst (λ (b : List ℕ). IfOk c.ask-asked.result (IsAskedAt c.in-Ok.found c.piece.result.now b)) c.as_slice.ensures c.ask-asked.ensures.asked))
     c.reply_along-2.ensures.answers c.reply_along-2.ensures.closes
+
+pub reply_to_upload-requires-clause-upload : goal.reply_to_upload-requires-clause-upload
+reply_to_upload-requires-clause-upload g c =
+    sym c.in-Ok.ensures.first ∙ ap Ok (upload_is c.in-Ok.found (sym c.is_upload.ensures ∙ c.if-is_upload.true))
+
+pub returns-in-Err-gather-clause-passes : goal.returns-in-Err-gather-clause-passes
+returns-in-Err-gather-clause-passes g c =
+    let v = g.H.Home.sight c.args.pass.now in
+    let w = g.H.Home.sight c.reply_to_stop.new.pass in
+    IfErr-weaker c.reply_to_stop.result (λ end. w ≡ v) _ (λ end same. passes_same end v w same) c.reply_to_stop.ensures.same

@@ -32,9 +32,9 @@ returns-clause-replies g c x0 flow read =
     if_ok_three c.reply_to_came.result (λ r. UploadMade closes kept came (Ok r.made)) (λ r. IsUploadEntry w (length kept) r.made r.entry)
     (λ r. r.closes ≡ ((closes || not (is_whole came)) || is_memory r.made)) _
     (λ r p q t. upload_replies x0 x1 x2 flow c.args.wire.now c.take_parts-came.new.wire c.args.head.now read c.requires.upload c.as_slice.result.now
-      (c.in-Ok.ensures ∙ ap Some (sym c.as_slice.ensures)) (g.H.Home.tells c.args.home.now) v w kept came
-      (subst (λ (k : List (List ℕ × ℕ)). Uploads c.as_slice.result.now x1 x2 c.args.wire.now c.take_parts-came.new.wire v w k kept came) c.empty-kept.ensures c.take_parts-came.ensures.uploads)
-      r.entry r.made r.closes p q t)
+    (c.in-Ok.ensures ∙ ap Some (sym c.as_slice.ensures)) (g.H.Home.tells c.args.home.now) v w kept came
+    (subst (λ (k : List (List ℕ × ℕ)). Uploads c.as_slice.result.now x1 x2 c.args.wire.now c.take_parts-came.new.wire v w k kept came) c.empty-kept.ensures c.take_parts-came.ensures.uploads)
+    r.entry r.made r.closes p q t)
     c.reply_to_came.ensures.made c.reply_to_came.ensures.entry c.reply_to_came.ensures.closes
 
 pub returns-clause-passes : goal.returns-clause-passes
@@ -47,7 +47,7 @@ returns-clause-passes g c =
     let came = c.take_parts-came.result in
     IfErr-weaker c.reply_to_came.result (λ e. UploadMade c.args.head.now.closes kept came (Err e)) _
     (upload_passes c.as_slice.result.now x1 x2 c.args.wire.now c.take_parts-came.new.wire v w kept came c.args.head.now.closes
-      (subst (λ (k : List (List ℕ × ℕ)). Uploads c.as_slice.result.now x1 x2 c.args.wire.now c.take_parts-came.new.wire v w k kept came) c.empty-kept.ensures c.take_parts-came.ensures.uploads))
+    (subst (λ (k : List (List ℕ × ℕ)). Uploads c.as_slice.result.now x1 x2 c.args.wire.now c.take_parts-came.new.wire v w k kept came) c.empty-kept.ensures c.take_parts-came.ensures.uploads))
     c.reply_to_came.ensures.ends
 
 pub returns-clause-none : goal.returns-clause-none
@@ -60,9 +60,9 @@ returns-clause-none g c x0 flow read =
     let came = c.take_parts-came.result in
     IfErr-weaker c.reply_to_came.result (λ e. UploadMade c.args.head.now.closes kept came (Err e)) _
     (λ e p. upload_none x0 x1 x2 flow c.args.wire.now c.take_parts-came.new.wire c.args.head.now read c.requires.upload c.as_slice.result.now
-      (c.in-Ok.ensures ∙ ap Some (sym c.as_slice.ensures)) (g.H.Home.tells c.args.home.now) v w kept came
-      (subst (λ (k : List (List ℕ × ℕ)). Uploads c.as_slice.result.now x1 x2 c.args.wire.now c.take_parts-came.new.wire v w k kept came) c.empty-kept.ensures c.take_parts-came.ensures.uploads)
-      c.take_parts-came.ensures.head.1 e p)
+    (c.in-Ok.ensures ∙ ap Some (sym c.as_slice.ensures)) (g.H.Home.tells c.args.home.now) v w kept came
+    (subst (λ (k : List (List ℕ × ℕ)). Uploads c.as_slice.result.now x1 x2 c.args.wire.now c.take_parts-came.new.wire v w k kept came) c.empty-kept.ensures c.take_parts-came.ensures.uploads)
+    c.take_parts-came.ensures.head.1 e p)
     c.reply_to_came.ensures.ends
 
 pub returns-clause-fault : goal.returns-clause-fault
