@@ -1,7 +1,6 @@
 -- What a call of the home answered is the answer over what the pass has then seen.
-use Rattle.std.proofs.Common.{◌≡◌, ℕ, ◌+◌, ◌≤◌, ◌⊎◌, ⊎_elim, List, [], ◌∷◌, ◌++◌, length, take, Bool, true, false, ◌||◌, eqb, Contains, refl, ap, sym, subst, ◌∙◌, arith, Option, Some, None, Result, Ok, Err, IsErr}
-use Rattle.std.specs.Option.{option_map}
-use Rattle.std.specs.List.{filter_map, filter}
+use Rattle.std.proofs.Common.{◌≡◌, ℕ, ◌+◌, ⊎_elim, List, [], ◌∷◌, ◌++◌, length, take, Bool, true, false, ◌||◌, eqb, Contains, refl, ap, sym, subst, ◌∙◌, arith, Option, Some, None, Result, Ok, Err, IsErr}
+use Rattle.std.specs.List.{filter_map}
 use Rattle.std.proofs.lemmas.List.{append-nil, take_all, take-take, length-take-le}
 use Rattle.std.proofs.lemmas.List.Elements.{Contains-append_right}
 use Rattle.std.proofs.lemmas.Bool.{eq-eqb}
@@ -18,26 +17,25 @@ use Rattle.answer_text.specs.Search.{search_text}
 use Rattle.histories.specs.declared.stamped.Stamped.{Stamped}
 use Rattle.histories.specs.declared.events.StoreEvent.{StoreEvent}
 use Rattle.histories.specs.declared.events.StoreEvent.TheVariants as store
-use Rattle.histories.specs.History.{stamp, stamped, has, Ran}
+use Rattle.histories.specs.History.{stamp, stamped, has}
 use Rattle.histories.specs.Stores.{Blob, arrivals, bytes_of}
 use Rattle.histories.specs.Indexes.{Insertion, HasAllBelow, inserts}
-use Rattle.histories.specs.StoreCalls.{IsQuiet, GetSays, GetFails, StatSays, ListSays, IsRead, page, sized, each_once}
-use Rattle.histories.proofs.Prefixes.{prefix_self, prefix_trans, prefix_length}
+use Rattle.histories.specs.StoreCalls.{IsQuiet, GetSays, GetFails, StatSays, ListSays, page, sized, each_once}
+use Rattle.histories.proofs.Prefixes.{prefix_trans, prefix_length}
 use Rattle.histories.proofs.Standing.{arrivals_append, arrivals_prefix, has_all_longer}
 use Rattle.home_core.specs.Passes.{Sight, IsSight, StoreCall, StoreTurned, Spends, Settles, Searches, Counts, Caused}
 use Rattle.home_core.specs.Searches.{SearchSays}
 use Rattle.blob_routes.specs.declared.routes.Allowed.{Allowed}
 use Rattle.blob_routes.specs.declared.pages.Page.{Page}
 use Rattle.blob_http.specs.declared.entries.Outcome.{Outcome}
-use Rattle.blob_http.specs.declared.entries.Outcome.TheVariants.{Defined, Memory, Disk, Full, Damaged}
-use Rattle.blob_http.specs.declared.entries.Answered.{Answered}
+use Rattle.blob_http.specs.declared.entries.Outcome.TheVariants.{Defined}
 use Rattle.blob_http.specs.declared.questions.Question.{Question}
 use Rattle.blob_http.specs.declared.questions.Question.TheVariants as question
 use Rattle.blob_http.specs.declared.replies.Made.{Made}
 use Rattle.blob_http.specs.declared.replies.Made.TheVariants as made
 use Rattle.blob_http.specs.Replies.{json_reply, blob_reply, refused_reply}
-use Rattle.blob_http.specs.Answers.{IsAnswer, IsBlobReply, IsDefined, reads_blobs, allow_text, outcome_of, IsTold, IsMemory, FaultMade, BlobMade, TextMade, stat_answer, page_answer, cut_page, more_after}
-use Rattle.blob_http.specs.Serving.{HasCauseIn, Longer}
+use Rattle.blob_http.specs.Answers.{IsAnswer, IsBlobReply, IsDefined, reads_blobs, allow_text, outcome_of, IsTold, IsMemory, FaultMade, BlobMade, TextMade, page_answer, cut_page, more_after}
+use Rattle.blob_http.specs.Serving.{HasCauseIn}
 use Rattle.blob_http.specs.Handling.{IsMade, Answers, entry_of}
 use Rattle.blob_http.proofs.Staying.{longer_none}
 

@@ -1,9 +1,7 @@
 -- Small bodies.
-use Rattle.std.proofs.Common.{◌≡◌, ℕ, ◌≤◌, ◌<◌, List, [], ◌++◌, ◌-◌, length, length-append, take, Option, Some, None, Result, Ok, Err, refl, sym, ap, subst, ◌∙◌, arith}
-use Rattle.std.specs.Option.{IfSome}
+use Rattle.std.proofs.Common.{◌≡◌, ℕ, ◌≤◌, ◌<◌, List, [], ◌++◌, ◌-◌, length, length-append, take, Option, Some, None, Result, Err, refl, sym, subst, ◌∙◌, arith}
 use Rattle.std.proofs.lemmas.List.{append-nil, length-take-le}
 use Rattle.http_wire.specs.declared.body.Body.{Body}
-use Rattle.http_wire.specs.declared.body.Body.TheVariants.{Done}
 use Rattle.http_wire.specs.declared.ends.WireEnd.{WireEnd}
 use Rattle.http_wire.specs.declared.ends.WireEnd.TheVariants as ends
 use Rattle.http_wire.specs.Stream.{Flow, Passed}
@@ -14,7 +12,7 @@ use Rattle.http_wire.proofs.Leading.{Leads-none, Moves-chain}
 use Rattle.edge_base.specs.Edge.{Gave}
 use Rattle.blob_http.specs.declared.gathering.Stopped.{Stopped}
 use Rattle.blob_http.specs.declared.gathering.Stopped.TheVariants as stopped
-use Rattle.blob_http.specs.Gathering.{Gathers, GatherSays, CanStop, StopSays, most_body}
+use Rattle.blob_http.specs.Gathering.{Gathers, GatherSays, CanStop, StopSays}
 
 gave_none : (x : Option (List ℕ)) → Gave x x []
 gave_none None = refl

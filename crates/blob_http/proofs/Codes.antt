@@ -1,7 +1,7 @@
 -- Each refusal's code has a phrase, and the reply for want of memory is a text.
-use Rattle.std.proofs.Common.{◌≡◌, ℕ, List, [], ◌++◌, codes, true, IsSome, refl}
+use Rattle.std.proofs.Common.{◌≡◌, codes, IsSome, refl}
 use Rattle.std.specs.Fmt.{digits}
-use Rattle.http.specs.StatusCode.{IsStatusCode, reason_phrase}
+use Rattle.http.specs.StatusCode.{reason_phrase}
 use Rattle.answer_text.specs.declared.refusal.Refusal.{Refusal}
 use Rattle.answer_text.specs.declared.refusal.Refusal.TheVariants.{BadHead, BadLength, BadVersion, BadRef, BadNumber, BadMultipart, BadDigest, BadQuery, NoRoute, Absent, Method, TooLong, Damaged, Memory, Disk, Full}
 use Rattle.answer_text.specs.Refusals.{code_of}

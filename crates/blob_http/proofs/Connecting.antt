@@ -1,5 +1,5 @@
 -- One step of a connection.
-use Rattle.std.proofs.Common.{◌≡◌, ℕ, List, [], ◌∷◌, ◌++◌, Bool, true, false, Option, Some, None, refl, ap, sym, subst, ◌∙◌}
+use Rattle.std.proofs.Common.{◌≡◌, ℕ, List, [], ◌∷◌, ◌++◌, Bool, true, false, Option, refl, sym, subst, ◌∙◌}
 use Rattle.edge_base.specs.Edge.{Took, TookFront}
 use Rattle.edge_base.proofs.Moves.{Took-chain}
 use Rattle.home_core.specs.Passes.{Sight}
@@ -9,7 +9,6 @@ use Rattle.blob_http.specs.declared.entries.Answered.{Answered}
 use Rattle.blob_http.specs.declared.replies.Made.{Made}
 use Rattle.blob_http.specs.declared.serving.Ended.{Ended}
 use Rattle.blob_http.specs.declared.serving.Ended.TheVariants as ended
-use Rattle.blob_http.specs.Asked.{Asked}
 use Rattle.blob_http.specs.Answers.{text_of}
 use Rattle.blob_http.specs.Serving.{Serves, Open, Heard, Wrote, fresh_flow, IsRest, HasNone, Passes}
 use Rattle.blob_http.specs.Handling.{Replies, NoneComes}

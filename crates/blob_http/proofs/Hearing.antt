@@ -1,8 +1,7 @@
 -- What was answered of a stream.
-use Rattle.std.proofs.Common.{◌≡◌, ℕ, ◌+◌, ◌≤◌, List, [], ◌∷◌, ◌++◌, map, length, All, Bool, true, false, refl, ap, sym, subst, ◌∙◌, arith, append_assoc, Option, Some, None, Result, Ok, Err, inl, inr, ◌⊎◌, ⊎_elim}
+use Rattle.std.proofs.Common.{◌≡◌, ℕ, List, [], ◌∷◌, ◌++◌, map, All, Bool, true, false, refl, ap, sym, subst, ◌∙◌, append_assoc, Option, Some, None, Ok, inl, inr, ⊎_elim}
 use Rattle.std.specs.Option.{IfSome}
 use Rattle.std.specs.List.{flat_map}
-use Rattle.std.proofs.lemmas.List.{append-nil}
 use Rattle.std.proofs.lemmas.List.Elements.{All-push, All-nil}
 use mathlib.Core.List.{map-append}
 use Rattle.edge_base.specs.Edge.{Gave}
@@ -10,8 +9,8 @@ use Rattle.http_wire.specs.declared.ends.WireEnd.{WireEnd}
 use Rattle.http_wire.specs.declared.ends.WireEnd.TheVariants as ends
 use Rattle.http_wire.specs.Stream.{Flow, Passed, stream}
 use Rattle.http_wire.specs.Wires.{HeadEnds}
-use Rattle.http_wire.specs.Speaking.{Request, IsRequest, Speaks, SpeaksTo, Begun, IsBegun, Last, Nothing, Refused, Unfinished, IsOpen, GoesOn, ClosesAtLast, HasNoRequest, place_behind, text_of}
-use Rattle.http_wire.proofs.Passing.{Passed-chain, Passed-none}
+use Rattle.http_wire.specs.Speaking.{Request, IsRequest, Speaks, Nothing, Refused, Unfinished, IsOpen, HasNoRequest, place_behind, text_of}
+use Rattle.http_wire.proofs.Passing.{Passed-chain}
 use Rattle.http_wire.proofs.Speaking.{texts_push}
 use Rattle.http_wire.proofs.Refusals.{no_request}
 use Rattle.http_wire.proofs.Unfinished.{no_whole_request}
@@ -20,7 +19,7 @@ use Rattle.blob_http.specs.declared.serving.Ended.TheVariants as ended
 use Rattle.answer_text.specs.declared.refusal.Refusal.{Refusal}
 use Rattle.blob_http.specs.Asked.{Asked, Whole, Front, Head, Comes, closes_of, head_says}
 use Rattle.blob_http.specs.Handling.{NoneComes}
-use Rattle.blob_http.specs.Serving.{Stays, Open, AreAnswers, IsCut, StoodOpen, Follows, Hears, Heard, fresh_flow}
+use Rattle.blob_http.specs.Serving.{Stays, Open, IsCut, Follows, Heard, fresh_flow}
 use Rattle.blob_http.proofs.Bodies.{passed_none}
 
 -- nothing was taken yet

@@ -1,5 +1,5 @@
 -- What one request comes to, from its head to its reply.
-use Rattle.std.proofs.Common.{◌≡◌, ℕ, ◌≤◌, ◌==◌, if◌then◌else◌, List, [], ◌++◌, length, take, Bool, true, false, ◌||◌, not, Option, Some, None, Result, Ok, Err, IfOk, refl, ap, sym, subst, ◌∙◌, inl, inr, append_assoc}
+use Rattle.std.proofs.Common.{◌≡◌, ℕ, if◌then◌else◌, List, [], ◌++◌, take, Bool, true, false, ◌||◌, not, Option, Some, None, Result, Ok, Err, IfOk, refl, ap, sym, subst, ◌∙◌, inl, inr, append_assoc}
 use Rattle.std.specs.Option.{IfSome, option_map}
 use Rattle.std.proofs.lemmas.List.{append-nil}
 use Rattle.blobref.specs.declared.memory.NoMemory.{NoMemory}
@@ -18,10 +18,10 @@ use Rattle.http_wire.specs.declared.head.Framing.TheVariants.{Empty, Length, Chu
 use Rattle.http_wire.specs.declared.ends.WireEnd.{WireEnd}
 use Rattle.http_wire.specs.declared.ends.WireEnd.TheVariants as ends
 use Rattle.http_wire.specs.Stream.{Flow, Passed, stream}
-use Rattle.http_wire.specs.Heads.{IsHeadText, HeadSays, IsFirstOf, IsPlaceIn}
+use Rattle.http_wire.specs.Heads.{HeadSays, IsFirstOf, IsPlaceIn}
 use Rattle.http_wire.specs.Bodies.{Moves, Leads, Stops}
 use Rattle.http_wire.specs.Wires.{WireView, body_of, HeadEnds, to_come}
-use Rattle.http_wire.specs.Speaking.{Request, IsRequest, Begun, IsBegun}
+use Rattle.http_wire.specs.Speaking.{Request, Begun, IsBegun}
 use Rattle.http_wire.proofs.Passing.{Passed-chain}
 use Rattle.http_wire.proofs.Speaking.{request_read}
 use Rattle.edge_base.specs.Edge.{Gave}
@@ -43,12 +43,12 @@ use Rattle.blob_http.specs.declared.replies.Made.{Made}
 use Rattle.blob_http.specs.declared.replies.Made.TheVariants as made
 use Rattle.blob_http.specs.declared.serving.Ended.{Ended}
 use Rattle.blob_http.specs.declared.serving.Ended.TheVariants as ended
-use Rattle.blob_http.specs.Asked.{Asked, Whole, Front, Head as Refused, Comes, closes_of, head_says}
-use Rattle.blob_http.specs.Gathering.{Gathers, GatherSays}
+use Rattle.blob_http.specs.Asked.{Asked, Whole, Front, Head as Refused, Comes, head_says}
+use Rattle.blob_http.specs.Gathering.{Gathers}
 use Rattle.blob_http.specs.Questions.{HasPieces, is_upload, piece, first_of, first_by, early_by, refused_by, refused, IsAskedAt, IsAskedBy, IsAsked}
 use Rattle.blob_http.specs.Replies.{refused_reply, memory_reply}
-use Rattle.blob_http.specs.Answers.{IsAnswer, allow_text, outcome_of, text_of}
-use Rattle.blob_http.specs.Serving.{HasCauseIn, IsRest, Passes, IsReply, IsFrontReply, IsFrontDefined, IsBodyRefusal, IsAnswered, Handles, IsCut}
+use Rattle.blob_http.specs.Answers.{allow_text, outcome_of, text_of}
+use Rattle.blob_http.specs.Serving.{HasCauseIn, IsRest, Passes, IsReply, IsFrontDefined, IsBodyRefusal, Handles, IsCut}
 use Rattle.blob_http.specs.Handling.{IsMade, is_memory, is_read, Answers, ReadsHead, Replies, AlongSays, StopReplies, StopEnds, NoneComes}
 use Rattle.blob_http.proofs.Staying.{longer_none}
 use Rattle.blob_http.proofs.Bodies.{moves_none}

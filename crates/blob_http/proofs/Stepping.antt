@@ -1,12 +1,11 @@
 -- One more answer extends what was served.
-use Rattle.std.proofs.Common.{◌≡◌, ℕ, ◌+◌, ◌≤◌, List, [], ◌∷◌, ◌++◌, map, length, All, Bool, true, false, refl, ap, sym, subst, ◌∙◌, arith, append_assoc, Option, Some, None, inl, inr, ◌⊎◌}
-use Rattle.std.specs.Option.{IfSome}
+use Rattle.std.proofs.Common.{◌≡◌, ℕ, ◌≤◌, List, [], ◌∷◌, ◌++◌, map, length, Bool, refl, ap, sym, subst, ◌∙◌, arith, append_assoc, Option, Some, None}
 use Rattle.std.specs.List.{flat_map}
 use Rattle.std.proofs.lemmas.List.{append-nil}
 use Rattle.std.proofs.lemmas.List.Concat.{flat_map-append}
 use Rattle.std.proofs.lemmas.List.Elements.{All-push, All-weaker, All-nil}
 use mathlib.Core.List.{map-append}
-use Rattle.edge_base.specs.Edge.{Gave, Took, TookFront, Rose, one_more}
+use Rattle.edge_base.specs.Edge.{Took, TookFront, Rose, one_more}
 use Rattle.edge_base.proofs.Moves.{Took-chain}
 use Rattle.histories.specs.Stores.{arrivals}
 use Rattle.histories.proofs.Prefixes.{prefix_length}
@@ -16,7 +15,7 @@ use Rattle.blob_http.specs.declared.entries.Answered.{Answered}
 use Rattle.blob_http.specs.declared.serving.Ended.{Ended}
 use Rattle.blob_http.specs.declared.serving.Ended.TheVariants as ended
 use Rattle.blob_http.specs.Asked.{Asked}
-use Rattle.blob_http.specs.Serving.{IsAnswered, Handles, Longer, Answer, AnswerHolds, Climbs, Serves, Wrote, HasNone, EndCause, StepCause}
+use Rattle.blob_http.specs.Serving.{IsAnswered, Handles, Longer, Answer, AnswerHolds, Serves, HasNone, EndCause}
 use Rattle.blob_http.proofs.Staying.{holds_stays, longer_none, longer_chain, climbs_more, climbs_stay}
 
 pub took_none : (w : Option (List ℕ)) → Took w w []

@@ -1,39 +1,34 @@
 -- What an upload comes to, from its body to its reply.
-use Rattle.std.proofs.Common.{◌≡◌, ℕ, ◌+◌, ◌≤◌, List, [], ◌++◌, length, take, map, All, Bool, true, false, ◌||◌, not, Option, Some, None, Result, Ok, Err, IfOk, IfErr, IsErrOf, refl, ap, sym, subst, ◌∙◌, inl, inr, ◌⊎◌, arith, if◌then◌else◌, codes}
-use Rattle.std.specs.Option.{IfSome, option_map, option_and_then}
+use Rattle.std.proofs.Common.{◌≡◌, ℕ, List, [], ◌++◌, length, take, Bool, true, false, ◌||◌, not, Option, Some, None, Result, Ok, Err, IfOk, IfErr, IsErrOf, refl, ap, sym, subst, ◌∙◌, inl, inr, ◌⊎◌, arith, if◌then◌else◌, codes}
+use Rattle.std.specs.Option.{option_map}
 use Rattle.std.proofs.lemmas.List.{append-nil, take_all, length-map}
-use mathlib.Core.List.{IsPrefix}
 use Rattle.answer_text.specs.declared.refusal.Refusal.{Refusal}
 use Rattle.answer_text.specs.declared.refusal.Refusal.TheVariants as refusal
-use Rattle.answer_text.specs.Listings.{upload_text}
-use Rattle.claim_verify.specs.Verifier.{Accepts}
-use Rattle.edge_base.specs.Edge.{Gave}
 use Rattle.histories.specs.declared.stamped.Stamped.{Stamped}
 use Rattle.histories.specs.declared.events.StoreEvent.{StoreEvent}
-use Rattle.histories.specs.Stores.{Blob, arrivals, has_ref}
+use Rattle.histories.specs.Stores.{Blob, arrivals}
 use Rattle.histories.specs.StoreCalls.{sizes}
 use Rattle.histories.specs.Indexes.{Insertion}
-use Rattle.histories.proofs.Prefixes.{prefix_self, prefix_length}
+use Rattle.histories.proofs.Prefixes.{prefix_length}
 use Rattle.histories.proofs.Standing.{arrivals_prefix}
 use Rattle.home_core.specs.Passes.{Sight}
 use Rattle.http_wire.specs.declared.body.Body.{Body}
 use Rattle.http_wire.specs.declared.body.Body.TheVariants as body
 use Rattle.http_wire.specs.declared.head.Head.{Head}
 use Rattle.http_wire.specs.declared.head.Framing.{Framing}
-use Rattle.http_wire.specs.declared.ends.WireEnd.{WireEnd}
 use Rattle.http_wire.specs.declared.ends.WireEnd.TheVariants as ends
-use Rattle.http_wire.specs.Stream.{Flow, Passed, stream}
-use Rattle.http_wire.specs.Bodies.{Leads, Stops, Moves}
-use Rattle.http_wire.specs.Wires.{WireView, body_of, to_come, BodyEnds}
-use Rattle.http_wire.specs.Speaking.{Request, Begun, IsBegun}
+use Rattle.http_wire.specs.Stream.{Flow, stream}
+use Rattle.http_wire.specs.Bodies.{Leads}
+use Rattle.http_wire.specs.Wires.{WireView, body_of, to_come}
+use Rattle.http_wire.specs.Speaking.{Request}
 use Rattle.http_wire.proofs.Speaking.{request_read}
-use Rattle.multipart_read.specs.PartLists.{Part, IsMultipart}
-use Rattle.multipart_read.specs.Parameters.{boundary_of, if_boundary, is_boundary, value_of}
+use Rattle.multipart_read.specs.PartLists.{Part}
+use Rattle.multipart_read.specs.Parameters.{if_boundary, is_boundary, value_of}
 use Rattle.blob_routes.specs.declared.routes.Route.{Route}
 use Rattle.blob_routes.specs.declared.routes.Route.TheVariants as route
 use Rattle.blob_routes.specs.declared.routes.RouteFault.{RouteFault}
 use Rattle.blob_routes.specs.Routes.{route_of}
-use Rattle.blob_routes.specs.Before.{early_of, upload_of, boundary_in, within, most_upload}
+use Rattle.blob_routes.specs.Before.{early_of, upload_of, boundary_in}
 use Rattle.blob_upload.specs.declared.came.Came.{Came}
 use Rattle.blob_upload.specs.declared.came.Came.TheVariants as came
 use Rattle.blob_upload.specs.Comes.{Comes}
@@ -42,19 +37,17 @@ use Rattle.blob_upload.specs.Uploads.{Uploads}
 use Rattle.blob_upload.proofs.Adding.{uploads_add}
 use Rattle.blob_upload.proofs.Coming.{uploads_come}
 use Rattle.blob_http.specs.declared.entries.Outcome.{Outcome}
-use Rattle.blob_http.specs.declared.entries.Outcome.TheVariants.{Defined, Memory, Disk, Full, Damaged}
+use Rattle.blob_http.specs.declared.entries.Outcome.TheVariants.{Defined, Disk, Full}
 use Rattle.blob_http.specs.declared.entries.Answered.{Answered}
-use Rattle.blob_http.specs.declared.questions.Question.{Question}
 use Rattle.blob_http.specs.declared.replies.Made.{Made}
 use Rattle.blob_http.specs.declared.replies.Made.TheVariants as made
 use Rattle.blob_http.specs.declared.serving.Ended.{Ended}
 use Rattle.blob_http.specs.declared.serving.Ended.TheVariants as ended
-use Rattle.blob_http.specs.Asked.{Asked, Whole, Front, Comes as Arrives, closes_of}
+use Rattle.blob_http.specs.Asked.{Asked, Whole, Front}
 use Rattle.blob_http.specs.Questions.{piece, first_of, first_by, early_by}
-use Rattle.blob_http.specs.Replies.{json_reply, memory_reply}
-use Rattle.blob_http.specs.Answers.{outcome_of, text_of, IsTold, IsMemory}
-use Rattle.blob_http.specs.Keeping.{boundary_at, Kept, upload_reply, IsUploadReply, IsUploadRefused, UploadMade, is_whole}
-use Rattle.blob_http.specs.Serving.{HasCauseIn, IsRest, Passes, IsReply, IsWholeUpload, IsFrontUpload, IsAnswered, Longer, Handles, IsCut}
+use Rattle.blob_http.specs.Answers.{outcome_of, text_of, IsTold}
+use Rattle.blob_http.specs.Keeping.{boundary_at, Kept, IsUploadReply, UploadMade, is_whole}
+use Rattle.blob_http.specs.Serving.{HasCauseIn, IsRest, Passes, IsReply, Longer, Handles}
 use Rattle.blob_http.specs.Handling.{is_memory, ReadsHead, Replies, NoneComes, IsUploadEntry}
 use Rattle.blob_http.proofs.Requesting.{begun, is_begun, passed, cut_body, true_not}
 

@@ -6,7 +6,6 @@ use Rattle.blobref.specs.declared.memory.NoMemory.{NoMemory}
 use Rattle.edge_base.specs.declared.answers.GetFault.{GetFault}
 use Rattle.edge_base.specs.declared.answers.GetFault.TheVariants as unread
 use Rattle.claim_verify.specs.Verifier.{Accepts}
-use Rattle.search_query.specs.declared.query.Query.{Query}
 use Rattle.search_eval.specs.Answer.{answer}
 use Rattle.answer_text.specs.declared.refusal.Refusal.TheVariants as refusal
 use Rattle.answer_text.specs.Search.{search_text}

@@ -1,5 +1,5 @@
 -- What a request asks, by its head and its body.
-use Rattle.std.specs.Prelude.{◌≡◌, ◌≤◌, ℕ, List, [], slice_range, Bool, true, false, Option, Some, None, IfSome, option_map, Result, Ok, Err}
+use Rattle.std.specs.Prelude.{◌≡◌, ◌≤◌, ℕ, List, slice_range, Bool, true, false, Option, Some, None, IfSome, option_map, Result, Ok, Err}
 use Rattle.answer_text.specs.declared.refusal.Refusal.{Refusal}
 use Rattle.answer_text.specs.declared.refusal.Refusal.TheVariants as refusal
 use Rattle.http_wire.specs.declared.head.Head.{Head}
@@ -8,9 +8,8 @@ use Rattle.blob_routes.specs.declared.routes.Route.{Route}
 use Rattle.blob_routes.specs.declared.routes.Route.TheVariants as route
 use Rattle.blob_routes.specs.declared.routes.RouteFault.{RouteFault}
 use Rattle.blob_routes.specs.declared.routes.RouteFault.TheVariants as fault
-use Rattle.blob_routes.specs.declared.routes.Allowed.{Allowed}
 use Rattle.blob_routes.specs.declared.pages.Page.{Page}
-use Rattle.blob_routes.specs.Routes.{route_of, allowed_text}
+use Rattle.blob_routes.specs.Routes.{route_of}
 use Rattle.blob_routes.specs.Before.{early_of}
 use Rattle.blob_routes.specs.Stats.{refs_of}
 use Rattle.blob_routes.specs.Pages.{page_of, most_page}

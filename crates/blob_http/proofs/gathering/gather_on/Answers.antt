@@ -1,5 +1,5 @@
-use Rattle.std.proofs.Common.{◌≡◌, ◌++◌, ◌+◌, ◌≤◌, ◌<◌, [], List, ℕ, length, take, refl, sym, ap, subst, ◌∙◌, arith, length-append, Ok, Err}
-use Rattle.std.proofs.lemmas.List.{append-nil, length-take-le}
+use Rattle.std.proofs.Common.{◌≡◌, ◌++◌, ◌≤◌, [], List, ℕ, length, take, sym, ap, subst, ◌∙◌, arith, Ok, Err}
+use Rattle.std.proofs.lemmas.List.{append-nil}
 use Rattle.http_wire.specs.Bodies.{Moves}
 use Rattle.blob_http.specs.declared.gathering.Stopped.TheVariants as stopped
 use Rattle.blob_http.proofs.Bodies.{gathered, stop_says, too_long, still_few}

@@ -1,4 +1,4 @@
-use Rattle.std.proofs.Common.{◌≡◌, ℕ, IsSome, sym, subst}
+use Rattle.std.proofs.Common.{ℕ, IsSome, sym, subst}
 use Rattle.http.specs.StatusCode.{reason_phrase}
 use Rattle.blob_http.proofs.Codes.{has_phrase}
 use Rattle.blob_http.proofs.replies.refused.Goals as goal

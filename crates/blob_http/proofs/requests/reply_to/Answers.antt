@@ -1,9 +1,7 @@
 use Rattle.std.proofs.Common.{◌≡◌, ℕ, List, true, Ok, IfOk, sym, ap, subst, ◌∙◌}
 use Rattle.std.proofs.lemmas.Result.{IfOk-weaker, IfErr-weaker}
-use Rattle.http_wire.specs.Stream.{stream}
 use Rattle.blob_http.specs.Questions.{piece, IsAskedAt}
 use Rattle.blob_http.specs.Handling.{StopReplies, StopEnds}
-use Rattle.blob_http.specs.Questions.{is_upload}
 use Rattle.blob_http.proofs.Requesting.{upload_is, passes_same, early_replies, along_replies, stop_replies, stop_none}
 use Rattle.blob_http.proofs.requests.reply_to.Goals as goal
 

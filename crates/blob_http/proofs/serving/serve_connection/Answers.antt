@@ -1,8 +1,7 @@
-use Rattle.std.proofs.Common.{◌≡◌, ◌≤◌, arith, refl, sym, subst, ap}
+use Rattle.std.proofs.Common.{arith, refl, sym, subst, ap}
 use Rattle.edge_base.specs.Edge.{Took}
 use Rattle.http_wire.specs.Stream.{Flow}
 use Rattle.http_wire.specs.Wires.{WireView}
-use Rattle.http_wire.specs.declared.body.Body.TheVariants.{Done}
 use Rattle.blob_http.specs.Serving.{Serves, Open, fresh_flow, HasNone}
 use Rattle.blob_http.proofs.Stepping.{serves_none, took_none, cause_since}
 use Rattle.blob_http.proofs.Hearing.{open_none}

@@ -1,4 +1,4 @@
-use Rattle.std.proofs.Common.{List, ◌++◌, ◌∷◌, [], ap, sym, subst, ◌∙◌}
+use Rattle.std.proofs.Common.{List, ◌++◌, ◌∷◌, [], ap, ◌∙◌}
 use Rattle.blob_http.specs.declared.entries.Answered.{Answered}
 use Rattle.blob_http.proofs.Connecting.{step_goes_on, step_closes, step_breaks, step_ends, step_full}
 use Rattle.blob_http.proofs.serving.serve_one.Goals as goal

@@ -1,10 +1,9 @@
-use Rattle.std.proofs.Common.{◌≡◌, ℕ, List, [], Some, Ok, Err, true, not, ◌||◌, length, sym, ap, subst, ◌∙◌}
+use Rattle.std.proofs.Common.{◌≡◌, ℕ, List, Some, Ok, Err, true, not, ◌||◌, length, sym, ap, subst, ◌∙◌}
 use Rattle.std.proofs.lemmas.Result.{IfErr-weaker}
 use Rattle.std.specs.Option.{option_map}
-use Rattle.http_wire.specs.Stream.{stream}
 use Rattle.blob_upload.specs.Uploads.{Uploads}
 use Rattle.blob_http.specs.Questions.{piece}
-use Rattle.blob_http.specs.Keeping.{UploadMade, boundary_at, is_whole}
+use Rattle.blob_http.specs.Keeping.{UploadMade, is_whole}
 use Rattle.blob_http.specs.Handling.{IsUploadEntry, is_memory}
 use Rattle.blob_http.proofs.Requesting.{none_read}
 use Rattle.blob_http.proofs.Uploading.{boundary_is, upload_replies, upload_passes, upload_none, fault_so, if_ok_three}
