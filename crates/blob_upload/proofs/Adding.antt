@@ -107,7 +107,8 @@ stamped_stands h t entry e is =
 
 -- the entry that a put adds
 put_adds : (parts : List Part) (part : Part) (before : List Blob) (o : Option (Result Put PutFault))
-    (answer : Result Put PutFault) (came : Came) (e : StoreEvent) → EndsBy answer came → PutAnswers part.0 part.1 before o answer (Some e)
+    (answer : Result Put PutFault) (came : Came) (e : StoreEvent) → EndsBy answer came
+    → PutAnswers part.0 part.1 before o answer (Some e)
     → IsAddedBy parts came e
 put_adds parts part before (Some settled) answer came e ends said = absurd (cc (said.1))
 put_adds parts part before None (Ok (Stored n)) came e ends said =

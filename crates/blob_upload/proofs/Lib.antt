@@ -7,3 +7,4 @@ pub mod Fronts
 pub mod Fitting
 pub mod Adding
 pub mod Coming
+pub mod Counting

@@ -60,3 +60,9 @@ UploadsCome = (boundary : List ℕ) (left left' : Option (List ℕ)) (wire wire'
     (kept kept' : List (List ℕ × ℕ)) (came : Came)
     → (upload : Uploads boundary left left' wire wire' v w kept kept' came)
     → Comes boundary upload.given upload.parts wire' (to_come wire' left') came
+
+-- no upload keeps more than 1,000 parts
+abbrev pub PartsAreFew : Type 0
+PartsAreFew = (boundary : List ℕ) (left left' : Option (List ℕ)) (wire wire' : WireView) (v w : Sight)
+    (kept kept' : List (List ℕ × ℕ)) (came : Came)
+    → (upload : Uploads boundary left left' wire wire' v w kept kept' came) → length upload.parts ≤ 1000

@@ -1,6 +1,6 @@
 //! Laws of uploads.
 ghost use Rattle.blob_upload.specs.Adds.{UploadsAdd};
-ghost use Rattle.blob_upload.specs.Comes.{UploadsCome};
+ghost use Rattle.blob_upload.specs.Comes.{PartsAreFew, UploadsCome};
 ghost use Rattle.blob_upload.specs.Laws.{ContentsFit, ToldFirst};
 
 /// However an upload ends, the store's history only grows. Of the turns drawn there is one for each part that was kept,
@@ -12,9 +12,10 @@ pub fn uploads_add()
 {}
 
 /// What an upload came to, said of the bytes that came of its body alone: behind the parts that were kept, what ended
-/// it. A refusal is the first fault in these bytes.
+/// it. A refusal is the first fault in these bytes. No upload keeps more than 1,000 parts.
 pub fn uploads_come()
-    ensures { UploadsCome }
+    ensures come { UploadsCome }
+    ensures few { PartsAreFew }
 {}
 
 /// What the front of a body tells, the whole body tells first, however it goes on. No part that is told has more bytes
