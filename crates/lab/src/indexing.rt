@@ -182,7 +182,7 @@ fn add_fact(alloc: Global, facts: &mut FactList, r: Ref, blob: &[u8]) -> Result<
 }
 
 // The bytes of a blob.
-fn blob_at<'a>(pack: &'a [u8], place: &Found) -> &'a [u8]
+pub(crate) fn blob_at<'a>(pack: &'a [u8], place: &Found) -> &'a [u8]
     requires { LiesIn pack.now place.now }
 {
     let start = place.at as usize;

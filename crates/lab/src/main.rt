@@ -1,21 +1,26 @@
 //! The yardsticks of `bench/`, in one program: `lab WORD` measures what the word names over standard input, and
 //! prints one line. `lab WORD KEYRING ATTRIBUTE VALUE` asks an index by the keys of the keyring, whose text is the word,
-//! for the holders of the value.
+//! for the holders of the value. `lab http PACK KEYRING PIECE` answers the requests on standard input over the blobs of
+//! the file PACK, by the keys of the file KEYRING: the requests are handed on at most PIECE bytes at a time, or as many
+//! as are asked for where that is 0.
 //!
 //! It is no part of the archive's program. It ends with that program's exit statuses.
 #![tactic(auto)]
 
 mod indexing;
+mod serving;
 mod yardstick;
 
 use crate::indexing::Question;
+use crate::serving::replies;
 use crate::yardstick::Yardstick;
-use blobref::{NoMemory, Text};
+use blobref::{NoMemory, Octets, Text};
 use claim_verify::{Keyring, KeyringFault};
 use std::alloc::Global;
-use std::env;
-use std::io::Read;
+use std::io::{Read, Write};
 use std::process::ExitCode;
+use std::sync::Wait;
+use std::{env, fs};
 
 // Why nothing was measured, or nothing printed of it.
 #[derive(Clone, Copy)]
@@ -44,14 +49,18 @@ impl From<NoMemory> for Fault {
 }
 
 fn main(rt: HostRuntime) -> ExitCode {
-    match measure(&rt) {
+    match measure(&rt, &rt) {
         Ok(()) => ExitCode::SUCCESS,
         Err(fault) => ExitCode::from(fault.code()),
     }
 }
 
-fn measure(rt: &HostRuntime) -> Result<(), Fault> {
+// Does what the words ask. A connection waits for as long as requests come.
+fn measure<W: Wait>(rt: &HostRuntime, wait: &W) -> Result<(), Fault> {
     let words = words(rt)?;
+    if word(&words, 0) == "http" {
+        return answer(rt, wait, &words);
+    }
     let line = line_of(rt, &words)?;
     rt.println(format_args!("{}", line.as_str()))
         .map_err(|_| Fault::Write)
@@ -63,6 +72,22 @@ fn line_of(rt: &HostRuntime, words: &[Text]) -> Result<String, Fault> {
     let question = question(rt.alloc(), words)?;
     let input = input(rt)?;
     Ok(yardstick.line(rt.alloc(), &input, &question)?)
+}
+
+// Answers the requests of standard input over the blobs of a pack.
+fn answer<W: Wait>(rt: &HostRuntime, wait: &W, words: &[Text]) -> Result<(), Fault> {
+    let pack = file(rt, word(words, 1))?;
+    let keys = keyring(rt.alloc(), &file(rt, word(words, 2))?)?;
+    let piece = word(words, 3).parse().map_err(|_| Fault::Words)?;
+    let requests = Octets::from_vec(input(rt)?);
+    let sink = replies(wait, rt.alloc(), &pack, keys, requests, piece)?;
+    rt.stdout()
+        .write_all(sink.written())
+        .map_err(|_| Fault::Write)
+}
+
+fn file(rt: &HostRuntime, path: &str) -> Result<Vec<u8>, Fault> {
+    fs::read(rt, path).map_err(|_| Fault::Read)
 }
 
 fn input(rt: &HostRuntime) -> Result<Vec<u8>, Fault> {
@@ -96,14 +121,14 @@ fn word(words: &[Text], place: usize) -> &str {
 
 // What the words behind the first ask.
 fn question(alloc: Global, words: &[Text]) -> Result<Question, Fault> {
-    let keys = keyring(alloc, word(words, 1))?;
+    let keys = keyring(alloc, word(words, 1).as_bytes())?;
     let attr = Text::copy(alloc, word(words, 2))?;
     let value = Text::copy(alloc, word(words, 3))?;
     Ok(Question { keys, attr, value })
 }
 
-fn keyring(alloc: Global, text: &str) -> Result<Keyring, Fault> {
-    match Keyring::read(alloc, text.as_bytes()) {
+fn keyring(alloc: Global, text: &[u8]) -> Result<Keyring, Fault> {
+    match Keyring::read(alloc, text) {
         Ok(keys) => Ok(keys),
         Err(KeyringFault::NoMemory) => Err(Fault::Memory),
         Err(_) => Err(Fault::Words),
