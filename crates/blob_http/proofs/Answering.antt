@@ -1,5 +1,6 @@
 -- What a call of the home answered is the answer over what the pass has then seen.
-use Rattle.std.proofs.Common.{◌≡◌, ℕ, ◌+◌, ⊎_elim, List, [], ◌∷◌, ◌++◌, length, take, Bool, true, false, ◌||◌, eqb, Contains, refl, ap, sym, subst, ◌∙◌, arith, Option, Some, None, Result, Ok, Err, IsErr}
+use Rattle.std.proofs.Common.{◌≡◌, ℕ, ◌+◌, ⊎_elim, List, [], ◌∷◌, ◌++◌, length, take, Bool, true, false, ◌||◌, eqb}
+use Rattle.std.proofs.Common.{Contains, refl, ap, sym, subst, ◌∙◌, arith, Option, Some, None, Result, Ok, Err, IsErr}
 use Rattle.std.specs.List.{filter_map}
 use Rattle.std.proofs.lemmas.List.{append-nil, take_all, take-take, length-take-le}
 use Rattle.std.proofs.lemmas.List.Elements.{Contains-append_right}
@@ -34,7 +35,8 @@ use Rattle.blob_http.specs.declared.questions.Question.TheVariants as question
 use Rattle.blob_http.specs.declared.replies.Made.{Made}
 use Rattle.blob_http.specs.declared.replies.Made.TheVariants as made
 use Rattle.blob_http.specs.Replies.{json_reply, blob_reply, refused_reply}
-use Rattle.blob_http.specs.Answers.{IsAnswer, IsBlobReply, IsDefined, reads_blobs, allow_text, outcome_of, IsTold, IsMemory, FaultMade, BlobMade, TextMade, page_answer, cut_page, more_after}
+use Rattle.blob_http.specs.Answers.{IsAnswer, IsBlobReply, IsDefined, reads_blobs, allow_text, outcome_of, IsTold}
+use Rattle.blob_http.specs.Answers.{IsMemory, FaultMade, BlobMade, TextMade, page_answer, cut_page, more_after}
 use Rattle.blob_http.specs.Serving.{HasCauseIn}
 use Rattle.blob_http.specs.Handling.{IsMade, Answers, entry_of}
 use Rattle.blob_http.proofs.Staying.{longer_none}

@@ -1,5 +1,6 @@
 -- Small bodies.
-use Rattle.std.proofs.Common.{◌≡◌, ℕ, ◌≤◌, ◌<◌, List, [], ◌++◌, ◌-◌, length, length-append, take, Option, Some, None, Result, Err, refl, sym, subst, ◌∙◌, arith}
+use Rattle.std.proofs.Common.{◌≡◌, ℕ, ◌≤◌, ◌<◌, List, [], ◌++◌, ◌-◌, length, length-append, take, Option, Some, None}
+use Rattle.std.proofs.Common.{Result, Err, refl, sym, subst, ◌∙◌, arith}
 use Rattle.std.proofs.lemmas.List.{append-nil, length-take-le}
 use Rattle.http_wire.specs.declared.body.Body.{Body}
 use Rattle.http_wire.specs.declared.ends.WireEnd.{WireEnd}

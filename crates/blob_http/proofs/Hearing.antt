@@ -1,5 +1,6 @@
 -- What was answered of a stream.
-use Rattle.std.proofs.Common.{◌≡◌, ℕ, List, [], ◌∷◌, ◌++◌, map, All, Bool, true, false, refl, ap, sym, subst, ◌∙◌, append_assoc, Option, Some, None, Ok, inl, inr, ⊎_elim}
+use Rattle.std.proofs.Common.{◌≡◌, ℕ, List, [], ◌∷◌, ◌++◌, map, All, Bool, true, false, refl, ap, sym, subst, ◌∙◌}
+use Rattle.std.proofs.Common.{append_assoc, Option, Some, None, Ok, inl, inr, ⊎_elim}
 use Rattle.std.specs.Option.{IfSome}
 use Rattle.std.specs.List.{flat_map}
 use Rattle.std.proofs.lemmas.List.Elements.{All-push, All-nil}
@@ -9,7 +10,8 @@ use Rattle.http_wire.specs.declared.ends.WireEnd.{WireEnd}
 use Rattle.http_wire.specs.declared.ends.WireEnd.TheVariants as ends
 use Rattle.http_wire.specs.Stream.{Flow, Passed, stream}
 use Rattle.http_wire.specs.Wires.{HeadEnds}
-use Rattle.http_wire.specs.Speaking.{Request, IsRequest, Speaks, Nothing, Refused, Unfinished, IsOpen, HasNoRequest, place_behind, text_of}
+use Rattle.http_wire.specs.Speaking.{Request, IsRequest, Speaks, Nothing, Refused, Unfinished, IsOpen, HasNoRequest}
+use Rattle.http_wire.specs.Speaking.{place_behind, text_of}
 use Rattle.http_wire.proofs.Passing.{Passed-chain}
 use Rattle.http_wire.proofs.Speaking.{texts_push}
 use Rattle.http_wire.proofs.Refusals.{no_request}

@@ -1,5 +1,6 @@
 -- Pages that are asked.
-use Rattle.std.proofs.Common.{◌≡◌, ℕ, ◌≤◌, min, Bool, true, false, if◌then◌else◌, nat_lt, List, Option, Some, None, Result, Ok, Err, refl, subst, arith, codes}
+use Rattle.std.proofs.Common.{◌≡◌, ℕ, ◌≤◌, min, Bool, true, false, if◌then◌else◌, nat_lt, List, Option, Some, None}
+use Rattle.std.proofs.Common.{Result, Ok, Err, refl, subst, arith, codes}
 use Rattle.form_urlencoded.specs.Form.{raw_pairs}
 use Rattle.answer_text.specs.declared.refusal.Refusal.{Refusal}
 use Rattle.blob_routes.specs.declared.pages.Page.{Page}

@@ -1,5 +1,6 @@
 -- What one request comes to, from its head to its reply.
-use Rattle.std.proofs.Common.{◌≡◌, ℕ, if◌then◌else◌, List, [], ◌++◌, take, Bool, true, false, ◌||◌, not, Option, Some, None, Result, Ok, Err, IfOk, refl, ap, sym, subst, ◌∙◌, inl, inr, append_assoc}
+use Rattle.std.proofs.Common.{◌≡◌, ℕ, if◌then◌else◌, List, [], ◌++◌, take, Bool, true, false, ◌||◌, not, Option, Some}
+use Rattle.std.proofs.Common.{None, Result, Ok, Err, IfOk, refl, ap, sym, subst, ◌∙◌, inl, inr, append_assoc}
 use Rattle.std.specs.Option.{IfSome, option_map}
 use Rattle.std.proofs.lemmas.List.{append-nil}
 use Rattle.blobref.specs.declared.memory.NoMemory.{NoMemory}
@@ -45,11 +46,13 @@ use Rattle.blob_http.specs.declared.serving.Ended.{Ended}
 use Rattle.blob_http.specs.declared.serving.Ended.TheVariants as ended
 use Rattle.blob_http.specs.Asked.{Asked, Whole, Front, Head as Refused, Comes, head_says}
 use Rattle.blob_http.specs.Gathering.{Gathers}
-use Rattle.blob_http.specs.Questions.{HasPieces, is_upload, piece, first_of, first_by, early_by, refused_by, refused, IsAskedAt, IsAskedBy, IsAsked}
+use Rattle.blob_http.specs.Questions.{HasPieces, is_upload, piece, first_of, first_by, early_by, refused_by, refused}
+use Rattle.blob_http.specs.Questions.{IsAskedAt, IsAskedBy, IsAsked}
 use Rattle.blob_http.specs.Replies.{refused_reply, memory_reply}
 use Rattle.blob_http.specs.Answers.{allow_text, outcome_of, text_of}
 use Rattle.blob_http.specs.Serving.{HasCauseIn, IsRest, Passes, IsReply, IsFrontDefined, IsBodyRefusal, Handles, IsCut}
-use Rattle.blob_http.specs.Handling.{IsMade, is_memory, is_read, Answers, ReadsHead, Replies, AlongSays, StopReplies, StopEnds, NoneComes}
+use Rattle.blob_http.specs.Handling.{IsMade, is_memory, is_read, Answers, ReadsHead, Replies, AlongSays, StopReplies}
+use Rattle.blob_http.specs.Handling.{StopEnds, NoneComes}
 use Rattle.blob_http.proofs.Staying.{longer_none}
 use Rattle.blob_http.proofs.Bodies.{moves_none}
 
