@@ -92,7 +92,7 @@ IsFrontUpload blobs b after kept turns outcome text = (u : Kept b.head b.says bl
 abbrev pub IsReply : Bool → Accepts → List Blob → List Insertion → Asked → ℕ → List ℕ → Outcome → List ℕ → Type 0
 IsReply tells accepts blobs g (Whole r) kept turns outcome text = IsWholeUpload blobs r kept turns outcome text
     ⊎ ((kept ≡ 0) × ((q : Question) × IsAsked r.head r.says r.body q
-      × IsAnswer tells accepts blobs g r.says.closes q outcome text))
+    × IsAnswer tells accepts blobs g r.says.closes q outcome text))
 IsReply tells accepts blobs g (Front b after) kept turns outcome text =
     IsFrontUpload blobs b after kept turns outcome text ⊎ ((kept ≡ 0) × IsFrontReply b after outcome text)
 IsReply tells accepts blobs g (Head end) kept turns outcome text = (kept ≡ 0) × IsHeadReply end outcome text
@@ -196,7 +196,7 @@ AreAnswers asked requests (Unfinished b) rest =
 abbrev pub IsCut : ℕ → ℕ → List ℕ → Type 0
 IsCut place n rest = HeadEnds (Some rest) place (ends.Cut n)
     ⊎ ((n ≡ place) × ((b : Begun) × (after : List ℕ) × IsBegun b × (rest ≡ b.head ++ (b.framed ++ after))
-      × Stops b.at after))
+    × Stops b.at after))
 
 -- no further request was taken, and the connection was open
 abbrev pub StoodOpen : List Request → Last → Type 0
