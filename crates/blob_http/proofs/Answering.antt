@@ -1,5 +1,6 @@
 -- What a call of the home answered is the answer over what the pass has then seen.
-use Rattle.std.proofs.Common.{◌≡◌, ℕ, ◌+◌, ⊎_elim, List, [], ◌∷◌, ◌++◌, length, take, Bool, true, false, ◌||◌, eqb, Contains, refl, ap, sym, subst, ◌∙◌, arith, Option, Some, None, Result, Ok, Err, IsErr}
+use Rattle.std.proofs.Common.{◌≡◌, ℕ, ◌+◌, ⊎_elim, List, [], ◌∷◌, ◌++◌, length, take, Bool, true, false, ◌||◌, eqb}
+use Rattle.std.proofs.Common.{Contains, refl, ap, sym, subst, ◌∙◌, arith, Option, Some, None, Result, Ok, Err, IsErr}
 use Rattle.std.specs.List.{filter_map}
 use Rattle.std.proofs.lemmas.List.{append-nil, take_all, take-take, length-take-le}
 use Rattle.std.proofs.lemmas.List.Elements.{Contains-append_right}
@@ -34,7 +35,8 @@ use Rattle.blob_http.specs.declared.questions.Question.TheVariants as question
 use Rattle.blob_http.specs.declared.replies.Made.{Made}
 use Rattle.blob_http.specs.declared.replies.Made.TheVariants as made
 use Rattle.blob_http.specs.Replies.{json_reply, blob_reply, refused_reply}
-use Rattle.blob_http.specs.Answers.{IsAnswer, IsBlobReply, IsDefined, reads_blobs, allow_text, outcome_of, IsTold, IsMemory, FaultMade, BlobMade, TextMade, page_answer, cut_page, more_after}
+use Rattle.blob_http.specs.Answers.{IsAnswer, IsBlobReply, IsDefined, reads_blobs, allow_text, outcome_of, IsTold}
+use Rattle.blob_http.specs.Answers.{IsMemory, FaultMade, BlobMade, TextMade, page_answer, cut_page, more_after}
 use Rattle.blob_http.specs.Serving.{HasCauseIn}
 use Rattle.blob_http.specs.Handling.{IsMade, Answers, entry_of}
 use Rattle.blob_http.proofs.Staying.{longer_none}
@@ -65,7 +67,8 @@ same_prefix : {A : Type 0} (xs ys : List A) → ys ≡ xs → IsPrefix xs ys
 same_prefix xs ys e = ([], append-nil xs ∙ sym e)
 
 -- nothing was called
-pub refused_answers : (tells closes : Bool) (why : Refusal) (allow : Option Allowed) (m : Made) (v : Sight) (counts : ℕ × ℕ)
+pub refused_answers : (tells closes : Bool) (why : Refusal) (allow : Option Allowed) (m : Made) (v : Sight)
+    (counts : ℕ × ℕ)
     → IsTold Defined (refused_reply closes (allow_text allow) why) m → Counts v counts
     → Answers tells closes (question.Refused why allow) v v (entry_of counts.0 counts.1 0 m) m
 refused_answers tells closes why allow m v counts is count = record {
@@ -82,13 +85,16 @@ refused_answers tells closes why allow m v counts is count = record {
   longer = longer_none v;
 }
   where
-    refused_made : (m : Made) → IsTold Defined (refused_reply closes (allow_text allow) why) m → (blobs : List Blob) (g : List Insertion)
+    refused_made : (m : Made) → IsTold Defined (refused_reply closes (allow_text allow) why) m
+        → (blobs : List Blob) (g : List Insertion)
         → IsMade tells v.index.accepts blobs g closes (question.Refused why allow) m
     refused_made made.Memory is blobs g = tt
     refused_made (made.Told o head body) is blobs g =
-        subst (λ (z : Outcome). IsAnswer tells v.index.accepts blobs g closes (question.Refused why allow) z (head ++ body)) (sym is.0) is.1
+        subst (λ (z : Outcome). IsAnswer tells v.index.accepts blobs g closes (question.Refused why allow) z
+        (head ++ body)) (sym is.0) is.1
 
-    refused_cause : (m : Made) → IsTold Defined (refused_reply closes (allow_text allow) why) m → HasCauseIn [] v.store.history (outcome_of m)
+    refused_cause : (m : Made) → IsTold Defined (refused_reply closes (allow_text allow) why) m
+        → HasCauseIn [] v.store.history (outcome_of m)
     refused_cause made.Memory is = tt
     refused_cause (made.Told o head body) is = subst (HasCauseIn [] v.store.history) (sym is.0) tt
 
@@ -109,12 +115,14 @@ memory_answers tells closes q v counts count = record {
   longer = longer_none v;
 }
 
-memory_made : (tells : Bool) (accepts : Accepts) (blobs : List Blob) (g : List Insertion) (closes : Bool) (q : Question) (m : Made)
+memory_made : (tells : Bool) (accepts : Accepts) (blobs : List Blob) (g : List Insertion) (closes : Bool)
+    (q : Question) (m : Made)
     → IsMemory m → IsMade tells accepts blobs g closes q m
 memory_made tells accepts blobs g closes q made.Memory is = tt
 memory_made tells accepts blobs g closes q (made.Told o head body) is = absurd is
 
-memory_cause : (turns : List ℕ) (h : List (Stamped StoreEvent)) (m : Made) → IsMemory m → HasCauseIn turns h (outcome_of m)
+memory_cause : (turns : List ℕ) (h : List (Stamped StoreEvent)) (m : Made) → IsMemory m
+    → HasCauseIn turns h (outcome_of m)
 memory_cause turns h made.Memory is = tt
 memory_cause turns h (made.Told o head body) is = absurd is
 
@@ -129,7 +137,8 @@ module _ (tells closes : Bool) (q : Question) (m : Made) where
         drawn = ap (λ s. s.turns) spent.store ∙ sym (append-nil v.store.turns);
         store_within = let p = count.puts in omega arith;
         index_within = let p = count.inserts in omega arith;
-        made = memory_made tells w.index.accepts (take counts.0 (arrivals w.store.history)) (take counts.1 w.index.shown) closes q m is;
+        made = memory_made tells w.index.accepts (take counts.0 (arrivals w.store.history))
+            (take counts.1 w.index.shown) closes q m is;
         outcome = refl;
         kept = refl;
         cause = memory_cause [] w.store.history m is;
@@ -160,17 +169,20 @@ module _ (tells closes : Bool) (q : Question) (m : Made) where
         take_all counts.0 (arrivals w.store.history) (let p = count.puts in omega arith) in
         let kept : IsQuiet ran.entry → take counts.0 (arrivals w.store.history) ≡ arrivals ran.before =
         λ quiet. all ∙ (ap arrivals ran.added ∙ quiet_stays ran.before t ran.entry quiet) in
-        let blobs = prefix_length (arrivals v.store.history) (arrivals w.store.history) (arrivals_prefix v.store.history w.store.history grown) in
+        let blobs = prefix_length (arrivals v.store.history) (arrivals w.store.history)
+        (arrivals_prefix v.store.history w.store.history grown) in
         let rows : w.index.shown ≡ v.index.shown = ap (λ s. s.shown) turned.index in
         record {
           turns = t ∷ [];
           drawn = ran.drawn;
           store_within = let p = count.puts in omega arith;
           index_within = let p = count.inserts in omega arith;
-          made = replied w.index.accepts (arrivals ran.before) (take counts.0 (arrivals w.store.history)) (take counts.1 w.index.shown) ran.entry kept ran.said;
+          made = replied w.index.accepts (arrivals ran.before) (take counts.0 (arrivals w.store.history))
+              (take counts.1 w.index.shown) ran.entry kept ran.said;
           outcome = refl;
           kept = refl;
-          cause = subst (λ (h : List (Stamped StoreEvent)). HasCauseIn (t ∷ []) h (outcome_of m)) (sym ran.added) (caused (arrivals ran.before) ran.before t ran.entry ran.said);
+          cause = subst (λ (h : List (Stamped StoreEvent)). HasCauseIn (t ∷ []) h (outcome_of m)) (sym ran.added)
+              (caused (arrivals ran.before) ran.before t ran.entry ran.said);
           store_low = let p = count.puts in omega arith;
           index_low = let p = count.inserts in let e = ap length rows in omega arith;
           longer = record {
@@ -190,7 +202,8 @@ module _ (tells closes : Bool) (q : Question) (m : Made) where
 
 -- ---- a blob
 
-fault_made : (tells : Bool) (accepts : Accepts) (blobs : List Blob) (g : List Insertion) (closes : Bool) (q : Question) (f : GetFault) (m : Made)
+fault_made : (tells : Bool) (accepts : Accepts) (blobs : List Blob) (g : List Insertion) (closes : Bool)
+    (q : Question) (f : GetFault) (m : Made)
     → reads_blobs q ≡ true → FaultMade closes f m → IsMade tells accepts blobs g closes q m
 fault_made tells accepts blobs g closes q f made.Memory reads is = tt
 fault_made tells accepts blobs g closes q unread.Disk (made.Told o head body) reads is =
@@ -199,24 +212,28 @@ fault_made tells accepts blobs g closes q (unread.Damaged want was) (made.Told o
     subst (λ (z : Outcome). IsAnswer tells accepts blobs g closes q z (head ++ body)) (sym is.0) (reads, is.1)
 fault_made tells accepts blobs g closes q unread.NoMemory (made.Told o head body) reads is = absurd is
 
-told_cause : (turns : List ℕ) (h : List (Stamped StoreEvent)) (closes : Bool) (f : GetFault) (m : Made) → FaultMade closes f m
+told_cause : (turns : List ℕ) (h : List (Stamped StoreEvent)) (closes : Bool) (f : GetFault) (m : Made)
+    → FaultMade closes f m
     → Caused f turns h → HasCauseIn turns h (outcome_of m)
 told_cause turns h closes f made.Memory is c = tt
 told_cause turns h closes unread.Disk (made.Told o head body) is c = subst (HasCauseIn turns h) (sym is.0) c
 told_cause turns h closes (unread.Damaged a b) (made.Told o head body) is c = subst (HasCauseIn turns h) (sym is.0) c
 told_cause turns h closes unread.NoMemory (made.Told o head body) is c = absurd is
 
-fails_caused : (tells : Bool) (asked : Option (List ℕ)) (f : GetFault) (h : List (Stamped StoreEvent)) (t : ℕ) (e : Option StoreEvent)
+fails_caused : (tells : Bool) (asked : Option (List ℕ)) (f : GetFault) (h : List (Stamped StoreEvent)) (t : ℕ)
+    (e : Option StoreEvent)
     → GetFails tells asked f e → Caused f (t ∷ []) (h ++ stamped t e)
 fails_caused tells asked unread.Disk h t e c = (t, c.0, has_one t, stands h t e (store.Fault c.0) c.1)
 fails_caused tells asked (unread.Damaged a b) h t e c = (t, has_one t, stands h t e (store.Damage a b) c.2)
 fails_caused tells asked unread.NoMemory h t e c = tt
 
-defined_cause : (turns : List ℕ) (h : List (Stamped StoreEvent)) (text : List ℕ) (m : Made) → IsTold Defined text m → HasCauseIn turns h (outcome_of m)
+defined_cause : (turns : List ℕ) (h : List (Stamped StoreEvent)) (text : List ℕ) (m : Made) → IsTold Defined text m
+    → HasCauseIn turns h (outcome_of m)
 defined_cause turns h text made.Memory is = tt
 defined_cause turns h text (made.Told o head body) is = subst (HasCauseIn turns h) (sym is.0) tt
 
-defined_made : (tells : Bool) (accepts : Accepts) (blobs : List Blob) (g : List Insertion) (closes : Bool) (q : Question) (text : List ℕ) (m : Made)
+defined_made : (tells : Bool) (accepts : Accepts) (blobs : List Blob) (g : List Insertion) (closes : Bool)
+    (q : Question) (text : List ℕ) (m : Made)
     → IsTold Defined text m → IsDefined tells accepts blobs g closes q text → IsMade tells accepts blobs g closes q m
 defined_made tells accepts blobs g closes q text made.Memory is d = tt
 defined_made tells accepts blobs g closes q text (made.Told o head body) is d =
@@ -225,81 +242,107 @@ defined_made tells accepts blobs g closes q text (made.Told o head body) is d =
 
 module _ (tells closes : Bool) (r : List ℕ) where
   blob_made : (result : Result (Option (List ℕ)) GetFault) (m : Made) → BlobMade closes r result m
-      → (accepts : Accepts) (before blobs : List Blob) (g : List Insertion) (e : Option StoreEvent) → (IsQuiet e → blobs ≡ before)
+      → (accepts : Accepts) (before blobs : List Blob) (g : List Insertion) (e : Option StoreEvent)
+      → (IsQuiet e → blobs ≡ before)
       → GetSays tells r before result e → IsMade tells accepts blobs g closes (question.Blob r) m
   blob_made (Ok None) m is accepts before blobs g e same says =
       let here : bytes_of r blobs ≡ None = ap (bytes_of r) (same says.1) ∙ says.0 in
       defined_made tells accepts blobs g closes (question.Blob r) (refused_reply closes [] (Absent r)) m is
-      (subst (λ (z : Option (List ℕ)). IsBlobReply tells r closes z (refused_reply closes [] (Absent r))) (sym here) refl)
+      (subst (λ (z : Option (List ℕ)). IsBlobReply tells r closes z (refused_reply closes [] (Absent r)))
+      (sym here) refl)
   blob_made (Ok (Some bytes)) m is accepts before blobs g e same says =
       let here : bytes_of r blobs ≡ Some says.0.0 = ap (bytes_of r) (same says.1) ∙ says.0.1 in
       defined_made tells accepts blobs g closes (question.Blob r) (blob_reply closes bytes) m is
-      (subst (λ (z : Option (List ℕ)). IsBlobReply tells r closes z (blob_reply closes bytes)) (sym here) (bytes, says.0.2, refl))
-  blob_made (Err f) m is accepts before blobs g e same says = fault_made tells accepts blobs g closes (question.Blob r) f m refl is
+      (subst (λ (z : Option (List ℕ)). IsBlobReply tells r closes z (blob_reply closes bytes)) (sym here)
+      (bytes, says.0.2, refl))
+  blob_made (Err f) m is accepts before blobs g e same says = fault_made tells accepts blobs g closes
+      (question.Blob r) f m refl is
 
   blob_cause : (result : Result (Option (List ℕ)) GetFault) (m : Made) → BlobMade closes r result m
       → (before : List Blob) (h : List (Stamped StoreEvent)) (t : ℕ) (e : Option StoreEvent)
       → GetSays tells r before result e → HasCauseIn (t ∷ []) (h ++ stamped t e) (outcome_of m)
   blob_cause (Ok None) m is before h t e says = defined_cause (t ∷ []) (h ++ stamped t e) _ m is
   blob_cause (Ok (Some bytes)) m is before h t e says = defined_cause (t ∷ []) (h ++ stamped t e) _ m is
-  blob_cause (Err f) m is before h t e says = told_cause (t ∷ []) (h ++ stamped t e) closes f m is (fails_caused tells _ f h t e says)
+  blob_cause (Err f) m is before h t e says = told_cause (t ∷ []) (h ++ stamped t e) closes f m is
+      (fails_caused tells _ f h t e says)
 
-  blob_memory : (result : Result (Option (List ℕ)) GetFault) (m : Made) → BlobMade closes r result m → result ≡ Err unread.NoMemory → IsMemory m
+  blob_memory : (result : Result (Option (List ℕ)) GetFault) (m : Made) → BlobMade closes r result m
+      → result ≡ Err unread.NoMemory → IsMemory m
   blob_memory result m is e = subst (λ (z : Result (Option (List ℕ)) GetFault). BlobMade closes r z m) e is
 
-  pub blob_answers : (result : Result (Option (List ℕ)) GetFault) (m : Made) (v w : Sight) (counts : ℕ × ℕ) → BlobMade closes r result m
+  pub blob_answers : (result : Result (Option (List ℕ)) GetFault) (m : Made) (v w : Sight) (counts : ℕ × ℕ)
+      → BlobMade closes r result m
       → StoreCall (result ≡ Err unread.NoMemory) (λ before e. GetSays tells r before result e) v w → Counts w counts
       → Answers tells closes (question.Blob r) v w (entry_of counts.0 counts.1 0 m) m
   blob_answers result m v w counts is call count =
-      call_answers tells closes (question.Blob r) m (λ before e. GetSays tells r before result e) (blob_made result m is) (blob_cause result m is)
+      call_answers tells closes (question.Blob r) m (λ before e. GetSays tells r before result e)
+      (blob_made result m is) (blob_cause result m is)
       (result ≡ Err unread.NoMemory) v w counts (blob_memory result m is) call count
 
 -- ---- stats and pages
 
-text_cause : {A : Type 0} (closes : Bool) (text : A → List ℕ) (found : Result A NoMemory) (m : Made) (turns : List ℕ) (h : List (Stamped StoreEvent))
+text_cause : {A : Type 0} (closes : Bool) (text : A → List ℕ) (found : Result A NoMemory) (m : Made) (turns : List ℕ)
+    (h : List (Stamped StoreEvent))
     → TextMade closes text found m → HasCauseIn turns h (outcome_of m)
 text_cause closes text (Ok found) m turns h is = defined_cause turns h _ m is
 text_cause closes text (Err e) m turns h is = memory_cause turns h m is
 
-text_memory : {A : Type 0} (closes : Bool) (text : A → List ℕ) (found : Result A NoMemory) (m : Made) → TextMade closes text found m → IsErr found → IsMemory m
+text_memory : {A : Type 0} (closes : Bool) (text : A → List ℕ) (found : Result A NoMemory) (m : Made)
+    → TextMade closes text found m → IsErr found → IsMemory m
 text_memory closes text (Ok found) m is none = absurd (cc none)
 text_memory closes text (Err e) m is none = is
 
 module _ (tells closes : Bool) where
-  stat_made : (refs : List (List ℕ)) (result : Result (List (List ℕ × ℕ)) NoMemory) (m : Made) → TextMade closes stat_text result m
-      → (accepts : Accepts) (before blobs : List Blob) (g : List Insertion) (e : Option StoreEvent) → (IsQuiet e → blobs ≡ before)
+  stat_made : (refs : List (List ℕ)) (result : Result (List (List ℕ × ℕ)) NoMemory) (m : Made)
+      → TextMade closes stat_text result m
+      → (accepts : Accepts) (before blobs : List Blob) (g : List Insertion) (e : Option StoreEvent)
+      → (IsQuiet e → blobs ≡ before)
       → StatSays refs before result e → IsMade tells accepts blobs g closes (question.Stat refs) m
   stat_made refs (Ok found) m is accepts before blobs g e same says =
       defined_made tells accepts blobs g closes (question.Stat refs) _ m is
-      (ap (λ (z : List (List ℕ × ℕ)). json_reply closes (stat_text z)) (says.0 ∙ ap (λ (z : List Blob). filter_map (sized z) (each_once [] refs)) (sym (same says.1))))
-  stat_made refs (Err f) m is accepts before blobs g e same says = memory_made tells accepts blobs g closes (question.Stat refs) m is
+      (ap (λ (z : List (List ℕ × ℕ)). json_reply closes (stat_text z))
+      (says.0 ∙ ap (λ (z : List Blob). filter_map (sized z) (each_once [] refs)) (sym (same says.1))))
+  stat_made refs (Err f) m is accepts before blobs g e same says = memory_made tells accepts blobs g closes
+      (question.Stat refs) m is
 
-  pub stat_answers : (refs : List (List ℕ)) (result : Result (List (List ℕ × ℕ)) NoMemory) (m : Made) (v w : Sight) (counts : ℕ × ℕ)
-      → TextMade closes stat_text result m → StoreCall (IsErr result) (λ before e. StatSays refs before result e) v w → Counts w counts
+  pub stat_answers : (refs : List (List ℕ)) (result : Result (List (List ℕ × ℕ)) NoMemory) (m : Made) (v w : Sight)
+      (counts : ℕ × ℕ)
+      → TextMade closes stat_text result m → StoreCall (IsErr result) (λ before e. StatSays refs before result e) v w
+      → Counts w counts
       → Answers tells closes (question.Stat refs) v w (entry_of counts.0 counts.1 0 m) m
   stat_answers refs result m v w counts is call count =
-      call_answers tells closes (question.Stat refs) m (λ before e. StatSays refs before result e) (stat_made refs result m is)
+      call_answers tells closes (question.Stat refs) m (λ before e. StatSays refs before result e)
+      (stat_made refs result m is)
       (λ before h t e says. text_cause closes stat_text result m (t ∷ []) (h ++ stamped t e) is)
       (IsErr result) v w counts (text_memory closes stat_text result m is) call count
 
   -- a page is a front of one that is longer by one
-  cut_is : (after : Option (List ℕ)) (limit : ℕ) (blobs : List Blob) → cut_page limit (page after (limit + 1) blobs) ≡ page_answer after limit blobs
+  cut_is : (after : Option (List ℕ)) (limit : ℕ) (blobs : List Blob)
+      → cut_page limit (page after (limit + 1) blobs) ≡ page_answer after limit blobs
   cut_is after limit blobs =
-      ap (λ (z : List (List ℕ × ℕ)). page_text z (more_after z (page after (limit + 1) blobs))) (take-take limit (limit + 1) _ (omega arith))
+      ap (λ (z : List (List ℕ × ℕ)). page_text z (more_after z (page after (limit + 1) blobs)))
+      (take-take limit (limit + 1) _ (omega arith))
 
-  page_made : (p : Page) (result : Result (List (List ℕ × ℕ)) NoMemory) (m : Made) → TextMade closes (cut_page p.limit) result m
-      → (accepts : Accepts) (before blobs : List Blob) (g : List Insertion) (e : Option StoreEvent) → (IsQuiet e → blobs ≡ before)
+  page_made : (p : Page) (result : Result (List (List ℕ × ℕ)) NoMemory) (m : Made)
+      → TextMade closes (cut_page p.limit) result m
+      → (accepts : Accepts) (before blobs : List Blob) (g : List Insertion) (e : Option StoreEvent)
+      → (IsQuiet e → blobs ≡ before)
       → ListSays p.after (p.limit + 1) before result e → IsMade tells accepts blobs g closes (question.Refs p) m
   page_made p (Ok found) m is accepts before blobs g e same says =
       defined_made tells accepts blobs g closes (question.Refs p) _ m is
-      (ap (json_reply closes) (ap (cut_page p.limit) (says.0 ∙ ap (page p.after (p.limit + 1)) (sym (same says.1))) ∙ cut_is p.after p.limit blobs))
-  page_made p (Err f) m is accepts before blobs g e same says = memory_made tells accepts blobs g closes (question.Refs p) m is
+      (ap (json_reply closes)
+      (ap (cut_page p.limit) (says.0 ∙ ap (page p.after (p.limit + 1)) (sym (same says.1)))
+      ∙ cut_is p.after p.limit blobs))
+  page_made p (Err f) m is accepts before blobs g e same says = memory_made tells accepts blobs g closes
+      (question.Refs p) m is
 
   pub page_answers : (p : Page) (result : Result (List (List ℕ × ℕ)) NoMemory) (m : Made) (v w : Sight) (counts : ℕ × ℕ)
-      → TextMade closes (cut_page p.limit) result m → StoreCall (IsErr result) (λ before e. ListSays p.after (p.limit + 1) before result e) v w → Counts w counts
+      → TextMade closes (cut_page p.limit) result m
+      → StoreCall (IsErr result) (λ before e. ListSays p.after (p.limit + 1) before result e) v w → Counts w counts
       → Answers tells closes (question.Refs p) v w (entry_of counts.0 counts.1 0 m) m
   page_answers p result m v w counts is call count =
-      call_answers tells closes (question.Refs p) m (λ before e. ListSays p.after (p.limit + 1) before result e) (page_made p result m is)
+      call_answers tells closes (question.Refs p) m (λ before e. ListSays p.after (p.limit + 1) before result e)
+      (page_made p result m is)
       (λ before h t e says. text_cause closes (cut_page p.limit) result m (t ∷ []) (h ++ stamped t e) is)
       (IsErr result) v w counts (text_memory closes (cut_page p.limit) result m is) call count
 
@@ -309,41 +352,60 @@ module _ (tells closes : Bool) where
       → Settles (Err f) v w → FaultMade closes f m → Counts v before → Counts w after
       → Answers tells closes (question.Search query) v w (entry_of before.0 after.1 0 m) m
   search_failed query f m v w before after s is first last =
-      let blobs = prefix_length (arrivals v.store.history) (arrivals w.store.history) (arrivals_prefix v.store.history w.store.history s.store.longer) in
+      let blobs = prefix_length (arrivals v.store.history) (arrivals w.store.history)
+      (arrivals_prefix v.store.history w.store.history s.store.longer) in
       let rows = prefix_length v.index.shown w.index.shown s.shown in
       record {
         turns = s.store.further;
         drawn = s.store.drawn;
         store_within = let p = first.puts in omega arith;
         index_within = let p = last.inserts in omega arith;
-        made = fault_made tells w.index.accepts (take before.0 (arrivals w.store.history)) (take after.1 w.index.shown) closes (question.Search query) f m refl is;
+        made = fault_made tells w.index.accepts (take before.0 (arrivals w.store.history))
+            (take after.1 w.index.shown) closes (question.Search query) f m refl is;
         outcome = refl;
         kept = refl;
         cause = told_cause s.store.further w.store.history closes f m is s.cause;
         store_low = let p = first.puts in omega arith;
         index_low = let p = last.inserts in omega arith;
-        longer = record { store = s.store.longer; index = s.index.longer; shown = s.shown; limits = s.limits; accepts = s.accepts };
+        longer = record {
+          store = s.store.longer;
+          index = s.index.longer;
+          shown = s.shown;
+          limits = s.limits;
+          accepts
+              = s.accepts;
+        };
       }
 
-  search_made : (query : Query) (found : Result (List (List ℕ)) NoMemory) (m : Made) → TextMade closes search_text found m
-      → (accepts : Accepts) (blobs : List Blob) (g : List Insertion) → SearchSays accepts query g found → HasAllBelow (length blobs) g
+  search_made : (query : Query) (found : Result (List (List ℕ)) NoMemory) (m : Made)
+      → TextMade closes search_text found m
+      → (accepts : Accepts) (blobs : List Blob) (g : List Insertion) → SearchSays accepts query g found
+      → HasAllBelow (length blobs) g
       → IsMade tells accepts blobs g closes (question.Search query) m
   search_made query (Ok refs) m is accepts blobs g says all =
-      defined_made tells accepts blobs g closes (question.Search query) _ m is (all, ap (λ (z : List (List ℕ)). json_reply closes (search_text z)) says)
-  search_made query (Err e) m is accepts blobs g says all = memory_made tells accepts blobs g closes (question.Search query) m is
+      defined_made tells accepts blobs g closes (question.Search query) _ m is
+      (all, ap (λ (z : List (List ℕ)). json_reply closes (search_text z)) says)
+  search_made query (Err e) m is accepts blobs g says all = memory_made tells accepts blobs g closes
+      (question.Search query) m is
 
   -- a search behind its settling: what was inserted is shown
-  pub search_answers : (u : Unit {0}) (query : Query) (found : Result (List (List ℕ)) NoMemory) (m : Made) (v x w : Sight) (before after : ℕ × ℕ)
-      → Settles (Ok u) v x → IsSight x → Searches query found x w → TextMade closes search_text found m → Counts v before → Counts w after
+  pub search_answers : (u : Unit {0}) (query : Query) (found : Result (List (List ℕ)) NoMemory) (m : Made)
+      (v x w : Sight) (before after : ℕ × ℕ)
+      → Settles (Ok u) v x → IsSight x → Searches query found x w → TextMade closes search_text found m
+      → Counts v before → Counts w after
       → Answers tells closes (question.Search query) v w (entry_of before.0 after.1 0 m) m
   search_answers u query found m v x w before after s legal a is first last =
       let grown : IsPrefix v.store.history w.store.history =
-      prefix_trans v.store.history x.store.history w.store.history s.store.longer (same_prefix x.store.history w.store.history (ap (λ y. y.history) a.store)) in
-      let shown : IsPrefix v.index.shown w.index.shown = prefix_trans v.index.shown x.index.shown w.index.shown s.shown a.search.shown in
-      let arrived : IsPrefix (arrivals v.store.history) (arrivals w.store.history) = arrivals_prefix v.store.history w.store.history grown in
+      prefix_trans v.store.history x.store.history w.store.history s.store.longer
+      (same_prefix x.store.history w.store.history (ap (λ y. y.history) a.store)) in
+      let shown : IsPrefix v.index.shown w.index.shown = prefix_trans v.index.shown x.index.shown w.index.shown
+      s.shown a.search.shown in
+      let arrived : IsPrefix (arrivals v.store.history)
+      (arrivals w.store.history) = arrivals_prefix v.store.history w.store.history grown in
       let blobs = prefix_length (arrivals v.store.history) (arrivals w.store.history) arrived in
       let rows = prefix_length v.index.shown w.index.shown shown in
-      let all : take after.1 w.index.shown ≡ w.index.shown = take_all after.1 w.index.shown (let p = last.inserts in omega arith) in
+      let all : take after.1 w.index.shown ≡ w.index.shown = take_all after.1 w.index.shown
+      (let p = last.inserts in omega arith) in
       let inserted : IsPrefix (inserts x.index.history) w.index.shown =
       prefix_trans (inserts x.index.history) x.index.shown w.index.shown legal.index.shown a.search.shown in
       let below : HasAllBelow (length (arrivals v.store.history)) w.index.shown =
@@ -355,9 +417,11 @@ module _ (tells closes : Bool) where
         drawn = ap (λ y. y.turns) a.store ∙ s.store.drawn;
         store_within = let p = first.puts in omega arith;
         index_within = let p = last.inserts in omega arith;
-        made = search_made query found m is w.index.accepts (take before.0 (arrivals w.store.history)) (take after.1 w.index.shown)
+        made = search_made query found m is w.index.accepts (take before.0 (arrivals w.store.history))
+            (take after.1 w.index.shown)
             (subst (λ (z : List Insertion). SearchSays w.index.accepts query z found) (sym all) a.search.answer)
-            (subst (λ (n : ℕ). HasAllBelow n (take after.1 w.index.shown)) (sym count) (subst (HasAllBelow (length (arrivals v.store.history))) (sym all) below));
+            (subst (λ (n : ℕ). HasAllBelow n (take after.1 w.index.shown)) (sym count)
+            (subst (HasAllBelow (length (arrivals v.store.history))) (sym all) below));
         outcome = refl;
         kept = refl;
         cause = text_cause closes search_text found m s.store.further w.store.history is;

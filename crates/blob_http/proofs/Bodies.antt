@@ -1,5 +1,6 @@
 -- Small bodies.
-use Rattle.std.proofs.Common.{◌≡◌, ℕ, ◌≤◌, ◌<◌, List, [], ◌++◌, ◌-◌, length, length-append, take, Option, Some, None, Result, Err, refl, sym, subst, ◌∙◌, arith}
+use Rattle.std.proofs.Common.{◌≡◌, ℕ, ◌≤◌, ◌<◌, List, [], ◌++◌, ◌-◌, length, length-append, take, Option, Some, None}
+use Rattle.std.proofs.Common.{Result, Err, refl, sym, subst, ◌∙◌, arith}
 use Rattle.std.proofs.lemmas.List.{append-nil, length-take-le}
 use Rattle.http_wire.specs.declared.body.Body.{Body}
 use Rattle.http_wire.specs.declared.ends.WireEnd.{WireEnd}
@@ -55,8 +56,10 @@ stop_says x at place given (stopped.Cut n) h = h
 stop_says x at place given stopped.ReadFault h = tt
 
 -- a piece that is too long for what is left
-pub too_long : (all buf : List ℕ) (n most : ℕ) → n ≤ length buf → most - length all < n → most < length (all ++ take n buf)
+pub too_long : (all buf : List ℕ) (n most : ℕ) → n ≤ length buf → most - length all < n
+    → most < length (all ++ take n buf)
 too_long all buf n most within long = omega (arith, length-append all (take n buf), length-take-le n buf within)
 
-pub still_few : (all buf : List ℕ) (n most : ℕ) → n ≤ length buf → length all ≤ most → n ≤ most - length all → length (all ++ take n buf) ≤ most
+pub still_few : (all buf : List ℕ) (n most : ℕ) → n ≤ length buf → length all ≤ most → n ≤ most - length all
+    → length (all ++ take n buf) ≤ most
 still_few all buf n most within few fits = omega (arith, length-append all (take n buf), length-take-le n buf within)

@@ -3,7 +3,9 @@ use Rattle.std.proofs.Common.{◌≡◌, codes, IsSome, refl}
 use Rattle.std.specs.Fmt.{digits}
 use Rattle.http.specs.StatusCode.{reason_phrase}
 use Rattle.answer_text.specs.declared.refusal.Refusal.{Refusal}
-use Rattle.answer_text.specs.declared.refusal.Refusal.TheVariants.{BadHead, BadLength, BadVersion, BadRef, BadNumber, BadMultipart, BadDigest, BadQuery, NoRoute, Absent, Method, TooLong, Damaged, Memory, Disk, Full}
+use Rattle.answer_text.specs.declared.refusal.Refusal.TheVariants.{BadHead, BadLength, BadVersion, BadRef, BadNumber}
+use Rattle.answer_text.specs.declared.refusal.Refusal.TheVariants.{BadMultipart, BadDigest, BadQuery, NoRoute, Absent}
+use Rattle.answer_text.specs.declared.refusal.Refusal.TheVariants.{Method, TooLong, Damaged, Memory, Disk, Full}
 use Rattle.answer_text.specs.Refusals.{code_of}
 use Rattle.http_wire.specs.Replies.{reply_head_text}
 use Rattle.blob_http.specs.Replies.{memory_reply}

@@ -1,5 +1,6 @@
 -- What was answered of a stream.
-use Rattle.std.proofs.Common.{◌≡◌, ℕ, List, [], ◌∷◌, ◌++◌, map, All, Bool, true, false, refl, ap, sym, subst, ◌∙◌, append_assoc, Option, Some, None, Ok, inl, inr, ⊎_elim}
+use Rattle.std.proofs.Common.{◌≡◌, ℕ, List, [], ◌∷◌, ◌++◌, map, All, Bool, true, false, refl, ap, sym, subst, ◌∙◌}
+use Rattle.std.proofs.Common.{append_assoc, Option, Some, None, Ok, inl, inr, ⊎_elim}
 use Rattle.std.specs.Option.{IfSome}
 use Rattle.std.specs.List.{flat_map}
 use Rattle.std.proofs.lemmas.List.Elements.{All-push, All-nil}
@@ -9,7 +10,8 @@ use Rattle.http_wire.specs.declared.ends.WireEnd.{WireEnd}
 use Rattle.http_wire.specs.declared.ends.WireEnd.TheVariants as ends
 use Rattle.http_wire.specs.Stream.{Flow, Passed, stream}
 use Rattle.http_wire.specs.Wires.{HeadEnds}
-use Rattle.http_wire.specs.Speaking.{Request, IsRequest, Speaks, Nothing, Refused, Unfinished, IsOpen, HasNoRequest, place_behind, text_of}
+use Rattle.http_wire.specs.Speaking.{Request, IsRequest, Speaks, Nothing, Refused, Unfinished, IsOpen, HasNoRequest}
+use Rattle.http_wire.specs.Speaking.{place_behind, text_of}
 use Rattle.http_wire.proofs.Passing.{Passed-chain}
 use Rattle.http_wire.proofs.Speaking.{texts_push}
 use Rattle.http_wire.proofs.Refusals.{no_request}
@@ -38,7 +40,8 @@ spoken x now flow rs are p = (p.gave.0, p.gave.1, record { whole = p.gave.2; eac
 
 -- no further request was taken
 stands : (x0 now : Option (List ℕ)) (flow : Flow) (asked : List Asked) (end : Ended) → Open x0 now fresh_flow flow asked
-    → ((rest : List ℕ) (rs : List Request) → stream flow.bytes now ≡ Some rest → flow.taken ≡ place_behind rs → All IsOpen rs
+    → ((rest : List ℕ) (rs : List Request) → stream flow.bytes now ≡ Some rest → flow.taken ≡ place_behind rs
+    → All IsOpen rs
     → Follows end (place_behind rs) rs Nothing rest)
     → Heard x0 end asked
 stands None now flow asked end o follows = tt
@@ -71,12 +74,14 @@ cut_no_request place n rest cut =
 pub heard_none : (x0 now : Option (List ℕ)) (flow : Flow) (asked : List Asked) (end : Ended)
     → Open x0 now fresh_flow flow asked → NoneComes (stream flow.bytes now) flow.taken end → Heard x0 end asked
 heard_none x0 now flow asked ended.Closed o none = stands x0 now flow asked ended.Closed o
-    (λ rest rs is place still. inl (still, no_request rest 0 ends.Closed (told_rest _ (stream flow.bytes now) rest none is) closed_not_fault))
+    (λ rest rs is place still. inl
+    (still, no_request rest 0 ends.Closed (told_rest _ (stream flow.bytes now) rest none is) closed_not_fault))
 heard_none x0 now flow asked (ended.Cut n) o none = stands x0 now flow asked (ended.Cut n) o
     (λ rest rs is place still.
     let cut : IsCut flow.taken n rest = told_rest (IsCut flow.taken n) (stream flow.bytes now) rest none is in
     ((still, refl), cut_no_request flow.taken n rest cut, subst (λ (k : ℕ). IsCut k n rest) place cut))
-heard_none x0 now flow asked ended.ReadFault o none = stands x0 now flow asked ended.ReadFault o (λ rest rs is place still. (still, refl))
+heard_none x0 now flow asked ended.ReadFault o none = stands x0 now flow asked ended.ReadFault o
+    (λ rest rs is place still. (still, refl))
 heard_none x0 now flow asked ended.WriteFault o none = absurd none
 heard_none x0 now flow asked ended.NoMemory o none = absurd none
 
@@ -86,9 +91,11 @@ heard_full x0 now flow asked o = stands x0 now flow asked ended.NoMemory o (λ r
 
 heard_broken : (x0 now : Option (List ℕ)) (flow : Flow) (asked : List Asked)
     → Open x0 now fresh_flow flow asked → Heard x0 ended.WriteFault asked
-heard_broken x0 now flow asked o = stands x0 now flow asked ended.WriteFault o (λ rest rs is place still. inl (still, refl))
+heard_broken x0 now flow asked o = stands x0 now flow asked ended.WriteFault o
+    (λ rest rs is place still. inl (still, refl))
 
-closed_broken : (x0 : Option (List ℕ)) (asked : List Asked) → Heard x0 ended.Closed asked → Heard x0 ended.WriteFault asked
+closed_broken : (x0 : Option (List ℕ)) (asked : List Asked) → Heard x0 ended.Closed asked
+    → Heard x0 ended.WriteFault asked
 closed_broken None asked h = tt
 closed_broken (Some x) asked h = record {
   requests = h.requests;
@@ -100,11 +107,14 @@ closed_broken (Some x) asked h = record {
 }
 
 passed_push : (a b c : Option (List ℕ)) (u v w : Flow) (rs : List Request) (r : Request)
-    → Passed a b u v (flat_map text_of rs) → Passed b c v w (text_of r) → Passed a c u w (flat_map text_of (rs ++ r ∷ []))
+    → Passed a b u v (flat_map text_of rs) → Passed b c v w (text_of r)
+    → Passed a c u w (flat_map text_of (rs ++ r ∷ []))
 passed_push a b c u v w rs r h k =
-    subst (λ (t : List ℕ). Passed a c u w t) (sym (texts_push rs r)) (Passed-chain a b c u v w (flat_map text_of rs) (text_of r) h k)
+    subst (λ (t : List ℕ). Passed a c u w t) (sym (texts_push rs r))
+    (Passed-chain a b c u v w (flat_map text_of rs) (text_of r) h k)
 
-stays_push : (before : List Asked) (rs : List Request) (r : Request) → Stays before rs → IsRequest r → r.says.closes ≡ false
+stays_push : (before : List Asked) (rs : List Request) (r : Request) → Stays before rs → IsRequest r
+    → r.says.closes ≡ false
     → Stays (before ++ Whole r ∷ []) (rs ++ r ∷ [])
 stays_push before rs r s is still = record {
   answered = ap (λ (z : List Asked). z ++ Whole r ∷ []) s.answered ∙ sym (map-append Whole rs (r ∷ []));
@@ -134,18 +144,21 @@ pub heard_last : (x0 mid now : Option (List ℕ)) (flow next : Flow) (before : L
 heard_last None mid now flow next before asked o c closes = tt
 heard_last (Some x) mid now flow next before (Whole r) o c closes =
     let rs = o.requests ++ r ∷ [] in
-    let s = spoken x now next rs (All-push IsRequest o.requests r o.stays.are c.0) (passed_push (Some x) mid now fresh_flow flow next o.requests r o.passed c.1) in
+    let s = spoken x now next rs (All-push IsRequest o.requests r o.stays.are c.0)
+    (passed_push (Some x) mid now fresh_flow flow next o.requests r o.passed c.1) in
     record {
       requests = rs;
       last = Nothing;
       rest = s.0;
       speaks = s.2;
-      answers = ap (λ (z : List Asked). z ++ Whole r ∷ []) o.stays.answered ∙ sym (map-append Whole o.requests (r ∷ []));
+      answers = ap (λ (z : List Asked). z ++ Whole r ∷ []) o.stays.answered
+          ∙ sym (map-append Whole o.requests (r ∷ []));
       follows = inr (record { before = o.requests; last = r; parts = refl; stay = o.stays.stay; closes = closes });
     }
 heard_last (Some x) mid now flow next before (Front b after) o c closes =
     let s = spoken x mid flow o.requests o.stays.are o.passed in
-    let g : Gave (Some s.0) (stream next.bytes now) (b.head ++ b.framed) = subst (λ (z : Option (List ℕ)). Gave z (stream next.bytes now) (b.head ++ b.framed)) s.1 c.1.gave in
+    let g : Gave (Some s.0) (stream next.bytes now) (b.head ++ b.framed) = subst
+    (λ (z : Option (List ℕ)). Gave z (stream next.bytes now) (b.head ++ b.framed)) s.1 c.1.gave in
     let parts : s.0 ≡ b.head ++ (b.framed ++ g.0) = g.2 ∙ append_assoc b.head b.framed g.0 in
     record {
       requests = o.requests;
@@ -162,9 +175,11 @@ heard_last (Some x) mid now flow next before (Front b after) o c closes =
     }
 heard_last (Some x) mid now flow next before (Head end) o c closes =
     let s = spoken x mid flow o.requests o.stays.are o.passed in
-    let g : Gave (Some s.0) (stream next.bytes now) [] = subst (λ (z : Option (List ℕ)). Gave z (stream next.bytes now) []) s.1 c.1.gave in
+    let g : Gave (Some s.0) (stream next.bytes now) [] = subst
+    (λ (z : Option (List ℕ)). Gave z (stream next.bytes now) []) s.1 c.1.gave in
     let here : HeadEnds (Some s.0) (place_behind o.requests) end =
-    subst (λ (k : ℕ). HeadEnds (Some s.0) k end) s.3 (subst (λ (z : Option (List ℕ)). HeadEnds z flow.taken end) (g.1 ∙ ap Some (sym g.2)) c.2) in
+    subst (λ (k : ℕ). HeadEnds (Some s.0) k end) s.3
+    (subst (λ (z : Option (List ℕ)). HeadEnds z flow.taken end) (g.1 ∙ ap Some (sym g.2)) c.2) in
     record {
       requests = o.requests;
       last = Refused end;
@@ -175,10 +190,12 @@ heard_last (Some x) mid now flow next before (Head end) o c closes =
     }
   where
     not_fault : (end : WireEnd) (why : Refusal) → head_says end ≡ Ok why → end ≡ ends.ReadFault → ⊥
-    not_fault end why says is = let h : head_says ends.ReadFault ≡ Ok why = subst (λ (z : WireEnd). head_says z ≡ Ok why) is says in absurd (cc h)
+    not_fault end why says is = let h : head_says ends.ReadFault ≡ Ok why = subst
+        (λ (z : WireEnd). head_says z ≡ Ok why) is says in absurd (cc h)
 
 -- one more, whose reply wasn't written whole
-pub heard_breaks : (x0 mid now : Option (List ℕ)) (flow next : Flow) (before : List Asked) (asked : Asked) (closes : Bool)
+pub heard_breaks : (x0 mid now : Option (List ℕ)) (flow next : Flow) (before : List Asked) (asked : Asked)
+    (closes : Bool)
     → Open x0 mid fresh_flow flow before → Comes mid now flow next asked → closes_of asked ≡ closes
     → Heard x0 ended.WriteFault (before ++ asked ∷ [])
 heard_breaks x0 mid now flow next before asked false o c closes =

@@ -1,5 +1,6 @@
 -- What one request comes to, from its head to its reply.
-use Rattle.std.proofs.Common.{◌≡◌, ℕ, if◌then◌else◌, List, [], ◌++◌, take, Bool, true, false, ◌||◌, not, Option, Some, None, Result, Ok, Err, IfOk, refl, ap, sym, subst, ◌∙◌, inl, inr, append_assoc}
+use Rattle.std.proofs.Common.{◌≡◌, ℕ, if◌then◌else◌, List, [], ◌++◌, take, Bool, true, false, ◌||◌, not, Option, Some}
+use Rattle.std.proofs.Common.{None, Result, Ok, Err, IfOk, refl, ap, sym, subst, ◌∙◌, inl, inr, append_assoc}
 use Rattle.std.specs.Option.{IfSome, option_map}
 use Rattle.std.proofs.lemmas.List.{append-nil}
 use Rattle.blobref.specs.declared.memory.NoMemory.{NoMemory}
@@ -45,11 +46,13 @@ use Rattle.blob_http.specs.declared.serving.Ended.{Ended}
 use Rattle.blob_http.specs.declared.serving.Ended.TheVariants as ended
 use Rattle.blob_http.specs.Asked.{Asked, Whole, Front, Head as Refused, Comes, head_says}
 use Rattle.blob_http.specs.Gathering.{Gathers}
-use Rattle.blob_http.specs.Questions.{HasPieces, is_upload, piece, first_of, first_by, early_by, refused_by, refused, IsAskedAt, IsAskedBy, IsAsked}
+use Rattle.blob_http.specs.Questions.{HasPieces, is_upload, piece, first_of, first_by, early_by, refused_by, refused}
+use Rattle.blob_http.specs.Questions.{IsAskedAt, IsAskedBy, IsAsked}
 use Rattle.blob_http.specs.Replies.{refused_reply, memory_reply}
 use Rattle.blob_http.specs.Answers.{allow_text, outcome_of, text_of}
 use Rattle.blob_http.specs.Serving.{HasCauseIn, IsRest, Passes, IsReply, IsFrontDefined, IsBodyRefusal, Handles, IsCut}
-use Rattle.blob_http.specs.Handling.{IsMade, is_memory, is_read, Answers, ReadsHead, Replies, AlongSays, StopReplies, StopEnds, NoneComes}
+use Rattle.blob_http.specs.Handling.{IsMade, is_memory, is_read, Answers, ReadsHead, Replies, AlongSays, StopReplies}
+use Rattle.blob_http.specs.Handling.{StopEnds, NoneComes}
 use Rattle.blob_http.proofs.Staying.{longer_none}
 use Rattle.blob_http.proofs.Bodies.{moves_none}
 
@@ -58,7 +61,8 @@ true_not e = absurd (cc e)
 
 -- ---- the places of a head
 
-content_place : (text : List ℕ) (found : List (List ℕ)) (p : Option Piece) → IsFirstOf text found p → IfSome p (IsPlaceIn text)
+content_place : (text : List ℕ) (found : List (List ℕ)) (p : Option Piece) → IsFirstOf text found p
+    → IfSome p (IsPlaceIn text)
 content_place text found None is = tt
 content_place text found (Some p) is = (is.3.0, is.3.1)
 
@@ -76,7 +80,8 @@ has_pieces text says h =
 
 pub handles_of : (tells closes : Bool) (q : Question) (v w : Sight) (entry : Answered) (m : Made) (asked : Asked)
     → Answers tells closes q v w entry m
-    → ((accepts : Accepts) (blobs : List Blob) (g : List Insertion) (turns : List ℕ) → IsMade tells accepts blobs g closes q m
+    → ((accepts : Accepts) (blobs : List Blob) (g : List Insertion) (turns : List ℕ)
+    → IsMade tells accepts blobs g closes q m
     → IsReply tells accepts blobs g asked 0 turns (outcome_of m) (text_of m))
     → Handles tells asked v w entry (text_of m)
 handles_of tells closes q v w entry m asked a replied = record {
@@ -85,9 +90,11 @@ handles_of tells closes q v w entry m asked a replied = record {
   answered = record {
     store_within = a.store_within;
     index_within = a.index_within;
-    replied = reply_at tells w.index.accepts (take entry.store_count (arrivals w.store.history)) (take entry.index_count w.index.shown) asked
+    replied = reply_at tells w.index.accepts (take entry.store_count (arrivals w.store.history))
+        (take entry.index_count w.index.shown) asked
         entry.kept a.turns entry.outcome m a.kept a.outcome
-        (replied w.index.accepts (take entry.store_count (arrivals w.store.history)) (take entry.index_count w.index.shown) a.turns a.made);
+        (replied w.index.accepts (take entry.store_count (arrivals w.store.history))
+        (take entry.index_count w.index.shown) a.turns a.made);
     cause = subst (λ (o : Outcome). HasCauseIn a.turns w.store.history o) (sym a.outcome) a.cause;
   };
   store_low = a.store_low;
@@ -95,7 +102,8 @@ handles_of tells closes q v w entry m asked a replied = record {
   longer = a.longer;
 }
   where
-    reply_at : (tells : Bool) (accepts : Accepts) (blobs : List Blob) (g : List Insertion) (asked : Asked) (kept : ℕ) (turns : List ℕ) (o : Outcome) (m : Made)
+    reply_at : (tells : Bool) (accepts : Accepts) (blobs : List Blob) (g : List Insertion) (asked : Asked) (kept : ℕ)
+        (turns : List ℕ) (o : Outcome) (m : Made)
         → kept ≡ 0 → o ≡ outcome_of m → IsReply tells accepts blobs g asked 0 turns (outcome_of m) (text_of m)
         → IsReply tells accepts blobs g asked kept turns o (text_of m)
     reply_at tells accepts blobs g asked kept turns o m none same h =
@@ -103,27 +111,34 @@ handles_of tells closes q v w entry m asked a replied = record {
         (subst (λ (z : Outcome). IsReply tells accepts blobs g asked 0 turns z (text_of m)) (sym same) h)
 
 -- a refusal by a head or by a body that isn't read to its end: only its own text, or want of memory
-refused_says : (tells : Bool) (accepts : Accepts) (blobs : List Blob) (g : List Insertion) (why : Refusal) (allow : Option Allowed)
+refused_says : (tells : Bool) (accepts : Accepts) (blobs : List Blob) (g : List Insertion) (why : Refusal)
+    (allow : Option Allowed)
     (P : Outcome → List ℕ → Type 0) → P Defined (refused_reply true (allow_text allow) why) → P Memory memory_reply
     → (m : Made) → IsMade tells accepts blobs g true (question.Refused why allow) m → P (outcome_of m) (text_of m)
 refused_says tells accepts blobs g why allow P defined memory made.Memory is = memory
-refused_says tells accepts blobs g why allow P defined memory (made.Told Defined head body) is = subst (P Defined) (sym is) defined
+refused_says tells accepts blobs g why allow P defined memory (made.Told Defined head body) is = subst (P Defined)
+    (sym is) defined
 refused_says tells accepts blobs g why allow P defined memory (made.Told Memory head body) is = absurd is
 refused_says tells accepts blobs g why allow P defined memory (made.Told Disk head body) is = absurd (cc is.0)
 refused_says tells accepts blobs g why allow P defined memory (made.Told (Full n pack) head body) is = absurd is
-refused_says tells accepts blobs g why allow P defined memory (made.Told (Damaged want was) head body) is = absurd (cc is.0)
+refused_says tells accepts blobs g why allow P defined memory (made.Told (Damaged want was) head body) is = absurd
+    (cc is.0)
 
 -- ---- a head that is refused
 
-pub head_replies : (x0 x1 : Option (List ℕ)) (flow : Flow) (new : WireView) (tells : Bool) (v w : Sight) (entry : Answered) (m : Made)
-    (end : WireEnd) (why : Refusal) (closes : Bool) → head_says end ≡ Ok why → Passed x0 x1 flow new.flow [] → HeadEnds (to_come new x1) flow.taken end
+pub head_replies : (x0 x1 : Option (List ℕ)) (flow : Flow) (new : WireView) (tells : Bool) (v w : Sight)
+    (entry : Answered) (m : Made)
+    (end : WireEnd) (why : Refusal) (closes : Bool) → head_says end ≡ Ok why → Passed x0 x1 flow new.flow []
+    → HeadEnds (to_come new x1) flow.taken end
     → Answers tells true (refused why) v w entry m → closes ≡ (true || is_memory m)
     → Replies x0 x1 flow new tells v w entry m closes
 head_replies x0 x1 flow new tells v w entry m end why closes says passed stands a closing = record {
   asked = Refused end;
   comes = ((why, says), passed, stands);
   handles = handles_of tells true (refused why) v w entry m (Refused end) a
-      (λ accepts blobs g turns is. refused_says tells accepts blobs g why None (λ o text. IsReply tells accepts blobs g (Refused end) 0 turns o text) (refl, (why, says, refl)) (refl, refl) m is);
+      (λ accepts blobs g turns is. refused_says tells accepts blobs g why None
+      (λ o text. IsReply tells accepts blobs g (Refused end) 0 turns o text) (refl, (why, says, refl))
+      (refl, refl) m is);
   closing = closing;
   ready = λ open_still. absurd (true_not (sym closing ∙ open_still));
 }
@@ -137,15 +152,20 @@ cut_head None place n h = tt
 cut_head (Some x) place n h = inl h
 
 -- no head came
-pub head_none : (x0 x1 : Option (List ℕ)) (flow : Flow) (new : WireView) (end : WireEnd) (ends_so : Ended) → head_says end ≡ Err ends_so
-    → Passed x0 x1 flow new.flow [] → HeadEnds (to_come new x1) flow.taken end → NoneComes (stream flow.bytes x0) flow.taken ends_so
+pub head_none : (x0 x1 : Option (List ℕ)) (flow : Flow) (new : WireView) (end : WireEnd) (ends_so : Ended)
+    → head_says end ≡ Err ends_so
+    → Passed x0 x1 flow new.flow [] → HeadEnds (to_come new x1) flow.taken end
+    → NoneComes (stream flow.bytes x0) flow.taken ends_so
 head_none x0 x1 flow new end ends_so says passed stood =
     let same : to_come new x1 ≡ stream flow.bytes x0 = gave_same (stream flow.bytes x0) (to_come new x1) passed.gave in
-    none_at (stream flow.bytes x0) flow.taken end ends_so says (subst (λ (z : Option (List ℕ)). HeadEnds z flow.taken end) same stood)
+    none_at (stream flow.bytes x0) flow.taken end ends_so says
+    (subst (λ (z : Option (List ℕ)). HeadEnds z flow.taken end) same stood)
   where
-    none_at : (o : Option (List ℕ)) (place : ℕ) (end : WireEnd) (e : Ended) → head_says end ≡ Err e → HeadEnds o place end → NoneComes o place e
+    none_at : (o : Option (List ℕ)) (place : ℕ) (end : WireEnd) (e : Ended) → head_says end ≡ Err e
+        → HeadEnds o place end → NoneComes o place e
     none_at o place ends.Closed e says h = let is : ended.Closed ≡ e = cc says in subst (NoneComes o place) is h
-    none_at o place (ends.Cut n) e says h = let is : ended.Cut n ≡ e = cc says in subst (NoneComes o place) is (cut_head o place n h)
+    none_at o place (ends.Cut n) e says h = let is : ended.Cut n ≡ e = cc says in subst (NoneComes o place) is
+        (cut_head o place n h)
     none_at o place (ends.BadHead n) e says h = absurd (cc says)
     none_at o place (ends.BadLength n) e says h = absurd (cc says)
     none_at o place (ends.TooLong limit) e says h = absurd (cc says)
@@ -153,7 +173,8 @@ head_none x0 x1 flow new end ends_so says passed stood =
 
 -- ---- a request, as far as it was read
 
-module _ (x0 x1 x2 : Option (List ℕ)) (flow : Flow) (mid new : WireView) (says : Head) (head : ReadsHead x0 x1 flow mid says)
+module _ (x0 x1 x2 : Option (List ℕ)) (flow : Flow) (mid new : WireView) (says : Head)
+    (head : ReadsHead x0 x1 flow mid says)
     (given : List ℕ) (moved : Moves x1 x2 mid.flow new.flow mid.body new.body given) where
   abbrev pub begun : Begun
   begun = record { head = mid.head; says = says; framed = moved.0; given = given; at = new.body }
@@ -177,7 +198,8 @@ module _ (x0 x1 x2 : Option (List ℕ)) (flow : Flow) (mid new : WireView) (says
   module _ (tells : Bool) (v w : Sight) (entry : Answered) (m : Made) where
     -- the connection closes in any case
     front_replies : (closes with_closes : Bool) (q : Question) → Answers tells with_closes q v w entry m
-        → ((accepts : Accepts) (blobs : List Blob) (g : List Insertion) (turns : List ℕ) → IsMade tells accepts blobs g with_closes q m
+        → ((accepts : Accepts) (blobs : List Blob) (g : List Insertion) (turns : List ℕ)
+        → IsMade tells accepts blobs g with_closes q m
         → IsReply tells accepts blobs g front 0 turns (outcome_of m) (text_of m))
         → closes ≡ true → Replies x0 x2 flow new tells v w entry m closes
     front_replies closes with_closes q a replied closing = record {
@@ -188,16 +210,23 @@ module _ (x0 x1 x2 : Option (List ℕ)) (flow : Flow) (mid new : WireView) (says
       ready = λ still. absurd (true_not (sym closing ∙ still));
     }
 
-    pub memory_replies : (closes with_closes : Bool) (q : Question) → Answers tells with_closes q v w entry m → m ≡ made.Memory
+    pub memory_replies : (closes with_closes : Bool) (q : Question) → Answers tells with_closes q v w entry m
+        → m ≡ made.Memory
         → closes ≡ true → Replies x0 x2 flow new tells v w entry m closes
     memory_replies closes with_closes q a none closing = front_replies closes with_closes q a
-        (λ accepts blobs g turns is. subst (λ (z : Made). IsReply tells accepts blobs g front 0 turns (outcome_of z) (text_of z)) (sym none) (inr (refl, refl))) closing
+        (λ accepts blobs g turns is. subst
+        (λ (z : Made). IsReply tells accepts blobs g front 0 turns (outcome_of z) (text_of z)) (sym none)
+        (inr (refl, refl))) closing
 
-    refused_replies : (closes : Bool) (why : Refusal) (allow : Option Allowed) → Answers tells true (question.Refused why allow) v w entry m
-        → IsFrontDefined begun (stream new.flow.bytes x2) (first_of mid.head says) (refused_reply true (allow_text allow) why)
+    refused_replies : (closes : Bool) (why : Refusal) (allow : Option Allowed)
+        → Answers tells true (question.Refused why allow) v w entry m
+        → IsFrontDefined begun (stream new.flow.bytes x2) (first_of mid.head says)
+        (refused_reply true (allow_text allow) why)
         → closes ≡ true → Replies x0 x2 flow new tells v w entry m closes
     refused_replies closes why allow a defined closing = front_replies closes true (question.Refused why allow) a
-        (λ accepts blobs g turns is. refused_says tells accepts blobs g why allow (λ o text. IsReply tells accepts blobs g front 0 turns o text) (inr (refl, defined)) (inr (refl, refl)) m is) closing
+        (λ accepts blobs g turns is. refused_says tells accepts blobs g why allow
+        (λ o text. IsReply tells accepts blobs g front 0 turns o text) (inr (refl, defined))
+        (inr (refl, refl)) m is) closing
 
   -- the whole body was read
   module _ (tells : Bool) (v w : Sight) (entry : Answered) where
@@ -213,7 +242,8 @@ module _ (x0 x1 x2 : Option (List ℕ)) (flow : Flow) (mid new : WireView) (says
     whole_replies (made.Told o text rest) closes q done asked a closing = record {
       asked = Whole request;
       comes = (request_read mid.head moved.0 given says head.lines head.read leads, passed);
-      handles = handles_of tells says.closes q v w entry (made.Told o text rest) (Whole request) a (λ accepts blobs g turns is. inr (refl, (q, asked, is)));
+      handles = handles_of tells says.closes q v w entry (made.Told o text rest) (Whole request) a
+          (λ accepts blobs g turns is. inr (refl, (q, asked, is)));
       closing = closing ∙ or_false says.closes;
       ready = λ still. done;
     }
@@ -233,15 +263,18 @@ first_refused : (head : List ℕ) (says : Head) (q : Question) → first_of head
     → (why : Refusal) × (allow : Option Allowed) × (q ≡ question.Refused why allow)
 first_refused head says q is = by_route (route_of (piece head says.method) (piece head says.path)) is
   where
-    by_early : (r : Route) (e : Result (Option (List ℕ)) Refusal) → early_by r e ≡ Err q → (why : Refusal) × (allow : Option Allowed) × (q ≡ question.Refused why allow)
+    by_early : (r : Route) (e : Result (Option (List ℕ)) Refusal) → early_by r e ≡ Err q
+        → (why : Refusal) × (allow : Option Allowed) × (q ≡ question.Refused why allow)
     by_early r (Ok boundary) is = absurd (cc is)
     by_early r (Err why) is = (why, None, sym (cc is))
 
-    by_fault : (f : RouteFault) → refused_by f ≡ q → (why : Refusal) × (allow : Option Allowed) × (q ≡ question.Refused why allow)
+    by_fault : (f : RouteFault) → refused_by f ≡ q
+        → (why : Refusal) × (allow : Option Allowed) × (q ≡ question.Refused why allow)
     by_fault fault.NoRoute is = (refusal.NoRoute, None, sym is)
     by_fault (fault.Method allow) is = (refusal.Method, Some allow, sym is)
 
-    by_route : (r : Result Route RouteFault) → first_by head says r ≡ Err q → (why : Refusal) × (allow : Option Allowed) × (q ≡ question.Refused why allow)
+    by_route : (r : Result Route RouteFault) → first_by head says r ≡ Err q
+        → (why : Refusal) × (allow : Option Allowed) × (q ≡ question.Refused why allow)
     by_route (Ok r) is = by_early r (early_of r says.framing (option_map (piece head) says.content_type)) is
     by_route (Err f) is = by_fault f (cc is)
 
@@ -251,11 +284,15 @@ read_done (Length n) e = ap (λ (b : Bool). if b then body.Done else body.Exactl
 read_done Chunked e = absurd (true_not (sym e))
 
 -- a request that is refused before its body is read
-pub early_replies : (x0 x1 : Option (List ℕ)) (flow : Flow) (mid : WireView) (says : Head) → ReadsHead x0 x1 flow mid says
-    → (tells : Bool) (v w : Sight) (entry : Answered) (m : Made) (before closes : Bool) (q : Question) → first_of mid.head says ≡ Err q
-    → before ≡ (says.closes || not (is_read says.framing)) → Answers tells before q v w entry m → closes ≡ (before || is_memory m)
+pub early_replies : (x0 x1 : Option (List ℕ)) (flow : Flow) (mid : WireView) (says : Head)
+    → ReadsHead x0 x1 flow mid says
+    → (tells : Bool) (v w : Sight) (entry : Answered) (m : Made) (before closes : Bool) (q : Question)
+    → first_of mid.head says ≡ Err q
+    → before ≡ (says.closes || not (is_read says.framing)) → Answers tells before q v w entry m
+    → closes ≡ (before || is_memory m)
     → Replies x0 x1 flow mid tells v w entry m closes
-early_replies x0 x1 flow mid says head tells v w entry m before closes q first is a closing = by_read (is_read says.framing) refl
+early_replies x0 x1 flow mid says head tells v w entry m before closes q first is a closing = by_read
+    (is_read says.framing) refl
   where
     moved : Moves x1 x1 mid.flow mid.flow mid.body mid.body []
     moved = moves_none x1 mid.flow mid.body
@@ -274,33 +311,44 @@ early_replies x0 x1 flow mid says head tells v w entry m before closes q first i
     asked : IsAsked mid.head says [] q
     asked = subst (λ (z : Result Route Question). IsAskedBy z (piece mid.head says.query) [] q) (sym first) refl
 
-    defined : (b : Begun) (after : Option (List ℕ)) → IsFrontDefined b after (first_of mid.head says) (refused_reply true (allow_text refused_q.1) refused_q.0)
+    defined : (b : Begun) (after : Option (List ℕ))
+        → IsFrontDefined b after (first_of mid.head says) (refused_reply true (allow_text refused_q.1) refused_q.0)
     defined b after =
-        subst (λ (z : Result Route Question). IsFrontDefined b after z (refused_reply true (allow_text refused_q.1) refused_q.0)) (sym (first ∙ ap Err refused_q.2)) refl
+        subst (λ (z : Result Route Question). IsFrontDefined b after z
+        (refused_reply true (allow_text refused_q.1) refused_q.0)) (sym (first ∙ ap Err refused_q.2)) refl
 
     by_read : (b : Bool) → is_read says.framing ≡ b → Replies x0 x1 flow mid tells v w entry m closes
     by_read true read =
         let same : before ≡ says.closes = is ∙ ap (λ (b : Bool). says.closes || not b) read ∙ or_false says.closes in
-        whole_replies x0 x1 x1 flow mid mid says head [] moved tells v w entry m closes q (head.ready ∙ read_done says.framing read) asked
-        (subst (λ (b : Bool). Answers tells b q v w entry m) same a) (closing ∙ ap (λ (b : Bool). b || is_memory m) same)
+        whole_replies x0 x1 x1 flow mid mid says head [] moved tells v w entry m closes q
+        (head.ready ∙ read_done says.framing read) asked
+        (subst (λ (b : Bool). Answers tells b q v w entry m) same a)
+        (closing ∙ ap (λ (b : Bool). b || is_memory m) same)
     by_read false read =
         let same : before ≡ true = is ∙ ap (λ (b : Bool). says.closes || not b) read ∙ or_true says.closes in
         refused_replies x0 x1 x1 flow mid mid says head [] moved tells v w entry m closes refused_q.0 refused_q.1
-        (subst (λ (z : Question). Answers tells true z v w entry m) refused_q.2 (subst (λ (b : Bool). Answers tells b q v w entry m) same a))
-        (defined (begun x0 x1 x1 flow mid mid says head [] moved) (stream mid.flow.bytes x1)) (closing ∙ ap (λ (b : Bool). b || is_memory m) same)
+        (subst (λ (z : Question). Answers tells true z v w entry m) refused_q.2
+        (subst (λ (b : Bool). Answers tells b q v w entry m) same a))
+        (defined (begun x0 x1 x1 flow mid mid says head [] moved) (stream mid.flow.bytes x1))
+        (closing ∙ ap (λ (b : Bool). b || is_memory m) same)
 
 -- there was no memory before anything of the body was read
 pub none_read : (x0 x1 : Option (List ℕ)) (flow : Flow) (mid : WireView) (says : Head) → ReadsHead x0 x1 flow mid says
-    → (tells : Bool) (v w : Sight) (entry : Answered) (m : Made) (closes : Bool) → ((q : Question) → Answers tells true q v w entry m)
+    → (tells : Bool) (v w : Sight) (entry : Answered) (m : Made) (closes : Bool)
+    → ((q : Question) → Answers tells true q v w entry m)
     → m ≡ made.Memory → closes ≡ true → Replies x0 x1 flow mid tells v w entry m closes
 none_read x0 x1 flow mid says head tells v w entry m closes a none closing =
-    memory_replies x0 x1 x1 flow mid mid says head [] (moves_none x1 mid.flow mid.body) tells v w entry m closes true (refused refusal.Memory) (a _) none closing
+    memory_replies x0 x1 x1 flow mid mid says head [] (moves_none x1 mid.flow mid.body) tells v w entry m closes true
+    (refused refusal.Memory) (a _) none closing
 
 -- a request whose body was read
-pub along_replies : (x0 x1 x2 : Option (List ℕ)) (flow : Flow) (mid new : WireView) (says : Head) → ReadsHead x0 x1 flow mid says
+pub along_replies : (x0 x1 x2 : Option (List ℕ)) (flow : Flow) (mid new : WireView) (says : Head)
+    → ReadsHead x0 x1 flow mid says
     → (bytes : List ℕ) → Gathers x1 x2 mid new (Ok bytes)
-    → (tells : Bool) (v w : Sight) (entry : Answered) (m : Made) (closes : Bool) (r : Route) (asked : Result Question NoMemory)
-    → first_of mid.head says ≡ Ok r → IfOk asked (IsAskedAt r (piece mid.head says.query) bytes) → AlongSays tells says.closes asked v w entry m
+    → (tells : Bool) (v w : Sight) (entry : Answered) (m : Made) (closes : Bool) (r : Route)
+    (asked : Result Question NoMemory)
+    → first_of mid.head says ≡ Ok r → IfOk asked (IsAskedAt r (piece mid.head says.query) bytes)
+    → AlongSays tells says.closes asked v w entry m
     → closes ≡ (says.closes || is_memory m) → Replies x0 x2 flow new tells v w entry m closes
 along_replies x0 x1 x2 flow mid new says head bytes gathered tells v w entry m closes r (Ok q) first at a closing =
     let moved : Moves x1 x2 mid.flow new.flow mid.body new.body bytes =
@@ -308,7 +356,8 @@ along_replies x0 x1 x2 flow mid new says head bytes gathered tells v w entry m c
     whole_replies x0 x1 x2 flow mid new says head bytes moved tells v w entry m closes q gathered.says.2
     (subst (λ (z : Result Route Question). IsAskedBy z (piece mid.head says.query) bytes q) (sym first) at) a closing
 along_replies x0 x1 x2 flow mid new says head bytes gathered tells v w entry m closes r (Err e) first at a closing =
-    memory_replies x0 x1 x2 flow mid new says head gathered.given gathered.moved tells v w entry m closes says.closes (refused refusal.Memory) (a.1 _) a.0
+    memory_replies x0 x1 x2 flow mid new says head gathered.given gathered.moved tells v w entry m closes says.closes
+    (refused refusal.Memory) (a.1 _) a.0
     (closing ∙ ap (λ (z : Made). says.closes || is_memory z) a.0 ∙ or_true says.closes)
   where
     or_true : (b : Bool) → (b || true) ≡ true
@@ -325,28 +374,39 @@ upload_is route.Search is = absurd (true_not (sym is))
 not_upload : (r : Route) → is_upload r ≡ false → r ≡ route.Upload → ⊥
 not_upload r is same = true_not (sym (ap is_upload same) ∙ is)
 
-body_defined : (b : Begun) (after : Option (List ℕ)) (first : Result Route Question) (r : Route) (why : Refusal) → first ≡ Ok r
+body_defined : (b : Begun) (after : Option (List ℕ)) (first : Result Route Question) (r : Route) (why : Refusal)
+    → first ≡ Ok r
     → is_upload r ≡ false → IsBodyRefusal b after why → IsFrontDefined b after first (refused_reply true [] why)
 body_defined b after first r why is other fault =
-    subst (λ (z : Result Route Question). IsFrontDefined b after z (refused_reply true [] why)) (sym is) (not_upload r other, (why, fault, refl))
+    subst (λ (z : Result Route Question). IsFrontDefined b after z (refused_reply true [] why)) (sym is)
+    (not_upload r other, (why, fault, refl))
 
 -- a request whose body wasn't read to its end
-pub stop_replies : (x0 x1 x2 : Option (List ℕ)) (flow : Flow) (mid new : WireView) (says : Head) → ReadsHead x0 x1 flow mid says
+pub stop_replies : (x0 x1 x2 : Option (List ℕ)) (flow : Flow) (mid new : WireView) (says : Head)
+    → ReadsHead x0 x1 flow mid says
     → (why : Stopped) → Gathers x1 x2 mid new (Err why)
     → (tells : Bool) (v w : Sight) (entry : Answered) (m : Made) (closes : Bool) (r : Route)
-    → first_of mid.head says ≡ Ok r → is_upload r ≡ false → StopReplies tells why v w entry m → closes ≡ true → Replies x0 x2 flow new tells v w entry m closes
+    → first_of mid.head says ≡ Ok r → is_upload r ≡ false → StopReplies tells why v w entry m → closes ≡ true
+    → Replies x0 x2 flow new tells v w entry m closes
 stop_replies x0 x1 x2 flow mid new says head stopped.Long gathered tells v w entry m closes r first other a closing =
-    refused_replies x0 x1 x2 flow mid new says head gathered.given gathered.moved tells v w entry m closes (refusal.TooLong most_body) None a
-    (body_defined (begun x0 x1 x2 flow mid new says head gathered.given gathered.moved) (stream new.flow.bytes x2) (first_of mid.head says) r
+    refused_replies x0 x1 x2 flow mid new says head gathered.given gathered.moved tells v w entry m closes
+    (refusal.TooLong most_body) None a
+    (body_defined (begun x0 x1 x2 flow mid new says head gathered.given gathered.moved) (stream new.flow.bytes x2)
+    (first_of mid.head says) r
     (refusal.TooLong most_body) first other (inl (refl, gathered.says))) closing
 stop_replies x0 x1 x2 flow mid new says head stopped.Broken gathered tells v w entry m closes r first other a closing =
-    refused_replies x0 x1 x2 flow mid new says head gathered.given gathered.moved tells v w entry m closes refusal.BadLength None a
-    (body_defined (begun x0 x1 x2 flow mid new says head gathered.given gathered.moved) (stream new.flow.bytes x2) (first_of mid.head says) r
+    refused_replies x0 x1 x2 flow mid new says head gathered.given gathered.moved tells v w entry m closes
+    refusal.BadLength None a
+    (body_defined (begun x0 x1 x2 flow mid new says head gathered.given gathered.moved) (stream new.flow.bytes x2)
+    (first_of mid.head says) r
     refusal.BadLength first other (inr (refl, gathered.says))) closing
 stop_replies x0 x1 x2 flow mid new says head stopped.Memory gathered tells v w entry m closes r first other a closing =
-    memory_replies x0 x1 x2 flow mid new says head gathered.given gathered.moved tells v w entry m closes true (refused refusal.Memory) (a.1 _) a.0 closing
-stop_replies x0 x1 x2 flow mid new says head (stopped.Cut n) gathered tells v w entry m closes r first other a closing = absurd a
-stop_replies x0 x1 x2 flow mid new says head stopped.ReadFault gathered tells v w entry m closes r first other a closing = absurd a
+    memory_replies x0 x1 x2 flow mid new says head gathered.given gathered.moved tells v w entry m closes true
+    (refused refusal.Memory) (a.1 _) a.0 closing
+stop_replies x0 x1 x2 flow mid new says head
+    (stopped.Cut n) gathered tells v w entry m closes r first other a closing = absurd a
+stop_replies x0 x1 x2 flow mid new says head stopped.ReadFault gathered tells v w entry m closes r first other a
+    closing = absurd a
 
 -- ---- the source ended inside a body, or a read failed
 
@@ -359,15 +419,28 @@ no_rest ended.NoMemory = refl
 
 -- nothing was done
 pub passes_none : (end : Ended) (v : Sight) → Passes end v v
-passes_none end v = record { turns = []; drawn = sym (append-nil v.store.turns); rest = no_rest end; longer = longer_none v }
+passes_none end v = record
+    { turns = []; drawn = sym (append-nil v.store.turns); rest = no_rest end; longer = longer_none v }
 
-pub cut_body : (before now : Option (List ℕ)) (place n : ℕ) (b : Begun) → IsBegun b → Gave before now (b.head ++ b.framed) → n ≡ place
+pub cut_body : (before now : Option (List ℕ)) (place n : ℕ) (b : Begun) → IsBegun b
+    → Gave before now (b.head ++ b.framed) → n ≡ place
     → IfSome now (Stops b.at) → IfSome before (IsCut place n)
 cut_body None now place n b is gave at stops = tt
 cut_body (Some x) now place n b is gave at stops =
-    inr (at, (b, gave.0, is, gave.2 ∙ append_assoc b.head b.framed gave.0, subst (λ (z : Option (List ℕ)). IfSome z (Stops b.at)) gave.1 stops))
+    inr (
+      at,
+      (
+        b,
+        gave.0,
+        is,
+        gave.2
+            ∙ append_assoc b.head b.framed gave.0,
+        subst (λ (z : Option (List ℕ)). IfSome z (Stops b.at)) gave.1 stops,
+      ),
+    )
 
-pub stop_none : (x0 x1 x2 : Option (List ℕ)) (flow : Flow) (mid new : WireView) (says : Head) → ReadsHead x0 x1 flow mid says
+pub stop_none : (x0 x1 x2 : Option (List ℕ)) (flow : Flow) (mid new : WireView) (says : Head)
+    → ReadsHead x0 x1 flow mid says
     → (why : Stopped) → Gathers x1 x2 mid new (Err why) → (end : Ended) → StopEnds why end
     → NoneComes (stream flow.bytes x0) flow.taken end
 stop_none x0 x1 x2 flow mid new says head stopped.Long gathered end is = absurd is
@@ -375,10 +448,13 @@ stop_none x0 x1 x2 flow mid new says head stopped.Broken gathered end is = absur
 stop_none x0 x1 x2 flow mid new says head stopped.Memory gathered end is = absurd is
 stop_none x0 x1 x2 flow mid new says head (stopped.Cut n) gathered end is =
     subst (NoneComes (stream flow.bytes x0) flow.taken) (sym is)
-    (cut_body (stream flow.bytes x0) (stream new.flow.bytes x2) flow.taken n (begun x0 x1 x2 flow mid new says head gathered.given gathered.moved)
-    (is_begun x0 x1 x2 flow mid new says head gathered.given gathered.moved) (passed x0 x1 x2 flow mid new says head gathered.given gathered.moved).gave
+    (cut_body (stream flow.bytes x0) (stream new.flow.bytes x2) flow.taken n
+    (begun x0 x1 x2 flow mid new says head gathered.given gathered.moved)
+    (is_begun x0 x1 x2 flow mid new says head gathered.given gathered.moved)
+    (passed x0 x1 x2 flow mid new says head gathered.given gathered.moved).gave
     (gathered.says.0 ∙ head.begun) gathered.says.1)
-stop_none x0 x1 x2 flow mid new says head stopped.ReadFault gathered end is = subst (NoneComes (stream flow.bytes x0) flow.taken) (sym is) tt
+stop_none x0 x1 x2 flow mid new says head stopped.ReadFault gathered end is = subst
+    (NoneComes (stream flow.bytes x0) flow.taken) (sym is) tt
 
 pub passes_same : (end : Ended) (v w : Sight) → w ≡ v → Passes end v w
 passes_same end v w same = subst (λ (z : Sight). Passes end v z) (sym same) (passes_none end v)

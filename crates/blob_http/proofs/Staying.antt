@@ -39,14 +39,18 @@ answered_stays tells accepts h k f g asked entry text turns p q a =
     take_stays (arrivals h) (arrivals k) n (arrivals_prefix h k p) a.store_within in
     let rows : take m g ≡ take m f = take_stays f g m q a.index_within in
     record {
-      store_within = let l = prefix_length (arrivals h) (arrivals k) (arrivals_prefix h k p) in let s = a.store_within in omega arith;
+      store_within = let l = prefix_length (arrivals h) (arrivals k)
+          (arrivals_prefix h k p) in let s = a.store_within in omega arith;
       index_within = let l = prefix_length f g q in let s = a.index_within in omega arith;
-      replied = subst (λ (z : List Blob). IsReply tells accepts z (take m g) asked entry.kept turns entry.outcome text) (sym blobs)
-          (subst (λ (z : List Insertion). IsReply tells accepts (take n (arrivals h)) z asked entry.kept turns entry.outcome text) (sym rows) a.replied);
+      replied = subst (λ (z : List Blob). IsReply tells accepts z
+          (take m g) asked entry.kept turns entry.outcome text) (sym blobs)
+          (subst (λ (z : List Insertion). IsReply tells accepts
+          (take n (arrivals h)) z asked entry.kept turns entry.outcome text) (sym rows) a.replied);
       cause = cause_stays turns h k entry.outcome p a.cause;
     }
 
-pub holds_stays : (tells : Bool) (accepts : Accepts) (h k : List (Stamped StoreEvent)) (f g : List Insertion) (a : Answer)
+pub holds_stays : (tells : Bool) (accepts : Accepts) (h k : List (Stamped StoreEvent)) (f g : List Insertion)
+    (a : Answer)
     → IsPrefix h k → IsPrefix f g → AnswerHolds tells accepts h f a → AnswerHolds tells accepts k g a
 holds_stays tells accepts h k f g a p q is = answered_stays tells accepts h k f g a.asked a.entry a.text a.turns p q is
 
@@ -77,7 +81,8 @@ climbs_more m n (b ∷ rest) p q a r s c lp lq lr ls =
     (c.0, c.1, climbs_more b.entry.store_count b.entry.index_count rest p q a r s c.2 lp lq lr ls)
 
 -- the same entries, where more was seen since
-pub climbs_stay : (m n : ℕ) (rest : List Answer) (p q r s : ℕ) → Climbs m n rest p q → p ≤ r → q ≤ s → Climbs m n rest r s
+pub climbs_stay : (m n : ℕ) (rest : List Answer) (p q r s : ℕ) → Climbs m n rest p q → p ≤ r → q ≤ s
+    → Climbs m n rest r s
 climbs_stay m n [] p q r s c lr ls = (let x = c.0 in omega arith, let y = c.1 in omega arith)
 climbs_stay m n (b ∷ rest) p q r s c lr ls =
     (c.0, c.1, climbs_stay b.entry.store_count b.entry.index_count rest p q r s c.2 lr ls)

@@ -1,5 +1,6 @@
 -- One more answer extends what was served.
-use Rattle.std.proofs.Common.{◌≡◌, ℕ, ◌≤◌, List, [], ◌∷◌, ◌++◌, map, length, Bool, refl, ap, sym, subst, ◌∙◌, arith, append_assoc, Option, Some, None}
+use Rattle.std.proofs.Common.{◌≡◌, ℕ, ◌≤◌, List, [], ◌∷◌, ◌++◌, map, length, Bool, refl, ap, sym, subst, ◌∙◌, arith}
+use Rattle.std.proofs.Common.{append_assoc, Option, Some, None}
 use Rattle.std.specs.List.{flat_map}
 use Rattle.std.proofs.lemmas.List.{append-nil}
 use Rattle.std.proofs.lemmas.List.Concat.{flat_map-append}
@@ -22,7 +23,8 @@ pub took_none : (w : Option (List ℕ)) → Took w w []
 took_none None = refl
 took_none (Some w) = ap Some (sym (append-nil w))
 
-pub TookFront-chain : (a b c : Option (List ℕ)) (xs ys : List ℕ) → Took a b xs → TookFront b c ys → TookFront a c (xs ++ ys)
+pub TookFront-chain : (a b c : Option (List ℕ)) (xs ys : List ℕ) → Took a b xs → TookFront b c ys
+    → TookFront a c (xs ++ ys)
 TookFront-chain a b c xs ys h k =
     (xs ++ k.0, k.1, ap (λ (z : List ℕ). xs ++ z) k.2 ∙ sym (append_assoc xs k.0 k.1), Took-chain a b c xs k.0 h k.3)
 
@@ -38,8 +40,10 @@ flat_push f xs x = flat_map-append f xs (x ∷ []) ∙ ap (λ (t : List _). flat
 drawn_more : (v w before rest turns all : List ℕ) → w ≡ v ++ (before ++ rest) → rest ≡ [] → all ≡ before ++ turns
     → w ++ turns ≡ v ++ (all ++ [])
 drawn_more v w before rest turns all drawn none push =
-    let plain : w ≡ v ++ before = drawn ∙ ap (λ (z : List ℕ). v ++ (before ++ z)) none ∙ ap (λ (z : List ℕ). v ++ z) (append-nil before) in
-    ap (λ (z : List ℕ). z ++ turns) plain ∙ append_assoc v before turns ∙ ap (λ (z : List ℕ). v ++ z) (sym push ∙ sym (append-nil all))
+    let plain : w ≡ v ++ before = drawn ∙ ap (λ (z : List ℕ). v ++ (before ++ z)) none
+    ∙ ap (λ (z : List ℕ). v ++ z) (append-nil before) in
+    ap (λ (z : List ℕ). z ++ turns) plain ∙ append_assoc v before turns
+    ∙ ap (λ (z : List ℕ). v ++ z) (sym push ∙ sym (append-nil all))
 
 module _ (tells : Bool) where
   -- nothing was served yet
@@ -76,20 +80,28 @@ module _ (tells : Bool) where
         heard = subst heard' (sym (map-append (λ (b : Answer). b.asked) s.answers (a ∷ []))) (more_heard _ s.heard);
         written = subst wrote' (sym (flat_push (λ (b : Answer). b.text) s.answers a)) (more_text _ s.written);
         each = All-push (AnswerHolds tells v.index.accepts x.store.history x.index.shown) s.answers a
-            (All-weaker (AnswerHolds tells v.index.accepts w.store.history w.index.shown) (AnswerHolds tells v.index.accepts x.store.history x.index.shown)
-            (λ b p. holds_stays tells v.index.accepts w.store.history x.store.history w.index.shown x.index.shown b h.longer.store h.longer.shown p) s.answers s.each)
-            (subst (λ acc. IsAnswered tells acc x.store.history x.index.shown asked entry text h.turns) same h.answered);
-        climbs = climbs_more (length (arrivals v.store.history)) (length v.index.shown) s.answers (length (arrivals w.store.history)) (length w.index.shown) a
-            (length (arrivals x.store.history)) (length x.index.shown) s.climbs h.store_low h.index_low h.answered.store_within h.answered.index_within;
+            (All-weaker (AnswerHolds tells v.index.accepts w.store.history w.index.shown)
+            (AnswerHolds tells v.index.accepts x.store.history x.index.shown)
+            (λ b p. holds_stays tells v.index.accepts w.store.history x.store.history w.index.shown x.index.shown b
+            h.longer.store h.longer.shown p) s.answers s.each)
+            (subst (λ acc. IsAnswered tells acc x.store.history x.index.shown asked entry text h.turns) same
+            h.answered);
+        climbs = climbs_more (length (arrivals v.store.history)) (length v.index.shown) s.answers
+            (length (arrivals w.store.history)) (length w.index.shown) a
+            (length (arrivals x.store.history))
+            (length x.index.shown) s.climbs h.store_low h.index_low h.answered.store_within h.answered.index_within;
         rest = [];
-        turns = h.drawn ∙ drawn_more v.store.turns w.store.turns (flat_map (λ (b : Answer). b.turns) s.answers) s.rest h.turns
-            (flat_map (λ (b : Answer). b.turns) (s.answers ++ a ∷ [])) s.turns s.rests (flat_push (λ (b : Answer). b.turns) s.answers a);
+        turns = h.drawn ∙ drawn_more v.store.turns w.store.turns
+            (flat_map (λ (b : Answer). b.turns) s.answers) s.rest h.turns
+            (flat_map (λ (b : Answer). b.turns) (s.answers ++ a ∷ [])) s.turns s.rests
+            (flat_push (λ (b : Answer). b.turns) s.answers a);
         rests = refl;
         longer = longer_chain v w x s.longer h.longer;
       }
 
   -- no further answer, where the pass has maybe seen more, and drawn turns that belong to no answer
-  pub serves_ends : (v w x : Sight) (told told' : List Answered) (heard heard' : List Asked → Type 0) (wrote wrote' : List ℕ → Type 0)
+  pub serves_ends : (v w x : Sight) (told told' : List Answered) (heard heard' : List Asked → Type 0)
+      (wrote wrote' : List ℕ → Type 0)
       (rests : List ℕ → Type 0) (turns : List ℕ) → Serves tells v w told told' heard wrote HasNone
       → ((asked : List Asked) → heard asked → heard' asked) → ((texts : List ℕ) → wrote texts → wrote' texts)
       → x.store.turns ≡ w.store.turns ++ turns → rests turns → Longer w x
@@ -99,21 +111,27 @@ module _ (tells : Bool) where
     entries = s.entries;
     heard = f _ s.heard;
     written = g _ s.written;
-    each = All-weaker (AnswerHolds tells v.index.accepts w.store.history w.index.shown) (AnswerHolds tells v.index.accepts x.store.history x.index.shown)
-        (λ b p. holds_stays tells v.index.accepts w.store.history x.store.history w.index.shown x.index.shown b longer.store longer.shown p) s.answers s.each;
-    climbs = climbs_stay (length (arrivals v.store.history)) (length v.index.shown) s.answers (length (arrivals w.store.history)) (length w.index.shown)
+    each = All-weaker (AnswerHolds tells v.index.accepts w.store.history w.index.shown)
+        (AnswerHolds tells v.index.accepts x.store.history x.index.shown)
+        (λ b p. holds_stays tells v.index.accepts w.store.history x.store.history w.index.shown x.index.shown b
+        longer.store longer.shown p) s.answers s.each;
+    climbs = climbs_stay (length (arrivals v.store.history)) (length v.index.shown) s.answers
+        (length (arrivals w.store.history)) (length w.index.shown)
         (length (arrivals x.store.history)) (length x.index.shown) s.climbs
-        (prefix_length (arrivals w.store.history) (arrivals x.store.history) (arrivals_prefix w.store.history x.store.history longer.store))
+        (prefix_length (arrivals w.store.history) (arrivals x.store.history)
+        (arrivals_prefix w.store.history x.store.history longer.store))
         (prefix_length w.index.shown x.index.shown longer.shown);
     rest = turns;
-    turns = drawn ∙ drawn_rest v.store.turns w.store.turns (flat_map (λ (b : Answer). b.turns) s.answers) s.rest turns s.turns s.rests;
+    turns = drawn ∙ drawn_rest v.store.turns w.store.turns
+        (flat_map (λ (b : Answer). b.turns) s.answers) s.rest turns s.turns s.rests;
     rests = r;
     longer = longer_chain v w x s.longer longer;
   }
     where
       drawn_rest : (v w all rest turns : List ℕ) → w ≡ v ++ (all ++ rest) → rest ≡ [] → w ++ turns ≡ v ++ (all ++ turns)
       drawn_rest v w all rest turns drawn none =
-          let plain : w ≡ v ++ all = drawn ∙ ap (λ (z : List ℕ). v ++ (all ++ z)) none ∙ ap (λ (z : List ℕ). v ++ z) (append-nil all) in
+          let plain : w ≡ v ++ all = drawn ∙ ap (λ (z : List ℕ). v ++ (all ++ z)) none
+          ∙ ap (λ (z : List ℕ). v ++ z) (append-nil all) in
           ap (λ (z : List ℕ). z ++ turns) plain ∙ append_assoc v all turns
 
 rose_since : (a b c : ℕ) → a ≤ b → Rose b c → Rose a c

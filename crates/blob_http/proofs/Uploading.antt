@@ -1,5 +1,7 @@
 -- What an upload comes to, from its body to its reply.
-use Rattle.std.proofs.Common.{◌≡◌, ℕ, List, [], ◌++◌, length, take, Bool, true, false, ◌||◌, not, Option, Some, None, Result, Ok, Err, IfOk, IfErr, IsErrOf, refl, ap, sym, subst, ◌∙◌, inl, inr, ◌⊎◌, arith, if◌then◌else◌, codes}
+use Rattle.std.proofs.Common.{◌≡◌, ℕ, List, [], ◌++◌, length, take, Bool, true, false, ◌||◌, not, Option, Some, None}
+use Rattle.std.proofs.Common.{Result, Ok, Err, IfOk, IfErr, IsErrOf, refl, ap, sym, subst, ◌∙◌, inl, inr, ◌⊎◌, arith}
+use Rattle.std.proofs.Common.{if◌then◌else◌, codes}
 use Rattle.std.specs.Option.{option_map}
 use Rattle.std.proofs.lemmas.List.{append-nil, take_all, length-map}
 use Rattle.answer_text.specs.declared.refusal.Refusal.{Refusal}
@@ -53,27 +55,33 @@ use Rattle.blob_http.proofs.Requesting.{begun, is_begun, passed, cut_body, true_
 
 -- ---- the boundary
 
-bounded : (o : Option (List ℕ)) (framing : Framing) (b : Option (List ℕ)) → upload_of framing o ≡ Ok b → (c : List ℕ) × (o ≡ Some c)
+bounded : (o : Option (List ℕ)) (framing : Framing) (b : Option (List ℕ)) → upload_of framing o ≡ Ok b
+    → (c : List ℕ) × (o ≡ Some c)
 bounded None framing b e = absurd (cc e)
 bounded (Some c) framing b e = (c, refl)
 
-upload_bounded : (framing : Framing) (content_type b : Option (List ℕ)) → early_of route.Upload framing content_type ≡ Ok b
+upload_bounded : (framing : Framing) (content_type b : Option (List ℕ))
+    → early_of route.Upload framing content_type ≡ Ok b
     → (c : List ℕ) × (boundary_in content_type ≡ Some c)
 unfolding early_of
 upload_bounded framing content_type b e = bounded (boundary_in content_type) framing b e
 
 -- an upload that isn't refused has a boundary
-pub has_boundary : (head : List ℕ) (says : Head) → first_of head says ≡ Ok route.Upload → (b : List ℕ) × (boundary_at head says ≡ Some b)
+pub has_boundary : (head : List ℕ) (says : Head) → first_of head says ≡ Ok route.Upload
+    → (b : List ℕ) × (boundary_at head says ≡ Some b)
 has_boundary head says is = by_route (route_of (piece head says.method) (piece head says.path)) is
   where
-    by_early : (r : Route) (e : Result (Option (List ℕ)) Refusal) → early_of r says.framing (option_map (piece head) says.content_type) ≡ e
+    by_early : (r : Route) (e : Result (Option (List ℕ)) Refusal)
+        → early_of r says.framing (option_map (piece head) says.content_type) ≡ e
         → early_by r e ≡ Ok route.Upload → (b : List ℕ) × (boundary_at head says ≡ Some b)
     by_early r (Ok b) so is =
         let same : r ≡ route.Upload = cc is in
-        upload_bounded says.framing (option_map (piece head) says.content_type) b (subst (λ (z : Route). early_of z says.framing (option_map (piece head) says.content_type) ≡ Ok b) same so)
+        upload_bounded says.framing (option_map (piece head) says.content_type) b
+        (subst (λ (z : Route). early_of z says.framing (option_map (piece head) says.content_type) ≡ Ok b) same so)
     by_early r (Err why) so is = absurd (cc is)
 
-    by_route : (r : Result Route RouteFault) → first_by head says r ≡ Ok route.Upload → (b : List ℕ) × (boundary_at head says ≡ Some b)
+    by_route : (r : Result Route RouteFault) → first_by head says r ≡ Ok route.Upload
+        → (b : List ℕ) × (boundary_at head says ≡ Some b)
     by_route (Ok r) is = by_early r (early_of r says.framing (option_map (piece head) says.content_type)) refl is
     by_route (Err f) is = absurd (cc is)
 
@@ -92,54 +100,87 @@ boundary_is (Some text) b is = by_value (value_of (codes "multipart/form-data") 
 
 -- ---- the reply
 
-told_cause : (turns : List ℕ) (h : List (Stamped StoreEvent)) (o : Outcome) (text : List ℕ) (m : Made) → IsTold o text m → HasCauseIn turns h o
+told_cause : (turns : List ℕ) (h : List (Stamped StoreEvent)) (o : Outcome) (text : List ℕ) (m : Made)
+    → IsTold o text m → HasCauseIn turns h o
     → HasCauseIn turns h (outcome_of m)
 told_cause turns h o text made.Memory is c = tt
 told_cause turns h o text (made.Told p head rest) is c = subst (HasCauseIn turns h) (sym is.0) c
 
-upload_cause : (closes : Bool) (kept : List (List ℕ × ℕ)) (c : Came) (m : Made) (turns : List ℕ) (h : List (Stamped StoreEvent))
+upload_cause : (closes : Bool) (kept : List (List ℕ × ℕ)) (c : Came) (m : Made) (turns : List ℕ)
+    (h : List (Stamped StoreEvent))
     → UploadMade closes kept c (Ok m) → ShowsWhy c turns h → HasCauseIn turns h (outcome_of m)
 upload_cause closes kept c made.Memory turns h is why = tt
-upload_cause closes kept came.Whole (made.Told o head rest) turns h is why = told_cause turns h Defined _ (made.Told o head rest) is tt
-upload_cause closes kept (came.Refused r) (made.Told o head rest) turns h is why = told_cause turns h Defined _ (made.Told o head rest) is tt
-upload_cause closes kept (came.Full n pack) (made.Told o head rest) turns h is why = told_cause turns h (Full n pack) _ (made.Told o head rest) is why
-upload_cause closes kept came.Disk (made.Told o head rest) turns h is why = told_cause turns h Disk _ (made.Told o head rest) is why
+upload_cause closes kept came.Whole (made.Told o head rest) turns h is why = told_cause turns h Defined _
+    (made.Told o head rest) is tt
+upload_cause closes kept (came.Refused r) (made.Told o head rest) turns h is why = told_cause turns h Defined _
+    (made.Told o head rest) is tt
+upload_cause closes kept (came.Full n pack) (made.Told o head rest) turns h is why = told_cause turns h
+    (Full n pack) _ (made.Told o head rest) is why
+upload_cause closes kept came.Disk (made.Told o head rest) turns h is why = told_cause turns h Disk _
+    (made.Told o head rest) is why
 upload_cause closes kept came.Memory (made.Told o head rest) turns h is why = absurd is
-upload_cause closes kept (came.Ended ends.Closed) (made.Told o head rest) turns h is why = told_cause turns h Defined _ (made.Told o head rest) is tt
+upload_cause closes kept (came.Ended ends.Closed)
+    (made.Told o head rest) turns h is why = told_cause turns h Defined _ (made.Told o head rest) is tt
 upload_cause closes kept (came.Ended (ends.Cut n)) (made.Told o head rest) turns h is why = absurd is
-upload_cause closes kept (came.Ended (ends.BadHead n)) (made.Told o head rest) turns h is why = told_cause turns h Defined _ (made.Told o head rest) is tt
-upload_cause closes kept (came.Ended (ends.BadLength n)) (made.Told o head rest) turns h is why = told_cause turns h Defined _ (made.Told o head rest) is tt
-upload_cause closes kept (came.Ended (ends.TooLong n)) (made.Told o head rest) turns h is why = told_cause turns h Defined _ (made.Told o head rest) is tt
+upload_cause closes kept (came.Ended (ends.BadHead n))
+    (made.Told o head rest) turns h is why = told_cause turns h Defined _ (made.Told o head rest) is tt
+upload_cause closes kept (came.Ended (ends.BadLength n))
+    (made.Told o head rest) turns h is why = told_cause turns h Defined _ (made.Told o head rest) is tt
+upload_cause closes kept (came.Ended (ends.TooLong n))
+    (made.Told o head rest) turns h is why = told_cause turns h Defined _ (made.Told o head rest) is tt
 upload_cause closes kept (came.Ended ends.ReadFault) (made.Told o head rest) turns h is why = absurd is
 
 not_whole : is_whole came.Whole ≡ false → ⊥
 not_whole e = true_not e
 
 -- what an upload that isn't whole came to, and its reply
-upload_said : (boundary given : List ℕ) (parts : List Part) (wire : WireView) (x : Option (List ℕ)) (closes : Bool) (c : Came) (m : Made) (n t : ℕ)
-    → UploadMade closes (sizes parts) c (Ok m) → Comes boundary given parts wire x c → Turns c n t → (is_whole c ≡ false) ⊎ (m ≡ made.Memory)
+upload_said : (boundary given : List ℕ) (parts : List Part) (wire : WireView) (x : Option (List ℕ)) (closes : Bool)
+    (c : Came) (m : Made) (n t : ℕ)
+    → UploadMade closes (sizes parts) c (Ok m) → Comes boundary given parts wire x c → Turns c n t
+    → (is_whole c ≡ false) ⊎ (m ≡ made.Memory)
     → (d : Came) × Comes boundary given parts wire x d × Turns d n t × IsUploadReply parts d (outcome_of m) (text_of m)
 upload_said boundary given parts wire x closes c made.Memory n t is comes turns part = (c, comes, turns, refl)
 upload_said boundary given parts wire x closes came.Whole (made.Told o head rest) n t is comes turns part =
     absurd (elim part [ inl e ↦ not_whole e | inr e ↦ cc e ])
-upload_said boundary given parts wire x closes (came.Refused why) (made.Told o head rest) n t is comes turns part =
-    (came.Refused why, comes, turns, subst (λ (z : Outcome). IsUploadReply parts (came.Refused why) z (head ++ rest)) (sym is.0) is.1)
-upload_said boundary given parts wire x closes (came.Full k pack) (made.Told o head rest) n t is comes turns part =
-    (came.Full k pack, comes, turns, subst (λ (z : Outcome). IsUploadReply parts (came.Full k pack) z (head ++ rest)) (sym is.0) (refl, is.1))
-upload_said boundary given parts wire x closes came.Disk (made.Told o head rest) n t is comes turns part =
-    (came.Disk, comes, turns, subst (λ (z : Outcome). IsUploadReply parts came.Disk z (head ++ rest)) (sym is.0) (refl, is.1))
-upload_said boundary given parts wire x closes came.Memory (made.Told o head rest) n t is comes turns part = absurd is
-upload_said boundary given parts wire x closes (came.Ended ends.Closed) (made.Told o head rest) n t is comes turns part = absurd comes.1
-upload_said boundary given parts wire x closes (came.Ended (ends.Cut k)) (made.Told o head rest) n t is comes turns part = absurd is
-upload_said boundary given parts wire x closes (came.Ended (ends.BadHead k)) (made.Told o head rest) n t is comes turns part = absurd comes.1
-upload_said boundary given parts wire x closes (came.Ended (ends.BadLength k)) (made.Told o head rest) n t is comes turns part = (
-  came.Refused refusal.BadLength,
-  (comes.0, comes.1.1),
+upload_said boundary given parts wire x closes (came.Refused why) (made.Told o head rest) n t is comes turns part = (
+  came.Refused why,
+  comes,
   turns,
-  subst (λ (z : Outcome). IsUploadReply parts (came.Refused refusal.BadLength) z (head ++ rest)) (sym is.0) is.1,
+  subst (λ (z : Outcome). IsUploadReply parts (came.Refused why) z (head ++ rest))
+      (sym is.0) is.1,
 )
-upload_said boundary given parts wire x closes (came.Ended (ends.TooLong k)) (made.Told o head rest) n t is comes turns part = absurd comes.1
-upload_said boundary given parts wire x closes (came.Ended ends.ReadFault) (made.Told o head rest) n t is comes turns part = absurd is
+upload_said boundary given parts wire x closes (came.Full k pack) (made.Told o head rest) n t is comes turns part = (
+  came.Full k pack,
+  comes,
+  turns,
+  subst (λ (z : Outcome). IsUploadReply parts (came.Full k pack) z (head ++ rest))
+      (sym is.0) (refl, is.1),
+)
+upload_said boundary given parts wire x closes came.Disk (made.Told o head rest) n t is comes turns part = (
+  came.Disk,
+  comes,
+  turns,
+  subst (λ (z : Outcome). IsUploadReply parts came.Disk z (head ++ rest)) (sym is.0)
+      (refl, is.1),
+)
+upload_said boundary given parts wire x closes came.Memory (made.Told o head rest) n t is comes turns part = absurd is
+upload_said boundary given parts wire x closes (came.Ended ends.Closed)
+    (made.Told o head rest) n t is comes turns part = absurd comes.1
+upload_said boundary given parts wire x closes (came.Ended (ends.Cut k))
+    (made.Told o head rest) n t is comes turns part = absurd is
+upload_said boundary given parts wire x closes (came.Ended (ends.BadHead k))
+    (made.Told o head rest) n t is comes turns part = absurd comes.1
+upload_said boundary given parts wire x closes (came.Ended (ends.BadLength k))
+    (made.Told o head rest) n t is comes turns part = (
+      came.Refused refusal.BadLength,
+      (comes.0, comes.1.1),
+      turns,
+      subst (λ (z : Outcome). IsUploadReply parts (came.Refused refusal.BadLength) z (head ++ rest)) (sym is.0) is.1,
+    )
+upload_said boundary given parts wire x closes (came.Ended (ends.TooLong k))
+    (made.Told o head rest) n t is comes turns part = absurd comes.1
+upload_said boundary given parts wire x closes (came.Ended ends.ReadFault)
+    (made.Told o head rest) n t is comes turns part = absurd is
 
 added_longer : (parts : List Part) (c : Came) (v w : Sight) → Adds parts c v w → Longer v w
 added_longer parts c v w adds = record {
@@ -151,11 +192,19 @@ added_longer parts c v w adds = record {
 }
 
 -- an upload in which the connection ends leaves the turns that it drew
-pub upload_passes : (boundary : List ℕ) (x1 x2 : Option (List ℕ)) (mid new : WireView) (v w : Sight) (listed : List (List ℕ × ℕ)) (c : Came)
-    (closes : Bool) → Uploads boundary x1 x2 mid new v w [] listed c → (end : Ended) → UploadMade closes listed c (Err end) → Passes end v w
+pub upload_passes : (boundary : List ℕ) (x1 x2 : Option (List ℕ)) (mid new : WireView) (v w : Sight)
+    (listed : List (List ℕ × ℕ)) (c : Came)
+    (closes : Bool) → Uploads boundary x1 x2 mid new v w [] listed c → (end : Ended)
+    → UploadMade closes listed c (Err end) → Passes end v w
 upload_passes boundary x1 x2 mid new v w listed c closes u end is =
     let adds = uploads_add boundary x1 x2 mid new v w [] listed c u in
-    record { turns = adds.grew.further; drawn = adds.grew.drawn; rest = may_rest c end adds.grew.further is; longer = added_longer u.parts c v w adds }
+    record {
+      turns = adds.grew.further;
+      drawn = adds.grew.drawn;
+      rest = may_rest c end adds.grew.further is;
+      longer =
+          added_longer u.parts c v w adds;
+    }
   where
     may_rest : (d : Came) (end : Ended) (turns : List ℕ) → UploadMade closes listed d (Err end) → IsRest end turns
     may_rest came.Whole end turns is = absurd is
@@ -170,9 +219,12 @@ upload_passes boundary x1 x2 mid new v w listed c closes u end is =
     may_rest (came.Ended (ends.TooLong n)) end turns is = absurd is
     may_rest (came.Ended ends.ReadFault) end turns is = subst (λ (e : Ended). IsRest e turns) (sym is) tt
 
-module _ (x0 x1 x2 : Option (List ℕ)) (flow : Flow) (mid new : WireView) (says : Head) (head : ReadsHead x0 x1 flow mid says)
-    (first : first_of mid.head says ≡ Ok route.Upload) (boundary : List ℕ) (bounds : boundary_at mid.head says ≡ Some boundary)
-    (tells : Bool) (v w : Sight) (listed : List (List ℕ × ℕ)) (c : Came) (u : Uploads boundary x1 x2 mid new v w [] listed c) where
+module _ (x0 x1 x2 : Option (List ℕ)) (flow : Flow) (mid new : WireView) (says : Head)
+    (head : ReadsHead x0 x1 flow mid says)
+    (first : first_of mid.head says ≡ Ok route.Upload) (boundary : List ℕ)
+    (bounds : boundary_at mid.head says ≡ Some boundary)
+    (tells : Bool) (v w : Sight) (listed : List (List ℕ × ℕ)) (c : Came)
+    (u : Uploads boundary x1 x2 mid new v w [] listed c) where
   adds : Adds u.parts c v w
   adds = uploads_add boundary x1 x2 mid new v w [] listed c u
 
@@ -202,41 +254,56 @@ module _ (x0 x1 x2 : Option (List ℕ)) (flow : Flow) (mid new : WireView) (says
   longer : Longer v w
   longer = added_longer u.parts c v w adds
 
-  handles : (asked : Asked) (entry : Answered) (m : Made) → UploadMade says.closes listed c (Ok m) → IsUploadEntry w (length listed) m entry
-      → ((g : List Insertion) → IsReply tells w.index.accepts (arrivals w.store.history) g asked entry.kept turns (outcome_of m) (text_of m))
+  handles : (asked : Asked) (entry : Answered) (m : Made) → UploadMade says.closes listed c (Ok m)
+      → IsUploadEntry w (length listed) m entry
+      → ((g : List Insertion)
+      → IsReply tells w.index.accepts (arrivals w.store.history) g asked entry.kept turns (outcome_of m) (text_of m))
       → Handles tells asked v w entry (text_of m)
   handles asked entry m is e replied =
-      let all : take entry.store_count (arrivals w.store.history) ≡ arrivals w.store.history = take_all entry.store_count (arrivals w.store.history) (let p = e.store in omega arith) in
+      let all : take entry.store_count
+      (arrivals w.store.history) ≡ arrivals w.store.history = take_all entry.store_count
+      (arrivals w.store.history) (let p = e.store in omega arith) in
       record {
         turns = turns;
         drawn = adds.grew.drawn;
         answered = record {
           store_within = let p = e.store in omega arith;
           index_within = let p = e.index in omega arith;
-          replied = subst (λ (o : Outcome). IsReply tells w.index.accepts (take entry.store_count (arrivals w.store.history)) (take entry.index_count w.index.shown) asked entry.kept turns o (text_of m))
+          replied = subst (λ (o : Outcome). IsReply tells w.index.accepts
+              (take entry.store_count (arrivals w.store.history))
+              (take entry.index_count w.index.shown) asked entry.kept turns o (text_of m))
               (sym e.outcome)
-              (subst (λ (b : List Blob). IsReply tells w.index.accepts b (take entry.index_count w.index.shown) asked entry.kept turns (outcome_of m) (text_of m)) (sym all)
+              (subst (λ (b : List Blob). IsReply tells w.index.accepts b
+              (take entry.index_count w.index.shown) asked entry.kept turns (outcome_of m) (text_of m)) (sym all)
               (replied (take entry.index_count w.index.shown)));
           cause = subst (λ (o : Outcome). HasCauseIn turns w.store.history o) (sym e.outcome)
               (upload_cause says.closes listed c m turns w.store.history is adds.why);
         };
-        store_low = let p = e.store in let l = prefix_length (arrivals v.store.history) (arrivals w.store.history) (arrivals_prefix v.store.history w.store.history adds.grew.longer) in omega arith;
+        store_low = let p = e.store in let l = prefix_length (arrivals v.store.history) (arrivals w.store.history)
+            (arrivals_prefix v.store.history w.store.history adds.grew.longer) in omega arith;
         index_low = let p = e.index in let l = ap (λ i. length i.shown) adds.index in omega arith;
         longer = longer;
       }
 
   -- an upload that isn't whole, or without memory for the reply
-  part_replies : (entry : Answered) (m : Made) (closes : Bool) → UploadMade says.closes listed c (Ok m) → IsUploadEntry w (length listed) m entry
+  part_replies : (entry : Answered) (m : Made) (closes : Bool) → UploadMade says.closes listed c (Ok m)
+      → IsUploadEntry w (length listed) m entry
       → (is_whole c ≡ false) ⊎ (m ≡ made.Memory) → closes ≡ true → Replies x0 x2 flow new tells v w entry m closes
   part_replies entry m closes is e part closing =
       let b = begun x0 x1 x2 flow mid new says head u.given u.moved in
       let after = stream new.flow.bytes x2 in
       let n : entry.kept ≡ length u.parts = counted entry.kept e.kept in
-      let said = upload_said boundary u.given u.parts new (to_come new x2) says.closes c m entry.kept (length turns) (made_so m is) comes
+      let said = upload_said boundary u.given u.parts new (to_come new x2) says.closes c m entry.kept (length turns)
+      (made_so m is) comes
       (subst (λ (k : ℕ). Turns c k (length turns)) (sym n) adds.turns) part in
       record {
         asked = Front b after;
-        comes = (is_begun x0 x1 x2 flow mid new says head u.given u.moved, passed x0 x1 x2 flow mid new says head u.given u.moved, refl);
+        comes = (
+          is_begun x0 x1 x2 flow mid new says head u.given u.moved,
+          passed x0 x1 x2 flow mid new says head
+              u.given u.moved,
+          refl,
+        );
         handles = handles (Front b after) entry m is e
             (λ g. inl (kept entry.kept e.kept, (said.0, new, refl, said.1, said.2, said.3)));
         closing = closing;
@@ -245,25 +312,33 @@ module _ (x0 x1 x2 : Option (List ℕ)) (flow : Flow) (mid new : WireView) (says
 
   -- a whole upload
   whole_replies : (entry : Answered) (o : Outcome) (text rest : List ℕ) (closes : Bool) → c ≡ came.Whole
-      → UploadMade says.closes listed c (Ok (made.Told o text rest)) → IsUploadEntry w (length listed) (made.Told o text rest) entry
+      → UploadMade says.closes listed c (Ok (made.Told o text rest))
+      → IsUploadEntry w (length listed) (made.Told o text rest) entry
       → closes ≡ says.closes → Replies x0 x2 flow new tells v w entry (made.Told o text rest) closes
   whole_replies entry o text rest closes whole is e closing =
       let done = subst (λ (z : Came). Comes boundary u.given u.parts new (to_come new x2) z) whole comes in
-      let told = subst (λ (z : Came). UploadMade says.closes (sizes u.parts) z (Ok (made.Told o text rest))) whole (made_so (made.Told o text rest) is) in
+      let told = subst (λ (z : Came). UploadMade says.closes (sizes u.parts) z (Ok (made.Told o text rest))) whole
+      (made_so (made.Told o text rest) is) in
       let count = subst (λ (z : Came). Turns z (length u.parts) (length turns)) whole adds.turns in
       let r : Request = record { head = mid.head; says = says; framed = u.moved.0; body = u.given } in
       let begins = is_begun x0 x1 x2 flow mid new says head u.given u.moved in
-      let leads : Leads (body_of says.framing) body.Done u.moved.0 u.given = subst (λ (b : Body). Leads (body_of says.framing) b u.moved.0 u.given) done.0 begins.leads in
+      let leads : Leads (body_of says.framing) body.Done u.moved.0 u.given = subst
+      (λ (b : Body). Leads (body_of says.framing) b u.moved.0 u.given) done.0 begins.leads in
       record {
         asked = Whole r;
-        comes = (request_read mid.head u.moved.0 u.given says head.lines head.read leads, passed x0 x1 x2 flow mid new says head u.given u.moved);
+        comes = (
+          request_read mid.head u.moved.0 u.given says head.lines head.read leads,
+          passed x0 x1 x2 flow mid new
+              says head u.given u.moved,
+        );
         handles = handles (Whole r) entry (made.Told o text rest) is e
             (λ g. inl (kept entry.kept e.kept, done.2, count ∙ sym (counted entry.kept e.kept), told.0, told.1));
         closing = closing;
         ready = λ still. done.0;
       }
 
-  pub upload_replies : (entry : Answered) (m : Made) (closes : Bool) → UploadMade says.closes listed c (Ok m) → IsUploadEntry w (length listed) m entry
+  pub upload_replies : (entry : Answered) (m : Made) (closes : Bool) → UploadMade says.closes listed c (Ok m)
+      → IsUploadEntry w (length listed) m entry
       → closes ≡ ((says.closes || not (is_whole c)) || is_memory m) → Replies x0 x2 flow new tells v w entry m closes
   upload_replies entry made.Memory closes is e closing =
       part_replies entry made.Memory closes is e (inr refl) (closing ∙ or_true (says.closes || not (is_whole c)))
@@ -295,10 +370,12 @@ module _ (x0 x1 x2 : Option (List ℕ)) (flow : Flow) (mid new : WireView) (says
       by_whole false part = part_replies entry (made.Told o text rest) closes is e (inl part)
           (closing ∙ ap (λ (b : Bool). (says.closes || not b) || false) part ∙ or_true says.closes)
 
-  pub upload_none : (new.begun ≡ mid.begun) → (end : Ended) → UploadMade says.closes listed c (Err end) → NoneComes (stream flow.bytes x0) flow.taken end
+  pub upload_none : (new.begun ≡ mid.begun) → (end : Ended) → UploadMade says.closes listed c (Err end)
+      → NoneComes (stream flow.bytes x0) flow.taken end
   upload_none same end is = by_came c end is comes
     where
-      by_came : (d : Came) (end : Ended) → UploadMade says.closes listed d (Err end) → Comes boundary u.given u.parts new (to_come new x2) d
+      by_came : (d : Came) (end : Ended) → UploadMade says.closes listed d (Err end)
+          → Comes boundary u.given u.parts new (to_come new x2) d
           → NoneComes (stream flow.bytes x0) flow.taken end
       by_came came.Whole end is said = absurd is
       by_came (came.Refused why) end is said = absurd is
@@ -308,8 +385,10 @@ module _ (x0 x1 x2 : Option (List ℕ)) (flow : Flow) (mid new : WireView) (says
       by_came (came.Ended ends.Closed) end is said = absurd is
       by_came (came.Ended (ends.Cut n)) end is said =
           subst (NoneComes (stream flow.bytes x0) flow.taken) (sym is)
-          (cut_body (stream flow.bytes x0) (stream new.flow.bytes x2) flow.taken n (begun x0 x1 x2 flow mid new says head u.given u.moved)
-          (is_begun x0 x1 x2 flow mid new says head u.given u.moved) (passed x0 x1 x2 flow mid new says head u.given u.moved).gave
+          (cut_body (stream flow.bytes x0) (stream new.flow.bytes x2) flow.taken n
+          (begun x0 x1 x2 flow mid new says head u.given u.moved)
+          (is_begun x0 x1 x2 flow mid new says head u.given u.moved)
+          (passed x0 x1 x2 flow mid new says head u.given u.moved).gave
           (said.1.0 ∙ same ∙ head.begun) said.1.1)
       by_came (came.Ended (ends.BadHead n)) end is said = absurd is
       by_came (came.Ended (ends.BadLength n)) end is said = absurd is
@@ -317,7 +396,8 @@ module _ (x0 x1 x2 : Option (List ℕ)) (flow : Flow) (mid new : WireView) (says
       by_came (came.Ended ends.ReadFault) end is said = subst (NoneComes (stream flow.bytes x0) flow.taken) (sym is) tt
 
 -- where the connection ends with a failed read, that is what the upload ended with
-pub ended_so : (closes : Bool) (kept : List (List ℕ × ℕ)) (c : Came) → UploadMade closes kept c (Err ended.ReadFault) → c ≡ came.Ended ends.ReadFault
+pub ended_so : (closes : Bool) (kept : List (List ℕ × ℕ)) (c : Came) → UploadMade closes kept c (Err ended.ReadFault)
+    → c ≡ came.Ended ends.ReadFault
 ended_so closes kept came.Whole is = absurd is
 ended_so closes kept (came.Refused why) is = absurd is
 ended_so closes kept (came.Full n pack) is = absurd is
@@ -331,7 +411,8 @@ ended_so closes kept (came.Ended (ends.TooLong n)) is = absurd is
 ended_so closes kept (came.Ended ends.ReadFault) is = refl
 
 -- what is said of a value in three clauses
-pub if_ok_three : {X Y : Type 0} (r : Result X Y) (P Q R S : X → Type 0) → ((x : X) → P x → Q x → R x → S x) → IfOk r P → IfOk r Q → IfOk r R
+pub if_ok_three : {X Y : Type 0} (r : Result X Y) (P Q R S : X → Type 0) → ((x : X) → P x → Q x → R x → S x)
+    → IfOk r P → IfOk r Q → IfOk r R
     → IfOk r S
 if_ok_three (Ok x) P Q R S f p q t = f x p q t
 if_ok_three (Err y) P Q R S f p q t = tt

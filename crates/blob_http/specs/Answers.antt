@@ -1,5 +1,6 @@
 -- What is answered to a question, over the blobs that arrived and the Inserts.
-use Rattle.std.specs.Prelude.{◌≡◌, ℕ, ◌+◌, ◌-◌, List, [], ◌++◌, length, take, slice_get, Bool, true, false, nat_lt, if◌then◌else◌, Option, Some, None, Result, Ok, Err}
+use Rattle.std.specs.Prelude.{◌≡◌, ℕ, ◌+◌, ◌-◌, List, [], ◌++◌, length, take, slice_get, Bool, true, false, nat_lt}
+use Rattle.std.specs.Prelude.{if◌then◌else◌, Option, Some, None, Result, Ok, Err}
 use Rattle.std.specs.Option.{option_map}
 use Rattle.std.specs.List.{filter_map}
 use Rattle.blobref.specs.declared.memory.NoMemory.{NoMemory}
@@ -31,7 +32,8 @@ allow_text (Some allow) = allowed_text allow
 -- the reply to a fetch of r, of which `own` are the bytes that were put
 abbrev pub IsBlobReply : Bool → List ℕ → Bool → Option (List ℕ) → List ℕ → Type 0
 IsBlobReply tells r closes None text = text ≡ refused_reply closes [] (refusal.Absent r)
-IsBlobReply tells r closes (Some own) text = (bytes : List ℕ) × IsRead tells r own bytes × (text ≡ blob_reply closes bytes)
+IsBlobReply tells r closes (Some own) text =
+    (bytes : List ℕ) × IsRead tells r own bytes × (text ≡ blob_reply closes bytes)
 
 -- the last ref of a page
 abbrev pub last_ref : List (List ℕ × ℕ) → Option (List ℕ)
@@ -51,10 +53,12 @@ stat_answer refs blobs = stat_text (filter_map (sized blobs) (each_once [] refs)
 
 -- The reply as it is defined. A search has found all of these blobs inserted.
 abbrev pub IsDefined : Bool → Accepts → List Blob → List Insertion → Bool → Question → List ℕ → Type 0
-IsDefined tells accepts blobs g closes (question.Refused why allow) text = text ≡ refused_reply closes (allow_text allow) why
+IsDefined tells accepts blobs g closes (question.Refused why allow) text =
+    text ≡ refused_reply closes (allow_text allow) why
 IsDefined tells accepts blobs g closes (question.Blob r) text = IsBlobReply tells r closes (bytes_of r blobs) text
 IsDefined tells accepts blobs g closes (question.Stat refs) text = text ≡ json_reply closes (stat_answer refs blobs)
-IsDefined tells accepts blobs g closes (question.Refs p) text = text ≡ json_reply closes (page_answer p.after p.limit blobs)
+IsDefined tells accepts blobs g closes (question.Refs p) text =
+    text ≡ json_reply closes (page_answer p.after p.limit blobs)
 IsDefined tells accepts blobs g closes (question.Search query) text =
     HasAllBelow (length blobs) g × (text ≡ json_reply closes (search_text (answer (indexed g) accepts query)))
 
@@ -80,7 +84,8 @@ IsAnswer tells accepts blobs g closes q Defined text = IsDefined tells accepts b
 IsAnswer tells accepts blobs g closes q Memory text = IsFailed closes Memory text
 IsAnswer tells accepts blobs g closes q Disk text = (reads_blobs q ≡ true) × IsFailed closes Disk text
 IsAnswer tells accepts blobs g closes q (Full n pack) text = IsFailed closes (Full n pack) text
-IsAnswer tells accepts blobs g closes q (Damaged want is) text = (reads_blobs q ≡ true) × IsFailed closes (Damaged want is) text
+IsAnswer tells accepts blobs g closes q (Damaged want is) text =
+    (reads_blobs q ≡ true) × IsFailed closes (Damaged want is) text
 
 -- ---- as a reply is made
 
@@ -102,7 +107,8 @@ IsMemory made.Memory = Unit {0}
 
 abbrev pub FaultMade : Bool → GetFault → Made → Type 0
 FaultMade closes unread.Disk m = IsTold Disk (refused_reply closes [] refusal.Disk) m
-FaultMade closes (unread.Damaged want is) m = IsTold (Damaged want is) (refused_reply closes [] (refusal.Damaged want is)) m
+FaultMade closes (unread.Damaged want is) m =
+    IsTold (Damaged want is) (refused_reply closes [] (refusal.Damaged want is)) m
 FaultMade closes unread.NoMemory m = IsMemory m
 
 abbrev pub BlobMade : Bool → List ℕ → Result (Option (List ℕ)) GetFault → Made → Type 0

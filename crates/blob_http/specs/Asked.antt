@@ -37,4 +37,5 @@ Comes before now old new (Whole r) = IsRequest r × Passed before now old new (t
 Comes before now old new (Front b after) =
     IsBegun b × Passed before now old new (b.head ++ b.framed) × (after ≡ stream new.bytes now)
 Comes before now old new (Head end) =
-    ((why : Refusal) × (head_says end ≡ Ok why)) × Passed before now old new [] × HeadEnds (stream new.bytes now) old.taken end
+    ((why : Refusal) × (head_says end ≡ Ok why)) × Passed before now old new []
+    × HeadEnds (stream new.bytes now) old.taken end

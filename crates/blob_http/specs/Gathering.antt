@@ -6,12 +6,9 @@ use Rattle.http_wire.specs.declared.ends.WireEnd.{WireEnd}
 use Rattle.http_wire.specs.declared.ends.WireEnd.TheVariants as ends
 use Rattle.http_wire.specs.Bodies.{Moves, Stops, Breaks}
 use Rattle.http_wire.specs.Wires.{WireView, to_come}
+use Rattle.blob_routes.specs.Before.{most_body}
 use Rattle.blob_http.specs.declared.gathering.Stopped.{Stopped}
 use Rattle.blob_http.specs.declared.gathering.Stopped.TheVariants.{Long, Broken, Memory, Cut, ReadFault}
-
--- the most bytes of a body that is read as a whole
-abbrev pub most_body : ℕ
-most_body = 1048576
 
 -- how reading a body can end
 abbrev pub CanStop : WireEnd → Type 0

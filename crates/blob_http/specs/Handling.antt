@@ -1,5 +1,6 @@
 -- What one request comes to.
-use Rattle.std.specs.Prelude.{◌≡◌, ◌≤◌, ℕ, List, [], ◌++◌, length, take, Bool, true, false, Option, IfSome, Result, Ok, Err, ◌==◌}
+use Rattle.std.specs.Prelude.{◌≡◌, ◌≤◌, ℕ, List, [], ◌++◌, length, take, Bool, true, false, Option, IfSome, Result}
+use Rattle.std.specs.Prelude.{Ok, Err, ◌==◌}
 use Rattle.claim_verify.specs.Verifier.{Accepts}
 use Rattle.histories.specs.Stores.{Blob, arrivals}
 use Rattle.histories.specs.Indexes.{Insertion}
@@ -41,7 +42,8 @@ pub record Answers (tells closes : Bool) (q : Question) (v w : Sight) (entry : A
   pub drawn : w.store.turns ≡ v.store.turns ++ turns
   pub store_within : entry.store_count ≤ length (arrivals w.store.history)
   pub index_within : entry.index_count ≤ length w.index.shown
-  pub made : IsMade tells w.index.accepts (take entry.store_count (arrivals w.store.history)) (take entry.index_count w.index.shown) closes q m
+  pub made : IsMade tells w.index.accepts (take entry.store_count (arrivals w.store.history))
+      (take entry.index_count w.index.shown) closes q m
   pub outcome : entry.outcome ≡ outcome_of m
   pub kept : entry.kept ≡ 0
   pub cause : HasCauseIn turns w.store.history (outcome_of m)

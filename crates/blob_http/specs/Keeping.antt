@@ -1,5 +1,6 @@
 -- What an upload keeps, and its reply.
-use Rattle.std.specs.Prelude.{◌≡◌, ℕ, List, [], Bool, true, false, length, All, Option, Some, None, option_map, Result, Ok, Err}
+use Rattle.std.specs.Prelude.{◌≡◌, ℕ, List, [], Bool, true, false, length, All, Option, Some, None, option_map}
+use Rattle.std.specs.Prelude.{Result, Ok, Err}
 use Rattle.answer_text.specs.declared.refusal.Refusal.{Refusal}
 use Rattle.answer_text.specs.declared.refusal.Refusal.TheVariants as refusal
 use Rattle.answer_text.specs.Refusals.{code_of}
@@ -66,7 +67,8 @@ IsUploadReply parts c (Damaged want is) text = ⊥
 abbrev pub UploadMade : Bool → List (List ℕ × ℕ) → Came → Result Made Ended → Type 0
 UploadMade closes kept came.Whole (Ok m) = IsTold Defined (json_reply closes (upload_text kept None)) m
 UploadMade closes kept (came.Refused why) (Ok m) = IsTold Defined (upload_reply kept why) m
-UploadMade closes kept (came.Full blobs pack) (Ok m) = IsTold (Full blobs pack) (upload_reply kept (refusal.Full blobs pack)) m
+UploadMade closes kept (came.Full blobs pack) (Ok m) =
+    IsTold (Full blobs pack) (upload_reply kept (refusal.Full blobs pack)) m
 UploadMade closes kept came.Disk (Ok m) = IsTold Disk (upload_reply kept refusal.Disk) m
 UploadMade closes kept came.Memory (Ok m) = IsMemory m
 UploadMade closes kept (came.Ended (ends.Cut n)) (Err e) = e ≡ ended.Cut n

@@ -1,5 +1,6 @@
 -- What a request asks, by its head and its body.
-use Rattle.std.specs.Prelude.{◌≡◌, ◌≤◌, ℕ, List, slice_range, Bool, true, false, Option, Some, None, IfSome, option_map, Result, Ok, Err}
+use Rattle.std.specs.Prelude.{◌≡◌, ◌≤◌, ℕ, List, slice_range, Bool, true, false, Option, Some, None, IfSome}
+use Rattle.std.specs.Prelude.{option_map, Result, Ok, Err}
 use Rattle.answer_text.specs.declared.refusal.Refusal.{Refusal}
 use Rattle.answer_text.specs.declared.refusal.Refusal.TheVariants as refusal
 use Rattle.http_wire.specs.declared.head.Head.{Head}

@@ -1,5 +1,6 @@
 -- What a connection leaves: the requests, their entries, and the replies over the histories.
-use Rattle.std.specs.Prelude.{◌≡◌, ◌≤◌, ◌<◌, ◌⊎◌, ℕ, List, [], ◌∷◌, ◌++◌, map, length, take, All, Bool, Option, Some, None, IfSome, Result, Ok, Err, true, Contains}
+use Rattle.std.specs.Prelude.{◌≡◌, ◌≤◌, ◌<◌, ◌⊎◌, ℕ, List, [], ◌∷◌, ◌++◌, map, length, take, All, Bool, Option, Some}
+use Rattle.std.specs.Prelude.{None, IfSome, Result, Ok, Err, true, Contains}
 use Rattle.std.specs.List.{flat_map}
 use mathlib.Core.List.{IsPrefix}
 use Rattle.edge_base.specs.Edge.{Took, TookFront, Rose}
@@ -19,7 +20,8 @@ use Rattle.http_wire.specs.declared.ends.WireEnd.TheVariants as ends
 use Rattle.http_wire.specs.Stream.{Flow, Passed}
 use Rattle.http_wire.specs.Bodies.{Stops, Breaks}
 use Rattle.http_wire.specs.Wires.{WireView, HeadEnds}
-use Rattle.http_wire.specs.Speaking.{Request, IsRequest, Speaks, Begun, IsBegun, Last, Nothing, Refused, Unfinished, IsOpen, GoesOn, HasNoRequest, place_behind, text_of}
+use Rattle.http_wire.specs.Speaking.{Request, IsRequest, Speaks, Begun, IsBegun, Last, Nothing, Refused, Unfinished}
+use Rattle.http_wire.specs.Speaking.{IsOpen, GoesOn, HasNoRequest, place_behind, text_of}
 use Rattle.blob_http.specs.declared.entries.Outcome.{Outcome}
 use Rattle.blob_http.specs.declared.entries.Outcome.TheVariants.{Defined, Memory, Disk, Full, Damaged}
 use Rattle.blob_http.specs.declared.entries.Answered.{Answered}
@@ -47,7 +49,8 @@ use Rattle.blob_upload.specs.Adds.{Turns}
 -- what the body of a request is refused for as it is read: it is too long, or it breaks
 abbrev pub IsBodyRefusal : Begun → Option (List ℕ) → Refusal → Type 0
 IsBodyRefusal b after r =
-    ((r ≡ refusal.TooLong most_body) × (most_body < length b.given)) ⊎ ((r ≡ refusal.BadLength) × IfSome after (Breaks b.at))
+    ((r ≡ refusal.TooLong most_body) × (most_body < length b.given))
+    ⊎ ((r ≡ refusal.BadLength) × IfSome after (Breaks b.at))
 
 -- a reply that keeps nothing: the request is refused before its body is read, or by that
 abbrev pub IsFrontDefined : Begun → Option (List ℕ) → Result Route Question → List ℕ → Type 0
@@ -88,7 +91,8 @@ IsFrontUpload blobs b after kept turns outcome text = (u : Kept b.head b.says bl
 -- the reply over the blobs that arrived and the Inserts; an upload alone keeps parts
 abbrev pub IsReply : Bool → Accepts → List Blob → List Insertion → Asked → ℕ → List ℕ → Outcome → List ℕ → Type 0
 IsReply tells accepts blobs g (Whole r) kept turns outcome text = IsWholeUpload blobs r kept turns outcome text
-    ⊎ ((kept ≡ 0) × ((q : Question) × IsAsked r.head r.says r.body q × IsAnswer tells accepts blobs g r.says.closes q outcome text))
+    ⊎ ((kept ≡ 0) × ((q : Question) × IsAsked r.head r.says r.body q
+    × IsAnswer tells accepts blobs g r.says.closes q outcome text))
 IsReply tells accepts blobs g (Front b after) kept turns outcome text =
     IsFrontUpload blobs b after kept turns outcome text ⊎ ((kept ≡ 0) × IsFrontReply b after outcome text)
 IsReply tells accepts blobs g (Head end) kept turns outcome text = (kept ≡ 0) × IsHeadReply end outcome text
@@ -184,13 +188,15 @@ pub record Open (before now : Option (List ℕ)) (old new : Flow) (asked : List 
 abbrev pub AreAnswers : List Asked → List Request → Last → List ℕ → Type 0
 AreAnswers asked requests Nothing rest = asked ≡ map Whole requests
 AreAnswers asked requests (Refused end) rest = asked ≡ map Whole requests ++ Head end ∷ []
-AreAnswers asked requests (Unfinished b) rest = (after : List ℕ) × (asked ≡ map Whole requests ++ Front b (Some after) ∷ [])
+AreAnswers asked requests (Unfinished b) rest =
+    (after : List ℕ) × (asked ≡ map Whole requests ++ Front b (Some after) ∷ [])
     × (rest ≡ b.head ++ (b.framed ++ after))
 
 -- the source ended inside the request at this place: inside its head, or inside its body
 abbrev pub IsCut : ℕ → ℕ → List ℕ → Type 0
 IsCut place n rest = HeadEnds (Some rest) place (ends.Cut n)
-    ⊎ ((n ≡ place) × ((b : Begun) × (after : List ℕ) × IsBegun b × (rest ≡ b.head ++ (b.framed ++ after)) × Stops b.at after))
+    ⊎ ((n ≡ place) × ((b : Begun) × (after : List ℕ) × IsBegun b × (rest ≡ b.head ++ (b.framed ++ after))
+    × Stops b.at after))
 
 -- no further request was taken, and the connection was open
 abbrev pub StoodOpen : List Request → Last → Type 0

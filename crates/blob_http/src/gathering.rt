@@ -5,13 +5,11 @@ ghost use Rattle.http_wire.specs.Wires.{body_of, BodyEnds};
 ghost use Rattle.http_wire.specs.declared.body.Body.{Body};
 ghost use Rattle.blob_http.specs.Gathering.{Gathers, CanStop, StopSays};
 
+use blob_routes::MOST_BODY;
 use blobref::Octets;
 use edge_base::Source;
 use http_wire::{Framing, Wire, WireEnd};
 use std::alloc::{AllocError, Global};
-
-/// The most bytes of a body that is read as a whole.
-const MOST_BODY: usize = 1_048_576;
 
 /// The most bytes that are read at a time.
 const PIECE: usize = 16_384;
@@ -69,7 +67,7 @@ fn gather_on<S: Source>(alloc: Global, wire: &mut Wire, source: &mut S) -> Resul
         if n == 0 {
             return Ok(Octets::from_vec(bytes));
         }
-        if n > MOST_BODY - bytes.len() {
+        if n > MOST_BODY as usize - bytes.len() {
             return Err(Stopped::Long);
         }
         let Ok(()) = bytes.extend_from_slice(&buf[..n]) else {
@@ -88,7 +86,8 @@ fn zeros(alloc: Global) -> Result<Vec<u8>, AllocError>
 // Why no more of a body was given.
 fn stopped_by(end: WireEnd) -> Stopped
     requires { CanStop end }
-    ensures says { (x : Option (List ℕ)) (at : Body) (place : ℕ) → BodyEnds x at place end → StopSays x at place result }
+    ensures says { (x : Option (List ℕ)) (at : Body) (place : ℕ) → BodyEnds x at place end
+        → StopSays x at place result }
     ensures fault { result ≡ Stopped.ReadFault → end ≡ WireEnd.ReadFault }
 {
     match end {

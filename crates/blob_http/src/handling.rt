@@ -53,8 +53,8 @@ fn answer_refused<H: Home>(
     allow: Option<Allowed>,
     closes: bool,
 ) -> (Answered, Made)
-    ensures { Answers (H.tells home.now) closes (Question.Refused refusal.now allow) (H.sight pass.now) (H.sight pass.now)
-        result.0 result.1 }
+    ensures { Answers (H.tells home.now) closes (Question.Refused refusal.now allow) (H.sight pass.now)
+        (H.sight pass.now) result.0 result.1 }
 {
     let made = refused(alloc, Outcome::Defined, closes, allow, refusal);
     let counts = home.seen(pass);
@@ -129,8 +129,8 @@ fn answer_search<H: Home, R: Wait>(
 ) -> (Answered, Made)
     requires { H.belongs home.now pass.old }
     ensures own { H.belongs home.now pass.new }
-    ensures answers { Answers (H.tells home.now) closes (Question.Search query.now) (H.sight pass.old) (H.sight pass.new)
-        result.0 result.1 }
+    ensures answers { Answers (H.tells home.now) closes (Question.Search query.now) (H.sight pass.old)
+        (H.sight pass.new) result.0 result.1 }
 {
     let before = home.seen(pass);
     match home.settle(rt, pass) {

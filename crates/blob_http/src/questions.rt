@@ -2,7 +2,8 @@
 ghost use Rattle.std.specs.Prelude.{◌≡◌, ℕ, List, false, Ok, IfOk, IfErr, option_map, option_copied};
 ghost use Rattle.blob_routes.specs.Stats.{refs_of};
 ghost use Rattle.blob_routes.specs.Pages.{page_of};
-ghost use Rattle.blob_http.specs.Questions.{IsFew, piece, first_of, refused_by, refused, stat_of, refs_asked, IsSearch, IsAskedAt, HasPieces, is_upload};
+ghost use Rattle.blob_http.specs.Questions.{IsFew, piece, first_of, refused_by, refused, stat_of, refs_asked};
+ghost use Rattle.blob_http.specs.Questions.{IsSearch, IsAskedAt, HasPieces, is_upload};
 
 use answer_text::Refusal;
 use blob_routes::{

@@ -5,7 +5,8 @@ ghost use Rattle.edge_base.specs.Edge.{Took, TookFront, HasCause};
 ghost use Rattle.answer_text.specs.Search.{search_text};
 ghost use Rattle.answer_text.specs.Listings.{stat_text};
 ghost use Rattle.blob_http.specs.Replies.{kind_text, reply_text, json_reply, blob_reply, refused_reply, memory_reply};
-ghost use Rattle.blob_http.specs.Answers.{allow_text, text_of, IsTold, FaultMade, BlobMade, TextMade, cut_page, last_ref};
+ghost use Rattle.blob_http.specs.Answers.{allow_text, text_of, IsTold, FaultMade, BlobMade, TextMade, cut_page};
+ghost use Rattle.blob_http.specs.Answers.{last_ref};
 
 use crate::entries::Outcome;
 use answer_text::{Refusal, page_text, refusal_text, search_text, stat_text};

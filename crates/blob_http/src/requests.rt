@@ -218,8 +218,8 @@ pub(crate) fn is_memory(made: &Made) -> bool
 
 /// The reply where there is no memory to find out what is asked.
 pub(crate) fn out_of_memory<H: Home>(home: &H, pass: &H::Pass) -> Replied
-    ensures answers { (tells closes : Bool) (q : Question) → Answers tells closes q (H.sight pass.now) (H.sight pass.now)
-        result.entry result.made }
+    ensures answers { (tells closes : Bool) (q : Question) → Answers tells closes q (H.sight pass.now)
+        (H.sight pass.now) result.entry result.made }
     ensures made { result.made ≡ Made.Memory }
     ensures closes { result.closes ≡ true }
 {

@@ -1,5 +1,6 @@
 //! A connection, over any home.
-ghost use Rattle.std.specs.Prelude.{◌≡◌, ◌≤◌, ◌+◌, ◌∷◌, ◌++◌, [], ℕ, List, Option, OnOk, Some, None, vec_len, vec_capacity};
+ghost use Rattle.std.specs.Prelude.{◌≡◌, ◌≤◌, ◌+◌, ◌∷◌, ◌++◌, [], ℕ, List, Option, OnOk, Some, None, vec_len};
+ghost use Rattle.std.specs.Prelude.{vec_capacity};
 ghost use Rattle.edge_base.specs.Edge.{Took};
 ghost use Rattle.home_core.specs.Passes.{Sight};
 ghost use Rattle.http_wire.specs.declared.body.Body.{Body};

@@ -1,5 +1,6 @@
 //! Uploads, over any home.
-ghost use Rattle.std.specs.Prelude.{◌≡◌, ◌≤◌, ◌||◌, not, ℕ, List, Option, Bool, Some, None, Ok, Err, IfOk, IfErr, IsErrOf, length};
+ghost use Rattle.std.specs.Prelude.{◌≡◌, ◌≤◌, ◌||◌, not, ℕ, List, Option, Bool, Some, None, Ok, Err, IfOk, IfErr};
+ghost use Rattle.std.specs.Prelude.{IsErrOf, length};
 ghost use Rattle.edge_base.specs.Edge.{Rose};
 ghost use Rattle.http_wire.specs.Heads.{HeadSays};
 ghost use Rattle.http_wire.specs.Stream.{Flow, stream};

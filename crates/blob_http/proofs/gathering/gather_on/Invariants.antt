@@ -7,7 +7,8 @@ invariant-reads g l =
     let left = g.S.Source.left in
     let faults = g.S.Source.faults in
     record {
-      moved : Moves (left l.fn.source) (left l.source) l.fn.wire.flow l.wire.flow l.fn.wire.body l.wire.body l.bytes.items;
+      moved : Moves (left l.fn.source)
+          (left l.source) l.fn.wire.flow l.wire.flow l.fn.wire.body l.wire.body l.bytes.items;
       head : l.wire.head ≡ l.fn.wire.head;
       begun : l.wire.begun ≡ l.fn.wire.begun;
       later : faults l.fn.source ≤ faults l.source;

@@ -9,5 +9,7 @@ returns-clause-answers g c =
     let v = g.H.Home.sight c.args.pass.now in
     let w = g.H.Home.sight c.fetch-fetched.new.pass in
     let tells = g.H.Home.tells c.args.home.now in
-    subst (λ e. Answers tells c.args.closes (question.Blob c.args.r.now) v w e c.blob_reply-made.result) (sym c.entry.ensures)
-    (blob_answers tells c.args.closes c.args.r.now c.fetch-fetched.result c.blob_reply-made.result v w c.seen-counts.result c.blob_reply-made.ensures c.fetch-fetched.ensures.turn c.seen-counts.ensures)
+    subst (λ e. Answers tells c.args.closes (question.Blob c.args.r.now) v w e c.blob_reply-made.result)
+    (sym c.entry.ensures)
+    (blob_answers tells c.args.closes c.args.r.now c.fetch-fetched.result c.blob_reply-made.result v w
+    c.seen-counts.result c.blob_reply-made.ensures c.fetch-fetched.ensures.turn c.seen-counts.ensures)

@@ -11,7 +11,11 @@ returns-clause-answers g c =
     let v = g.H.Home.sight c.args.pass.now in
     let w = g.H.Home.sight c.list-found.new.pass in
     let tells = g.H.Home.tells c.args.home.now in
-    subst (λ e. Answers tells c.args.closes (question.Refs c.args.page.now) v w e c.page_reply-made.result) (sym c.entry.ensures)
-    (page_answers tells c.args.closes c.args.page.now c.list-found.result c.page_reply-made.result v w c.seen-counts.result c.page_reply-made.ensures
-    (subst (λ (o : Option (List ℕ)). StoreCall (IsErr c.list-found.result) (λ before e. ListSays o (c.args.page.now.limit + 1) before c.list-found.result e) v w) c.as_ref.ensures.value c.list-found.ensures.turn)
+    subst (λ e. Answers tells c.args.closes (question.Refs c.args.page.now) v w e c.page_reply-made.result)
+    (sym c.entry.ensures)
+    (page_answers tells c.args.closes c.args.page.now c.list-found.result c.page_reply-made.result v w
+    c.seen-counts.result c.page_reply-made.ensures
+    (subst (λ (o : Option (List ℕ)). StoreCall (IsErr c.list-found.result)
+    (λ before e. ListSays o (c.args.page.now.limit + 1) before c.list-found.result e) v w) c.as_ref.ensures.value
+    c.list-found.ensures.turn)
     c.seen-counts.ensures)

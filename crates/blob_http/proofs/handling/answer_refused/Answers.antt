@@ -8,5 +8,7 @@ pub returns : goal.returns
 returns g c =
     let v = g.H.Home.sight c.args.pass.now in
     let tells = g.H.Home.tells c.args.home.now in
-    subst (λ e. Answers tells c.args.closes (question.Refused c.args.refusal.now c.args.allow) v v e c.refused-made.result) (sym c.entry.ensures)
-    (refused_answers tells c.args.closes c.args.refusal.now c.args.allow c.refused-made.result v c.seen-counts.result c.refused-made.ensures c.seen-counts.ensures)
+    subst (λ e. Answers tells c.args.closes
+    (question.Refused c.args.refusal.now c.args.allow) v v e c.refused-made.result) (sym c.entry.ensures)
+    (refused_answers tells c.args.closes c.args.refusal.now c.args.allow c.refused-made.result v c.seen-counts.result
+    c.refused-made.ensures c.seen-counts.ensures)

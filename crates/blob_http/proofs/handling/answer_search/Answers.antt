@@ -9,8 +9,10 @@ returns-in-Err-clause-answers g c =
     let v = g.H.Home.sight c.args.pass.now in
     let x = g.H.Home.sight c.settle.new.pass in
     let tells = g.H.Home.tells c.args.home.now in
-    subst (λ e. Answers tells c.args.closes (question.Search c.args.query.now) v x e c.fault_reply-made.result) (sym c.entry.ensures)
-    (search_failed tells c.args.closes c.args.query.now c.in-Err.fault c.fault_reply-made.result v x c.seen-before.result c.seen-after.result
+    subst (λ e. Answers tells c.args.closes (question.Search c.args.query.now) v x e c.fault_reply-made.result)
+    (sym c.entry.ensures)
+    (search_failed tells c.args.closes c.args.query.now c.in-Err.fault c.fault_reply-made.result v x
+    c.seen-before.result c.seen-after.result
     c.in-Err.ensures.settled c.fault_reply-made.ensures c.seen-before.ensures c.seen-after.ensures)
 
 pub returns-in-Ok-clause-answers : goal.returns-in-Ok-clause-answers
@@ -19,6 +21,10 @@ returns-in-Ok-clause-answers g c =
     let x = g.H.Home.sight c.settle.new.pass in
     let w = g.H.Home.sight c.search-found.new.pass in
     let tells = g.H.Home.tells c.args.home.now in
-    subst (λ e. Answers tells c.args.closes (question.Search c.args.query.now) v w e c.search_reply-made.result) (sym c.entry-in-Ok.ensures)
-    (search_answers tells c.args.closes c.in-Ok.field-0 c.args.query.now c.search-found.result c.search_reply-made.result v x w c.seen-before.result c.seen-after-in-Ok.result
-    c.in-Ok.ensures.settled (g.met.H.Home.is_legal c.settle.new.pass) c.search-found.ensures.search c.search_reply-made.ensures c.seen-before.ensures c.seen-after-in-Ok.ensures)
+    subst (λ e. Answers tells c.args.closes (question.Search c.args.query.now) v w e c.search_reply-made.result)
+    (sym c.entry-in-Ok.ensures)
+    (search_answers tells c.args.closes c.in-Ok.field-0 c.args.query.now c.search-found.result
+    c.search_reply-made.result v x w c.seen-before.result c.seen-after-in-Ok.result
+    c.in-Ok.ensures.settled
+    (g.met.H.Home.is_legal c.settle.new.pass) c.search-found.ensures.search c.search_reply-made.ensures
+    c.seen-before.ensures c.seen-after-in-Ok.ensures)

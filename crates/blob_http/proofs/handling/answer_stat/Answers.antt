@@ -9,5 +9,7 @@ returns-clause-answers g c =
     let v = g.H.Home.sight c.args.pass.now in
     let w = g.H.Home.sight c.stat-found.new.pass in
     let tells = g.H.Home.tells c.args.home.now in
-    subst (λ e. Answers tells c.args.closes (question.Stat c.args.refs.now) v w e c.stat_reply-made.result) (sym c.entry.ensures)
-    (stat_answers tells c.args.closes c.args.refs.now c.stat-found.result c.stat_reply-made.result v w c.seen-counts.result c.stat_reply-made.ensures c.stat-found.ensures.turn c.seen-counts.ensures)
+    subst (λ e. Answers tells c.args.closes (question.Stat c.args.refs.now) v w e c.stat_reply-made.result)
+    (sym c.entry.ensures)
+    (stat_answers tells c.args.closes c.args.refs.now c.stat-found.result c.stat_reply-made.result v w
+    c.seen-counts.result c.stat_reply-made.ensures c.stat-found.ensures.turn c.seen-counts.ensures)

@@ -9,15 +9,19 @@ returns-in-Ok-head_says-clause-replies g c =
     let tells = g.H.Home.tells c.args.home.now in
     let v = g.H.Home.sight c.args.pass.now in
     let w = g.H.Home.sight c.reply_along.new.pass in
-    head_replies (g.S.Source.left c.args.source.now) (g.S.Source.left c.next_head.new.source) c.args.wire.now.flow c.next_head.new.self tells v w
-    c.reply_along.result.entry c.reply_along.result.made c.in-Err.end c.in-Ok-head_says.refusal c.reply_along.result.closes (sym c.in-Ok-head_says.ensures)
+    head_replies (g.S.Source.left c.args.source.now)
+    (g.S.Source.left c.next_head.new.source) c.args.wire.now.flow c.next_head.new.self tells v w
+    c.reply_along.result.entry c.reply_along.result.made c.in-Err.end c.in-Ok-head_says.refusal
+    c.reply_along.result.closes (sym c.in-Ok-head_says.ensures)
     c.in-Err.ensures.same.0 c.in-Err.ensures.err
-    (subst (λ (q : Question). Answers tells true q v w c.reply_along.result.entry c.reply_along.result.made) c.refused.ensures c.reply_along.ensures.answers)
+    (subst (λ (q : Question). Answers tells true q v w c.reply_along.result.entry c.reply_along.result.made)
+    c.refused.ensures c.reply_along.ensures.answers)
     c.reply_along.ensures.closes
 
 pub returns-in-Err-head_says-clause-none : goal.returns-in-Err-head_says-clause-none
 returns-in-Err-head_says-clause-none g c =
-    head_none (g.S.Source.left c.args.source.now) (g.S.Source.left c.next_head.new.source) c.args.wire.now.flow c.next_head.new.self
+    head_none (g.S.Source.left c.args.source.now)
+    (g.S.Source.left c.next_head.new.source) c.args.wire.now.flow c.next_head.new.self
     c.in-Err.end c.in-Err-head_says.ended (sym c.in-Err-head_says.ensures) c.in-Err.ensures.same.0 c.in-Err.ensures.err
 
 pub returns-in-Err-head_says-clause-passes : goal.returns-in-Err-head_says-clause-passes

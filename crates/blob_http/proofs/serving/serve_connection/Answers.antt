@@ -10,7 +10,8 @@ use Rattle.blob_http.proofs.serving.serve_connection.Goals as goal
 
 pub returns-in_default-clause-serves : goal.returns-in_default-clause-serves
 returns-in_default-clause-serves g c =
-    no_memory (g.H.Home.tells c.args.home.now) (g.H.Home.sight c.args.pass.now) c.args.told.now.items (g.S.Source.left c.args.source.now) (g.K.Sink.written c.args.sink.now)
+    no_memory (g.H.Home.tells c.args.home.now) (g.H.Home.sight c.args.pass.now) c.args.told.now.items
+    (g.S.Source.left c.args.source.now) (g.K.Sink.written c.args.sink.now)
 
 pub requests-init : goal.requests-init
 requests-init g c =
@@ -24,7 +25,8 @@ requests-init g c =
       tt,
       c.requires,
       ap (λ (u : WireView). u.body) is,
-      subst (λ (f : Flow). Serves tells v v told told (Open x x fresh_flow f) (Took w w) HasNone) (sym (ap (λ (u : WireView). u.flow) is))
+      subst (λ (f : Flow). Serves tells v v told told (Open x x fresh_flow f) (Took w w) HasNone)
+          (sym (ap (λ (u : WireView). u.flow) is))
           (serves_none tells v told (Open x x fresh_flow fresh_flow) (Took w w) (open_none x) (took_none w)),
       omega arith,
       omega arith,
@@ -33,13 +35,16 @@ requests-init g c =
 pub returns-in-Some-serve_one-clause-serves : goal.returns-in-Some-serve_one-clause-serves
 returns-in-Some-serve_one-clause-serves g c =
     let i = c.requests.invariant in
-    c.in-Some-serve_one.ensures.serves (g.H.Home.sight c.args.pass.now) c.args.told.now.items (g.S.Source.left c.args.source.now) (g.K.Sink.written c.args.sink.now) i.4
+    c.in-Some-serve_one.ensures.serves (g.H.Home.sight c.args.pass.now) c.args.told.now.items
+    (g.S.Source.left c.args.source.now) (g.K.Sink.written c.args.sink.now) i.4
 
 pub returns-in-Some-serve_one-clause-cause : goal.returns-in-Some-serve_one-clause-cause
 returns-in-Some-serve_one-clause-cause g c =
     let i = c.requests.invariant in
-    cause_since (g.S.Source.faults c.args.source.now) (g.S.Source.faults c.requests.source) (g.S.Source.faults c.serve_one.new.source)
-    (g.K.Sink.faults c.args.sink.now) (g.K.Sink.faults c.requests.sink) (g.K.Sink.faults c.serve_one.new.sink) c.in-Some-serve_one.ended
+    cause_since (g.S.Source.faults c.args.source.now) (g.S.Source.faults c.requests.source)
+    (g.S.Source.faults c.serve_one.new.source)
+    (g.K.Sink.faults c.args.sink.now) (g.K.Sink.faults c.requests.sink)
+    (g.K.Sink.faults c.serve_one.new.sink) c.in-Some-serve_one.ended
     i.5 i.6 c.in-Some-serve_one.ensures.cause
 
 pub requests-preserved : goal.requests-preserved
@@ -50,7 +55,8 @@ requests-preserved g c =
       tt,
       e.own,
       e.ready refl,
-      e.serves (g.H.Home.sight c.args.pass.now) c.args.told.now.items (g.S.Source.left c.args.source.now) (g.K.Sink.written c.args.sink.now) i.4,
+      e.serves (g.H.Home.sight c.args.pass.now) c.args.told.now.items (g.S.Source.left c.args.source.now)
+          (g.K.Sink.written c.args.sink.now) i.4,
       omega (arith, i.5, e.read),
       omega (arith, i.6, e.wrote),
     )

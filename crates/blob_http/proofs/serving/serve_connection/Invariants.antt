@@ -10,6 +10,7 @@ invariant-requests g l =
     × g.H.Home.belongs l.home l.pass
     × (l.wire.body ≡ Done)
     × Serves (g.H.Home.tells l.home) (g.H.Home.sight l.fn.pass) (g.H.Home.sight l.pass) l.fn.told.items l.told.items
-    (Open (g.S.Source.left l.fn.source) (g.S.Source.left l.source) fresh_flow l.wire.flow) (Took (g.K.Sink.written l.fn.sink) (g.K.Sink.written l.sink)) HasNone
+    (Open (g.S.Source.left l.fn.source) (g.S.Source.left l.source) fresh_flow l.wire.flow)
+    (Took (g.K.Sink.written l.fn.sink) (g.K.Sink.written l.sink)) HasNone
     × (g.S.Source.faults l.fn.source ≤ g.S.Source.faults l.source)
     × (g.K.Sink.faults l.fn.sink ≤ g.K.Sink.faults l.sink)

@@ -11,13 +11,18 @@ use Rattle.blob_http.proofs.uploads.reply_to_upload.Goals as goal
 
 pub take_parts-came-requires-clause-boundary : goal.take_parts-came-requires-clause-boundary
 take_parts-came-requires-clause-boundary g c =
-    boundary_is (option_map (piece c.args.wire.now.head) c.args.head.now.content_type) c.as_slice.result.now (c.in-Ok.ensures ∙ ap Some (sym c.as_slice.ensures))
+    boundary_is (option_map (piece c.args.wire.now.head) c.args.head.now.content_type) c.as_slice.result.now
+    (c.in-Ok.ensures ∙ ap Some (sym c.as_slice.ensures))
 
 pub returns-in_default-clause-replies : goal.returns-in_default-clause-replies
 returns-in_default-clause-replies g c x0 flow read =
-    none_read x0 (g.S.Source.left c.args.source.now) flow c.args.wire.now c.args.head.now read (g.H.Home.tells c.args.home.now)
-    (g.H.Home.sight c.args.pass.now) (g.H.Home.sight c.args.pass.now) c.out_of_memory.result.entry c.out_of_memory.result.made c.out_of_memory.result.closes
-    (c.out_of_memory.ensures.answers (g.H.Home.tells c.args.home.now) true) c.out_of_memory.ensures.made c.out_of_memory.ensures.closes
+    none_read x0 (g.S.Source.left c.args.source.now) flow c.args.wire.now c.args.head.now read
+    (g.H.Home.tells c.args.home.now)
+    (g.H.Home.sight c.args.pass.now)
+    (g.H.Home.sight c.args.pass.now) c.out_of_memory.result.entry c.out_of_memory.result.made
+    c.out_of_memory.result.closes
+    (c.out_of_memory.ensures.answers (g.H.Home.tells c.args.home.now) true) c.out_of_memory.ensures.made
+    c.out_of_memory.ensures.closes
 
 pub returns-clause-replies : goal.returns-clause-replies
 returns-clause-replies g c x0 flow read =
@@ -28,11 +33,14 @@ returns-clause-replies g c x0 flow read =
     let closes = c.args.head.now.closes in
     let kept = c.take_parts-came.new.kept in
     let came = c.take_parts-came.result in
-    if_ok_three c.reply_to_came.result (λ r. UploadMade closes kept came (Ok r.made)) (λ r. IsUploadEntry w (length kept) r.made r.entry)
+    if_ok_three c.reply_to_came.result (λ r. UploadMade closes kept came (Ok r.made))
+    (λ r. IsUploadEntry w (length kept) r.made r.entry)
     (λ r. r.closes ≡ ((closes || not (is_whole came)) || is_memory r.made)) _
-    (λ r p q t. upload_replies x0 x1 x2 flow c.args.wire.now c.take_parts-came.new.wire c.args.head.now read c.requires.upload c.as_slice.result.now
+    (λ r p q t. upload_replies x0 x1 x2 flow c.args.wire.now c.take_parts-came.new.wire c.args.head.now read
+    c.requires.upload c.as_slice.result.now
     (c.in-Ok.ensures ∙ ap Some (sym c.as_slice.ensures)) (g.H.Home.tells c.args.home.now) v w kept came
-    (subst (λ (k : List (List ℕ × ℕ)). Uploads c.as_slice.result.now x1 x2 c.args.wire.now c.take_parts-came.new.wire v w k kept came) c.empty-kept.ensures c.take_parts-came.ensures.uploads)
+    (subst (λ (k : List (List ℕ × ℕ)). Uploads c.as_slice.result.now x1 x2 c.args.wire.now c.take_parts-came.new.wire
+    v w k kept came) c.empty-kept.ensures c.take_parts-came.ensures.uploads)
     r.entry r.made r.closes p q t)
     c.reply_to_came.ensures.made c.reply_to_came.ensures.entry c.reply_to_came.ensures.closes
 
@@ -45,8 +53,10 @@ returns-clause-passes g c =
     let kept = c.take_parts-came.new.kept in
     let came = c.take_parts-came.result in
     IfErr-weaker c.reply_to_came.result (λ e. UploadMade c.args.head.now.closes kept came (Err e)) _
-    (upload_passes c.as_slice.result.now x1 x2 c.args.wire.now c.take_parts-came.new.wire v w kept came c.args.head.now.closes
-    (subst (λ (k : List (List ℕ × ℕ)). Uploads c.as_slice.result.now x1 x2 c.args.wire.now c.take_parts-came.new.wire v w k kept came) c.empty-kept.ensures c.take_parts-came.ensures.uploads))
+    (upload_passes c.as_slice.result.now x1 x2 c.args.wire.now c.take_parts-came.new.wire v w kept came
+    c.args.head.now.closes
+    (subst (λ (k : List (List ℕ × ℕ)). Uploads c.as_slice.result.now x1 x2 c.args.wire.now c.take_parts-came.new.wire
+    v w k kept came) c.empty-kept.ensures c.take_parts-came.ensures.uploads))
     c.reply_to_came.ensures.ends
 
 pub returns-clause-none : goal.returns-clause-none
@@ -58,12 +68,16 @@ returns-clause-none g c x0 flow read =
     let kept = c.take_parts-came.new.kept in
     let came = c.take_parts-came.result in
     IfErr-weaker c.reply_to_came.result (λ e. UploadMade c.args.head.now.closes kept came (Err e)) _
-    (λ e p. upload_none x0 x1 x2 flow c.args.wire.now c.take_parts-came.new.wire c.args.head.now read c.requires.upload c.as_slice.result.now
+    (λ e p. upload_none x0 x1 x2 flow c.args.wire.now c.take_parts-came.new.wire c.args.head.now read
+    c.requires.upload c.as_slice.result.now
     (c.in-Ok.ensures ∙ ap Some (sym c.as_slice.ensures)) (g.H.Home.tells c.args.home.now) v w kept came
-    (subst (λ (k : List (List ℕ × ℕ)). Uploads c.as_slice.result.now x1 x2 c.args.wire.now c.take_parts-came.new.wire v w k kept came) c.empty-kept.ensures c.take_parts-came.ensures.uploads)
+    (subst (λ (k : List (List ℕ × ℕ)). Uploads c.as_slice.result.now x1 x2 c.args.wire.now c.take_parts-came.new.wire
+    v w k kept came) c.empty-kept.ensures c.take_parts-came.ensures.uploads)
     c.take_parts-came.ensures.head.1 e p)
     c.reply_to_came.ensures.ends
 
 pub returns-clause-fault : goal.returns-clause-fault
 returns-clause-fault g c = λ e.
-    c.take_parts-came.ensures.fault (fault_so c.args.head.now.closes c.take_parts-came.new.kept c.take_parts-came.result c.reply_to_came.result c.reply_to_came.ensures.ends e)
+    c.take_parts-came.ensures.fault
+    (fault_so c.args.head.now.closes c.take_parts-came.new.kept c.take_parts-came.result c.reply_to_came.result
+    c.reply_to_came.ensures.ends e)

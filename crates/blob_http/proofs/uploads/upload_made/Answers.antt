@@ -5,4 +5,5 @@ use Rattle.blob_http.proofs.uploads.upload_made.Goals as goal
 
 pub returns-in-Ended : goal.returns-in-Ended
 returns-in-Ended c =
-    subst (λ (z : Came). UploadMade c.args.closes c.args.kept.now z c.ended.result) (sym c.in-Ended.is) (c.ended.ensures c.args.closes)
+    subst (λ (z : Came). UploadMade c.args.closes c.args.kept.now z c.ended.result) (sym c.in-Ended.is)
+    (c.ended.ensures c.args.closes)
