@@ -1,0 +1,4 @@
+pub mod Reviews
+pub mod Steps
+pub mod Running
+pub mod Joining
