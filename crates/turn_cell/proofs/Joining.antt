@@ -19,7 +19,7 @@ picked xs ys false p q = inl (refl, q)
 pub joined : {E A : Type 0} (v w m u : View E A) → m ≡ merged v w → u ≡ forgets m
     → ((k : ℕ) (h : Past E A) → get_elem? m.old k ≡ some h → IsPast h m)
     → IsLonger v.seen w.seen u.seen × (own v.turns u.seen ≡ own v.turns v.seen)
-        × (own w.turns u.seen ≡ own w.turns w.seen) × (w.about ≡ v.about)
+    × (own w.turns u.seen ≡ own w.turns w.seen) × (w.about ≡ v.about)
 joined {E} {A} v w m u is now olds =
     let P : View E A → Type 0 = λ x. (k : ℕ) (h : Past E A) → get_elem? x.old k ≡ some h → IsPast h x in
     let told = subst P is olds in

@@ -188,8 +188,8 @@ module _ {T E A : Type 0} where
   looked about tells s m found m' =
       (m.0.stage ≡ Waits found
       → (log : List (Stamped E)) × (x : T)
-          × (m' ≡ (takes_up found log m.0, (0, Some x) ∷ m.1))
-          × tells x log × (Some (about x) ≡ m.0.about) × Caught m.0.seen m.0.turns found log)
+      × (m' ≡ (takes_up found log m.0, (0, Some x) ∷ m.1))
+      × tells x log × (Some (about x) ≡ m.0.about) × Caught m.0.seen m.0.turns found log)
       × (m.0.stage ≢ Waits found → m' ≡ m)
 
   -- the value goes back, and its last entry joins the history

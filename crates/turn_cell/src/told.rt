@@ -3,8 +3,8 @@ ghost use Rattle.std.specs.Prelude.{◌≡◌, ◌++◌, ℕ, List, Option, Bool
 ghost use Rattle.histories.specs.declared.stamped.Stamped.{Stamped};
 ghost use Rattle.histories.specs.History.{stamped, Before};
 
-/// A value that stands for a history of entries. It needn't hold the history: `tells` relates it to each one that it may
-/// stand for, and `last` reads the entry of its last turn out of it.
+/// A value that stands for a history of entries. It needn't hold the history: `tells` relates it to each one that it
+/// may stand for, and `last` reads the entry of its last turn out of it.
 pub trait Told {
     /// What a turn may add to the history. No value of it is made.
     type Entry;

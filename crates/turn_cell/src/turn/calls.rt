@@ -98,7 +98,7 @@ impl<T: Told> Turn<T> {
         ensures legal { (c : T.About) → about seat.old ≡ Some c → T.legal c (seen seat.new) ≡ true }
         ensures ran { (c : T.About) × (about seat.old ≡ Some c)
             × Ran (λ before turn entry. J.says job.old c before turn result job.new entry)
-                (seen seat.old) (turns seat.old) (seen seat.new) (turns seat.new) }
+            (seen seat.old) (turns seat.old) (seen seat.new) (turns seat.new) }
     {
         let (mut value, ticket) = self.take_up(rt, &mut seat.seat);
         let answer = job.go(ticket + 1, &mut value);

@@ -13,7 +13,7 @@ use atomic_table::Seat;
 use std::sync::Wait;
 use std::thread;
 
-pub const TICKET: usize = 0;
+pub(super) const TICKET: usize = 0;
 
 const SERVING: usize = 1;
 
@@ -72,7 +72,7 @@ impl<T: Told> Turn<T> {
     }
 
     // Draws a ticket, waits for its turn and takes the value out.
-    pub fn take_up<R: Wait>(
+    pub(super) fn take_up<R: Wait>(
         &self,
         rt: &R,
         seat: &mut Seat<Option<T>, View<T::Entry, T::About>>,
@@ -92,7 +92,7 @@ impl<T: Told> Turn<T> {
     }
 
     // Puts the value back and passes the turn on, which adds the value's last entry to the history.
-    pub fn pass_on(&self, seat: &mut Seat<Option<T>, View<T::Entry, T::About>>, value: T)
+    pub(super) fn pass_on(&self, seat: &mut Seat<Option<T>, View<T::Entry, T::About>>, value: T)
         requires own { seat.old.table_id ≡ self.now.table.shared.table_id }
         requires held { (n : ℕ) × (seat.old.me.0.stage ≡ Has n) × (seat.old.me.1 ≡ (0, None) ∷ []) }
         requires fits { (n : ℕ) → seat.old.me.0.stage ≡ Has n

@@ -1,6 +1,7 @@
 use Rattle.std.proofs.Common.{rules, sym, subst, ap, ◌∙◌}
 use Rattle.turn_cell.specs.Line.{Live}
-use Rattle.turn_cell.proofs.Steps.{merges, reads}
+use Rattle.turn_cell.proofs.Seating.{merges}
+use Rattle.turn_cell.proofs.Drawing.{reads}
 use Rattle.turn_cell.proofs.Joining.{joined}
 use Rattle.turn_cell.proofs.turn.Turn.join.Goals as goal
 
