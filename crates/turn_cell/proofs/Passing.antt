@@ -1,12 +1,12 @@
 -- To pass the turn on keeps the rule.
-use Rattle.std.proofs.Common.{◌≡◌, ◌≢◌, ℕ, ◌+◌, ◌<◌, ◌≤◌, ◌^◌, ◌%◌, Bool, true, false, List, [], ◌∷◌, ◌++◌, get_or, set, refl, ap, sym, subst, ◌∙◌, arith, mod-eq_of_lt, zero-le, le_refl, append_assoc, Option, Some, None}
+use Rattle.std.proofs.Common.{◌≡◌, ◌≢◌, ℕ, ◌+◌, ◌<◌, ◌≤◌, ◌^◌, ◌%◌, Bool, true, false, List, [], ◌∷◌, ◌++◌, get_or, set, ap, sym, subst, ◌∙◌, arith, mod-eq_of_lt, zero-le, le_refl, append_assoc, Option, Some, None}
 use Rattle.std.proofs.lemmas.List.{append-nil}
 use Rattle.std.proofs.lemmas.Bool.{true≢false}
 use mathlib.Core.Option.{some, none}
 use lib.ListN.{get_elem?}
 use Rattle.atomic_table.specs.Table.{State, Me, step, gives, stepped, put_back, rest, Allows}
 use Rattle.histories.specs.declared.stamped.Stamped.{Stamped}
-use Rattle.histories.specs.History.{stamped, Later}
+use Rattle.histories.specs.History.{stamped}
 use Rattle.histories.proofs.Rising.{within_append, within_more, within_stamped, later_append, later_stamped, rises_more, drawn_more, drawn_append}
 use Rattle.turn_cell.specs.declared.line.Stage.{Stage}
 use Rattle.turn_cell.specs.declared.line.Stage.TheVariants.{Idle, Waits, Has, Gone}
@@ -81,7 +81,7 @@ module _ {T E A : Type 0} (about : T → A) (tells : T → List (Stamped E) → 
       let turns = drawn_more v.since (r.serving + 1) v.turns (omega arith) k.drawn in
       let longer : v.seen ++ more ≡ log' = ap (λ (h : List (Stamped E)). h ++ more) a.3 in
       let home : Home about tells r.fixed true r.log s.homes =
-          subst (λ (b : Bool). Home about tells r.fixed b r.log s.homes) a.4 r.home in record {
+      subst (λ (b : Bool). Home about tells r.fixed b r.log s.homes) a.4 r.home in record {
         fixed = r.fixed;
         ticket = r.ticket;
         serving = r.serving + 1;
@@ -96,15 +96,15 @@ module _ {T E A : Type 0} (about : T → A) (tells : T → List (Stamped E) → 
         within = within_append (r.serving + 1) r.log more within (within_stamped (r.serving + 1) e);
         seats = each_set (Knows r.fixed r.ticket (r.serving + 1) log' r.who false) s.views id w
             (λ i u eq live ne.
-              let o = r.seats i u eq live in
-              let low : u.since ≤ r.serving = o.since in record {
-                ahead = ahead_more u.since r.serving u.seen r.log e low o.ahead;
-                olds = λ j h f. was_more r.fixed r.serving r.log u.seen e h (o.olds j h f);
-                about = o.about;
-                drawn = o.drawn;
-                since = omega arith;
-                stage = stage_passed r.ticket r.serving r.log log' r.who r.out i id u.seen u.stage ne a.2 o.stage;
-              })
+            let o = r.seats i u eq live in
+            let low : u.since ≤ r.serving = o.since in record {
+              ahead = ahead_more u.since r.serving u.seen r.log e low o.ahead;
+              olds = λ j h f. was_more r.fixed r.serving r.log u.seen e h (o.olds j h f);
+              about = o.about;
+              drawn = o.drawn;
+              since = omega arith;
+              stage = stage_passed r.ticket r.serving r.log log' r.who r.out i id u.seen u.stage ne a.2 o.stage;
+            })
             (λ _. record {
               ahead = ([], append-nil w.seen ∙ longer, tt);
               olds = no_old about tells r.fixed (r.serving + 1) log' w.seen;
@@ -120,7 +120,7 @@ module _ {T E A : Type 0} (about : T → A) (tells : T → List (Stamped E) → 
         home = (
           y,
           ap (λ (c : List (ℕ × Option T)). put_back s.homes c) holds
-          ∙ ap (λ (hs : Homes). set hs 0 (some (Some y))) home,
+              ∙ ap (λ (hs : Homes). set hs 0 (some (Some y))) home,
           subst (tells y) longer fits,
           cc (same, k.about),
         );
@@ -141,7 +141,7 @@ module _ {T E A : Type 0} (about : T → A) (tells : T → List (Stamped E) → 
         tt,
         subst P (sym a.0) (passes_rule s r id me (last y) y at (is ∙ ap Has a.0) holds fits' same),
         λ n' y' is' holds'.
-          let e : n ≡ n' = cc (is, is') in
-          let f : y ≡ y' = ap (value_in y) (sym holds ∙ holds') in
-          λ k. (after (e k) (last (f k)) me.0, rest (holds k)),
+            let e : n ≡ n' = cc (is, is') in
+            let f : y ≡ y' = ap (value_in y) (sym holds ∙ holds') in
+            λ k. (after (e k) (last (f k)) me.0, rest (holds k)),
       )

@@ -1,7 +1,6 @@
 -- What a contract says of a lock and its seats.
 use Rattle.std.specs.Prelude.{◌≡◌, ℕ, List, Option}
 use Rattle.histories.specs.declared.stamped.Stamped.{Stamped}
-use Rattle.turn_cell.specs.declared.line.View.{View}
 use Rattle.turn_cell.specs.declared.turn.Turn.{Turn}
 use Rattle.turn_cell.specs.declared.turn.TurnSeat.{TurnSeat}
 

@@ -29,9 +29,9 @@ invariant_of-seat g c =
     let entry = g.T.Told.last answer.new.value in
     let now = c.pass_on.ensures.passed ticket (ap (λ m. m.0.stage) up.1) in
     let r = ran (λ h n e. g.J.Job.says c.args.job.now about h n answer.result answer.new.self e)
-        c.args.seat.now.seat.me.0 c.pass_on.new.seat.me.0 ticket up.0 entry
-        (ap (λ m. m.0) now ∙ ap (λ m. after ticket entry m.0) up.1) up.4
-        (answer.ensures.says up.0 up.2 (before_within ticket up.0 up.4.within)) in
+    c.args.seat.now.seat.me.0 c.pass_on.new.seat.me.0 ticket up.0 entry
+    (ap (λ m. m.0) now ∙ ap (λ m. after ticket entry m.0) up.1) up.4
+    (answer.ensures.says up.0 up.2 (before_within ticket up.0 up.4.within)) in
     record { idle = (ap (λ m. m.0.stage) now, ap (λ m. m.0.old) now, ap (λ m. m.1) now); rising = r.rising }
 
 pub returns-clause-ran : goal.returns-clause-ran
