@@ -263,12 +263,9 @@ PARAMETER = rb"[ \t]*;[ \t]*(%b)=(?:(%b)|\"([\t\x20\x21\x23-\x5b\x5d-\x7e\x80-\x
 PARAMETERS = re.compile(rb"(?:%b)*[ \t]*" % PARAMETER)
 PARAMETER = re.compile(PARAMETER)
 BOUNDARY = re.compile(rb"[0-9A-Za-z'()+_,./:=? -]{0,69}[0-9A-Za-z'()+_,./:=?-]")
-# What may become a line of a part's head, by the least number of bytes that lead from it to the end of that head.
-BEGINNINGS = {
-    1: re.compile(rb"\r?"),
-    2: re.compile(rb"%b:[\t\x20-\x7e\x80-\xff]*\r?" % TOKEN),
-    3: re.compile(TOKEN),
-}
+# What may become the empty line that ends a part's head, and what may become a line before it.
+EMPTY_BEGINNING = re.compile(rb"\r?")
+LINE_BEGINNING = re.compile(rb"%b(:[\t\x20-\x7e\x80-\xff]*\r?)?" % TOKEN)
 
 
 class Unfinished(Exception):
@@ -351,7 +348,7 @@ class Multipart:
         while True:
             behind = self.text.find(b"\n", line) + 1
             if behind == 0:
-                if not may_end(self.text[line:], line - start, len(headers)):
+                if not may_go_on(self.text[line:], line - start):
                     raise fault
                 raise Unfinished(start - 2)
             if behind - start > LONGEST_PART_HEAD:
@@ -370,12 +367,10 @@ class Multipart:
         return name.decode("latin-1"), behind
 
 
-def may_end(line, before, lines):
-    """Whether the beginning of a line can lead to the end of a head, behind so many bytes and lines of it."""
-    for rest, beginning in BEGINNINGS.items():
-        if beginning.fullmatch(line):
-            return before + len(line) + rest <= LONGEST_PART_HEAD and (rest == 1 or lines < MOST_PART_LINES)
-    return False
+def may_go_on(line, before):
+    """Whether the beginning of a line may become one of a part's head, behind so many bytes of it."""
+    may_become = EMPTY_BEGINNING.fullmatch(line) or LINE_BEGINNING.fullmatch(line)
+    return before + len(line) < LONGEST_PART_HEAD and may_become is not None
 
 
 # Pairs of names and values
