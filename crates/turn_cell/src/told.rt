@@ -4,7 +4,7 @@ ghost use Rattle.histories.specs.declared.stamped.Stamped.{Stamped};
 ghost use Rattle.histories.specs.History.{stamped, Before};
 
 /// A value that stands for a history of entries. It needn't hold the history: `tells` relates it to each one that it
-/// may stand for, and `last` reads the entry of its last turn out of it.
+/// may stand for.
 pub trait Told {
     /// What a turn may add to the history. No value of it is made.
     type Entry;
@@ -16,9 +16,6 @@ pub trait Told {
 
     /// The value stands for this history, oldest entry first.
     ghost tells: { Self → List (Stamped Self.Entry) → Type 0 };
-
-    /// The entry that the last job added, if any.
-    ghost last: { Self → Option Self.Entry };
 
     /// The entries that it brings with it when it comes behind a lock. They get turn 0.
     ghost begins: { Self → List Self.Entry };
@@ -38,6 +35,9 @@ pub trait Job<T: Told> {
     /// job after, and the entry that the turn adds.
     ghost says: { Self → T.About → List (Stamped T.Entry) → ℕ → Self.Out → Self → Option T.Entry → Type 0 };
 
+    /// The entry that the turn adds, if any: of the job after, the answer, and the value after.
+    ghost adds: { Self → Self.Out → T → Option T.Entry };
+
     /// What it asks of what no turn changes.
     ghost may: { Self → T.About → Type 0 } = { λ _ _. Unit {0} };
 
@@ -46,7 +46,7 @@ pub trait Job<T: Told> {
         requires { may self.old (T.about value.old) }
         ensures about { T.about value.new ≡ T.about value.old }
         ensures kept { (h : List (Stamped T.Entry)) → T.tells value.old h → Before turn h
-            → T.tells value.new (h ++ stamped turn (T.last value.new)) }
+            → T.tells value.new (h ++ stamped turn (adds self.new result value.new)) }
         ensures says { (h : List (Stamped T.Entry)) → T.tells value.old h → Before turn h
-            → says self.old (T.about value.old) h turn result self.new (T.last value.new) };
+            → says self.old (T.about value.old) h turn result self.new (adds self.new result value.new) };
 }

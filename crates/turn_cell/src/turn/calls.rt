@@ -1,7 +1,7 @@
 //! How a lock is made, how its seats are split and joined, and how a job is run.
 ghost use Rattle.std.specs.Prelude.{◌≡◌, ◌++◌, [], ◌∷◌, map, true, IfOk, IfErr, IsOk, Some};
 ghost use Rattle.histories.specs.History.{stamp, own, IsLonger, Ran};
-ghost use Rattle.turn_cell.specs.Seats.{IsSeatOf, about, seen, turns};
+ghost use Rattle.turn_cell.specs.Seats.{IsSeatOf, about, made_of, seen, turns};
 
 use super::taking::TICKET;
 use super::{Turn, TurnSeat};
@@ -10,6 +10,7 @@ use crate::told::{Job, Told};
 use atomic_table::{Refused, Table};
 use blobref::NoMemory;
 use std::alloc::{AllocFailed, Global};
+use std::marker::Brand;
 use std::snapshot::Snapshot;
 use std::sync::Wait;
 
@@ -22,6 +23,7 @@ impl<T: Told> Turn<T> {
     ) -> Result<(Turn<T>, TurnSeat<T, T::Entry, T::About>), (T, NoMemory)>
         requires { T.tells value (map (stamp 0) (T.begins value)) }
         ensures own { IfOk result (λ r. IsSeatOf r.0 r.1) }
+        ensures made { IfOk result (λ r. made_of r.0 ≡ value) }
         ensures seen { IfOk result (λ r. seen r.1 ≡ map (stamp 0) (T.begins value)) }
         ensures turns { IfOk result (λ r. turns r.1 ≡ []) }
         ensures about { IfOk result (λ r. about r.1 ≡ Some (T.about value)) }
@@ -102,7 +104,7 @@ impl<T: Told> Turn<T> {
     {
         let (mut value, ticket) = self.take_up(rt, &mut seat.seat);
         let answer = job.go(ticket + 1, &mut value);
-        self.pass_on(&mut seat.seat, value);
+        self.pass_on::<J, Brand>(&mut seat.seat, value, job, &answer);
         answer
     }
 }

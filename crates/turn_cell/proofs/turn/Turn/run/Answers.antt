@@ -26,7 +26,7 @@ invariant_of-seat g c =
     let ticket = c.take_up-value.result.1 in
     let about = g.T.Told.about c.take_up-value.result.0 in
     let answer = c.go-answer in
-    let entry = g.T.Told.last answer.new.value in
+    let entry = g.J.Job.adds answer.new.self answer.result answer.new.value in
     let now = c.pass_on.ensures.passed ticket (ap (λ m. m.0.stage) up.1) in
     let r = ran (λ h n e. g.J.Job.says c.args.job.now about h n answer.result answer.new.self e)
     c.args.seat.now.seat.me.0 c.pass_on.new.seat.me.0 ticket up.0 entry
@@ -39,7 +39,7 @@ returns-clause-ran g c =
     let up = c.take_up-value.ensures.caught in
     let ticket = c.take_up-value.result.1 in
     let answer = c.go-answer in
-    let entry = g.T.Told.last answer.new.value in
+    let entry = g.J.Job.adds answer.new.self answer.result answer.new.value in
     let now = c.pass_on.ensures.passed ticket (ap (λ m. m.0.stage) up.1) in (
       g.T.Told.about c.take_up-value.result.0,
       sym up.3,
@@ -54,7 +54,7 @@ returns-clause-legal g c a is =
     let ticket = c.take_up-value.result.1 in
     let answer = c.go-answer in
     let value = answer.new.value in
-    let entry = g.T.Told.last value in
+    let entry = g.J.Job.adds answer.new.self answer.result value in
     let now = c.pass_on.ensures.passed ticket (ap (λ m. m.0.stage) up.1) in
     let view = ap (λ m. m.0) now ∙ ap (λ m. after ticket entry m.0) up.1 in
     let about : g.T.Told.about value ≡ a = answer.ensures.about ∙ cc (up.3, is) in
