@@ -6,6 +6,7 @@ pub mod Walking
 pub mod Packing
 pub mod Looking
 pub mod Damage
+pub mod Finding
 pub mod Pages
 pub mod Held
 pub mod Moments

@@ -1,5 +1,7 @@
 -- A tree of numbers under refs, and the finite map that its entries make; and the number of a ref among rows.
-use Rattle.std.proofs.Common.{◌≡◌, ℕ, suc, ◌+◌, cond, Bool, true, false, List, [], ◌∷◌, ◌++◌, length, Option, None, Some, refl, sym, ap, subst, ◌∙◌, arith, nat_eq, map, ◌<◌, slice_index_or}
+use Rattle.std.proofs.Common.{◌≡◌, ℕ, suc, ◌+◌, cond, Bool, true, false, List, [], ◌∷◌, ◌++◌, length, Option, None, Some, refl, sym, ap, subst, ◌∙◌, arith, nat_eq, map, ◌<◌, slice_index, slice_index_or, append_assoc}
+use Rattle.std.proofs.lemmas.List.{append-nil}
+use Rattle.std.proofs.lemmas.List.Elements.{All-from_get_or}
 use Rattle.std.specs.BTreeMap.{is_at}
 use Rattle.std.specs.Map.{lookup}
 use Rattle.std.specs.Option.{option_or}
@@ -10,7 +12,7 @@ use Rattle.std.specs.Cmp.Lexicographic.{pointwise, nat_list_cmp_total, same_text
 use Rattle.std.specs.FinMap.{FinMap, get, insert, remove, from_entries, find, get-from_entries, get-insert, get-remove, same_map, IsAntisymmetric, slice_cmp-IsAntisymmetric, nat_cmp-IsAntisymmetric}
 use Rattle.blobref.specs.Blobref.{ref_cmp}
 use Rattle.pack_store.specs.declared.rows.Row.{Row}
-use Rattle.pack_store.specs.Rows.{number_of}
+use Rattle.pack_store.specs.Rows.{number_of, AreBytes, AreNew}
 
 abbrev Entry : Type 0
 Entry = List ℕ × ℕ
@@ -81,6 +83,16 @@ placed_taken places rows r n placed absent q =
     go : (b : Bool) → pointwise nat_eq q r ≡ b → cond b None (cond b (Some n) (get places q)) ≡ number_of q rows
     go true e = sym (ap (λ p. number_of p rows) (same_text q r (sym e)) ∙ absent)
     go false e = placed q
+
+-- a row whose ref none has before it is new
+pub new_more : (before rows : List Row) (row : Row) → AreNew before rows → number_of row.r (before ++ rows) ≡ None → AreNew before (rows ++ row ∷ [])
+new_more before [] row new absent = (subst (λ (xs : List Row). number_of row.r xs ≡ None) (append-nil before) absent, tt)
+new_more before (x ∷ rows) row new absent =
+    (new.0, new_more (before ++ x ∷ []) rows row new.1 (subst (λ (xs : List Row). number_of row.r xs ≡ None) (sym (append_assoc before (x ∷ []) rows)) absent))
+
+-- numbers that fit a byte
+pub are_bytes : (xs : List ℕ) → ((i : ℕ) → slice_index xs i < 256) → AreBytes xs
+are_bytes xs each = All-from_get_or (λ (b : ℕ). b < 256) xs 0 (λ i lt. each i)
 
 -- ---- what stands under a number
 

@@ -13,7 +13,7 @@ use Rattle.pack_disk.specs.Disk.{NoNew, last_number}
 use Rattle.pack_store.specs.declared.limits.Limits.{Limits}
 use Rattle.pack_store.specs.declared.rows.Row.{Row}
 use Rattle.pack_store.specs.declared.rows.Current.{Current}
-use Rattle.pack_store.specs.Rows.{arrivals_in, IsKept, IsOfBlob}
+use Rattle.pack_store.specs.Rows.{arrivals_in, IsKept, IsOfBlob, AreBlobs}
 use Rattle.pack_store.specs.Archive.{AreLimits, IsSound}
 use Rattle.pack_store.specs.Walk.{below}
 use Rattle.pack_store.specs.Opening.{next_of, current_if_clean, current_of, IsOpened, take_pack, IsPlaced, IsTaken}
@@ -57,7 +57,7 @@ module _ {D : Type 0} (g : Ghosts D) where
     arrived = λ held told. ap arrivals (sym (walk_begins held).so_far);
     counted = λ held told. ap next_of (sym (walk_begins held).so_far);
     current_is = λ held told. ap current_of (sym (walk_begins held).so_far);
-    blobs = All-nil IsOfBlob;
+    blobs = record { each = All-nil IsOfBlob; distinct = tt };
     kept = λ held told. All-nil (IsKept held (g.images d));
     last = λ c is. no_current c is;
     long = λ c is. no_current c is;
@@ -75,7 +75,7 @@ module _ {D : Type 0} (g : Ghosts D) where
       → ForSome (g.packs mid) (λ held. (bytes : List ℕ) → get held pack ≡ Some bytes → more ≡ take_pack rows pack bytes)
       → ForSome (g.packs mid) (λ held. (bytes : List ℕ) → get held pack ≡ Some bytes → found ≡ current_if_clean (pack, bytes))
       → IfSome found (λ c. c.pack ≡ pack)
-      → (All IsOfBlob rows → All IsOfBlob more)
+      → (AreBlobs rows → AreBlobs more)
       → ForSome (g.packs mid) (λ held. (image : Packs) → g.images new image → get image pack ≡ get held pack)
       → IsTaken g new more (pack + 1) found
   taken_more tells old mid new rows more from pack current found taken told_mid told_new fewer least ge takes is_found number blobs stands =

@@ -17,13 +17,13 @@ use Rattle.pack_disk.specs.Disk.{Tells, SameOthers, last_number}
 use Rattle.pack_store.specs.declared.rows.Row.{Row}
 use Rattle.pack_store.specs.declared.rows.Current.{Current}
 use Rattle.pack_store.specs.Packs.{CleanIn, HeldByAll}
-use Rattle.pack_store.specs.Rows.{number_of, arrival_of, arrivals_in, IsKept, IsOfBlob}
+use Rattle.pack_store.specs.Rows.{number_of, arrival_of, arrivals_in, AreBytes, IsKept, IsOfBlob}
 use Rattle.pack_store.specs.Adding.{AddsRecord, row_at, IsLong, KeepsRows, HasRow}
 use Rattle.pack_store.specs.Archive.{Archive, IsSound, is_filled, needs_pack, is_full}
 use Rattle.pack_store.specs.Putting.{settled_own, pack_of, fill_of, target, fill, next_after, row_after, current_after, Stores, Fails}
 use Rattle.pack_store.proofs.Held.{tied}
 use Rattle.pack_store.proofs.Moments.{tells_before}
-use Rattle.pack_store.proofs.Numbers.{placed_push, placed_taken}
+use Rattle.pack_store.proofs.Numbers.{placed_push, placed_taken, new_more}
 use Rattle.pack_store.proofs.Rowing.{row_held}
 use Rattle.pack_store.proofs.Appending.{tells_map}
 
@@ -143,14 +143,18 @@ module _ {D : Type 0} (g : Ghosts D)
       ap (option_map (λ (x : List ℕ). length x)) there ∙ ap Some (length-append had (record_under r bytes) ∙ ap (λ k. k + length (record_under r bytes)) long)
 
   -- the blob was stored
-  pub sound_stored : (places : FinMap ref_cmp ℕ) (s : Archive D) (disk : D) (r bytes : List ℕ) → IsOwnRef r bytes → length bytes ≤ max_size → IsSound g places s → number_of (r) s.rows ≡ None → is_full s ≡ false
+  pub sound_stored : (places : FinMap ref_cmp ℕ) (s : Archive D) (disk : D) (r bytes : List ℕ) → IsOwnRef r bytes → length bytes ≤ max_size → AreBytes bytes → IsSound g places s → number_of (r) s.rows ≡ None → is_full s ≡ false
       → Tells (g.packs s.disk) (g.packs disk) (SameOthers (target s)) → Tells (g.packs s.disk) (g.packs disk) (AddsRecord (target s) r bytes)
       → CleanIn (g.images disk) (target s) → HasRow g disk (row_after s r bytes) bytes → KeepsRows g s.disk disk
       → IsSound g (insert places (r) (length s.rows)) (record { rows = s.rows ++ row_after s r bytes ∷ []; limits = s.limits; next = next_after s; current = Some (current_after s r bytes); disk = disk })
-  sound_stored places s disk r bytes own small sound absent room told added clean row rows = record {
+  sound_stored places s disk r bytes own small octets sound absent room told added clean row rows = record {
     limited = sound.limited;
     placed = placed_push places s.rows (row_after s r bytes) sound.placed absent;
-    blobs = All-append IsOfBlob s.rows (row_after s r bytes ∷ []) sound.blobs (All-one IsOfBlob (row_after s r bytes) (record { bytes = bytes; own = own; small = small; long = refl }));
+    blobs = record {
+      each = All-append IsOfBlob s.rows (row_after s r bytes ∷ []) sound.blobs.each
+          (All-one IsOfBlob (row_after s r bytes) (record { bytes = bytes; octets = octets; own = own; small = small; long = refl }));
+      distinct = new_more [] s.rows (row_after s r bytes) sound.blobs.distinct absent;
+    };
     kept = λ held is. All-append (IsKept held (g.images disk)) s.rows (row_after s r bytes ∷ []) (rows_kept s disk _ sound.kept told rows held is) (All-one (IsKept held (g.images disk)) (row_after s r bytes) (row held is).0);
     last = λ c is. ap (λ (d : Current). suc d.pack) (sym (same_current (current_after s r bytes) c is)) ∙ target_next places s sound;
     long = λ c is. subst (λ (d : Current). IsLong g disk d.pack d.size) (same_current (current_after s r bytes) c is) (long_after places s disk r bytes sound added);
@@ -186,18 +190,18 @@ module _ {D : Type 0} (g : Ghosts D)
         record { value = refl; others = others; arrived = arrivals_kept s disk _ sound.kept others kept },
       )
 
-  pub ends_stored : (places after : FinMap ref_cmp ℕ) (s : Archive D) (disk : D) (r bytes : List ℕ) (rows : List Row) (row : Row) (current : Current) (pack size next : ℕ) → IsOwnRef r bytes → length bytes ≤ max_size
+  pub ends_stored : (places after : FinMap ref_cmp ℕ) (s : Archive D) (disk : D) (r bytes : List ℕ) (rows : List Row) (row : Row) (current : Current) (pack size next : ℕ) → IsOwnRef r bytes → length bytes ≤ max_size → AreBytes bytes
       → IsSound g places s → number_of r s.rows ≡ None → is_full s ≡ false
       → rows ≡ s.rows ++ row ∷ [] → row ≡ row_after s r bytes → current ≡ current_after s r bytes → after ≡ insert places r (length s.rows) → pack ≡ target s → size ≡ fill s → next ≡ next_after s
       → Tells (g.packs s.disk) (g.packs disk) (SameOthers pack) → Tells (g.packs s.disk) (g.packs disk) (AddsRecord pack r bytes) → CleanIn (g.images disk) pack → HasRow g disk (row_at pack size r bytes) bytes
       → KeepsRows g s.disk disk
       → IsSound g after (record { rows = rows; limits = s.limits; next = next; current = Some current; disk = disk })
       × Stores g s (record { rows = rows; limits = s.limits; next = next; current = Some current; disk = disk }) r bytes
-  ends_stored places after s disk r bytes rows row current pack size next own small sound absent room rows_is row_is current_is after_is pack_is size_is next_is told added clean has kept =
+  ends_stored places after s disk r bytes rows row current pack size next own small octets sound absent room rows_is row_is current_is after_is pack_is size_is next_is told added clean has kept =
       let others = subst (λ n. Tells (g.packs s.disk) (g.packs disk) (SameOthers n)) pack_is told in
       let more = subst (λ n. Tells (g.packs s.disk) (g.packs disk) (AddsRecord n r bytes)) pack_is added in
       let stands : HasRow g disk (row_after s r bytes) bytes = subst (λ (x : Row). HasRow g disk x bytes) (λ i. row_at (pack_is i) (size_is i) r bytes) has in
       rw (rows_is, row_is, current_is, after_is, next_is) (
-        sound_stored places s disk r bytes own small sound absent room others more (subst (CleanIn (g.images disk)) pack_is clean) stands kept,
+        sound_stored places s disk r bytes own small octets sound absent room others more (subst (CleanIn (g.images disk)) pack_is clean) stands kept,
         record { value = refl; added = more; arrived = arrivals_added s disk _ r bytes sound.kept others kept stands },
       )

@@ -47,7 +47,8 @@ module _ {D : Type 0} (g : Ghosts D)
     (tells : (d : D) (image : Packs) → g.images d image → (held : Packs) × (g.packs d ≡ Some held)) where
   pub are_held : (places : FinMap ref_cmp ℕ) (s : Archive D) → IsSound g places s → AreHeld g s
   are_held places s sound = record {
-    blobs = sound.blobs;
+    blobs = sound.blobs.each;
+    distinct = sound.blobs.distinct;
     held = λ image is k d lt. let now = tells s.disk image is in row_held _ image ((sound.kept now.0 now.1 k d lt).found image is);
     named = λ told is. All-map (λ (a : List ℕ × List ℕ). IsOwnRef a.0 a.1) (arrival_of told) s.rows (λ k d lt. never_damaged _ told (g.images s.disk) (reads s.disk told is) (sound.kept told is k d lt));
     sized = λ told is. sizes_told told (g.images s.disk) s.rows (reads s.disk told is) (sound.kept told is);

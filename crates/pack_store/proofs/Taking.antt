@@ -1,5 +1,5 @@
 -- The findings of a pack are taken up as rows.
-use Rattle.std.proofs.Common.{get_or, ◌≡◌, ℕ, zero, suc, ◌+◌, ◌-◌, ◌++◌, ◌&&◌, ◌||◌, Bool, true, false, not, cond, Option, None, Some, List, [], ◌∷◌, length, take, drop, map, refl, sym, ap, ◌∙◌, arith, nat_eq}
+use Rattle.std.proofs.Common.{get_or, ◌≡◌, ℕ, zero, suc, ◌+◌, ◌-◌, ◌<◌, ◌++◌, ◌&&◌, ◌||◌, Bool, true, false, not, cond, Option, None, Some, List, [], ◌∷◌, length, take, drop, map, refl, sym, ap, subst, ◌∙◌, arith, nat_eq}
 use Rattle.std.specs.List.{All, list_any, position_from}
 use Rattle.std.specs.Option.{is_some}
 use Rattle.std.specs.Cmp.Lexicographic.{pointwise, nat_list_eq_equiv}
@@ -7,13 +7,15 @@ use Rattle.std.specs.FinMap.{get}
 use Rattle.std.proofs.lemmas.Bool.{eq-eqb, or_left, or_right}
 use Rattle.std.proofs.lemmas.List.{map-append}
 use Rattle.std.proofs.lemmas.List.Elements.{All-append, All-map, All-nil}
+use Rattle.std.proofs.lemmas.List.Elements as elements
 use Rattle.salvage_scan.specs.Salvage.{Finding, salvage, broken}
 use Rattle.salvage_scan.specs.Scan.{place_of, clean_of}
 use Rattle.salvage_scan.specs.Arrivals.{blob_of, arrive}
 use Rattle.salvage_scan.proofs.Slices.{LiesAt, each_lies, All-one}
 use Rattle.pack_disk.specs.Packs.{Packs}
 use Rattle.pack_store.specs.declared.rows.Row.{Row}
-use Rattle.pack_store.specs.Rows.{arrival_of, arrivals_in, bytes_in, found_in, is_found_as, number_of, IsKept, IsOfBlob}
+use Rattle.pack_store.specs.Rows.{arrival_of, arrivals_in, bytes_in, found_in, is_found_as, number_of, AreBytes, AreNew, AreBlobs, IsKept, IsOfBlob}
+use Rattle.pack_store.proofs.Numbers.{new_more}
 use Rattle.pack_store.specs.Opening.{row_of, row_of_found, take_row, take_rows, take_pack, current_if_clean, current_by}
 
 All-first : {X : Type 0} (P : X → Type 0) (x : X) (xs : List X) → All P (x ∷ xs) → P x
@@ -123,10 +125,28 @@ All-take_pack held images pack bytes rows there stands kept = All-take (IsKept h
 
 -- ---- each row taken up is of a blob
 
-of_blob : (pack : ℕ) (bytes : List ℕ) (f : Finding) → LiesAt 0 bytes f → IsOfBlob (row_of_found pack (place_of f))
-of_blob pack bytes f lies = record { bytes = f.bytes; own = lies.named; small = lies.small; long = refl }
+of_blob : (pack : ℕ) (bytes : List ℕ) (f : Finding) → AreBytes bytes → LiesAt 0 bytes f → IsOfBlob (row_of_found pack (place_of f))
+of_blob pack bytes f octets lies = record {
+  bytes = f.bytes;
+  octets = subst AreBytes lies.bytes (elements.All-take (λ (b : ℕ). b < 256) (length f.bytes) (drop (f.at - 0) bytes) (elements.All-drop (λ (b : ℕ). b < 256) (f.at - 0) bytes octets));
+  own = lies.named;
+  small = lies.small;
+  long = refl;
+}
 
-pub All-take_found : (pack : ℕ) (bytes : List ℕ) (rows : List Row) → All IsOfBlob rows → All IsOfBlob (take_rows rows (map (row_of_found pack) (map place_of (salvage bytes))))
-All-take_found pack bytes rows old = All-take IsOfBlob (map (row_of_found pack) (map place_of (salvage bytes))) rows old
-    (All-map IsOfBlob (row_of_found pack) (map place_of (salvage bytes)) (All-map (λ found. IsOfBlob (row_of_found pack found)) place_of (salvage bytes)
-    (λ k d lt. of_blob pack bytes (get_or (salvage bytes) k d) (each_lies bytes k d lt))))
+-- no two rows that are taken up have the same ref
+new_take : (more rows : List Row) → AreNew [] rows → AreNew [] (take_rows rows more)
+new_take [] rows old = old
+new_take (row ∷ more) rows old = new_take more (take_row rows row) (go (number_of row.r rows) refl)
+  where
+    go : (o : Option ℕ) → number_of row.r rows ≡ o → AreNew [] (cond (is_some o) rows (rows ++ row ∷ []))
+    go None absent = new_more [] rows row old absent
+    go (Some n) there = old
+
+pub blobs_take_found : (pack : ℕ) (bytes : List ℕ) (rows : List Row) → AreBytes bytes → AreBlobs rows → AreBlobs (take_rows rows (map (row_of_found pack) (map place_of (salvage bytes))))
+blobs_take_found pack bytes rows octets old = record {
+  each = All-take IsOfBlob (map (row_of_found pack) (map place_of (salvage bytes))) rows old.each
+      (All-map IsOfBlob (row_of_found pack) (map place_of (salvage bytes)) (All-map (λ found. IsOfBlob (row_of_found pack found)) place_of (salvage bytes)
+      (λ k d lt. of_blob pack bytes (get_or (salvage bytes) k d) octets (each_lies bytes k d lt))));
+  distinct = new_take (map (row_of_found pack) (map place_of (salvage bytes))) rows old.distinct;
+}

@@ -9,7 +9,7 @@ use Rattle.pack_store.specs.declared.limits.Limits.{Limits}
 use Rattle.pack_store.specs.declared.rows.Row.{Row}
 use Rattle.pack_store.specs.declared.rows.Current.{Current}
 use Rattle.pack_store.specs.Packs.{CleanIn}
-use Rattle.pack_store.specs.Rows.{number_of, IsKept, IsOfBlob}
+use Rattle.pack_store.specs.Rows.{number_of, IsKept, AreBlobs}
 use Rattle.pack_store.specs.Adding.{IsLong}
 
 -- Where each blob stands, in order of arrival; the number of the next pack, 0 where there is none; the pack to which the next record
@@ -50,7 +50,7 @@ is_full s = nat_le s.limits.blobs (count s) || (needs_pack s && nat_lt s.limits.
 pub record IsSound {D : Type 0} (g : Ghosts D) (places : FinMap ref_cmp ℕ) (s : Archive D) : Type 0 where
   pub limited : AreLimits s.limits
   pub placed : (r : List ℕ) → get places r ≡ number_of r s.rows
-  pub blobs : All IsOfBlob s.rows
+  pub blobs : AreBlobs s.rows
   pub kept : ForSome (g.packs s.disk) (λ held. All (IsKept held (g.images s.disk)) s.rows)
   pub last : (current : Current) → s.current ≡ Some current → suc current.pack ≡ s.next
   pub long : (current : Current) → s.current ≡ Some current → IsLong g s.disk current.pack current.size

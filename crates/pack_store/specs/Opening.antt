@@ -17,7 +17,7 @@ use Rattle.pack_store.specs.declared.limits.Limits.{Limits}
 use Rattle.pack_store.specs.declared.rows.Row.{Row}
 use Rattle.pack_store.specs.declared.rows.Current.{Current}
 use Rattle.pack_store.specs.Packs.{CleanIn}
-use Rattle.pack_store.specs.Rows.{number_of, arrivals_in, IsKept, IsOfBlob}
+use Rattle.pack_store.specs.Rows.{number_of, arrivals_in, IsKept, AreBlobs}
 use Rattle.pack_store.specs.Adding.{IsLong}
 use Rattle.pack_store.specs.Archive.{Archive}
 use Rattle.pack_store.specs.Walk.{below}
@@ -85,7 +85,7 @@ pub record IsTaken {D : Type 0} (g : Ghosts D) (disk : D) (rows : List Row) (nex
   pub arrived : ForSome (g.packs disk) (λ held. arrivals_in held rows ≡ arrivals (below next held))
   pub counted : ForSome (g.packs disk) (λ held. next ≡ next_of (below next held))
   pub current_is : ForSome (g.packs disk) (λ held. current ≡ current_of (below next held))
-  pub blobs : All IsOfBlob rows
+  pub blobs : AreBlobs rows
   pub kept : ForSome (g.packs disk) (λ held. All (IsKept held (g.images disk)) rows)
   pub last : (c : Current) → current ≡ Some c → suc c.pack ≡ next
   pub long : (c : Current) → current ≡ Some c → IsLong g disk c.pack c.size

@@ -1,5 +1,5 @@
 -- What is read from a store (docs/store.md).
-use Rattle.std.specs.Prelude.{◌≡◌, ◌≢◌, ℕ, suc, ◌≤◌, List, length, take, map, All, true, nat_eq, filter, Option, None, Some, Result, Err, slice_get}
+use Rattle.std.specs.Prelude.{◌≡◌, ◌≢◌, ℕ, suc, ◌≤◌, List, [], length, take, map, All, true, nat_eq, filter, Option, None, Some, Result, Err, slice_get}
 use Rattle.std.specs.Cmp.Lexicographic.{pointwise}
 use Rattle.std.specs.FinMap.{entries, from_entries, get}
 use Rattle.std.specs.Map.{lookup}
@@ -16,7 +16,7 @@ use Rattle.pack_disk.specs.declared.disk.Disk.{Ghosts}
 use Rattle.pack_store.specs.declared.rows.Row.{Row}
 use Rattle.pack_store.specs.declared.rows.Current.{Current}
 use Rattle.pack_store.specs.Packs.{holds, CleanIn}
-use Rattle.pack_store.specs.Rows.{arrivals_in, sizes_in, IsOfBlob}
+use Rattle.pack_store.specs.Rows.{arrivals_in, sizes_in, IsOfBlob, AreNew}
 use Rattle.pack_store.specs.Adding.{IsLong}
 use Rattle.pack_store.specs.Archive.{Archive}
 
@@ -69,6 +69,8 @@ page after limit rows = take limit (filter (λ (e : List ℕ × ℕ). is_after a
 pub record AreHeld {D : Type 0} (g : Ghosts D) (s : Archive D) : Type 0 where
   -- each is a blob under its own ref, with its size, whether the disk tells or not
   pub blobs : All IsOfBlob s.rows
+  -- no two have the same ref
+  pub distinct : AreNew [] s.rows
   -- every image holds each of them
   pub held : (image : Packs) → g.images s.disk image → All (λ (row : Row). holds row.r image ≡ true) s.rows
   -- where the disk tells, each has its own ref and its size

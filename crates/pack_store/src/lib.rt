@@ -20,6 +20,7 @@ pub use laws::{holds_content, lives_keep};
 pub use limits::Limits;
 pub use opened_laws::puts_last;
 pub use opening::OpenFault;
+pub use reading::Found;
 pub use rows::{Current, Row};
 pub use shelf::content_stands;
 pub use store::Store;

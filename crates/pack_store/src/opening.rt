@@ -7,7 +7,7 @@ ghost use Rattle.pack_disk.specs.Packs.{Packs};
 ghost use Rattle.pack_disk.specs.Disk.{last_number};
 ghost use Rattle.pack_disk.specs.Runs.{Stays};
 ghost use Rattle.pack_store.specs.declared.limits.Limits.{Limits};
-ghost use Rattle.pack_store.specs.Rows.{IsOfBlob};
+ghost use Rattle.pack_store.specs.Rows.{AreBlobs};
 ghost use Rattle.pack_store.specs.Archive.{Archive, AreLimits, IsSound};
 ghost use Rattle.pack_store.specs.Opening.{IsOpened, IsPlaced, current_if_clean, current_by, row_of_found, take_row, take_rows, take_pack};
 
@@ -150,7 +150,7 @@ fn take_pack<D: Disk>(
         (λ held. (bytes : List ℕ) → get held pack ≡ Some bytes → rows.new.items
         ≡ take_pack rows.old.items pack bytes)) }
     ensures placed { OnOk result (IsPlaced places.new rows.new.items) }
-    ensures blobs { OnOk result (All IsOfBlob rows.old.items → All IsOfBlob rows.new.items) }
+    ensures blobs { OnOk result (AreBlobs rows.old.items → AreBlobs rows.new.items) }
     ensures clean { IfOk result (λ current. ForSome (D.packs disk.old)
         (λ held. (bytes : List ℕ) → get held pack ≡ Some bytes → current ≡ current_if_clean (pack, bytes))) }
     ensures number { IfOk result (λ current. IfSome current (λ c. c.pack ≡ pack)) }

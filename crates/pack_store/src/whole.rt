@@ -4,7 +4,8 @@ ghost use Rattle.std.specs.Option.{ForSome};
 ghost use Rattle.std.specs.FinMap.{get};
 ghost use Rattle.edge_base.specs.Edge.{Rose};
 ghost use Rattle.pack_disk.specs.Runs.{Stays};
-ghost use Rattle.pack_store.specs.Scan.{IsScan};
+ghost use Rattle.pack_store.specs.Rows.{AreBytes};
+ghost use Rattle.pack_store.specs.Scan.{IsScan, scan_of};
 
 use blobref::NoMemory;
 use pack_disk::Disk;
@@ -52,7 +53,16 @@ pub fn scan_pack<D: Disk>(alloc: Global, disk: &mut D, pack: u32) -> Result<Pack
     ensures later { D.faults disk.old ≤ D.faults disk.new }
 {
     let bytes = read_pack(alloc, disk, pack)?;
-    let (found, clean) = scan(alloc, &bytes)?;
+    let scan = scan_bytes(alloc, &bytes)?;
+    Ok(scan)
+}
+
+// The scan of these bytes.
+fn scan_bytes(alloc: Global, bytes: &[u8]) -> Result<PackScan, NoMemory>
+    ensures scan { IfOk result (λ scan. scan ≡ scan_of bytes.now) }
+    ensures octets { AreBytes bytes.now }
+{
+    let (found, clean) = scan(alloc, bytes)?;
     Ok(PackScan {
         found,
         clean,

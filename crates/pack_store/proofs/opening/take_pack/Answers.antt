@@ -1,11 +1,10 @@
 use Rattle.std.proofs.Common.{◌≡◌, map, sym, ◌∙◌, ap, subst}
-use Rattle.std.specs.List.{All}
 use Rattle.salvage_scan.specs.Salvage.{salvage}
 use Rattle.salvage_scan.specs.Scan.{place_of}
-use Rattle.pack_store.specs.Rows.{IsOfBlob}
+use Rattle.pack_store.specs.Rows.{AreBlobs}
 use Rattle.pack_store.specs.Opening.{row_of_found, take_rows, current_by, current_if_clean}
 use Rattle.pack_store.proofs.Held.{some_same}
-use Rattle.pack_store.proofs.Taking.{rows_shown, current_shown, All-take_found}
+use Rattle.pack_store.proofs.Taking.{rows_shown, current_shown, blobs_take_found}
 use Rattle.pack_store.proofs.opening.take_pack.Goals as goal
 
 pub returns-clause-rows : goal.returns-clause-rows
@@ -19,8 +18,8 @@ pub returns-clause-blobs : goal.returns-clause-blobs
 returns-clause-blobs g c = λ old.
     let scanned = c.in_ok-scan.ensures.scanned in
     let shown : c.as_slice.result.now ≡ map place_of (salvage scanned.bytes) = c.as_slice.ensures ∙ ap (λ s. s.found) scanned.is in
-    subst (All IsOfBlob) (sym (c.in_ok-take_findings.ensures.rows ∙ ap (λ found. take_rows c.args.rows.now.items (map (row_of_found c.args.pack) found)) shown))
-    (All-take_found c.args.pack scanned.bytes c.args.rows.now.items old)
+    subst AreBlobs (sym (c.in_ok-take_findings.ensures.rows ∙ ap (λ found. take_rows c.args.rows.now.items (map (row_of_found c.args.pack) found)) shown))
+    (blobs_take_found c.args.pack scanned.bytes c.args.rows.now.items scanned.octets old)
 
 pub returns-clause-clean : goal.returns-clause-clean
 returns-clause-clean g c = λ held told bytes at.

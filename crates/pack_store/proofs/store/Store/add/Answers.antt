@@ -7,6 +7,7 @@ use Rattle.pack_store.specs.declared.rows.Current.{Current}
 use Rattle.pack_store.specs.Archive.{Archive}
 use Rattle.pack_store.specs.Putting.{settled_own, target, fill, next_after, row_after, current_after, Stores, Fails}
 use Rattle.pack_store.proofs.Moments.{ok_told}
+use Rattle.pack_store.proofs.Numbers.{are_bytes}
 use Rattle.pack_store.proofs.Soundness.{not_settled, ends_failed, ends_stored, row_acknowledged}
 use Rattle.pack_store.proofs.store.Store.add.Goals as goal
 
@@ -47,6 +48,7 @@ invariant_of-self-2 g c =
     let disk = g.D.Disk in
     let s : Archive _ = record { rows = c.self.inside.rows.items; limits = c.self.inside.limits; next = c.self.inside.next; current = c.self.inside.current; disk = c.self.inside.disk } in
     let bytes = c.args.bytes.now in
+    let octets = are_bytes bytes (λ i. let fits = c.type_inv.bytes i in omega arith) in
     let room = not_settled s c.args.r.now (length bytes) (ap (λ (t : Archive _). settled_own t c.args.r.now (length bytes)) c.self.view_is ∙ c.requires.open) in
     let places_is : c.take_room.new.places ≡ insert c.self.inside.places c.args.r.now (length s.rows) = ok_told c.take_room.result (sym c.is_err.ensures.value ∙ c.if-is_err.false) c.take_room.ensures.ok in
     let pack_is : c.end-end.result.pack ≡ target s = c.end-end.ensures.pack ∙ ap (λ (t : Archive _). target t) (sym c.self.view_is) in
@@ -63,7 +65,7 @@ invariant_of-self-2 g c =
     let current_is : current ≡ current_after s c.args.r.now bytes = λ i. record { pack = pack_is i; size = grown i } in
     let rows_is : c.push_row.new.rows.items ≡ s.rows ++ row ∷ [] = c.push_row.ensures ∙ ap (λ rows. rows ++ row ∷ []) c.take_room.ensures.rows in
     (ends_stored disk g.met.D.Disk.reads g.met.D.Disk.tells c.self.inside.places c.take_room.new.places s c.write_blob.new.disk c.args.r.now bytes
-    c.push_row.new.rows.items row current c.end-end.result.pack c.end-end.result.size c.end-end.result.next c.requires.own room.0 c.self.invariant room.1 room.2 rows_is row_is current_is places_is pack_is size_is next_is
+    c.push_row.new.rows.items row current c.end-end.result.pack c.end-end.result.size c.end-end.result.next c.requires.own room.0 octets c.self.invariant room.1 room.2 rows_is row_is current_is places_is pack_is size_is next_is
     c.write_blob.ensures.told (ok_told c.write_blob.result fine c.write_blob.ensures.added) (ok_told c.write_blob.result fine c.write_blob.ensures.clean) (ok_told c.write_blob.result fine c.write_blob.ensures.row) c.write_blob.ensures.rows).0
 
 pub returns-clause-leaves : goal.returns-clause-leaves
@@ -71,6 +73,7 @@ returns-clause-leaves g c =
     let disk = g.D.Disk in
     let s : Archive _ = record { rows = c.self.inside.rows.items; limits = c.self.inside.limits; next = c.self.inside.next; current = c.self.inside.current; disk = c.self.inside.disk } in
     let bytes = c.args.bytes.now in
+    let octets = are_bytes bytes (λ i. let fits = c.type_inv.bytes i in omega arith) in
     let room = not_settled s c.args.r.now (length bytes) (ap (λ (t : Archive _). settled_own t c.args.r.now (length bytes)) c.self.view_is ∙ c.requires.open) in
     let places_is : c.take_room.new.places ≡ insert c.self.inside.places c.args.r.now (length s.rows) = ok_told c.take_room.result (sym c.is_err.ensures.value ∙ c.if-is_err.false) c.take_room.ensures.ok in
     let pack_is : c.end-end.result.pack ≡ target s = c.end-end.ensures.pack ∙ ap (λ (t : Archive _). target t) (sym c.self.view_is) in
@@ -88,7 +91,7 @@ returns-clause-leaves g c =
     let rows_is : c.push_row.new.rows.items ≡ s.rows ++ row ∷ [] = c.push_row.ensures ∙ ap (λ rows. rows ++ row ∷ []) c.take_room.ensures.rows in
     let new : Archive _ = record { rows = c.push_row.new.rows.items; limits = c.self.inside.limits; next = c.end-end.result.next; current = Some current; disk = c.write_blob.new.disk } in
     subst (λ (t : Archive _). Stores disk t new c.args.r.now bytes) c.self.view_is (ends_stored disk g.met.D.Disk.reads g.met.D.Disk.tells c.self.inside.places c.take_room.new.places s c.write_blob.new.disk c.args.r.now bytes
-    c.push_row.new.rows.items row current c.end-end.result.pack c.end-end.result.size c.end-end.result.next c.requires.own room.0 c.self.invariant room.1 room.2 rows_is row_is current_is places_is pack_is size_is next_is
+    c.push_row.new.rows.items row current c.end-end.result.pack c.end-end.result.size c.end-end.result.next c.requires.own room.0 octets c.self.invariant room.1 room.2 rows_is row_is current_is places_is pack_is size_is next_is
     c.write_blob.ensures.told (ok_told c.write_blob.result fine c.write_blob.ensures.added) (ok_told c.write_blob.result fine c.write_blob.ensures.clean) (ok_told c.write_blob.result fine c.write_blob.ensures.row) c.write_blob.ensures.rows).1
 
 pub returns-clause-acknowledged : goal.returns-clause-acknowledged
