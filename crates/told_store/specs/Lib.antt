@@ -1,0 +1,4 @@
+pub mod Telling
+pub mod Beginning
+pub mod Finding
+pub mod Once

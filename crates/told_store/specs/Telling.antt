@@ -1,0 +1,53 @@
+-- Which histories a store of packs stands for, and what its calls add to them (docs/store.md).
+use Rattle.std.specs.Prelude.{◌≡◌, ℕ, ◌≤◌, List, ◌++◌, Bool, true, Option, Some, None, Result, Ok, Err}
+use Rattle.std.specs.Option.{ForSome, is_some}
+use Rattle.edge_base.specs.declared.answers.Put.{Put}
+use Rattle.edge_base.specs.declared.answers.Put.TheVariants.{Stored, Already}
+use Rattle.edge_base.specs.declared.answers.PutFault.{PutFault}
+use Rattle.edge_base.specs.declared.answers.PutFault.TheVariants as fault
+use Rattle.pack_disk.specs.declared.disk.Disk.{Ghosts}
+use Rattle.pack_store.specs.Archive.{Archive}
+use Rattle.pack_store.specs.Rows.{arrivals_in, sizes_in}
+use Rattle.histories.specs.declared.stamped.Stamped.{Stamped}
+use Rattle.histories.specs.declared.events.StoreEvent.{StoreEvent}
+use Rattle.histories.specs.declared.events.StoreEvent.TheVariants as store
+use Rattle.histories.specs.History.{events, stamped, Before}
+use Rattle.histories.specs.Stores.{Blob, StoreLimits, arrivals, last_faults, is_legal_store}
+use Rattle.histories.specs.StoreCalls.{sizes}
+
+-- the limits that no call changes
+abbrev pub limits_of : {D : Type 0} → Archive D → StoreLimits
+limits_of s = record { blobs = s.limits.blobs; last_pack = s.limits.last_pack }
+
+-- whether the disk tells its packs
+abbrev pub is_told : {D : Type 0} → Ghosts D → Archive D → Bool
+is_told g s = is_some (g.packs s.disk)
+
+-- The store stands for the history: it is legal within the limits, its arrivals have the refs and sizes of the rows,
+-- and where the disk tells, the bytes there. The disk has counted each fault.
+pub record StoreTells {D : Type 0} (g : Ghosts D) (s : Archive D) (h : List (Stamped StoreEvent)) : Type 0 where
+  pub legal : is_legal_store (limits_of s) h ≡ true
+  pub rows : sizes_in s.rows ≡ sizes (arrivals h)
+  pub told : ForSome (g.packs s.disk) (λ held. arrivals_in held s.rows ≡ arrivals h)
+  pub faults : last_faults 0 (events h) ≤ g.faults s.disk
+
+-- A call in a turn adds this entry to each history that the store stood for, and answers as is said over the blobs that
+-- arrived before.
+abbrev pub AddsEntry : {D : Type 0} → Ghosts D → (old new : Archive D) → Option StoreEvent
+    → (List Blob → Option StoreEvent → Type 0) → Type 0
+AddsEntry g old new entry says = (h : List (Stamped StoreEvent)) (turn : ℕ) → StoreTells g old h → Before turn h
+    → StoreTells g new (h ++ stamped turn entry) × says (arrivals h) entry
+
+-- A call adds no entry, and answers as is said over the blobs that arrived.
+abbrev pub AddsNone : {D : Type 0} → Ghosts D → Archive D → (List Blob → Option StoreEvent → Type 0) → Type 0
+AddsNone g s says = (h : List (Stamped StoreEvent)) → StoreTells g s h → says (arrivals h) None
+
+-- what a put of a blob under its own ref adds, where the disk counts so many faults after it
+abbrev pub put_entry : List ℕ → List ℕ → Result Put PutFault → ℕ → Option StoreEvent
+put_entry r bytes (Ok (Stored n)) faults = Some (store.Put n r bytes)
+put_entry r bytes (Ok (Already n)) faults = None
+put_entry r bytes (Err (fault.TooBig size)) faults = None
+put_entry r bytes (Err (fault.BadDigest said is)) faults = None
+put_entry r bytes (Err (fault.Full blobs pack)) faults = Some (store.Full blobs pack)
+put_entry r bytes (Err fault.Disk) faults = Some (store.Fault faults)
+put_entry r bytes (Err fault.NoMemory) faults = None

@@ -1,0 +1,57 @@
+//! Blobs are read in a turn. Their digests are taken after it, so that no other turn waits for that.
+ghost use Rattle.std.specs.Prelude.{◌≡◌};
+ghost use Rattle.histories.specs.StoreCalls.{GetSays, ArrivalSays};
+ghost use Rattle.told_store.specs.Telling.{limits_of, is_told, AddsEntry};
+ghost use Rattle.told_store.specs.Finding.{find_entry, checked_get, checked_arrival};
+
+use blobref::{Octets, Ref};
+use edge_base::GetFault;
+use pack_disk::Disk;
+use pack_store::{Found, Store};
+
+/// The blob under a ref, and `None` exactly where none arrived. What is answered in the end is what `check` makes of
+/// it; the entry that tells of damage is decided by the bytes that were read. `Disk` comes only with the entry that
+/// tells the same.
+pub fn find<D: Disk>(store: &mut Store<D>, r: &Ref) -> Result<Option<Found>, GetFault>
+    ensures limits { limits_of store.new ≡ limits_of store.old }
+    ensures told { is_told D.Disk store.new ≡ is_told D.Disk store.old }
+    ensures tells { AddsEntry D.Disk store.old store.new (find_entry result (D.faults store.new.disk))
+        (λ before entry. GetSays (is_told D.Disk store.old) r.now before (checked_get result) entry) }
+{
+    store.find(r)
+}
+
+/// The blob of a number, counted from 0, and `None` exactly where no more than that many arrived. What is answered in
+/// the end is what `check_arrival` makes of it; else as `find`.
+pub fn find_number<D: Disk>(store: &mut Store<D>, number: u64) -> Result<Option<Found>, GetFault>
+    ensures limits { limits_of store.new ≡ limits_of store.old }
+    ensures told { is_told D.Disk store.new ≡ is_told D.Disk store.old }
+    ensures tells { AddsEntry D.Disk store.old store.new (find_entry result (D.faults store.new.disk))
+        (λ before entry. ArrivalSays (is_told D.Disk store.old) number before (checked_arrival result) entry) }
+{
+    store.find_number(number)
+}
+
+/// The bytes of what was found. `Damaged` comes exactly where they have another ref. It takes their digest.
+pub fn check(found: Result<Option<Found>, GetFault>) -> Result<Option<Octets>, GetFault>
+    ensures { result ≡ checked_get found }
+{
+    let Some(found) = found? else {
+        return Ok(None);
+    };
+    let (_, bytes) = found.checked()?;
+    Ok(Some(bytes))
+}
+
+/// The ref and the bytes of what was found. `Damaged` comes exactly where they have another ref. It takes their digest.
+pub fn check_arrival(
+    found: Result<Option<Found>, GetFault>,
+) -> Result<Option<(Ref, Octets)>, GetFault>
+    ensures { result ≡ checked_arrival found }
+{
+    let Some(found) = found? else {
+        return Ok(None);
+    };
+    let blob = found.checked()?;
+    Ok(Some(blob))
+}

@@ -1,0 +1,13 @@
+//! What is done to a store of packs in one turn, over the history that the store stands for (`docs/core.md`). There is
+//! no lock here: each call says which entry it adds to that history, and that it answers as `histories` says.
+#![tactic(auto)]
+
+mod asking;
+mod beginning;
+mod finding;
+mod putting;
+
+pub use asking::{count, list, once, stat};
+pub use beginning::begins_tell;
+pub use finding::{check, check_arrival, find, find_number};
+pub use putting::put;
