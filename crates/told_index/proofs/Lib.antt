@@ -1,0 +1,5 @@
+pub mod Numbers
+pub mod Firsts
+pub mod Entries
+pub mod Tells
+pub mod Fronts
