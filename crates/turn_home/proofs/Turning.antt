@@ -1,0 +1,66 @@
+-- What one turn of an index, and a join, is to a seat to which no more is shown than the Inserts of its history.
+use Rattle.std.proofs.Common.{◌≡◌, refl, ◌∙◌, ap, sym, subst, ℕ, ◌+◌, ⊎_elim, List, [], ◌∷◌, ◌++◌, Option, None, Result}
+use Rattle.std.proofs.lemmas.List.{append-nil}
+use mathlib.Core.List.{IsPrefix}
+use Rattle.blobref.specs.declared.memory.NoMemory.{NoMemory}
+use Rattle.claim_verify.specs.Verifier.{Accepts}
+use Rattle.search_query.specs.declared.query.Query.{Query}
+use Rattle.histories.specs.declared.stamped.Stamped.{Stamped}
+use Rattle.histories.specs.declared.events.IndexEvent.{IndexEvent}
+use Rattle.histories.specs.History.{events, stamped, own, IsLonger, Ran}
+use Rattle.histories.specs.Indexes.{inserts}
+use Rattle.histories.proofs.Prefixes.{prefix_self, prefix_trans}
+use Rattle.histories.proofs.Growing.{ran_grew}
+use Rattle.histories.proofs.Standing.{inserts_prefix}
+use Rattle.home_core.specs.Seats.{IndexTurn, IndexJoin}
+use Rattle.home_core.specs.Searches.{SearchSays, IndexSearch}
+use Rattle.home_core.specs.Showing.{shown_alone}
+use Rattle.turn_home.specs.IndexSeats.{IndexRan}
+
+module _ (h k : List (Stamped IndexEvent)) (s t : List ℕ) (a b : Accepts) where
+  -- what was seen begins what is seen after a turn
+  grown : (says : List (Stamped IndexEvent) → ℕ → Option IndexEvent → Type 0) → Ran says h s k t → IsPrefix h k
+  grown says r = prefix_trans h r.before k r.longer (stamped (r.ticket + 1) r.entry, sym r.added)
+
+  pub turned : (says : List IndexEvent → Option IndexEvent → Type 0)
+      → IndexRan (λ accepts before entry. says (events before) entry) (shown_alone h s a) (shown_alone k t b)
+      → IndexTurn says (shown_alone h s a) (shown_alone k t b)
+  turned says r = record {
+    ran = r.ran;
+    known = inserts_prefix h r.ran.before r.ran.longer;
+    shown = inserts_prefix h k (grown (λ before turn entry. says (events before) entry) r.ran);
+    accepts = r.accepts;
+  }
+
+  pub searched : (query : Query) (result : Result (List (List ℕ)) NoMemory)
+      → IndexRan (λ accepts before entry. SearchSays accepts query (inserts before) result × (entry ≡ None)) (shown_alone h s a) (shown_alone k t b)
+      → IndexSearch query result (shown_alone h s a) (shown_alone k t b)
+  searched query result r =
+      let same : k ≡ r.ran.before = r.ran.added ∙ (ap (λ e. r.ran.before ++ stamped (r.ran.ticket + 1) e) r.ran.said.1 ∙ append-nil r.ran.before) in record {
+        grew = ran_grew (λ before turn entry. SearchSays a query (inserts before) result × (entry ≡ None)) (λ e. ⊥) h k s t (λ before n e said. absurd cc said.1) r.ran;
+        shown = inserts_prefix h k (grown (λ before turn entry. SearchSays a query (inserts before) result × (entry ≡ None)) r.ran);
+        answer = subst (λ (accepts : Accepts). SearchSays accepts query (inserts k) result) (sym r.accepts) (subst (λ (before : List (Stamped IndexEvent)). SearchSays a query (inserts before) result) (sym same) r.ran.said.0);
+        accepts = r.accepts;
+      }
+
+own_none : (h : List (Stamped IndexEvent)) → own [] h ≡ []
+own_none [] = refl
+own_none (e ∷ es) = own_none es
+
+-- two seats are joined
+pub joined : (x y z : List (Stamped IndexEvent)) (s t u : List ℕ) (a b c : Accepts) → IsLonger x y z → u ≡ s ++ t
+    → own s z ≡ own s x → own t z ≡ own t y → b ≡ a → c ≡ a → IndexJoin (shown_alone x s a) (shown_alone y t b) (shown_alone z u c)
+joined x y z s t u a b c longer turns one other same left = record {
+  longer = z;
+  of_both = longer;
+  begins = prefix_self z;
+  further = [];
+  turns = turns ∙ sym (append-nil (s ++ t));
+  own_one = one;
+  own_other = other;
+  own_further = own_none z;
+  shown_one = inserts_prefix x z (⊎_elim (λ (p : (z ≡ x) × IsPrefix y x). subst (λ w. IsPrefix x w) (sym p.0) (prefix_self x)) (λ (p : (z ≡ y) × IsPrefix x y). subst (λ w. IsPrefix x w) (sym p.0) p.1) longer);
+  shown_other = inserts_prefix y z (⊎_elim (λ (p : (z ≡ x) × IsPrefix y x). subst (λ w. IsPrefix y w) (sym p.0) p.1) (λ (p : (z ≡ y) × IsPrefix x y). subst (λ w. IsPrefix y w) (sym p.0) (prefix_self y)) longer);
+  same_keys = same;
+  accepts = left;
+}

@@ -1,0 +1,6 @@
+pub mod StoreAbout
+pub mod StoreSeats
+pub mod Refusing
+pub mod IndexSeats
+pub mod Legal
+pub mod FactIsValid

@@ -1,0 +1,57 @@
+//! The index behind its lock, and the seats of it.
+ghost use Rattle.std.specs.Prelude.{◌≡◌, true, length};
+ghost use Rattle.histories.specs.Indexes.{inserts, is_legal_index};
+ghost use Rattle.turn_cell.specs.Seats.{seen};
+
+use claim_verify::Verifier;
+use histories::IndexEvent;
+use told_index::WorkIndex;
+use turn_cell::{Told, Turn, TurnSeat};
+
+mod calls;
+mod jobs;
+mod making;
+mod turns;
+
+/// The index, as it lies behind the lock.
+#[derive(Drop)]
+pub struct KeptIndex<V: Verifier> {
+    pub index: WorkIndex<V>,
+}
+
+impl<V: Verifier> Told for KeptIndex<V> {
+    ghost use Rattle.std.specs.Prelude.{[]};
+    ghost use Rattle.histories.specs.Indexes.{is_legal_index};
+    ghost use Rattle.told_index.specs.Telling.{IndexTells};
+
+    type Entry = IndexEvent;
+
+    type About = V;
+
+    ghost about = { λ k. k.index.keys };
+
+    ghost tells = { λ k h. IndexTells k.index h };
+
+    ghost begins = { λ k. [] };
+
+    ghost legal = { λ keys h. is_legal_index h };
+
+    ghost is_legal = { λ k h t. t.legal };
+}
+
+/// An index that several seats share (`docs/core.md`). A seat is shown the Inserts of its history, and no others; each
+/// search takes a turn.
+#[derive(Drop)]
+pub struct TurnIndex<V: Verifier> {
+    turn: Turn<KeptIndex<V>>,
+}
+
+/// What one actor knows of a `TurnIndex`: the history of the index that it has seen, the turns that it drew, and how
+/// many Inserts stand in that history. It has eight bytes.
+#[derive(Drop)]
+pub struct IndexSeat<V: Verifier> {
+    seat: TurnSeat<KeptIndex<V>, IndexEvent, V>,
+    count: u64,
+    pub ghost legal: { is_legal_index (seen seat) ≡ true },
+    ghost counted: { count ≡ length (inserts (seen seat)) },
+}

@@ -1,0 +1,125 @@
+//! What is done to the index in one turn.
+ghost use Rattle.schema_fact.specs.Validity.{IsValid};
+ghost use Rattle.turn_home.specs.FactIsValid.{fact_prop};
+
+use super::turns::IndexJob;
+use blobref::{NoMemory, Ref, RefList};
+use claim_verify::Verifier;
+use edge_base::Inserted;
+use schema_fact::Fact;
+use search_query::Query;
+use told_index::WorkIndex;
+
+/// The least number that waits is taken in hand.
+#[derive(Drop)]
+pub struct Take {
+    pub arrivals: u64,
+}
+
+impl<V: Verifier> IndexJob<V> for Take {
+    ghost use Rattle.histories.specs.History.{events};
+    ghost use Rattle.histories.specs.IndexCalls.{TakeSays};
+    ghost use Rattle.told_index.specs.Telling.{take_entry};
+
+    type Out = Result<Option<u64>, NoMemory>;
+
+    ghost says = { λ j accepts before result entry. TakeSays j.arrivals (events before) result entry };
+
+    ghost adds = { λ j result. take_entry result };
+
+    fn go(self, index: &mut WorkIndex<V>) -> Result<Option<u64>, NoMemory> {
+        index.take(self.arrivals)
+    }
+}
+
+/// A number is inserted, with a fact under a ref.
+#[derive(Drop)]
+pub struct Insert<'a> {
+    pub number: u64,
+    pub r: &'a Ref,
+    pub fact: Fact,
+    pub ghost valid: { IsValid fact } by { fact_prop fact },
+}
+
+impl<'a, V: Verifier> IndexJob<V> for Insert<'a> {
+    ghost use Rattle.histories.specs.History.{events};
+    ghost use Rattle.histories.specs.IndexCalls.{InsertSays};
+    ghost use Rattle.told_index.specs.Telling.{insert_entry};
+
+    type Out = Result<Inserted, NoMemory>;
+
+    ghost says = { λ j accepts before result entry. InsertSays j.number j.r.now j.fact (events before) result entry };
+
+    ghost adds = { λ j result. insert_entry j.number j.r.now j.fact result };
+
+    fn go(self, index: &mut WorkIndex<V>) -> Result<Inserted, NoMemory> {
+        index.insert(self.number, self.r, self.fact)
+    }
+}
+
+/// A number is given back. It answers whether that was in hand.
+#[derive(Drop)]
+pub struct GiveBack {
+    pub number: u64,
+}
+
+impl<V: Verifier> IndexJob<V> for GiveBack {
+    ghost use Rattle.histories.specs.History.{events};
+    ghost use Rattle.histories.specs.IndexCalls.{ReturnSays};
+    ghost use Rattle.told_index.specs.Telling.{return_entry};
+
+    type Out = bool;
+
+    ghost says = { λ j accepts before result entry. ReturnSays j.number (events before) entry };
+
+    ghost adds = { λ j result. return_entry result j.number };
+
+    fn go(self, index: &mut WorkIndex<V>) -> bool {
+        index.give_back(self.number)
+    }
+}
+
+/// The least number that isn't inserted is asked for.
+#[derive(Drop)]
+pub struct Lacking {
+    pub below: u64,
+}
+
+impl<V: Verifier> IndexJob<V> for Lacking {
+    ghost use Rattle.std.specs.Prelude.{None};
+    ghost use Rattle.histories.specs.History.{events};
+    ghost use Rattle.histories.specs.IndexCalls.{LackingSays};
+
+    type Out = Option<u64>;
+
+    ghost says = { λ j accepts before result entry. LackingSays j.below (events before) result entry };
+
+    ghost adds = { λ j result. None };
+
+    fn go(self, index: &mut WorkIndex<V>) -> Option<u64> {
+        index.lacking(self.below)
+    }
+}
+
+/// A query is answered.
+#[derive(Drop)]
+pub struct Search<'a> {
+    pub query: &'a Query,
+}
+
+impl<'a, V: Verifier> IndexJob<V> for Search<'a> {
+    ghost use Rattle.std.specs.Prelude.{◌≡◌, None};
+    ghost use Rattle.histories.specs.Indexes.{inserts};
+    ghost use Rattle.home_core.specs.Searches.{SearchSays};
+
+    type Out = Result<RefList, NoMemory>;
+
+    ghost says = { λ j accepts before result entry. SearchSays accepts j.query.now (inserts before) result
+        × (entry ≡ None) };
+
+    ghost adds = { λ j result. None };
+
+    fn go(self, index: &mut WorkIndex<V>) -> Result<RefList, NoMemory> {
+        index.search(self.query)
+    }
+}

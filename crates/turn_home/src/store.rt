@@ -1,0 +1,71 @@
+//! The store behind its lock, and the seats of it.
+ghost use Rattle.std.specs.Prelude.{◌≡◌, true, length};
+ghost use Rattle.histories.specs.Stores.{arrivals, is_legal_store};
+ghost use Rattle.turn_cell.specs.Seats.{about, seen};
+ghost use Rattle.turn_home.specs.StoreAbout.{limits_seen};
+
+use histories::StoreEvent;
+use pack_disk::Disk;
+use pack_store::Store;
+use std::alloc::Global;
+use turn_cell::{Told, Turn, TurnSeat};
+
+mod calls;
+mod jobs;
+mod making;
+mod turns;
+
+/// What no turn changes of a store. No value of it is made.
+pub struct StoreAbout {
+    /// How many blobs it may have.
+    pub blobs: u64,
+    /// The number of its last pack.
+    pub last_pack: u32,
+    /// Whether its disk tells the bytes of its packs.
+    pub tells: bool,
+}
+
+/// The store, as it lies behind the lock.
+#[derive(Drop)]
+pub struct KeptStore<D: Disk> {
+    pub store: Store<D>,
+}
+
+impl<D: Disk> Told for KeptStore<D> {
+    ghost use Rattle.histories.specs.Stores.{is_legal_store};
+    ghost use Rattle.told_store.specs.Telling.{StoreTells};
+    ghost use Rattle.told_store.specs.Beginning.{begins};
+    ghost use Rattle.turn_home.specs.StoreAbout.{about_of, limits_in};
+
+    type Entry = StoreEvent;
+
+    type About = StoreAbout;
+
+    ghost about = { λ k. about_of D.Disk k.store };
+
+    ghost tells = { λ k h. StoreTells D.Disk k.store h };
+
+    ghost begins = { λ k. begins D.Disk k.store };
+
+    ghost legal = { λ a h. is_legal_store (limits_in a) h };
+
+    ghost is_legal = { λ k h t. t.legal };
+}
+
+/// A store of packs that several seats share, on any disk (`docs/core.md`). Its bytes are told where its disk tells
+/// them. Digests are taken outside the turns.
+#[derive(Drop)]
+pub struct TurnStore<D: Disk> {
+    alloc: Global,
+    turn: Turn<KeptStore<D>>,
+}
+
+/// What one actor knows of a `TurnStore`: the history of the store that it has seen, the turns that it drew, and how
+/// many blobs arrived in that history. It has eight bytes.
+#[derive(Drop)]
+pub struct StoreSeat<D: Disk> {
+    seat: TurnSeat<KeptStore<D>, StoreEvent, StoreAbout>,
+    count: u64,
+    pub ghost legal: { is_legal_store (limits_seen (about seat)) (seen seat) ≡ true },
+    ghost counted: { count ≡ length (arrivals (seen seat)) },
+}

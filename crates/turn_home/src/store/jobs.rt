@@ -1,0 +1,137 @@
+//! What is done to the store in one turn.
+ghost use Rattle.blobref.specs.Blobref.{IsOwnRef};
+
+use super::turns::StoreJob;
+use blobref::{Listing, NoMemory, Ref, RefList};
+use edge_base::{GetFault, Put, PutFault};
+use pack_disk::Disk;
+use pack_store::{Found, Store};
+use std::alloc::Global;
+
+/// A blob is put under its own ref.
+#[derive(Drop)]
+pub struct PutOwn<'a> {
+    pub r: &'a Ref,
+    pub bytes: &'a [u8],
+    pub ghost own: { IsOwnRef r.now bytes.now },
+}
+
+impl<'a, D: Disk> StoreJob<D> for PutOwn<'a> {
+    ghost use Rattle.histories.specs.StoreCalls.{PutSays};
+    ghost use Rattle.told_store.specs.Telling.{put_entry};
+
+    type Out = Result<Put, PutFault>;
+
+    ghost says = { λ j tells before result entry. PutSays j.r.now j.bytes.now before result entry };
+
+    ghost adds = { λ j result s. put_entry j.r.now j.bytes.now result (D.faults s.disk) };
+
+    fn go(self, store: &mut Store<D>) -> Result<Put, PutFault> {
+        told_store::put(store, self.r, self.bytes)
+    }
+}
+
+/// A blob is read by its ref. Its digest is looked at after the turn.
+#[derive(Drop)]
+pub struct Find<'a> {
+    pub r: &'a Ref,
+}
+
+impl<'a, D: Disk> StoreJob<D> for Find<'a> {
+    ghost use Rattle.histories.specs.StoreCalls.{GetSays};
+    ghost use Rattle.told_store.specs.Finding.{find_entry, checked_get};
+
+    type Out = Result<Option<Found>, GetFault>;
+
+    ghost says = { λ j tells before result entry. GetSays tells j.r.now before (checked_get result) entry };
+
+    ghost adds = { λ j result s. find_entry result (D.faults s.disk) };
+
+    fn go(self, store: &mut Store<D>) -> Result<Option<Found>, GetFault> {
+        told_store::find(store, self.r)
+    }
+}
+
+/// A blob is read by its number. Its digest is looked at after the turn.
+#[derive(Drop)]
+pub struct FindNumber {
+    pub number: u64,
+}
+
+impl<D: Disk> StoreJob<D> for FindNumber {
+    ghost use Rattle.histories.specs.StoreCalls.{ArrivalSays};
+    ghost use Rattle.told_store.specs.Finding.{find_entry, checked_arrival};
+
+    type Out = Result<Option<Found>, GetFault>;
+
+    ghost says = { λ j tells before result entry. ArrivalSays tells j.number before (checked_arrival result) entry };
+
+    ghost adds = { λ j result s. find_entry result (D.faults s.disk) };
+
+    fn go(self, store: &mut Store<D>) -> Result<Option<Found>, GetFault> {
+        told_store::find_number(store, self.number)
+    }
+}
+
+/// A page of the refs is listed.
+#[derive(Drop)]
+pub struct Page<'a> {
+    pub after: Option<&'a Ref>,
+    pub limit: usize,
+}
+
+impl<'a, D: Disk> StoreJob<D> for Page<'a> {
+    ghost use Rattle.std.specs.Prelude.{None, option_copied};
+    ghost use Rattle.histories.specs.StoreCalls.{ListSays};
+
+    type Out = Result<Listing, NoMemory>;
+
+    ghost says = { λ j tells before result entry. ListSays (option_copied j.after) j.limit before result entry };
+
+    ghost adds = { λ j result s. None };
+
+    fn go(self, store: &mut Store<D>) -> Result<Listing, NoMemory> {
+        told_store::list(store, self.after, self.limit)
+    }
+}
+
+/// The sizes of the blobs under refs are asked, each of which stands there once.
+#[derive(Drop)]
+pub struct Sizes<'a> {
+    pub alloc: Global,
+    pub once: &'a RefList,
+}
+
+impl<'a, D: Disk> StoreJob<D> for Sizes<'a> {
+    ghost use Rattle.std.specs.Prelude.{None, ◌≡◌, ℕ, List, []};
+    ghost use Rattle.histories.specs.StoreCalls.{StatSays, each_once};
+
+    type Out = Result<Listing, NoMemory>;
+
+    ghost says = { λ j tells before result entry. (asked : List (List ℕ)) → j.once.now ≡ each_once [] asked
+        → StatSays asked before result entry };
+
+    ghost adds = { λ j result s. None };
+
+    fn go(self, store: &mut Store<D>) -> Result<Listing, NoMemory> {
+        told_store::stat(self.alloc, store, self.once)
+    }
+}
+
+/// Nothing is done. It answers how many blobs arrived.
+#[derive(Drop)]
+pub struct Count;
+
+impl<D: Disk> StoreJob<D> for Count {
+    ghost use Rattle.std.specs.Prelude.{◌≡◌, None, length};
+
+    type Out = u64;
+
+    ghost says = { λ j tells before result entry. (result ≡ length before) × (entry ≡ None) };
+
+    ghost adds = { λ j result s. None };
+
+    fn go(self, store: &mut Store<D>) -> u64 {
+        told_store::count(store)
+    }
+}

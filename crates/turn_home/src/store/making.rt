@@ -1,0 +1,53 @@
+//! How the place and its seats are made.
+ghost use Rattle.std.specs.Prelude.{◌≡◌, [], map, IfOk, IfErr};
+ghost use Rattle.histories.specs.History.{stamp};
+ghost use Rattle.told_store.specs.Telling.{is_told, limits_of};
+ghost use Rattle.told_store.specs.Beginning.{begins};
+ghost use Rattle.turn_home.specs.StoreSeats.{IsOfStore, store_sight, place_tells};
+
+use super::{KeptStore, StoreSeat, TurnStore};
+use blobref::NoMemory;
+use pack_disk::Disk;
+use pack_store::Store;
+use std::alloc::Global;
+use told_store::{begins_tell, count};
+use turn_cell::Turn;
+
+impl<D: Disk> TurnStore<D> {
+    /// Puts a store behind a lock, and gives the first seat. It has seen the blobs of the store arrive, in turn 0, and
+    /// drew no turn. After `NoMemory` the store is given back as it was.
+    pub fn make(
+        alloc: Global,
+        store: Store<D>,
+    ) -> Result<(TurnStore<D>, StoreSeat<D>), (Store<D>, NoMemory)>
+        ensures own { IfOk result (λ r. IsOfStore D.Disk r.0 r.1) }
+        ensures tells { IfOk result (λ r. place_tells D.Disk r.0 ≡ is_told D.Disk store) }
+        ensures seat { IfOk result (λ r. store_sight r.1 ≡ record {
+          history = map (stamp 0) (begins D.Disk store);
+          turns = [];
+          limits = limits_of store;
+        }) }
+        ensures given_back { IfErr result (λ e. e.0 ≡ store) }
+    {
+        begins_tell(&store);
+        let count = count(&store);
+        match Turn::make(alloc, KeptStore { store }) {
+            Ok((turn, seat)) => Ok((TurnStore { alloc, turn }, StoreSeat { seat, count })),
+            Err((kept, NoMemory)) => Err((kept.store, NoMemory)),
+        }
+    }
+
+    /// A second seat, which has seen the same and drew no turn. It takes no turn and no memory.
+    pub fn split(&self, seat: &mut StoreSeat<D>) -> StoreSeat<D>
+        requires { IsOfStore D.Disk self.now seat.old }
+        ensures own { IsOfStore D.Disk self.now seat.new }
+        ensures same { store_sight seat.new ≡ store_sight seat.old }
+        ensures own_second { IsOfStore D.Disk self.now result }
+        ensures second { store_sight result ≡ record (store_sight seat.old) { turns = [] } }
+    {
+        StoreSeat {
+            seat: self.turn.split(&mut seat.seat).unwrap(),
+            count: seat.count,
+        }
+    }
+}

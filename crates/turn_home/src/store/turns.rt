@@ -1,0 +1,78 @@
+//! One turn of the store.
+ghost use Rattle.turn_home.specs.StoreSeats.{IsOfStore, store_sight, place_tells};
+ghost use Rattle.home_core.specs.Seats.{StoreTurn};
+
+use super::{KeptStore, StoreSeat, TurnStore};
+use crate::counted::Counted;
+use pack_disk::Disk;
+use pack_store::Store;
+use std::sync::Wait;
+use turn_cell::Job;
+
+/// What is done to the store in one turn.
+pub trait StoreJob<D: Disk> {
+    ghost use Rattle.std.specs.Prelude.{◌≡◌, List, Option, Bool};
+    ghost use Rattle.histories.specs.declared.events.StoreEvent.{StoreEvent};
+    ghost use Rattle.histories.specs.Stores.{Blob};
+    ghost use Rattle.pack_store.specs.Archive.{Archive};
+    ghost use Rattle.told_store.specs.Telling.{AddsEntry, is_told};
+    ghost use Rattle.turn_home.specs.StoreAbout.{about_of};
+
+    /// What it answers.
+    type Out;
+
+    /// What it means: of the job, whether the disk tells, the blobs that arrived before the turn, the answer, and the
+    /// entry that the turn adds.
+    ghost says: { Self → Bool → List Blob → Self.Out → Option StoreEvent → Type 0 };
+
+    /// The entry that the turn adds, if any: of the job, the answer, and the store after.
+    ghost adds: { Self → Self.Out → Archive D → Option StoreEvent };
+
+    /// Does the job.
+    fn go(self, store: &mut Store<D>) -> Self::Out
+        ensures about { about_of D.Disk store.new ≡ about_of D.Disk store.old }
+        ensures tells { AddsEntry D.Disk store.old store.new (adds self result store.new)
+            (λ before entry. says self (is_told D.Disk store.old) before result entry) };
+}
+
+impl<D: Disk, O, J: StoreJob<D, Out = O> + Drop> Job<KeptStore<D>> for Counted<J> {
+    ghost use Rattle.std.specs.Prelude.{◌≡◌, ◌++◌, length, Some};
+    ghost use Rattle.histories.specs.History.{stamped};
+    ghost use Rattle.histories.specs.Stores.{arrivals};
+
+    type Out = O;
+
+    ghost says = { λ j about before turn result k entry. J.says j.was.value about.tells (arrivals before) result entry
+        × (k.count ≡ length (arrivals (before ++ stamped turn entry))) };
+
+    ghost adds = { λ j result kept. J.adds j.was.value result kept.store };
+
+    ghost may = { λ j about. j.job ≡ Some j.was.value };
+
+    fn go(&mut self, _turn: u64, value: &mut KeptStore<D>) -> O {
+        let job = self.job.take().unwrap();
+        let answer = job.go(&mut value.store);
+        self.count = told_store::count(&value.store);
+        answer
+    }
+}
+
+impl<D: Disk> TurnStore<D> {
+    // Does a job in one turn.
+    pub(super) fn take_turn<R: Wait, O, J: StoreJob<D, Out = O> + Drop>(
+        &self,
+        rt: &R,
+        seat: &mut StoreSeat<D>,
+        job: J,
+    ) -> O
+        requires { IsOfStore D.Disk self.now seat.old }
+        ensures own { IsOfStore D.Disk self.now seat.new }
+        ensures turn { StoreTurn (λ before entry. J.says job (place_tells D.Disk self.now) before result entry)
+            (store_sight seat.old) (store_sight seat.new) }
+    {
+        let mut counted = Counted::of(job);
+        let answer = self.turn.run(rt, &mut seat.seat, &mut counted);
+        seat.count = counted.count;
+        answer
+    }
+}
