@@ -1,0 +1,105 @@
+-- How serving ends, and what it leaves of the desks.
+use Rattle.std.specs.Prelude.{◌≡◌, ◌+◌, ◌<◌, ◌≤◌, ◌⊎◌, if◌then◌else◌, ℕ, List, [], ◌∷◌, length, Bool, true, false}
+use Rattle.std.specs.Prelude.{nat_eq, Option, Some, None, Result, Err}
+use Rattle.std.specs.List.{sum_by, list_any, AllZip}
+use Rattle.edge_base.specs.Edge.{Rose}
+use Rattle.edge_base.specs.declared.answers.GetFault.{GetFault}
+use Rattle.edge_base.specs.declared.answers.GetFault.TheVariants as unread
+use Rattle.histories.specs.Stores.{arrivals}
+use Rattle.histories.specs.Indexes.{inserts, HasAllBelow}
+use Rattle.home_core.specs.Passes.{Sight, Settles}
+use Rattle.blob_http.specs.Serving.{Longer}
+use Rattle.blob_server.specs.declared.serving.Served.{Served}
+use Rattle.blob_server.specs.declared.serving.Served.TheVariants as served
+use Rattle.blob_server.specs.Stands.{Counts, Stand, last_count, Attends}
+use Rattle.blob_server.specs.Counting.{Attended}
+
+-- counts of faults don't fall; and where an accept failed, that of the listener rose
+abbrev pub Counted : Option Counts → Option Counts → Bool → Type 0
+Counted None None failed = failed ≡ false
+Counted None (Some now) failed = ⊥
+Counted (Some before) None failed = ⊥
+Counted (Some before) (Some now) failed =
+    (before.faults ≤ now.faults) × (failed ≡ true → Rose before.faults now.faults)
+
+-- what is left of each desk
+pub record Tended (v w : Stand) : Type 0 where
+  pub longer : Longer v.sight w.sight
+  pub counted : Counted v.counts w.counts w.failed
+
+abbrev pub accepted_of : Option Counts → ℕ
+accepted_of None = 0
+accepted_of (Some counts) = counts.accepted
+
+abbrev pub is_worker : Option Counts → Bool
+is_worker None = false
+is_worker (Some counts) = true
+
+-- how many connections all listeners gave
+abbrev pub accepted_in : List Stand → ℕ
+accepted_in = sum_by (λ (s : Stand). accepted_of s.counts)
+
+abbrev pub has_worker : List Stand → Bool
+has_worker = list_any (λ (s : Stand). is_worker s.counts)
+
+abbrev pub has_failed : List Stand → Bool
+has_failed = list_any (λ (s : Stand). s.failed)
+
+-- a listener stands at the last count
+abbrev pub is_at_last : List Stand → Bool
+is_at_last = list_any (λ (s : Stand). nat_eq (accepted_of s.counts) last_count)
+
+-- all that the first pass had seen arrive is inserted
+abbrev pub FirstSettled : List Stand → List Stand → Type 0
+FirstSettled [] after = Unit {0}
+FirstSettled (v ∷ vs) [] = Unit {0}
+FirstSettled (v ∷ vs) (w ∷ ws) =
+    HasAllBelow (length (arrivals v.sight.store.history)) (inserts w.sight.index.history)
+
+-- the connections were served, at most so many
+pub record AreServed (connections : ℕ) (before after : List Stand) : Type 0 where
+  pub settled : FirstSettled before after
+  pub tended : AllZip Tended before after
+  pub most : accepted_in after ≤ accepted_in before + connections
+
+-- where there is a worker, all connections were accepted, unless a listener stands at the last count
+abbrev pub AllAccepted : ℕ → List Stand → List Stand → Type 0
+AllAccepted connections before after = has_worker before ≡ true
+    → (accepted_in after ≡ accepted_in before + connections) ⊎ (is_at_last after ≡ true)
+
+-- a desk whose pass was settled
+abbrev pub settled : Stand → Sight → Stand
+settled desk now = record { sight = now; counts = desk.counts; failed = desk.failed }
+
+-- the first pass was settled, with this answer, and nothing else was done
+pub record SettlesFirst (result : Result (Unit {0}) GetFault) (before after : List Stand) : Type 0 where
+  pub first : Stand
+  pub now : Sight
+  pub rest : List Stand
+  pub before_is : before ≡ first ∷ rest
+  pub after_is : after ≡ settled first now ∷ rest
+  pub settles : Settles result first.sight now
+
+-- the answer where the first settling was refused
+abbrev pub unsettled : GetFault → Served
+unsettled unread.Disk = served.Disk
+unsettled (unread.Damaged want is) = served.Damaged want is
+unsettled unread.NoMemory = served.NoMemory
+
+-- what is left, by the answer
+abbrev pub Ends : ℕ → List Stand → List Stand → Served → Type 0
+Ends connections before after served.Done = AreServed connections before after × (has_failed after ≡ false)
+    × AllAccepted connections before after
+Ends connections before after served.ListenerFault = AreServed connections before after × (has_failed after ≡ true)
+Ends connections before after served.Disk = SettlesFirst (Err unread.Disk) before after
+Ends connections before after (served.Damaged want is) = SettlesFirst (Err (unread.Damaged want is)) before after
+Ends connections before after served.NoMemory = SettlesFirst (Err unread.NoMemory) before after
+
+-- the desks served settled passes, and what a hand with every part knows of the connections
+pub record Serves (connections : ℕ) (before after : List Stand) (result : Served) : Type 0 where
+  pub taken : ℕ
+  pub dry : ℕ
+  pub attended : Attended Attends before after taken dry
+  pub most : taken ≤ connections
+  pub all : 0 < dry → taken ≡ connections
+  pub answer : result ≡ (if has_failed after then served.ListenerFault else served.Done)

@@ -1,0 +1,4 @@
+pub mod Counting
+pub mod Desks
+pub mod Stands
+pub mod Ends

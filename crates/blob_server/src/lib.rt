@@ -1,0 +1,11 @@
+//! Serves the connections of listeners over any home, by workers and indexers in threads.
+#![tactic(auto)]
+
+mod attending;
+mod counting;
+mod desk_list;
+mod serving;
+mod sharing;
+
+pub use desk_list::{Desk, desks};
+pub use serving::{Served, serve_all};
