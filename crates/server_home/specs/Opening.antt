@@ -1,0 +1,69 @@
+-- What stands once a home is open.
+use Rattle.std.specs.Prelude.{◌≡◌, ℕ, List, [], ◌∷◌, ◌++◌, All, length, map}
+use Rattle.std.specs.Option.{ForSome, is_some}
+use Rattle.std.specs.FinMap.{entries}
+use Rattle.claim_verify.specs.Verifier.{Accepts}
+use Rattle.edge_base.specs.Edge.{Rose}
+use Rattle.pack_disk.specs.declared.disk.Disk.{Ghosts}
+use Rattle.salvage_scan.specs.Arrivals.{arrivals}
+use Rattle.pack_store.specs.declared.limits.Limits.{Limits}
+use Rattle.histories.specs.History.{stamp}
+use Rattle.histories.specs.Stores.{Blob}
+use Rattle.told_store.specs.Beginning.{puts_from}
+use Rattle.home_core.specs.Seats.{StoreSight, IndexSight}
+use Rattle.home_core.specs.Showing.{shown_alone}
+use Rattle.live_home.specs.declared.home.LiveHome.{LiveHome}
+use Rattle.live_home.specs.declared.home.LivePass.{LivePass}
+use Rattle.turn_home.specs.declared.store.TurnStore.{TurnStore}
+use Rattle.turn_home.specs.declared.store.StoreSeat.{StoreSeat}
+use Rattle.turn_home.specs.declared.index.TurnIndex.{TurnIndex}
+use Rattle.turn_home.specs.declared.index.IndexSeat.{IndexSeat}
+use Rattle.turn_home.specs.StoreSeats.{IsOfStore, store_sight, place_tells}
+use Rattle.turn_home.specs.IndexSeats.{IsOfIndex, index_sight}
+use Rattle.server_home.specs.declared.opening.HomeFault.{HomeFault}
+use Rattle.server_home.specs.declared.opening.HomeFault.TheVariants.{Disk, NoMemory}
+
+-- the pass belongs to the two places, has seen this of them, and drew no turn
+pub record IsNew {D V : Type 0} {b c : _} (g : Ghosts D) (accepts : V → Accepts) (s : TurnStore D) (i : TurnIndex V)
+    (v : StoreSight) (w : IndexSight) (p : LivePass (StoreSeat D b) (IndexSeat V c)) : Type 0 where
+  pub store_own : IsOfStore g s p.store
+  pub index_own : IsOfIndex i p.index
+  pub store : store_sight p.store ≡ record v { turns = [] }
+  pub index : index_sight accepts p.index ≡ record w { turns = [] }
+
+-- a list of passes with such a one behind the others
+pub record HasOneMore {D V : Type 0} {b c : _} (g : Ghosts D) (accepts : V → Accepts) (s : TurnStore D)
+    (i : TurnIndex V) (v : StoreSight) (w : IndexSight)
+    (old new : List (LivePass (StoreSeat D b) (IndexSeat V c))) : Type 0 where
+  pub pass : LivePass (StoreSeat D b) (IndexSeat V c)
+  pub added : new ≡ old ++ pass ∷ []
+  pub is_new : IsNew g accepts s i v w pass
+
+-- so many of them
+abbrev pub ArePasses : {D V : Type 0} {b c : _} → Ghosts D → (V → Accepts) → TurnStore D → TurnIndex V → StoreSight
+    → IndexSight → ℕ → List (LivePass (StoreSeat D b) (IndexSeat V c)) → Type 0
+ArePasses g accepts s i v w count passes = (length passes ≡ count) × All (IsNew g accepts s i v w) passes
+
+-- these blobs arrived in turn 0
+abbrev pub arrived : Limits → List Blob → StoreSight
+arrived limits blobs = record {
+  history = map (stamp 0) (puts_from 0 blobs);
+  turns = [];
+  limits = record { blobs = limits.blobs; last_pack = limits.last_pack };
+}
+
+-- The home is over the store that the disk held: where that told its packs, their arrivals, and elsewhere blobs of which
+-- nothing more is said.
+pub record IsOpenHome {D V : Type 0} {b c : _} (g : Ghosts D) (accepts : V → Accepts) (disk : D) (limits : Limits)
+    (keys : V) (count : ℕ) (home : LiveHome (TurnStore D) (TurnIndex V))
+    (passes : List (LivePass (StoreSeat D b) (IndexSeat V c))) : Type 0 where
+  pub blobs : List Blob
+  pub told : ForSome (g.packs disk) (λ held. blobs ≡ arrivals (entries held))
+  pub tells : place_tells g home.store ≡ is_some (g.packs disk)
+  pub passes_are : ArePasses g accepts home.store home.index (arrived limits blobs) (shown_alone [] [] (accepts keys))
+      count passes
+
+-- where the disk failed it counted that
+abbrev pub HasCause : {D : Type 0} → (D → ℕ) → D → HomeFault D → Type 0
+HasCause faults before (Disk now) = Rose (faults before) (faults now)
+HasCause faults before NoMemory = Unit {0}

@@ -1,0 +1,7 @@
+//! The home of a server: a store of packs on a disk, and an index, both behind locks, with a pass for each thread.
+#![tactic(auto)]
+
+mod opening;
+mod passes;
+
+pub use opening::{HomeFault, ServerHome, ServerPass, home_over};

@@ -1,0 +1,69 @@
+//! The home over a disk.
+ghost use Rattle.std.specs.Prelude.{◌≤◌, ◌^◌, IfOk, IfErr};
+ghost use Rattle.pack_disk.specs.Disk.{last_number};
+ghost use Rattle.server_home.specs.Opening.{IsOpenHome, HasCause};
+
+use crate::passes::passes_of;
+use blobref::NoMemory;
+use claim_verify::Verifier;
+use live_home::{LiveHome, LivePass};
+use pack_disk::Disk;
+use pack_store::{Limits, OpenFault, Store};
+use std::alloc::Global;
+use turn_home::{IndexSeat, StoreSeat, TurnIndex, TurnStore};
+
+/// A store of packs and an index that threads share.
+pub type ServerHome<D, V> = LiveHome<TurnStore<D>, TurnIndex<V>>;
+
+/// What one thread holds of it.
+pub type ServerPass<D, V> = LivePass<StoreSeat<D>, IndexSeat<V>>;
+
+/// Why there is no home.
+#[derive(Drop)]
+pub enum HomeFault<D> {
+    /// The disk failed. It is handed back.
+    Disk { disk: D },
+    /// No memory was left. The disk may be gone.
+    NoMemory,
+}
+
+/// Opens the store that a disk holds (`docs/store.md`), and makes so many passes of a home over it and over an index of
+/// the keys. Each pass has seen the blobs of the store arrive, in turn 0, and an index of nothing; it drew no turn. The
+/// index stays empty until a pass settles. `Disk` comes only where the disk's count of faults rose.
+///
+/// It reads the packs whole. A pass takes 16 bytes.
+pub fn home_over<D: Disk + Drop, V: Verifier + Drop>(
+    alloc: Global,
+    disk: D,
+    limits: Limits,
+    keys: V,
+    count: usize,
+) -> Result<(ServerHome<D, V>, Vec<ServerPass<D, V>>), HomeFault<D>>
+    requires last_pack { limits.last_pack ≤ last_number }
+    requires pack_bytes { limits.pack_bytes ≤ 2 ^ 63 }
+    ensures opened { IfOk result (λ r. IsOpenHome D.Disk V.accepts disk limits keys count r.0 r.1.items) }
+    ensures cause { IfErr result (HasCause D.faults disk) }
+{
+    let store = match Store::open_on(alloc, disk, limits) {
+        Ok(store) => store,
+        Err((disk, OpenFault::Disk)) => return Err(HomeFault::Disk { disk }),
+        Err((_disk, OpenFault::NoMemory)) => return Err(HomeFault::NoMemory),
+    };
+    let Ok((store, mut store_seat)) = TurnStore::make(alloc, store) else {
+        return Err(HomeFault::NoMemory);
+    };
+    let Ok((index, mut index_seat)) = TurnIndex::make(alloc, keys) else {
+        return Err(HomeFault::NoMemory);
+    };
+    match passes_of(
+        alloc,
+        &store,
+        &mut store_seat,
+        &index,
+        &mut index_seat,
+        count,
+    ) {
+        Ok(passes) => Ok((LiveHome::make(alloc, store, index), passes)),
+        Err(NoMemory) => Err(HomeFault::NoMemory),
+    }
+}
