@@ -6,4 +6,5 @@ pub mod Forms
 pub mod Seen
 pub mod Table
 pub mod Reading
+pub mod Serving
 pub mod Places

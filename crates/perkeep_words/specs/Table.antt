@@ -17,7 +17,7 @@ row name writes positions needed spared options = record {
   options = options;
 }
 
-abbrev may : List ℕ → TextKind → OptionForm
+abbrev pub may : List ℕ → TextKind → OptionForm
 may name kind = record { name = name; kind = kind; needed = false }
 
 abbrev pub must : List ℕ → TextKind → OptionForm

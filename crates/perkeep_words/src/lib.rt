@@ -8,6 +8,7 @@ mod kinds;
 mod parts;
 mod place;
 mod reading;
+mod serving;
 mod table;
 mod words;
 
@@ -17,4 +18,5 @@ pub use kinds::TextFault;
 pub use parts::parts_agree;
 pub use place::Places;
 pub use reading::{Command, Line, readings_agree};
+pub use serving::{ServePlan, serve_words};
 pub use words::{BlobCount, Filled, Word};

@@ -320,10 +320,7 @@ impl<'a> RightLine<'a> {
     fn number_option(&self, option: &str, least: u64, most: u64, default: u64) -> u64
         ensures { result ≡ number_of option.now least most default self.now.1 }
     {
-        match nth(self.behind, Some(option), 0) {
-            Some(text) => number_within(least, most, text).unwrap_or(default),
-            None => default,
-        }
+        number_option(self.behind, option, least, most, default)
     }
 
     // The date that an option gives.
@@ -345,6 +342,18 @@ fn value<'a>(words: &'a [Text], option: &str) -> &'a str
     ensures { result.now ≡ text_of option.now (parts_from start words.now) }
 {
     nth(words, Some(option), 0).unwrap_or("")
+}
+
+/// The number that an option gives, and the default where it gives none.
+pub fn number_option(words: &[Text], option: &str, least: u64, most: u64, default: u64) -> u64
+    ensures value { result ≡ number_of option.now least most default (parts_from start words.now) }
+    ensures least { least ≤ default → least ≤ result }
+    ensures most { default ≤ most → result ≤ most }
+{
+    match nth(words, Some(option), 0) {
+        Some(text) => number_within(least, most, text).unwrap_or(default),
+        None => default,
+    }
 }
 
 // A text that is a blobref.
