@@ -14,3 +14,4 @@ mod steps;
 pub use blobs::pack_facts;
 pub use running::{readers_put_nothing, run};
 pub use status::{InputFault, Status};
+pub use steps::LIMITS;

@@ -16,8 +16,8 @@ use pack_disk::Disk;
 use pack_store::{Limits, Store, puts_last};
 use std::alloc::Global;
 
-// How far a store may grow.
-const LIMITS: Limits = Limits {
+/// How far the program's store may grow (`docs/formats/packs.md`).
+pub const LIMITS: Limits = Limits {
     blobs: 4_194_304,
     pack_bytes: 536_870_912,
     last_pack: 99_999,
