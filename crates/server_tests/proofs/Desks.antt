@@ -1,0 +1,60 @@
+-- Lists of desks whose passes belong to a home.
+use Rattle.std.proofs.Common.{◌≡◌, ℕ, List, [], ◌∷◌, All, sym, subst, Some, None}
+use Rattle.std.proofs.lemmas.List.Elements.{All-nil, All-cons, All-head, All-tail}
+use Rattle.blob_server.specs.declared.desk_list.Desk.{Desk}
+use Rattle.blob_server.specs.Desks.{desks_of, desk}
+use Rattle.claim_verify.specs.Verifier.{Accepts}
+use Rattle.pack_disk.specs.declared.disk.Disk.{Ghosts}
+use Rattle.pack_store.specs.declared.limits.Limits.{Limits}
+use Rattle.home_core.specs.Seats.{StoreSight, IndexSight}
+use Rattle.home_core.specs.Showing.{shown_alone}
+use Rattle.live_home.specs.declared.home.LiveHome.{LiveHome}
+use Rattle.live_home.specs.declared.home.LivePass.{LivePass}
+use Rattle.turn_home.specs.declared.store.TurnStore.{TurnStore}
+use Rattle.turn_home.specs.declared.store.StoreSeat.{StoreSeat}
+use Rattle.turn_home.specs.declared.index.TurnIndex.{TurnIndex}
+use Rattle.turn_home.specs.declared.index.IndexSeat.{IndexSeat}
+use Rattle.turn_home.specs.StoreSeats.{IsOfStore}
+use Rattle.turn_home.specs.IndexSeats.{IsOfIndex}
+use Rattle.server_home.specs.Opening.{IsNew, IsOpenHome, arrived}
+
+-- the seats of a desk's pass are of these places
+abbrev pub HasOwn : {A B L : Type 0} → (A → Type 0) → (B → Type 0) → Desk (LivePass A B) L → Type 0
+HasOwn store index d = store d.pass.store × index d.pass.index
+
+-- of a list that begins with an item
+module _ {X : Type 0} (x : X) (xs all : List X) (is : all ≡ x ∷ xs) (P : X → Type 0) (every : All P all) where
+  pub first_own : P x
+  first_own = All-head P x xs (subst (All P) is every)
+
+  pub rest_own : All P xs
+  rest_own = All-tail P x xs (subst (All P) is every)
+
+-- desks have the passes of which they are made
+pub desks_own : {P L : Type 0} (belongs : P → Type 0) (passes : List P) (listeners : List L) → All belongs passes
+    → All (λ (d : Desk P L). belongs d.pass) (desks_of passes listeners)
+desks_own {P} {L} belongs [] listeners own = All-nil (λ (d : Desk P L). belongs d.pass)
+desks_own {P} {L} belongs (p ∷ passes) [] own =
+    All-cons (λ (d : Desk P L). belongs d.pass) (desk p None) (desks_of passes []) (All-head belongs p passes own)
+    (desks_own belongs passes [] (All-tail belongs p passes own))
+desks_own {P} {L} belongs (p ∷ passes) (l ∷ listeners) own =
+    All-cons (λ (d : Desk P L). belongs d.pass) (desk p (Some l)) (desks_of passes listeners)
+    (All-head belongs p passes own) (desks_own belongs passes listeners (All-tail belongs p passes own))
+
+-- new passes belong to their home
+pub new_own : {D V : Type 0} {b c : _} (g : Ghosts D) (accepts : V → Accepts) (s : TurnStore D) (i : TurnIndex V)
+    (v : StoreSight) (w : IndexSight) (passes : List (LivePass (StoreSeat D b) (IndexSeat V c)))
+    → All (IsNew g accepts s i v w) passes → All (λ p. IsOfStore g s p.store × IsOfIndex i p.index) passes
+new_own g accepts s i v w passes are k p under = let new = are k p under in (new.store_own, new.index_own)
+
+-- and so do the passes of desks that are made of them
+pub new_desks : {D V L : Type 0} {b c : _} {g : Ghosts D} {accepts : V → Accepts} {disk : D} {limits : Limits} {keys : V}
+    {count : ℕ} {home : LiveHome (TurnStore D) (TurnIndex V)} {passes : List (LivePass (StoreSeat D b) (IndexSeat V c))}
+    (listeners : List L) (desks : List (Desk (LivePass (StoreSeat D b) (IndexSeat V c)) L))
+    → IsOpenHome g accepts disk limits keys count home passes → desks ≡ desks_of passes listeners
+    → All (HasOwn (IsOfStore g home.store) (IsOfIndex home.index)) desks
+new_desks {D} {V} {L} {b} {c} {g} {accepts} {disk} {limits} {keys} {count} {home} {passes} listeners desks opened is =
+    subst (All (HasOwn (IsOfStore g home.store) (IsOfIndex home.index))) (sym is)
+    (desks_own (λ (p : LivePass (StoreSeat D b) (IndexSeat V c)). IsOfStore g home.store p.store × IsOfIndex home.index p.index)
+    passes listeners
+    (new_own g accepts home.store home.index (arrived limits opened.blobs) (shown_alone [] [] (accepts keys)) passes opened.passes_are.1))

@@ -1,0 +1,241 @@
+//! Connections that are served by threads.
+use crate::ends::{HeldGate, HeldSource, NotedListener, ToldSink};
+use crate::texts::{
+    ABC_KEPT, FULL, GET_AND_SEARCH, KEPT_LEN, NONE_KEPT_ABC_NOTHING, TAGGED_AND_FOUND, UPLOAD_ABC,
+    UPLOAD_NONE, UPLOAD_TAGGED_AND_SEARCH, spelled,
+};
+use crate::threads::{Archive, Ending, served};
+use blob_server::Served;
+use blobref::{NoMemory, Octets};
+use claim_verify::{KeyName, Keyring};
+use edge_base::CallList;
+use edge_listen::MemListener;
+use pack_disk::MemDisk;
+use std::alloc::Global;
+use std::collections::VecDeque;
+use std::sync::Wait;
+use std::sync::atomic::{AtomicBool, AtomicU64, Ordering};
+use std::thread::Threads;
+
+type Connection<'a> = (HeldSource<'a>, ToldSink<'a>);
+
+// A store of nothing, which may have so many blobs, and no keys.
+fn archive(alloc: Global, blobs: u64) -> Archive {
+    Archive {
+        disk: MemDisk::empty(alloc, CallList::empty(alloc), u64::MAX),
+        blobs,
+        keys: Keyring::empty(alloc),
+    }
+}
+
+// What is said and told on a connection, and how many bytes of that were told.
+#[derive(Drop)]
+struct Talk {
+    wanted: Octets,
+    told: AtomicU64,
+}
+
+impl Talk {
+    fn of(alloc: Global, wanted: &str) -> Result<Talk, NoMemory> {
+        Ok(Talk {
+            wanted: spelled(alloc, wanted)?,
+            told: AtomicU64::new(0),
+        })
+    }
+
+    // Whether all of it was told, and nothing else.
+    fn is_told(&self) -> bool {
+        self.told.load(Ordering::SeqCst) == self.wanted.as_slice().len() as u64
+    }
+
+    // The connection on which a first part is said, and a second one once another connection was told so many bytes.
+    fn connection<'a>(
+        &'a self,
+        alloc: Global,
+        first: &str,
+        held: &str,
+        other: &'a Talk,
+        least: u64,
+    ) -> Result<Connection<'a>, NoMemory> {
+        let first = spelled(alloc, first)?;
+        let held = spelled(alloc, held)?;
+        let source = HeldSource::of(alloc, first, held, &other.told, least);
+        Ok((source, ToldSink::of(self.wanted.as_slice(), &self.told)))
+    }
+}
+
+type Line<'a> = MemListener<HeldSource<'a>, ToldSink<'a>>;
+
+// A listener of one connection.
+fn line<'a>(alloc: Global, connection: Connection<'a>) -> Result<Line<'a>, NoMemory> {
+    let mut waiting = VecDeque::new(alloc);
+    waiting.push_back(connection)?;
+    Ok(MemListener::of(waiting, CallList::empty(alloc)))
+}
+
+// A gate that is held until a number is at least so much.
+fn gate(until: &AtomicU64, least: u64) -> HeldGate<'_> {
+    HeldGate {
+        until,
+        least,
+        late: AtomicBool::new(false),
+    }
+}
+
+// Whether all was served, and all passes together have seen so many blobs, of which so many are inserted.
+fn is_done(ending: &Ending, seen: (u64, u64)) -> bool {
+    matches!(ending.served, Served::Done) && ending.seen == seen
+}
+
+// What is said on the first connection is held until the second was told a reply, and what is said there behind that
+// until the first was told its reply. So there is no order in which they could follow one another.
+fn two_lines<'a>(
+    alloc: Global,
+    first: &'a Talk,
+    second: &'a Talk,
+) -> Result<Vec<Line<'a>>, NoMemory> {
+    let one = first.connection(alloc, "", UPLOAD_ABC, second, KEPT_LEN)?;
+    let two = second.connection(alloc, UPLOAD_NONE, GET_AND_SEARCH, first, KEPT_LEN)?;
+    let mut lines = Vec::new(alloc);
+    lines.push(line(alloc, one)?)?;
+    lines.push(line(alloc, two)?)?;
+    Ok(lines)
+}
+
+fn serves_two<R: Threads + Wait + Sync>(
+    rt: &R,
+    alloc: Global,
+    first: &Talk,
+    second: &Talk,
+) -> Result<bool, NoMemory> {
+    let lines = two_lines(alloc, first, second)?;
+    let gate = gate(&first.told, 0);
+    let ending = served(rt, alloc, archive(alloc, 100), lines, 0, 2, &gate)?;
+    Ok(is_done(&ending, (2, 2)) && first.is_told() && second.is_told())
+}
+
+#[test]
+fn two_connections_at_once(rt: HostRuntime) -> Result<(), NoMemory> {
+    let first = Talk::of(rt.alloc(), ABC_KEPT)?;
+    let second = Talk::of(rt.alloc(), NONE_KEPT_ABC_NOTHING)?;
+    assert!(rt; serves_two(&rt, rt.alloc(), &first, &second)?);
+    Ok(())
+}
+
+// A store of nothing, and the key under which the claim is signed.
+fn signed_archive(alloc: Global) -> Archive {
+    let mut archive = archive(alloc, 100);
+    if let Some(name) = KeyName::read(b"jefe") {
+        let _ = archive.keys.add(&name, b"Jefe");
+    }
+    archive
+}
+
+// One worker serves the connection. Two indexers are held until all of it was told.
+fn finds_uploaded<R: Threads + Wait + Sync>(
+    rt: &R,
+    alloc: Global,
+    talk: &Talk,
+) -> Result<bool, NoMemory> {
+    let connection = talk.connection(alloc, UPLOAD_TAGGED_AND_SEARCH, "", talk, 0)?;
+    let mut lines = Vec::new(alloc);
+    lines.push(line(alloc, connection)?)?;
+    let gate = gate(&talk.told, talk.wanted.as_slice().len() as u64);
+    let ending = served(rt, alloc, signed_archive(alloc), lines, 2, 1, &gate)?;
+    Ok(is_done(&ending, (3, 3)) && talk.is_told() && !gate.late.load(Ordering::SeqCst))
+}
+
+#[test]
+fn a_search_finds_what_was_uploaded_while_indexers_are_held(
+    rt: HostRuntime,
+) -> Result<(), NoMemory> {
+    let talk = Talk::of(rt.alloc(), TAGGED_AND_FOUND)?;
+    assert!(rt; finds_uploaded(&rt, rt.alloc(), &talk)?);
+    Ok(())
+}
+
+// A listener of three connections, on which blobs are uploaded: `abc`, no bytes, and `abc` again.
+fn uploads<'a>(
+    alloc: Global,
+    first: &'a Talk,
+    second: &'a Talk,
+    third: &'a Talk,
+) -> Result<Line<'a>, NoMemory> {
+    let mut waiting = VecDeque::new(alloc);
+    waiting.push_back(first.connection(alloc, UPLOAD_ABC, "", first, 0)?)?;
+    waiting.push_back(second.connection(alloc, UPLOAD_NONE, "", second, 0)?)?;
+    waiting.push_back(third.connection(alloc, UPLOAD_ABC, "", third, 0)?)?;
+    Ok(MemListener::of(waiting, CallList::empty(alloc)))
+}
+
+fn refuses_when_full<R: Threads + Wait + Sync>(
+    rt: &R,
+    alloc: Global,
+    first: &Talk,
+    second: &Talk,
+    third: &Talk,
+) -> Result<bool, NoMemory> {
+    let mut lines = Vec::new(alloc);
+    lines.push(uploads(alloc, first, second, third)?)?;
+    let gate = gate(&first.told, 0);
+    let ending = served(rt, alloc, archive(alloc, 1), lines, 0, 3, &gate)?;
+    Ok(is_done(&ending, (1, 0)) && first.is_told() && second.is_told() && third.is_told())
+}
+
+#[test]
+fn a_full_store_refuses_new_blobs_alone(rt: HostRuntime) -> Result<(), NoMemory> {
+    let first = Talk::of(rt.alloc(), ABC_KEPT)?;
+    let second = Talk::of(rt.alloc(), FULL)?;
+    let third = Talk::of(rt.alloc(), ABC_KEPT)?;
+    assert!(rt; refuses_when_full(&rt, rt.alloc(), &first, &second, &third)?);
+    Ok(())
+}
+
+// The first call of the first listener fails. The second one has a connection, which is held until then.
+fn failing_lines<'a>(
+    alloc: Global,
+    talk: &'a Talk,
+    failed: &'a AtomicU64,
+) -> Result<Vec<NotedListener<'a>>, NoMemory> {
+    let mut fails = CallList::empty(alloc);
+    fails.push(0)?;
+    let none = MemListener::of(VecDeque::new(alloc), fails);
+    let said = spelled(alloc, UPLOAD_ABC)?;
+    let source = HeldSource::of(alloc, spelled(alloc, "")?, said, failed, 1);
+    let sink = ToldSink::of(talk.wanted.as_slice(), &talk.told);
+    let one = line(alloc, (source, sink))?;
+    let mut lines = Vec::new(alloc);
+    lines.push(NotedListener {
+        listener: none,
+        failed,
+    })?;
+    lines.push(NotedListener {
+        listener: one,
+        failed,
+    })?;
+    Ok(lines)
+}
+
+fn tells_failure<R: Threads + Wait + Sync>(
+    rt: &R,
+    alloc: Global,
+    talk: &Talk,
+    failed: &AtomicU64,
+) -> Result<bool, NoMemory> {
+    let lines = failing_lines(alloc, talk, failed)?;
+    let gate = gate(failed, 0);
+    let ending = served(rt, alloc, archive(alloc, 100), lines, 1, 2, &gate)?;
+    Ok(
+        matches!(ending.served, Served::ListenerFault)
+            && ending.failed.as_slice() == [true, false, false].as_slice()
+            && talk.is_told(),
+    )
+}
+
+#[test]
+fn a_failing_listener_ends_its_own_desk_alone(rt: HostRuntime) -> Result<(), NoMemory> {
+    let talk = Talk::of(rt.alloc(), ABC_KEPT)?;
+    let failed = AtomicU64::new(0);
+    assert!(rt; tells_failure(&rt, rt.alloc(), &talk, &failed)?);
+    Ok(())
+}
