@@ -2,12 +2,12 @@
 ghost use Rattle.std.specs.Prelude.{◌≡◌, ◌≤◌, length, IfOk, IfSome};
 ghost use Rattle.pack_disk.specs.Disk.{last_number};
 
-use crate::again::uninterrupted;
-use crate::edges::counted;
 use crate::listing::{least_from, pack_numbers};
 use crate::locking::lock_folder;
 use crate::pack_file::{Growing, Reading, fill};
 use edge_base::Failed;
+use edge_os::again::uninterrupted;
+use edge_os::counted;
 use pack_disk::Disk;
 use std::collections::BTreeSet;
 use std::fs::File;
@@ -24,8 +24,9 @@ pub(crate) enum Access {
 
 /// The packs of a folder: its files `pack-NNNNN.blobs`. Files of other names are ignored. Which there are is looked
 /// up at the first call, at which a writer also locks the folder, until the disk is dropped. To a reader a folder
-/// that isn't there is a disk without packs.
-#[derive(Drop)]
+/// that isn't there is a disk without packs. Where it is dropped each pack is cut back to the bytes that it had before
+/// something was added that wasn't synced, as well as may be, while the folder is still locked: so nobody takes for
+/// durable what only seems to stand.
 pub(crate) struct FolderDisk<'a> {
     rt: &'a HostRuntime,
     path: &'a str,
@@ -42,6 +43,24 @@ pub(crate) struct FolderDisk<'a> {
     faults: u64,
 }
 
+impl<'a> Drop for FolderDisk<'a> {
+    fn drop(self) {
+        self.growing.cut();
+        let FolderDisk {
+            rt: _,
+            path: _,
+            access: _,
+            begun: _,
+            folder: _,
+            numbers: _,
+            named: _,
+            reading: _,
+            growing: _,
+            faults: _,
+        } = self;
+    }
+}
+
 impl<'a> FolderDisk<'a> {
     pub(crate) fn new(rt: &'a HostRuntime, path: &'a str, access: Access) -> FolderDisk<'a> {
         FolderDisk {
@@ -52,16 +71,10 @@ impl<'a> FolderDisk<'a> {
             folder: None,
             numbers: BTreeSet::new(rt.alloc()),
             named: false,
-            reading: Reading::none(),
+            reading: Reading::none(rt.alloc()),
             growing: Growing::none(rt.alloc()),
             faults: 0,
         }
-    }
-
-    /// Cuts each pack back to the bytes that it had before something was added that wasn't synced, as well as may be.
-    /// So nobody takes for durable what only seems to stand.
-    pub(crate) fn retract(&mut self) {
-        self.growing.cut();
     }
 
     // The path of something in the folder.
@@ -117,9 +130,8 @@ impl<'a> FolderDisk<'a> {
     fn length(&mut self, pack: u32) -> io::Result<u64>
         ensures faults { self.new.faults ≡ self.old.faults }
     {
-        self.begin()?;
-        let path = self.pack_path(pack)?;
-        let file = self.reading.file(self.rt, pack, &path)?;
+        self.open_pack(pack)?;
+        let file = self.reading.file(pack)?;
         Ok(uninterrupted(|| file.metadata())?.len())
     }
 
@@ -127,9 +139,20 @@ impl<'a> FolderDisk<'a> {
         ensures bound { IfOk result (λ n. n ≤ length buf.old) }
         ensures faults { self.new.faults ≡ self.old.faults }
     {
+        self.open_pack(pack)?;
+        fill(self.reading.file(pack)?, at, buf)
+    }
+
+    // Opens the file of a pack to read it, unless it is open.
+    fn open_pack(&mut self, pack: u32) -> io::Result<()>
+        ensures faults { self.new.faults ≡ self.old.faults }
+    {
         self.begin()?;
-        let path = self.pack_path(pack)?;
-        fill(self.reading.file(self.rt, pack, &path)?, at, buf)
+        if !self.reading.is_open(pack) {
+            let path = self.pack_path(pack)?;
+            self.reading.open(self.rt, pack, &path)?;
+        }
+        Ok(())
     }
 
     // Makes the file of a pack. The folder's own name is durable before the first pack stands in it.
@@ -162,8 +185,11 @@ impl<'a> FolderDisk<'a> {
         ensures faults { self.new.faults ≡ self.old.faults }
     {
         self.begin()?;
-        let path = self.pack_path(pack)?;
-        self.growing.add(self.rt, pack, &path, bytes)
+        if self.growing.file(pack).is_none() {
+            let path = self.pack_path(pack)?;
+            self.growing.open(self.rt, pack, &path)?;
+        }
+        self.growing.add(pack, bytes)
     }
 
     // Makes the bytes of a pack durable, and the names of all.
@@ -171,13 +197,14 @@ impl<'a> FolderDisk<'a> {
         ensures faults { self.new.faults ≡ self.old.faults }
     {
         self.begin()?;
-        let path = self.pack_path(pack)?;
-        match self.growing.file(pack) {
-            Some(file) => file.sync_all()?,
-            None => self.reading.file(self.rt, pack, &path)?.sync_all()?,
+        if let Some(file) = self.growing.file(pack) {
+            file.sync_all()?;
+        } else {
+            self.open_pack(pack)?;
+            self.reading.file(pack)?.sync_all()?;
         }
         self.sync_names()?;
-        self.growing.forget(pack);
+        self.growing.settle(pack);
         Ok(())
     }
 

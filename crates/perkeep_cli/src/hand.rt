@@ -3,9 +3,9 @@ ghost use Rattle.std.specs.Prelude.{◌≡◌, ◌↔◌, IsSome, IfSome, pos};
 ghost use Rattle.std.specs.Duration.{as_nanos};
 ghost use Rattle.edge_base.specs.Moments.{IsMoment};
 
-use crate::again::uninterrupted;
-use crate::edges::counted;
 use edge_base::{Clock, Dice, Failed};
+use edge_os::again::uninterrupted;
+use edge_os::counted;
 use std::io;
 use std::random::RandomSource;
 use std::time::{Duration, SystemTime, UNIX_EPOCH};

@@ -1,5 +1,5 @@
 //! The folder of a store, locked for one writer.
-use crate::again::uninterrupted;
+use edge_os::again::uninterrupted;
 use std::fs::{self, DirBuilder, File, TryLockError};
 use std::io::{self, ErrorKind};
 use std::os::unix::fs::{DirBuilderExt, MetadataExt};

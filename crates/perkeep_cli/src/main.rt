@@ -1,8 +1,6 @@
 //! The program: its words, the keyring, the folder of the store, standard input and standard output.
 #![tactic(auto)]
 
-mod again;
-mod edges;
 mod ending;
 mod folder;
 mod hand;
@@ -10,40 +8,47 @@ mod keys;
 mod listing;
 mod locking;
 mod pack_file;
+mod serving;
 mod streams;
 
-use crate::edges::{ReadSource, WriteSink};
 use crate::ending::Ending;
 use crate::folder::{Access, FolderDisk};
 use crate::hand::{SystemClock, SystemDice};
 use crate::keys::read_keyring;
+use crate::serving::serve;
 use crate::streams::Closed;
 use blobref::{NoMemory, Text};
+use edge_os::{ReadSource, WriteSink};
 use perkeep_top::{Status, run};
-use perkeep_words::{Line, places};
+use perkeep_words::{Line, places, serve_words};
 use std::alloc::Global;
 use std::env;
 use std::io::ErrorKind;
 use std::process::ExitCode;
+use std::sync::Wait;
+use std::thread::Threads;
 
 fn main(rt: HostRuntime) -> ExitCode {
     let ending = match Closed::take(&rt) {
-        Ok(_closed) => ending_of(&rt),
+        Ok(_closed) => ending_of(&rt, &rt),
         Err(_) => Ending::Ran(Status::WriteFault),
     };
-    if !matches!(ending, Ending::Ran(Status::Done)) {
+    if !ending.is_done() {
         // Where this fails too nothing more can be told.
         let _ = rt.eprintln(format_args!("perkeep: {}", ending.word()));
     }
     ExitCode::from(ending.code())
 }
 
-// Does what the command line asks for, over standard input and standard output.
-fn ending_of(rt: &HostRuntime) -> Ending {
+// Does what the command line asks for, over standard input and standard output, or as a server.
+fn ending_of<R: Threads + Wait + Sync>(rt: &HostRuntime, threads: &R) -> Ending {
     let words = match words(rt) {
         Ok(words) => words,
         Err(status) => return Ending::Ran(status),
     };
+    if let Some(plan) = serve_words(&words) {
+        return serve(rt, threads, &plan);
+    }
     let Some(line) = Line::read(&words) else {
         return Ending::Ran(Status::BadWords);
     };
@@ -62,7 +67,7 @@ fn ending_of(rt: &HostRuntime) -> Ending {
     let mut sink = WriteSink::new(rt.stdout());
     let mut clock = SystemClock::new(rt);
     let mut dice = SystemDice::new(rt);
-    let (mut disk, status) = run(
+    let (_disk, status) = run(
         rt.alloc(),
         &words,
         disk,
@@ -72,7 +77,6 @@ fn ending_of(rt: &HostRuntime) -> Ending {
         &mut clock,
         &mut dice,
     );
-    disk.retract();
     Ending::Ran(status)
 }
 

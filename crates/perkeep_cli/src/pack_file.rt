@@ -1,8 +1,9 @@
-//! The files of packs: the one that is read, and those that are added to.
+//! The files of packs: those that are read, and those that are added to.
 ghost use Rattle.std.specs.Prelude.{◌≡◌, ◌≤◌, length, IfOk};
 
-use crate::again::{self, uninterrupted};
+use edge_os::again::{self, uninterrupted};
 use std::alloc::Global;
+use std::collections::BTreeMap;
 use std::fs::{self, File, OpenOptions};
 use std::io::{self, ErrorKind, Write};
 use std::os::unix::fs::OpenOptionsExt;
@@ -19,30 +20,42 @@ pub(crate) fn open_regular(rt: &HostRuntime, how: &OpenOptions, path: &str) -> i
     }
 }
 
-/// The pack that was read last. Its file stays open until another pack is read.
+// How many packs are open for reading at most.
+const MOST_OPEN: usize = 64;
+
+/// The packs that were read. Their files stay open, until there are 64 and another one is read.
 #[derive(Drop)]
 pub(crate) struct Reading {
-    open: Option<Pack>,
-}
-
-#[derive(Drop)]
-struct Pack {
-    number: u32,
-    file: File,
+    open: BTreeMap<u32, File>,
 }
 
 impl Reading {
-    pub(crate) fn none() -> Reading {
-        Reading { open: None }
+    pub(crate) fn none(alloc: Global) -> Reading {
+        Reading {
+            open: BTreeMap::new(alloc),
+        }
     }
 
-    /// The file of a pack.
-    pub(crate) fn file(&mut self, rt: &HostRuntime, number: u32, path: &str) -> io::Result<&File> {
-        let file = match self.open.take() {
-            Some(pack) if pack.number == number => pack.file,
-            _ => open_regular(rt, File::options().read(true), path)?,
-        };
-        Ok(&self.open.insert(Pack { number, file }).file)
+    pub(crate) fn is_open(&self, number: u32) -> bool {
+        self.open.contains_key(&number)
+    }
+
+    /// Opens the file of a pack.
+    pub(crate) fn open(&mut self, rt: &HostRuntime, number: u32, path: &str) -> io::Result<()> {
+        let file = open_regular(rt, File::options().read(true), path)?;
+        if self.open.len() >= MOST_OPEN {
+            self.open.pop_first();
+        }
+        self.open.insert(number, file)?;
+        Ok(())
+    }
+
+    /// The file of a pack that is open.
+    pub(crate) fn file(&self, number: u32) -> io::Result<&File> {
+        match self.open.get(&number) {
+            Some(file) => Ok(file),
+            None => Err(io::Error::from(ErrorKind::NotFound)),
+        }
     }
 }
 
@@ -61,7 +74,8 @@ pub(crate) fn fill(file: &File, at: u64, buf: &mut [u8]) -> io::Result<usize>
     Ok(filled)
 }
 
-/// The packs that were made or added to and not synced since. Their files stay open until then.
+/// The packs that were made or added to. Their files stay open until all that was added is synced, and another pack is
+/// made or added to.
 #[derive(Drop)]
 pub(crate) struct Growing {
     packs: Vec<Grown>,
@@ -71,8 +85,10 @@ pub(crate) struct Growing {
 struct Grown {
     number: u32,
     file: File,
-    // How many bytes it had when it was opened.
+    // How many bytes it had when it was opened, or synced last.
     size: u64,
+    // How many were added since.
+    added: u64,
 }
 
 impl Growing {
@@ -89,36 +105,37 @@ impl Growing {
             .create_new(true)
             .mode(OWNER_ONLY)
             .open(rt, path)?;
+        self.keep(number, file, 0)
+    }
+
+    /// Opens the file of a pack, to add to it.
+    pub(crate) fn open(&mut self, rt: &HostRuntime, number: u32, path: &str) -> io::Result<()> {
+        let file = open_regular(rt, File::options().append(true), path)?;
+        let size = uninterrupted(|| file.metadata())?.len();
+        self.keep(number, file, size)
+    }
+
+    // Keeps a file open, and closes those to which nothing was added that isn't synced.
+    fn keep(&mut self, number: u32, file: File, size: u64) -> io::Result<()> {
+        self.packs.retain(|pack| pack.added > 0);
         self.packs.push(Grown {
             number,
             file,
-            size: 0,
+            size,
+            added: 0,
         })?;
         Ok(())
     }
 
-    /// Adds the bytes behind those of a pack.
-    pub(crate) fn add(
-        &mut self,
-        rt: &HostRuntime,
-        number: u32,
-        path: &str,
-        bytes: &[u8],
-    ) -> io::Result<()> {
-        if self.file(number).is_none() {
-            self.open(rt, number, path)?;
+    /// Adds the bytes behind those of a pack that is open.
+    pub(crate) fn add(&mut self, number: u32, bytes: &[u8]) -> io::Result<()> {
+        for pack in &mut self.packs {
+            if pack.number == number {
+                pack.added = pack.added.saturating_add(bytes.len() as u64);
+                return pack.file.write_all(bytes);
+            }
         }
-        match self.file(number) {
-            Some(mut file) => file.write_all(bytes),
-            None => Err(io::Error::from(ErrorKind::NotFound)),
-        }
-    }
-
-    fn open(&mut self, rt: &HostRuntime, number: u32, path: &str) -> io::Result<()> {
-        let file = open_regular(rt, File::options().append(true), path)?;
-        let size = uninterrupted(|| file.metadata())?.len();
-        self.packs.push(Grown { number, file, size })?;
-        Ok(())
+        Err(io::Error::from(ErrorKind::NotFound))
     }
 
     /// The file of a pack, where the pack is one of these.
@@ -128,17 +145,23 @@ impl Growing {
     }
 
     /// The pack was synced.
-    pub(crate) fn forget(&mut self, number: u32) {
-        self.packs.retain(|pack| pack.number != number);
+    pub(crate) fn settle(&mut self, number: u32) {
+        for pack in &mut self.packs {
+            if pack.number == number {
+                pack.size = pack.size.saturating_add(pack.added);
+                pack.added = 0;
+            }
+        }
     }
 
-    /// Cuts the packs back to what they had, as well as may be.
-    pub(crate) fn cut(&mut self) {
+    /// Cuts the packs back to what was synced of them, as well as may be.
+    pub(crate) fn cut(&self) {
         for pack in &self.packs {
-            // Where this fails nothing more can be done.
-            let _ = pack.file.set_len(pack.size);
-            let _ = pack.file.sync_all();
+            if pack.added > 0 {
+                // Where this fails nothing more can be done.
+                let _ = pack.file.set_len(pack.size);
+                let _ = pack.file.sync_all();
+            }
         }
-        self.packs.clear();
     }
 }

@@ -1,0 +1,111 @@
+//! The server over a folder.
+ghost use Rattle.std.specs.Prelude.{◌≤◌, All, IfOk, vec_len};
+
+use crate::ending::Ending;
+use crate::folder::{Access, FolderDisk};
+use crate::keys::read_keyring;
+use blob_server::{Served, desks, serve_all};
+use blobref::NoMemory;
+use edge_os::TcpListenerOn;
+use home_core::Home;
+use index_worker::{Gate, GatePlace};
+use perkeep_top::{LIMITS, Status};
+use perkeep_words::ServePlan;
+use server_home::{HomeFault, home_over};
+use std::net::{Ipv4Addr, SocketAddr, TcpListener};
+use std::sync::Wait;
+use std::thread::{self, Threads};
+use std::time::Duration;
+
+// How many milliseconds an indexer pauses where nothing waits to be indexed, and where its step failed.
+const IDLE_PAUSE: u64 = 10;
+
+const FAULT_PAUSE: u64 = 100;
+
+/// Serves the store of a folder on the loopback address (`docs/commands.md`), until as many connections were served as
+/// the plan says.
+pub(crate) fn serve<R: Threads + Wait + Sync>(
+    rt: &HostRuntime,
+    threads: &R,
+    plan: &ServePlan<'_>,
+) -> Ending {
+    let folder = plan.dir.as_str();
+    let keys = match read_keyring(rt, folder) {
+        Ok(keys) => keys,
+        Err(ending) => return ending,
+    };
+    let address = SocketAddr::from((Ipv4Addr::LOCALHOST, plan.port));
+    let Ok(listener) = TcpListener::bind(rt, address) else {
+        return Ending::Served(Served::ListenerFault);
+    };
+    let disk = FolderDisk::new(rt, folder, Access::Write);
+    let count = plan.workers.saturating_add(plan.indexers);
+    let (home, passes) = match home_over(rt.alloc(), disk, LIMITS, keys, count) {
+        Ok(home) => home,
+        Err(HomeFault::Disk { .. }) => return Ending::Ran(Status::Disk),
+        Err(HomeFault::NoMemory) => return Ending::Ran(Status::NoMemory),
+    };
+    serve_home(rt, threads, &home, passes, &listener, plan)
+}
+
+// Serves connections of the listener over a home, with a worker or an indexer for each pass.
+fn serve_home<H: Home + Sync, R: Threads + Wait + Sync>(
+    rt: &HostRuntime,
+    threads: &R,
+    home: &H,
+    passes: Vec<H::Pass>,
+    listener: &TcpListener,
+    plan: &ServePlan<'_>,
+) -> Ending
+where
+    H::Pass: Drop + Send,
+    requires { All (H.belongs home.now) passes.items }
+{
+    let Ok(listeners) = listeners(rt, listener, plan.workers.min(passes.len())) else {
+        return Ending::Ran(Status::NoMemory);
+    };
+    let Ok(mut desks) = desks(rt.alloc(), passes, listeners) else {
+        return Ending::Ran(Status::NoMemory);
+    };
+    let gate = Pauses { rt };
+    let served = serve_all(
+        threads,
+        rt.alloc(),
+        home,
+        &mut desks,
+        plan.connections,
+        &gate,
+    );
+    Ending::Served(served)
+}
+
+// One who accepts for each worker.
+fn listeners<'a>(
+    rt: &HostRuntime,
+    listener: &'a TcpListener,
+    workers: usize,
+) -> Result<Vec<TcpListenerOn<'a>>, NoMemory>
+    ensures { IfOk result (λ listeners. vec_len listeners ≤ workers) }
+{
+    let mut listeners = Vec::new(rt.alloc());
+    'workers: for _ in 0..workers {
+        listeners.push(TcpListenerOn::new(listener))?;
+    }
+    Ok(listeners)
+}
+
+// The gate of the indexers: they pause where there is nothing to do.
+#[derive(Drop)]
+struct Pauses<'a> {
+    rt: &'a HostRuntime,
+}
+
+impl<'a> Gate for Pauses<'a> {
+    fn wait_at<R: Wait>(&self, _rt: &R, place: GatePlace) {
+        match place {
+            GatePlace::Before | GatePlace::After => {}
+            GatePlace::Idle => thread::sleep(self.rt, Duration::from_millis(IDLE_PAUSE)),
+            GatePlace::Fault => thread::sleep(self.rt, Duration::from_millis(FAULT_PAUSE)),
+        }
+    }
+}
