@@ -28,12 +28,13 @@ import traceback
 
 SEED = int(os.environ.get("SEED") or 20201)
 AT_ONCE = 4
+ALL_AT_ONCE = 32
 SECONDS = 100
 # A group in which so many checks failed is given up.
 FAILURES_OF_A_GROUP = 3
 # The words of docs/commands.md ("Exit statuses") that these tests meet.
 WORDS = {1: b"memory", 2: b"words", 3: b"absent", 4: b"input", 5: b"read", 6: b"write", 7: b"disk", 9: b"full"}
-WORDS |= {10: b"damaged", 12: b"hand"}
+WORDS |= {10: b"damaged", 12: b"hand", 14: b"listener"}
 
 
 class Difference(Exception):
@@ -268,15 +269,15 @@ class LeftOut(Exception):
     """Why a group can't be run here."""
 
 
-def main(script, groups, one_at_a_time=(), checks_of=None, end=None):
+def main(script, groups, one_at_a_time=(), checks_of=None, end=None, beside=()):
     """Runs the groups whose names are the words of the command line, or all where there is none, and ends.
 
     A group is a function of the program that answers its checks, which are functions of nothing; or `checks_of` makes
-    them of the program and a group. Those of `one_at_a_time` run one after another, those of `groups` some at once.
-    `end` is told the program.
+    them of the program and a group. Those of `one_at_a_time` run one after another, those of `groups` some at once, and
+    those of `beside` all at once, while the other groups run. `end` is told the program.
     """
     names = sys.argv[1:]
-    known = [group.__name__ for group in [*groups, *one_at_a_time]]
+    known = [group.__name__ for group in [*groups, *one_at_a_time, *beside]]
     unknown = [name for name in names if name not in known]
     if unknown:
         print(f"{script} has no group {unknown[0]}; it has {', '.join(known)}\n0 passed, 1 failed")
@@ -286,9 +287,17 @@ def main(script, groups, one_at_a_time=(), checks_of=None, end=None):
     scratch = tempfile.mkdtemp(prefix="perkeep-")
     try:
         program = Program(os.environ["PERKEEP"], scratch)
-        for group in [*groups, *one_at_a_time]:
-            if not names or group.__name__ in names:
-                run.run_group(group, lambda group: checks_of(program, group), 1 if group in one_at_a_time else AT_ONCE)
+
+        def run_all(some, at_once):
+            for group in some:
+                if not names or group.__name__ in names:
+                    run.run_group(group, lambda group: checks_of(program, group), at_once)
+
+        with concurrent.futures.ThreadPoolExecutor(1) as pool:
+            waiting = pool.submit(run_all, beside, ALL_AT_ONCE)
+            run_all(groups, AT_ONCE)
+            run_all(one_at_a_time, 1)
+            waiting.result()
         if end is not None:
             end(program)
     finally:

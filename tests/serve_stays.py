@@ -1,0 +1,222 @@
+"""Clients that stop and stay, and those that don't read: others are served meanwhile, and after a minute their
+connections are ended. And the lock of the folder, for which another writer waits.
+"""
+
+import contextlib
+import select
+import socket
+import time
+
+import harness
+import http_inputs
+import reference
+from connections import QUERY, STAT, UPLOAD, Reply
+from harness import check, compare
+from http_inputs import ABC, FORM, GOOD_QUERY, blob_part, blob_target, form, get, post, stat_pairs, upload
+from reference import LARGEST_BLOB, ref_of
+from serving import ABC_REPLY, IDLE, PORTS, SECONDS_OF_WAITING, SOON, Server, Talk
+from serving import blob_reply, compare_texts, connect, store_of, stored
+from writers import Locked
+
+# When a connection is ended that has to be ended after a minute.
+LEAST_IDLE, MOST_IDLE = IDLE - 5, IDLE + 15
+# The system takes a little of a reply that nobody reads, time and again.
+MOST_UNREAD = 5 * IDLE
+GREATEST = bytes(LARGEST_BLOB)
+
+
+# Clients that stay
+
+LARGE = b"0123456789abcdef" * 65_536
+# A front of a request, behind which a client stops.
+FRONTS = {
+    "nothing": b"",
+    "empty lines": b"\r\n\r\n",
+    "part of a head": b"GET /camli/stat?",
+    "a head without its body": post(STAT, stat_pairs(ABC))[:-1],
+    "part of a chunk": http_inputs.post_pieces(STAT, [stat_pairs(ABC)])[:-20],
+    "part of an upload": post(UPLOAD, form(blob_part(b"kept"), blob_part(LARGE)), FORM)[:700_000],
+}
+
+
+def stays(program):
+    """While clients stop in the middle of a request, or don't read, others are served."""
+    return [lambda what=what: others_are_served(program, what) for what in FRONTS] + [
+        lambda: others_beside_an_unread_reply(program),
+        lambda: others_beside_all_kinds(program),
+        lambda: talks_on(program),
+    ]
+
+
+def others_are_served(program, what):
+    store = store_of(program, b"abc")
+    with Server(program, store.path, "--connections=8") as server:
+        held = [held_by(server, FRONTS[what]) for _ in range(7)]
+        others(what, server, [b"new"])
+        for wire in held:
+            wire.close()
+        server.ends(what)
+
+
+def held_by(server, front):
+    wire = connect(server.port)
+    wire.sendall(front)
+    return wire
+
+
+def others(what, server, blobs):
+    """A client that uploads and searches, and gets its replies soon."""
+    start = time.monotonic()
+    with Talk(server.port) as talk:
+        for blob in blobs:
+            talk.ask(f"an upload beside {what}", upload(blob), stored(blob))
+            talk.ask(f"a blob beside {what}", get(blob_target(ref_of(blob))), blob_reply(blob))
+        search = post(QUERY, GOOD_QUERY)
+        talk.ask(f"a search beside {what}", search, Reply(200, reference.search_text([])))
+    seconds = time.monotonic() - start
+    check(f"a client beside {what} took {seconds:.1f} seconds", seconds < SOON)
+
+
+def others_beside_an_unread_reply(program):
+    with Server(program, store_of(program, b"abc", GREATEST).path) as server:
+        held = [held_by(server, get(blob_target(ref_of(GREATEST))) * 3) for _ in range(7)]
+        time.sleep(0.5)
+        others("replies that nobody reads", server, [b"new", LARGE])
+        # Whoever reads at last gets all of it.
+        told = blob_reply(GREATEST).text()
+        held[0].settimeout(harness.SECONDS)
+        with held[0].makefile("rb") as file:
+            compare_texts("a reply that was read late", told, file.read(len(told)))
+        for wire in held:
+            wire.close()
+
+
+def others_beside_all_kinds(program):
+    with Server(program, store_of(program, b"abc", GREATEST).path) as server:
+        fronts = [*FRONTS.values(), get(blob_target(ref_of(GREATEST))) * 3]
+        held = [held_by(server, front) for front in fronts]
+        others("clients of all kinds", server, [b"new", LARGE])
+        for wire in held:
+            wire.close()
+
+
+def talks_on(program):
+    """A client that goes on sending behind the end of its connection keeps the worker for little more than a second."""
+    with Server(program, store_of(program, b"abc").path, "--workers=1") as server:
+        with Talk(server.port) as one, Talk(server.port) as other:
+            one.ask("the last request", get(blob_target(ABC), "Connection: close"), ABC_REPLY._replace(closes=True))
+            other.send(get(blob_target(ABC)))
+            start = time.monotonic()
+            while not select.select([other.wire], [], [], 0.2)[0]:
+                check("a client that goes on sending keeps the worker", time.monotonic() < start + SOON)
+                with contextlib.suppress(ConnectionError):
+                    one.send(b"x")
+            compare_texts("the other client", ABC_REPLY.text(), other.read_text("the other client"))
+
+
+# Clients that stay for a minute, and locks that do
+
+def minutes(program):
+    """A connection on which nothing comes for a minute is ended, and one on which nothing is read within some minutes."""
+    checks = (silent_after_requests, slow_to_send, unread, slow_to_read, a_locked_folder, a_put_beside, a_server_beside)
+    checks = [lambda check=check: check(program) for check in checks]
+    return checks + [lambda what=what: silent(program, what) for what in FRONTS]
+
+
+def ends_idle(what, server, start, most=MOST_IDLE):
+    """The server, whose only connection this was, ends since the connection is ended; about a minute after."""
+    server.ends(what, seconds=2 * most)
+    seconds = time.monotonic() - start
+    check(f"{what}: it was ended after {seconds:.1f} seconds", LEAST_IDLE <= seconds <= most)
+
+
+def silent(program, what):
+    """It is ended without a reply. The parts of an upload that were put stay."""
+    store = store_of(program, b"abc")
+    with Server(program, store.path, "--connections=1") as server:
+        start = time.monotonic()
+        with held_by(server, FRONTS[what]) as wire:
+            ends_idle(what, server, start)
+            with contextlib.suppress(ConnectionResetError):
+                compare(what, "what came", b"", wire.recv(1))
+    if what == "part of an upload":
+        store.packs = reference.put(store.packs, b"kept")
+    store.check_files(what)
+
+
+def silent_after_requests(program):
+    what = "silence behind two requests"
+    with Server(program, store_of(program, b"abc").path, "--connections=1") as server, Talk(server.port) as talk:
+        talk.ask(what, get(blob_target(ABC)), ABC_REPLY)
+        time.sleep(1)
+        talk.ask(what, get(blob_target(ABC)), ABC_REPLY)
+        ends_idle(what, server, time.monotonic())
+        talk.is_at_end(what)
+
+
+def slow_to_send(program):
+    """A client that sends a byte now and then stays for more than a minute, and is answered."""
+    what, stream = "a byte now and then", get(blob_target(ABC))
+    with Server(program, store_of(program, b"abc").path, "--connections=1") as server, Talk(server.port) as talk:
+        for octet in stream[:2]:
+            time.sleep(IDLE * 0.6)
+            talk.send(bytes([octet]))
+        talk.ask(what, stream[2:], ABC_REPLY)
+
+
+def unread(program):
+    """What was sent before the connection was ended may come, and no more."""
+    what, told = "a reply that nobody reads", blob_reply(GREATEST).text()
+    with Server(program, store_of(program, GREATEST).path, "--connections=1") as server:
+        start = time.monotonic()
+        with held_by(server, get(blob_target(ref_of(GREATEST))) * 4) as wire:
+            ends_idle(what, server, start, MOST_UNREAD)
+            got = []
+            with contextlib.suppress(ConnectionResetError):
+                while piece := wire.recv(1_000_000):
+                    got.append(piece)
+        got = b"".join(got)
+        check(f"{what}: {len(got)} bytes came", 0 < len(got) < 4 * len(told))
+        compare_texts(what, (told * 4)[: len(got)], got)
+
+
+def slow_to_read(program):
+    """A client that reads now and then gets the whole reply, however long that takes."""
+    what, told = "a reply that is read now and then", blob_reply(GREATEST).text()
+    with Server(program, store_of(program, GREATEST).path, "--connections=1") as server, connect(server.port) as wire:
+        wire.sendall(get(blob_target(ref_of(GREATEST))) * 2)
+        wire.shutdown(socket.SHUT_WR)
+        with wire.makefile("rb") as file:
+            got = [file.read(len(told) // 2)]
+            for _ in range(3):
+                time.sleep(IDLE * 0.4)
+                got.append(file.read(len(told) // 4))
+            got.append(file.read())
+        compare_texts(what, told * 2, b"".join(got))
+        server.ends(what)
+
+
+def a_locked_folder(program):
+    """A server waits for the lock of its folder for ten seconds, longer where the machine is busy, and then ends."""
+    what, store = "a folder that another program writes", store_of(program, b"abc")
+    with Locked(store.path):
+        start = time.monotonic()
+        store.keeps(what, ["serve", str(store.path), f"--port={PORTS.free()}"], status=7)
+        seconds = time.monotonic() - start
+    check(f"{what}: it waited {seconds:.1f} seconds", SECONDS_OF_WAITING - 1 <= seconds <= 6 * SECONDS_OF_WAITING)
+
+
+def a_put_beside(program):
+    """A put beside a server ends as the disk's fault, the server goes on, and behind its end the put succeeds."""
+    store = store_of(program, b"abc")
+    with Server(program, store.path) as server:
+        store.keeps("a put beside a server", store.words("put"), status=7, source=b"new")
+        others("a put", server, [])
+    store.put("a put behind a server that was killed", b"new")
+
+
+def a_server_beside(program):
+    store = store_of(program, b"abc")
+    with Server(program, store.path) as server:
+        store.keeps("a server beside a server", ["serve", str(store.path), f"--port={PORTS.free()}"], status=7)
+        others("another server of the folder", server, [])
