@@ -8,7 +8,6 @@ ghost use Rattle.perkeep_top.specs.Load.{load_facts, load_text, order_line, tagg
 
 use crate::blobs::facts_of;
 use crate::lines::push_load_line;
-use crate::search::answer_of;
 use answer_text::search_text;
 use blobref::{NoMemory, Octets, Ref, RefList};
 use claim_index::{FactList, Index};
@@ -22,6 +21,7 @@ use search_query::Query;
 use std::alloc::Global;
 use std::marker::Brand;
 use std::sync::ledger::{Blank, Ledger};
+use uncounted_search::answer_of;
 
 /// What is told of the blobs of a generated store, inserted in their order and in reverse order.
 #[tactic(auto, unfolding(crate::specs::Load::load_text))]
@@ -150,7 +150,7 @@ fn tagged<K: Look>(alloc: Global, look: &K) -> Result<Ref, NoMemory>
     ensures { IfOk result (λ r. r ≡ tagged (K.facts look.now) (K.accepts look.now)) }
 {
     let query = Query::for_value(alloc, "tag", "t0", When::Always)?;
-    let refs = answer_of::<_, Brand>(alloc, look, &query, Blank::new(1))?;
+    let refs = answer_of(alloc, look, &query)?;
     let text = search_text(alloc, &refs)?;
     Ok(Ref::of(text.as_slice()))
 }

@@ -1,5 +1,5 @@
 //! Searches over facts.
-ghost use Rattle.std.specs.Prelude.{◌≡◌, ◌≢◌, ◌<◌, ◌++◌, [], codes, IfOk};
+ghost use Rattle.std.specs.Prelude.{◌≡◌, ◌≢◌, ◌++◌, [], codes, IfOk};
 ghost use Rattle.std.specs.FinMap.{from_entries};
 ghost use Rattle.answer_text.specs.Search.{search_text};
 ghost use Rattle.claim_model.specs.Facts.{AreDistinct, AreValid};
@@ -10,16 +10,12 @@ ghost use Rattle.perkeep_top.specs.Search.{pack_answer, search_line};
 use crate::blobs::pack_facts;
 use answer_text::search_text;
 use blobref::{NoMemory, Octets, RefList};
-use claim_index::{FactList, Index};
+use claim_index::FactList;
 use claim_verify::Verifier;
-use edge_base::Steps;
-use index_look::Look;
 use schema_date::When;
-use search_eval::answer;
 use search_query::Query;
 use std::alloc::Global;
-use std::marker::Brand;
-use std::sync::ledger::{Blank, Ledger};
+use uncounted_search::answer_over;
 
 /// The line that answers a search for an attribute's value over the blobs of a pack.
 #[tactic(auto, unfolding(crate::specs::Search::pack_answer))]
@@ -66,45 +62,8 @@ pub(crate) fn query_line<V: Verifier>(
     requires valid { AreValid facts }
     ensures { IfOk result (λ line. line ≡ query_line (from_entries facts) (V.accepts keys.now) query.now) }
 {
-    let index = index_of::<_, Brand>(alloc, facts, keys, Blank::new(1))?;
-    let refs = answer_of::<_, Brand>(alloc, &index, query, Blank::new(1))?;
+    let refs = answer_over(alloc, facts, keys, query)?;
     line(alloc, &refs)
-}
-
-// An index of facts. The steps are counted in the blank ledger, and told to nobody.
-fn index_of<V: Verifier, L: Ledger>(
-    alloc: Global,
-    facts: FactList,
-    keys: V,
-    blank: Blank,
-) -> Result<Index<V>, NoMemory>
-where
-    V: Drop,
-    requires valid { AreValid facts }
-    requires name { blank.name ≡ L.name }
-    requires parts { blank.parts ≡ L.parts }
-    requires some { 0 < blank.parts }
-    ensures facts { IfOk result (λ index. index.facts ≡ from_entries facts) }
-    ensures keys { IfOk result (λ index. index.keys ≡ keys) }
-{
-    let mut steps = Steps::<L>::start(blank);
-    Index::of(alloc, facts, keys, &mut steps)
-}
-
-/// The answer to a query, whose steps are counted likewise.
-pub(crate) fn answer_of<K: Look, L: Ledger>(
-    alloc: Global,
-    look: &K,
-    query: &Query,
-    blank: Blank,
-) -> Result<RefList, NoMemory>
-    requires name { blank.name ≡ L.name }
-    requires parts { blank.parts ≡ L.parts }
-    requires some { 0 < blank.parts }
-    ensures { IfOk result (λ refs. refs ≡ answer (K.facts look.now) (K.accepts look.now) query.now) }
-{
-    let mut steps = Steps::<L>::start(blank);
-    answer(alloc, look, query, &mut steps)
 }
 
 // The text of an answer, and a line feed.

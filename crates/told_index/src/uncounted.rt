@@ -1,20 +1,15 @@
 //! Calls on an index whose steps are told to nobody.
-ghost use Rattle.std.specs.Prelude.{◌≡◌, ◌<◌, ◌||◌, ℕ, false, nat_eq, IfOk, OnOk, OnErr};
+ghost use Rattle.std.specs.Prelude.{◌≡◌, ◌<◌, ◌||◌, ℕ, false, nat_eq, OnOk, OnErr};
 ghost use Rattle.std.specs.FinMap.{contains_key};
 ghost use Rattle.schema_fact.specs.Validity.{IsValid};
-ghost use Rattle.search_eval.specs.Answer.{answer};
 ghost use Rattle.told_index.specs.Working.{in_either, with_first};
 
 use crate::number_rows::NumberRows;
-use blobref::{NoMemory, Ref, RefList};
+use blobref::{NoMemory, Ref};
 use claim_index::Index;
 use claim_verify::Verifier;
 use edge_base::Steps;
-use index_look::Look;
 use schema_fact::Fact;
-use search_eval::answer;
-use search_query::Query;
-use std::alloc::Global;
 use std::marker::Brand;
 use std::sync::ledger::{Blank, Ledger};
 
@@ -69,27 +64,4 @@ fn add_counted<V: Verifier, L: Ledger>(
     }
     index.insert(number, r, fact, &mut steps)?;
     Ok(())
-}
-
-/// The answer to a query.
-pub(crate) fn answered<K: Look>(alloc: Global, look: &K, query: &Query) -> Result<RefList, NoMemory>
-    ensures { IfOk result (λ refs. refs ≡ answer (K.facts look.now) (K.accepts look.now) query.now) }
-{
-    answered_counted::<_, Brand>(alloc, look, query, Blank::new(1))
-}
-
-// The steps are counted likewise.
-fn answered_counted<K: Look, L: Ledger>(
-    alloc: Global,
-    look: &K,
-    query: &Query,
-    blank: Blank,
-) -> Result<RefList, NoMemory>
-    requires name { blank.name ≡ L.name }
-    requires parts { blank.parts ≡ L.parts }
-    requires some { 0 < blank.parts }
-    ensures { IfOk result (λ refs. refs ≡ answer (K.facts look.now) (K.accepts look.now) query.now) }
-{
-    let mut steps = Steps::<L>::start(blank);
-    answer(alloc, look, query, &mut steps)
 }

@@ -12,7 +12,7 @@ ghost use Rattle.told_index.specs.Working.{FindsBelow, FindsLeast, Reaches, Take
 ghost use Rattle.told_index.specs.Telling.{IndexTells, take_entry, insert_entry, return_entry};
 
 use crate::number_rows::NumberRows;
-use crate::uncounted::{add, answered};
+use crate::uncounted::add;
 use blobref::{NoMemory, Ref, RefList};
 use claim_index::Index;
 use claim_verify::Verifier;
@@ -21,6 +21,7 @@ use schema_fact::Fact;
 use search_query::Query;
 use std::alloc::Global;
 use std::marker::Model;
+use uncounted_search::answer_of;
 
 /// An index of facts, with which numbers were inserted, and which are in hand: that value of which a lock hands out
 /// turns. A contract sees the facts, the numbers and the keys, and says for each history that the index may stand for
@@ -175,7 +176,7 @@ impl<V: Verifier> WorkIndex<V> {
         ensures { (h : List (Stamped IndexEvent)) → IndexTells self.now h
             → SearchSays (V.accepts self.now.keys) query.now (inserts h) result }
     {
-        answered(self.alloc, &self.index, query)
+        answer_of(self.alloc, &self.index, query)
     }
 
     // Takes the least number that was given back, where it is below the bound.

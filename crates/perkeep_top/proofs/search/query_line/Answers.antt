@@ -1,10 +1,7 @@
-use Rattle.std.proofs.Common.{◌≡◌, ◌∙◌, ◌++◌, IfOk, subst, codes}
+use Rattle.std.proofs.Common.{◌≡◌, ◌++◌, IfOk, subst, codes}
 use Rattle.answer_text.specs.Search.{search_text}
-use Rattle.search_eval.specs.Answer.{answer}
 use Rattle.perkeep_top.proofs.search.query_line.Goals as goal
 
 pub returns : goal.returns
 returns g c =
-    subst (λ refs. IfOk c.line.result (λ line. line ≡ search_text refs ++ codes "\n"))
-    (c.in_ok-refs.ensures ∙ (λ i. answer (c.in_ok-index.ensures.facts i) (g.V.Verifier.accepts (c.in_ok-index.ensures.keys i).now) c.args.query.now))
-    c.line.ensures
+    subst (λ refs. IfOk c.line.result (λ line. line ≡ search_text refs ++ codes "\n")) c.in_ok-refs.ensures c.line.ensures

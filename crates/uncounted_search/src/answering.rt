@@ -1,0 +1,75 @@
+//! Answers to queries. The steps of each are counted in a ledger of its own, and told to nobody.
+ghost use Rattle.std.specs.Prelude.{◌≡◌, ◌<◌, IfOk};
+ghost use Rattle.std.specs.FinMap.{from_entries};
+ghost use Rattle.claim_model.specs.Facts.{AreValid};
+ghost use Rattle.search_eval.specs.Answer.{answer};
+
+use blobref::{NoMemory, RefList};
+use claim_index::{FactList, Index};
+use claim_verify::Verifier;
+use edge_base::Steps;
+use index_look::Look;
+use search_eval::answer;
+use search_query::Query;
+use std::alloc::Global;
+use std::marker::Brand;
+use std::sync::ledger::{Blank, Ledger};
+
+/// The answer to a query over the first fact of each ref (`docs/search.md`). It takes the time of making an index of the
+/// facts (`Index::of`), and then that of a search. `NoMemory` comes only where no memory is left.
+pub fn answer_over<V: Verifier>(
+    alloc: Global,
+    facts: FactList,
+    keys: &V,
+    query: &Query,
+) -> Result<RefList, NoMemory>
+    requires { AreValid facts }
+    ensures { IfOk result (λ refs. refs ≡ answer (from_entries facts) (V.accepts keys.now) query.now) }
+{
+    let index = index_of::<_, Brand>(alloc, facts, keys, Blank::new(1))?;
+    answer_of(alloc, &index, query)
+}
+
+/// The answer to a query over an index, in the time of a search (`search_eval::answer`). `NoMemory` comes only where no
+/// memory is left.
+pub fn answer_of<K: Look>(alloc: Global, look: &K, query: &Query) -> Result<RefList, NoMemory>
+    ensures { IfOk result (λ refs. refs ≡ answer (K.facts look.now) (K.accepts look.now) query.now) }
+{
+    counted::<_, Brand>(alloc, look, query, Blank::new(1))
+}
+
+// An index of facts. The steps are counted in the blank ledger.
+fn index_of<V: Verifier, L: Ledger>(
+    alloc: Global,
+    facts: FactList,
+    keys: V,
+    blank: Blank,
+) -> Result<Index<V>, NoMemory>
+where
+    V: Drop,
+    requires valid { AreValid facts }
+    requires name { blank.name ≡ L.name }
+    requires parts { blank.parts ≡ L.parts }
+    requires some { 0 < blank.parts }
+    ensures facts { IfOk result (λ index. index.facts ≡ from_entries facts) }
+    ensures keys { IfOk result (λ index. index.keys ≡ keys) }
+{
+    let mut steps = Steps::<L>::start(blank);
+    Index::of(alloc, facts, keys, &mut steps)
+}
+
+// The answer, whose steps are counted likewise.
+fn counted<K: Look, L: Ledger>(
+    alloc: Global,
+    look: &K,
+    query: &Query,
+    blank: Blank,
+) -> Result<RefList, NoMemory>
+    requires name { blank.name ≡ L.name }
+    requires parts { blank.parts ≡ L.parts }
+    requires some { 0 < blank.parts }
+    ensures { IfOk result (λ refs. refs ≡ answer (K.facts look.now) (K.accepts look.now) query.now) }
+{
+    let mut steps = Steps::<L>::start(blank);
+    answer(alloc, look, query, &mut steps)
+}
