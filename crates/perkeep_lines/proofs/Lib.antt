@@ -1,0 +1,4 @@
+pub mod Gathering
+pub mod Zeros
+pub mod Signing
+pub mod Loading

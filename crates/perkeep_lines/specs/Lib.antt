@@ -1,0 +1,5 @@
+pub mod Blobs
+pub mod Outputs
+pub mod Search
+pub mod Load
+pub mod Notes

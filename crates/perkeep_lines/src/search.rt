@@ -1,0 +1,78 @@
+//! Searches over facts.
+ghost use Rattle.std.specs.Prelude.{◌≡◌, ◌≢◌, ◌++◌, [], codes, IfOk};
+ghost use Rattle.std.specs.FinMap.{from_entries};
+ghost use Rattle.answer_text.specs.Search.{search_text};
+ghost use Rattle.claim_model.specs.Facts.{AreDistinct, AreValid};
+ghost use Rattle.search_eval.specs.Answer.{answer};
+ghost use Rattle.perkeep_lines.specs.Search.{pack_answer, query_line, search_line};
+
+use crate::blobs::pack_facts;
+use answer_text::search_text;
+use blobref::{NoMemory, Octets, RefList};
+use claim_index::FactList;
+use claim_verify::Verifier;
+use schema_date::When;
+use search_query::Query;
+use std::alloc::Global;
+use uncounted_search::answer_over;
+
+/// The line that answers a search for an attribute's value over the blobs of a pack (`pack_facts`), in the time of
+/// scanning it and of the search over its facts. `NoMemory` comes only where no memory is left.
+#[tactic(auto, unfolding(crate::specs::Search::pack_answer))]
+pub fn pack_answer<V: Verifier>(
+    alloc: Global,
+    attr: &str,
+    value: &str,
+    keys: &V,
+    pack: &[u8],
+) -> Result<Octets, NoMemory>
+    requires { attr.now ≢ [] }
+    ensures { IfOk result (λ line. line ≡ pack_answer attr.now value.now (V.accepts keys.now) pack.now) }
+{
+    let facts = pack_facts(alloc, pack)?;
+    search_line(alloc, facts, keys, attr, value, When::Always)
+}
+
+/// The line that answers a search for an attribute's value at a time over facts. Cost and error as of `query_line`.
+pub fn search_line<V: Verifier>(
+    alloc: Global,
+    facts: FactList,
+    keys: &V,
+    attr: &str,
+    value: &str,
+    at: When,
+) -> Result<Octets, NoMemory>
+    requires attr { attr.now ≢ [] }
+    requires distinct { AreDistinct facts }
+    requires valid { AreValid facts }
+    ensures { IfOk result (λ line. line ≡ search_line (from_entries facts) (V.accepts keys.now) attr.now value.now at) }
+{
+    let query = Query::for_value(alloc, attr, value, at)?;
+    query_line(alloc, facts, keys, &query)
+}
+
+/// The line that answers a query over facts (`docs/search.md`). It takes the time of making an index of the facts, and
+/// then that of a search (`uncounted_search::answer_over`). `NoMemory` comes only where no memory is left.
+pub fn query_line<V: Verifier>(
+    alloc: Global,
+    facts: FactList,
+    keys: &V,
+    query: &Query,
+) -> Result<Octets, NoMemory>
+    requires distinct { AreDistinct facts }
+    requires valid { AreValid facts }
+    ensures { IfOk result (λ line. line ≡ query_line (from_entries facts) (V.accepts keys.now) query.now) }
+{
+    let refs = answer_over(alloc, facts, keys, query)?;
+    line(alloc, &refs)
+}
+
+// The text of an answer, and a line feed.
+fn line(alloc: Global, refs: &RefList) -> Result<Octets, NoMemory>
+    ensures { IfOk result (λ line. line ≡ search_text refs.now ++ codes "\n") }
+{
+    let text = search_text(alloc, refs)?;
+    let mut bytes = Vec::from_slice(alloc, text.as_slice())?;
+    bytes.push(b'\n')?;
+    Ok(Octets::from_vec(bytes))
+}
