@@ -1,31 +1,19 @@
 -- What a store that was opened makes of the packs of its disk.
-use Rattle.std.proofs.Common.{◌≡◌, ℕ, Bool, true, false, cond, Option, None, Some, Result, Err, List, [], ◌∷◌, length, map, nat_eq, take, filter, refl, sym, ap, subst, ◌∙◌, arith, Ordering, Less, Equal, Greater}
+use Rattle.std.proofs.Common.{◌≡◌, ℕ, Bool, true, false, cond, Option, Some, List, [], ◌∷◌, length, map, nat_eq, take, filter, refl, sym, ap, ◌∙◌, arith, Ordering, Less, Equal, Greater}
 use Rattle.std.specs.Cmp.Lexicographic.{pointwise, nat_list_cmp_total}
 use Rattle.std.specs.FinMap.{get, empty, entries, from_entries, entries-insert, len-empty, len-entries}
 use Rattle.std.specs.FinMap.Entries.{put, by_order}
 use Rattle.std.specs.Map.{lookup}
 use Rattle.std.specs.Option.{ForSome, option_map}
 use Rattle.blobref.specs.Blobref.{ref_cmp, is_after}
-use Rattle.edge_base.specs.Edge.{Rose}
-use Rattle.edge_base.specs.declared.answers.GetFault.{GetFault}
-use Rattle.edge_base.specs.declared.answers.GetFault.TheVariants as fault
 use Rattle.salvage_scan.specs.Arrivals.{arrivals}
 use Rattle.pack_disk.specs.Packs.{Packs}
-use Rattle.pack_disk.specs.declared.disk.Disk.{Ghosts}
-use Rattle.pack_store.specs.declared.opening.OpenFault.{OpenFault}
-use Rattle.pack_store.specs.declared.opening.OpenFault.TheVariants as opening
 use Rattle.pack_store.specs.declared.rows.Row.{Row}
 use Rattle.pack_store.specs.Rows.{arrivals_in, sizes_in}
-use Rattle.pack_store.specs.Archive.{Archive}
 use Rattle.pack_store.specs.Puts.{blobs_of}
-use Rattle.pack_store.specs.Reading.{bytes_of, entry_of, size_of, page, IsDamage as IsDamageAt, StaysStill}
+use Rattle.pack_store.specs.Reading.{bytes_of, size_of, page}
 use Rattle.pack_store.proofs.Blobs.{get-blobs}
-use Rattle.perkeep_top.specs.declared.status.Status.{Status}
-use Rattle.perkeep_top.specs.Faults.{get_status, open_status}
-use Rattle.perkeep_top.specs.Get.{RefusesBlob}
-use Rattle.perkeep_top.specs.Outputs.{sizes_of, listed}
-use Rattle.perkeep_top.specs.Search.{RefusesFacts}
-use Rattle.perkeep_top.specs.Steps.{Finds, NeverRefuses}
+use Rattle.perkeep_lines.specs.Outputs.{sizes_of, listed}
 
 abbrev Blob : Type 0
 Blob = List ℕ × List ℕ
@@ -85,43 +73,7 @@ listed_as after limit held rows arrived sizes =
     ap (λ es. entries (from_entries {R = ref_cmp} es)) (sym sizes ∙ ap (map sized) arrived) ∙ entries-sized (arrivals (entries held)) in
     ap (λ es. take limit (filter (λ (e : List ℕ × ℕ). is_after after e.0) es)) all
 
--- ---- a store that stays as it was
-
-pub rows_still : {D : Type 0} {g : Ghosts D} {old new : Archive D} → StaysStill g old new → (P : List Row → Type 0) → P new.rows → P old.rows
-rows_still still P h = subst P (ap (λ s. s.rows) still.value) h
-
--- ---- refusals
-
--- a store that wasn't opened
-pub open_refused : {D : Type 0} (g : Ghosts D) (old new : D) (e : OpenFault) → (e ≡ opening.Disk → Rose (g.faults old) (g.faults new)) → (end : Status) → end ≡ open_status e → Finds g old new NeverRefuses end
-open_refused g old new opening.Disk rose end is = subst (Finds g old new NeverRefuses) (sym is) (rose refl)
-open_refused g old new opening.NoMemory rose end is = subst (Finds g old new NeverRefuses) (sym is) tt
-
 -- the bytes of a blob that is among the arrivals
 pub bytes_stand : (told : Option Packs) (rows : List Row) → ForSome told (λ held. arrivals_in held rows ≡ arrivals (entries held)) → (r : List ℕ) (found : Option (List ℕ))
     → ForSome told (λ held. found ≡ bytes_of r held rows) → ForSome told (λ held. get (blobs_of held) r ≡ found)
 bytes_stand told rows arrived r found are held tells = get-blobs held r ∙ ap (lookup (pointwise nat_eq r)) (sym (arrived held tells)) ∙ sym (are held tells)
-
-some_want : (r : List ℕ) (o : Option ℕ) (want : List ℕ) (size : ℕ) → option_map {U = List ℕ × ℕ} (λ (n : ℕ). (r, n)) o ≡ Some (want, size) → want ≡ r
-some_want r None want size e = absurd (cc e)
-some_want r (Some n) want size e = sym (ap (λ (p : List ℕ × ℕ). p.0) (same_pair (r, n) (want, size) e))
-  where
-    same_pair : (a b : List ℕ × ℕ) → Some a ≡ Some b → a ≡ b
-    same_pair a b e = cc e
-
-module _ {D : Type 0} (g : Ghosts D) (old new : D) where
-  -- a blob that wasn't read, by its ref
-  pub get_refused : (r : List ℕ) (rows : List Row) (e : GetFault) → IsDamageAt {T = Option (List ℕ)} (entry_of r rows) (g.packs old) (Err e)
-      → (◌≡◌ {A = Result (Option (List ℕ)) GetFault} (Err e) (Err fault.Disk) → Rose (g.faults old) (g.faults new)) → (end : Status) → end ≡ get_status e → Finds g old new (RefusesBlob r (g.packs old)) end
-  get_refused r rows fault.Disk damage rose end is = subst (Finds g old new (RefusesBlob r (g.packs old))) (sym is) (rose refl)
-  get_refused r rows (fault.Damaged want other) damage rose end is = subst (Finds g old new (RefusesBlob r (g.packs old))) (sym is)
-      (some_want r (size_of r rows) want damage.size damage.asked_for, record { bytes = damage.bytes; named = damage.named; other = damage.other; untold = damage.untold })
-  get_refused r rows fault.NoMemory damage rose end is = subst (Finds g old new (RefusesBlob r (g.packs old))) (sym is) tt
-
-  -- and by its number
-  pub arrival_refused : {T : Type 0} (asked : Option (List ℕ × ℕ)) (e : GetFault) → IsDamageAt {T = T} asked (g.packs old) (Err e)
-      → (◌≡◌ {A = Result T GetFault} (Err e) (Err fault.Disk) → Rose (g.faults old) (g.faults new)) → (end : Status) → end ≡ get_status e → Finds g old new (RefusesFacts (g.packs old)) end
-  arrival_refused asked fault.Disk damage rose end is = subst (Finds g old new (RefusesFacts (g.packs old))) (sym is) (rose refl)
-  arrival_refused asked (fault.Damaged want other) damage rose end is = subst (Finds g old new (RefusesFacts (g.packs old))) (sym is)
-      (record { bytes = damage.bytes; named = damage.named; other = damage.other; untold = damage.untold })
-  arrival_refused asked fault.NoMemory damage rose end is = subst (Finds g old new (RefusesFacts (g.packs old))) (sym is) tt

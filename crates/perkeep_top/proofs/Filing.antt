@@ -19,13 +19,13 @@ use Rattle.pack_store.specs.Archive.{Archive}
 use Rattle.pack_store.specs.Packs.{KeepsAll}
 use Rattle.pack_store.specs.Puts.{Stands, PutsBlobs, HasNoRoom}
 use Rattle.pack_store.specs.StoreShelf.{content_of, PutsStore}
+use Rattle.perkeep_lines.specs.Outputs.{ref_line}
 use Rattle.perkeep_top.specs.declared.status.InputFault.TheVariants.{TooLong}
 use Rattle.perkeep_top.specs.declared.status.Status.{Status}
 use Rattle.perkeep_top.specs.declared.status.Status.TheVariants as status
 use Rattle.perkeep_top.specs.Faults.{put_status, cut_status}
 use Rattle.perkeep_top.specs.Frame.{Ends, Given, GaveSome, IsQuiet, StopsFull, IsTooMany, read_too_much}
 use Rattle.perkeep_top.specs.Limits.{limits}
-use Rattle.perkeep_top.specs.Outputs.{ref_line}
 use Rattle.perkeep_top.specs.Outside.{Outside, World, world}
 use Rattle.perkeep_top.specs.PutFile.{put_file_meaning, bad_name}
 use Rattle.perkeep_top.specs.Steps.{Finds, NeverRefuses, Writes}

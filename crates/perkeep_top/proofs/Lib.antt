@@ -1,5 +1,3 @@
-pub mod Gathering
-pub mod Zeros
 pub mod Ending
 pub mod Arrived
 pub mod Reporting
@@ -11,4 +9,3 @@ pub mod Walked
 pub mod Noting
 pub mod Filing
 pub mod Querying
-pub mod Loading

@@ -1,19 +1,12 @@
 -- How `permanode`, `claim` and `delete` end, from what each step left.
-use Rattle.std.proofs.Common.{◌≡◌, ◌⊎◌, ℕ, ◌≤◌, ◌<◌, ◌+◌, Bool, true, false, Option, Some, Err, List, [], ◌∷◌, ◌++◌, length, codes, nat_le, nat_lt, ◌&&◌, refl, sym, ap, subst, arith, unwrap_or}
-use Rattle.std.proofs.lemmas.Bool.{leb-true}
-use Rattle.std.proofs.lemmas.List.{length-append}
-use Rattle.std.specs.List.{list_all}
+use Rattle.std.proofs.Common.{◌≡◌, ◌⊎◌, ℕ, ◌≤◌, ◌<◌, ◌+◌, Bool, true, false, Err, List, [], ◌∷◌, length, refl, sym, ap, subst}
 use Rattle.blobref.specs.Blobref.{ref_of}
-use Rattle.claim_verify.specs.KeyName.{is_key_name, is_name_byte}
-use Rattle.claim_verify.specs.Verifier.{Seals}
 use Rattle.pack_format.specs.Header.{max_size}
 use Rattle.schema_json.specs.Facts.{key_blob}
-use Rattle.schema_write.specs.Blobs.{signed}
-use Rattle.schema_write.specs.Laws.{AreBytes, longest_schema, signature_length}
+use Rattle.schema_write.specs.Laws.{longest_schema, signature_length}
 use Rattle.schema_write.specs.Drafts.{IsFault}
 use Rattle.schema_write.specs.declared.draft.DraftFault.{DraftFault}
 use Rattle.schema_write.specs.declared.draft.DraftFault.TheVariants as draft
-use Rattle.schema_write.proofs.SignedRead.{signed_long}
 use Rattle.edge_base.specs.Edge.{Rose}
 use Rattle.edge_base.specs.declared.answers.PutFault.{PutFault}
 use Rattle.pack_disk.specs.Packs.{Packs}
@@ -21,35 +14,18 @@ use Rattle.pack_disk.specs.Runs.{Stays}
 use Rattle.pack_store.specs.Archive.{Archive}
 use Rattle.pack_store.specs.Packs.{KeepsAll}
 use Rattle.pack_store.specs.Puts.{Stands, PutsBlobs, PutLeaves}
+use Rattle.perkeep_lines.specs.Notes.{sealed}
+use Rattle.perkeep_lines.specs.Outputs.{ref_line}
 use Rattle.perkeep_top.specs.declared.status.InputFault.TheVariants.{TooLong}
 use Rattle.perkeep_top.specs.declared.status.Status.{Status}
 use Rattle.perkeep_top.specs.declared.status.Status.TheVariants as status
 use Rattle.perkeep_top.specs.Faults.{put_status, draft_status}
 use Rattle.perkeep_top.specs.Frame.{Meaning, Given, IsDrawn, IsQuiet, Ends}
 use Rattle.perkeep_top.specs.Limits.{limits}
-use Rattle.perkeep_top.specs.Notes.{Keys, sealed, note_meaning, unless_held}
-use Rattle.perkeep_top.specs.Outputs.{ref_line}
+use Rattle.perkeep_top.specs.Notes.{Keys, note_meaning, unless_held}
 use Rattle.perkeep_top.specs.Outside.{Outside, World, world}
 use Rattle.perkeep_top.specs.Steps.{Finds, NeverRefuses, Writes}
 use Rattle.perkeep_top.proofs.Ending.{Begun, begun, Far, Has, far_start, far_drawn, not_drawn, far_asked, far_put, refused, no_memory, unfit, not_put, finished}
-
--- a key's blob is short
-long_by : (some few all : Bool) (n : ℕ) → nat_le n 64 ≡ few → ((some && few) && all) ≡ true → n ≤ 64
-long_by true true all n is h = leb-true n 64 is
-long_by true false all n is h = absurd (cc h)
-long_by false few all n is h = absurd (cc h)
-
-pub key_short : (name : List ℕ) → is_key_name name ≡ true → length (key_blob name) ≤ max_size
-key_short name form =
-    let few = long_by (nat_lt 0 (length name)) (nat_le (length name) 64) (list_all is_name_byte name) (length name) refl form in
-    omega (arith, few, length-append (codes "perkeep-hmac-sha256 ") (name ++ codes "\n"), length-append name (codes "\n"))
-
--- what is signed is as long as the payload and a signature
-pub sealed_as : (seals : Seals) (name payload sig : List ℕ) → seals name payload ≡ Some sig → signed payload sig ≡ sealed seals name payload
-sealed_as seals name payload sig is = ap (signed payload) (sym (ap (λ (o : Option (List ℕ)). unwrap_or o []) is))
-
-pub signed_short : (payload sig : List ℕ) → AreBytes 32 sig → length payload + signature_length ≤ longest_schema → length (signed payload sig) ≤ max_size
-signed_short payload sig h short = omega (arith, signed_long payload sig h, short)
 
 -- a run whose name is held
 module _ {D S K C R : Type 0} (o : Outside D S K C R)

@@ -9,11 +9,12 @@ use Rattle.salvage_scan.specs.Arrivals.{arrivals}
 use Rattle.pack_disk.specs.Packs.{Packs}
 use Rattle.pack_store.specs.declared.rows.Row.{Row}
 use Rattle.pack_store.specs.Rows.{arrivals_in}
-use Rattle.perkeep_top.specs.Blobs.{with_blobs}
 use Rattle.search_query.specs.declared.query.Query.{Query}
-use Rattle.perkeep_top.specs.Query.{query_line, IsAnswerOf}
-use Rattle.perkeep_top.specs.Search.{search_line, IsAnswer}
-use Rattle.perkeep_top.proofs.Gathering.{facts_of_arrivals}
+use Rattle.perkeep_lines.proofs.Gathering.{facts_of_arrivals}
+use Rattle.perkeep_lines.specs.Blobs.{with_blobs}
+use Rattle.perkeep_lines.specs.Search.{query_line, search_line}
+use Rattle.perkeep_top.specs.Query.{IsAnswerOf}
+use Rattle.perkeep_top.specs.Search.{IsAnswer}
 
 -- the facts of the arrivals give the answer over the blobs
 pub searched : (told : Option Packs) (rows : List Row) → ForSome told (λ held. arrivals_in held rows ≡ arrivals (entries held)) → (accepts : Accepts) (attr value : List ℕ) (at : When)

@@ -4,7 +4,7 @@ use Rattle.std.specs.FinMap.{get}
 use Rattle.std.specs.Option.{ForSome, option_map}
 use Rattle.pack_disk.specs.Packs.{Packs}
 use Rattle.pack_store.specs.Puts.{blobs_of}
-use Rattle.perkeep_top.specs.Outputs.{size_line}
+use Rattle.perkeep_lines.specs.Outputs.{size_line}
 use Rattle.perkeep_top.specs.Stat.{IsSizeLine}
 use Rattle.perkeep_top.specs.Steps.{IsAbsent}
 
@@ -12,7 +12,7 @@ option_twice : {A B C : Type 0} (f : B → C) (h : A → B) (o : Option A) → o
 option_twice f h None = refl
 option_twice f h (Some x) = refl
 
-none_within : {A B : Type 0} (f : A → B) (o : Option A) → option_map f o ≡ None → o ≡ None
+pub none_within : {A B : Type 0} (f : A → B) (o : Option A) → option_map f o ≡ None → o ≡ None
 none_within f None e = refl
 none_within f (Some x) e = absurd (cc e)
 

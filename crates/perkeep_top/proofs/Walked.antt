@@ -22,10 +22,7 @@ use Rattle.perkeep_top.specs.GetFile.{get_file_meaning, walk_of, BeginsFile, Sto
 use Rattle.perkeep_top.specs.Limits.{limits}
 use Rattle.perkeep_top.specs.Outside.{Outside, World, world}
 use Rattle.perkeep_top.proofs.Ending.{Begun, Far, Has, nothing_given, later_rose, far_start, far_asked, far_puts, failed, no_memory, not_written, absent, unfit, damaged, done}
-
-none_told : {A B : Type 0} (f : A → B) (o : Option A) → option_map f o ≡ None → o ≡ None
-none_told f None e = refl
-none_told f (Some x) e = absurd (cc e)
+use Rattle.perkeep_top.proofs.Sizes.{none_within}
 
 module _ {D S K C R : Type 0} (o : Outside D S K C R)
     (counts_now : (d : D) (t : ℕ) (c : Packs) → t ≤ o.disk.moment d → o.disk.images d c → o.disk.images_since d t c)
@@ -100,6 +97,6 @@ module _ {D S K C R : Type 0} (o : Outside D S K C R)
   not_walked {T = T} (file.Get getting.Disk) g w = failed run here (front {T = T} (file.Get getting.Disk) g) (so_far {T = T} (file.Get getting.Disk) g).at nothing_given has (part {T = T} (file.Get getting.Disk) g)
       (later_rose (o.disk.faults b.disk) (o.disk.faults old.disk) (o.disk.faults new.disk) opened_later w)
   not_walked {T = T} (file.Get (getting.Damaged want is)) g w = damaged run here [] (front {T = T} (file.Get (getting.Damaged want is)) g) (so_far {T = T} (file.Get (getting.Damaged want is)) g) nothing_given [] has refl
-      (part {T = T} (file.Get (getting.Damaged want is)) g) want is (w.0, none_told blobs_of told (sym content_told ∙ w.1))
+      (part {T = T} (file.Get (getting.Damaged want is)) g) want is (w.0, none_within blobs_of told (sym content_told ∙ w.1))
   not_walked {T = T} (file.Get getting.NoMemory) g w = absurd w
   not_walked {T = T} file.NoMemory g w = no_memory run here [] (front {T = T} file.NoMemory g) (so_far {T = T} file.NoMemory g) nothing_given [] has refl (part {T = T} file.NoMemory g)

@@ -5,11 +5,12 @@ use Rattle.std.specs.FinMap.{get}
 use Rattle.blobref.specs.Blobref.{IsOwnRef}
 use Rattle.pack_disk.specs.Packs.{Packs}
 use Rattle.pack_store.specs.Puts.{blobs_of}
+use Rattle.perkeep_lines.specs.Blobs.{IsDamage}
 use Rattle.perkeep_top.specs.declared.status.Status.{Status}
 use Rattle.perkeep_top.specs.declared.status.Status.TheVariants as status
 use Rattle.perkeep_top.specs.Asking.{asking}
 use Rattle.perkeep_top.specs.Frame.{Meaning}
-use Rattle.perkeep_top.specs.Steps.{IsAbsent, IsDamage}
+use Rattle.perkeep_top.specs.Steps.{IsAbsent}
 
 -- the bytes of the ref, those that stand under it where the disk tells
 abbrev pub IsBlob : List ℕ → Option Packs → List ℕ → Type 0

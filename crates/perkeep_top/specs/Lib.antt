@@ -1,8 +1,6 @@
 pub mod Status
 pub mod Faults
 pub mod Limits
-pub mod Blobs
-pub mod Outputs
 pub mod Outside
 pub mod Frame
 pub mod Steps

@@ -1,23 +1,21 @@
 -- What `permanode`, `claim` and `delete` mean: a key signs, and its blob and the signed one are put (docs/commands.md).
-use Rattle.std.specs.Prelude.{◌≡◌, ◌<◌, ◌+◌, ℕ, ℤ, ◌≤◌, Bool, true, false, List, [], ◌∷◌, length, unwrap_or, Option, None, Some}
+use Rattle.std.specs.Prelude.{◌≡◌, ◌<◌, ◌+◌, ℕ, Bool, true, false, List, [], ◌∷◌, length, Option, None, Some}
 use Rattle.blobref.specs.Blobref.{ref_of}
 use Rattle.claim_verify.specs.Verifier.{Accepts, Seals}
-use Rattle.schema_date.specs.DateTexts.{IsDateText}
 use Rattle.perkeep_words.specs.declared.change.Change.{Change}
 use Rattle.perkeep_words.specs.declared.change.Change.TheVariants as change
 use Rattle.schema_fact.specs.declared.kinds.What.{What}
 use Rattle.schema_fact.specs.declared.kinds.What.TheVariants.{Set, Add, Del}
 use Rattle.schema_json.specs.Facts.{key_blob}
-use Rattle.schema_write.specs.Blobs.{permanode_payload, claim_payload, signed}
+use Rattle.schema_write.specs.Blobs.{permanode_payload, claim_payload}
 use Rattle.schema_write.specs.Laws.{longest_schema, signature_length}
-use Rattle.pack_format.specs.Header.{max_size}
-use Rattle.perkeep_top.specs.declared.notes.Note.{Note}
+use Rattle.perkeep_lines.specs.Notes.{sealed}
+use Rattle.perkeep_lines.specs.Outputs.{ref_line}
 use Rattle.perkeep_top.specs.declared.status.InputFault.{InputFault}
 use Rattle.perkeep_top.specs.declared.status.InputFault.TheVariants.{TooBig, NoKey, TooLong}
 use Rattle.perkeep_top.specs.declared.status.Status.{Status}
 use Rattle.perkeep_top.specs.declared.status.Status.TheVariants as status
 use Rattle.perkeep_top.specs.Frame.{Meaning, Given, reads_nothing}
-use Rattle.perkeep_top.specs.Outputs.{ref_line}
 
 -- what contracts know of the keys: which names are held, what they sign, and what is accepted
 pub record Keys : Type 0 where
@@ -27,25 +25,6 @@ pub record Keys : Type 0 where
 
 abbrev pub keys_of : (List ℕ → Bool) → Seals → Accepts → Keys
 keys_of holds seals accepts = record { holds = holds; seals = seals; accepts = accepts }
-
--- the blobs of a note are the key's, and the payload as the key signs it; its line is that of the latter's ref
-abbrev pub sealed : Seals → (name payload : List ℕ) → List ℕ
-sealed seals name payload = signed payload (unwrap_or (seals name payload) [])
-
-pub record IsNote (seals : Seals) (name payload : List ℕ) (note : Note) : Type 0 where
-  pub key : note.key ≡ key_blob name
-  pub signer : note.signer ≡ ref_of (key_blob name)
-  pub blob : note.blob ≡ sealed seals name payload
-  pub named : note.r ≡ ref_of (sealed seals name payload)
-  pub lined : note.line ≡ ref_line (ref_of (sealed seals name payload))
-  -- neither is longer than a blob may be
-  pub key_short : length (key_blob name) ≤ max_size
-  pub blob_short : length (sealed seals name payload) ≤ max_size
-
--- a date has a written text
-pub record HasText (z : ℤ) : Type 0 where
-  pub text : List ℕ
-  pub written : IsDateText z text
 
 -- a name that isn't held can't sign
 abbrev pub unless_held : Bool → Option InputFault

@@ -2,9 +2,9 @@
 use Rattle.std.specs.Prelude.{◌≡◌, true, false, [], ◌∷◌, None}
 use Rattle.blobref.specs.Blobref.{ref_of}
 use Rattle.pack_format.specs.Header.{max_size}
+use Rattle.perkeep_lines.specs.Outputs.{ref_line}
 use Rattle.perkeep_top.specs.declared.status.InputFault.TheVariants.{TooBig}
 use Rattle.perkeep_top.specs.Frame.{Meaning, reads_first}
-use Rattle.perkeep_top.specs.Outputs.{ref_line}
 
 abbrev pub put_meaning : Meaning
 put_meaning = record {

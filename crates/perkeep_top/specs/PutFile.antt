@@ -3,10 +3,10 @@ use Rattle.std.specs.Prelude.{◌≡◌, ℕ, true, false, List, [], length, nat
 use Rattle.blobref.specs.Blobref.{ref_of}
 use Rattle.file_cut.specs.Cutting.{file_blobs, own_blob}
 use Rattle.file_cut.specs.Writing.{longest_name, longest_file}
+use Rattle.perkeep_lines.specs.Outputs.{ref_line}
 use Rattle.perkeep_top.specs.declared.status.InputFault.{InputFault}
 use Rattle.perkeep_top.specs.declared.status.InputFault.TheVariants.{TooLong}
 use Rattle.perkeep_top.specs.Frame.{Meaning, reads_later}
-use Rattle.perkeep_top.specs.Outputs.{ref_line}
 
 -- a name that is too long
 abbrev pub bad_name : List ℕ → Option InputFault

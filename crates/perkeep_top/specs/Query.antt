@@ -1,21 +1,20 @@
 -- What `query` means (docs/commands.md).
-use Rattle.std.specs.Prelude.{◌≡◌, ℕ, true, false, List, [], ◌++◌, codes, Option, Some, None, option_map}
+use Rattle.std.specs.Prelude.{◌≡◌, ℕ, true, false, List, [], Option, Some, None, option_map}
 use Rattle.std.specs.Option.{ForSome}
-use Rattle.claim_model.specs.Facts.{Facts}
 use Rattle.claim_verify.specs.Verifier.{Accepts}
 use Rattle.edge_base.specs.Edge.{Rose}
 use Rattle.edge_base.specs.declared.edge.Source.{Ghosts as SourceGhosts}
 use Rattle.query_read.specs.Reading.{asks_for, first_fault}
 use Rattle.search_query.specs.View.{question}
 use Rattle.search_query.specs.declared.query.Query.{Query}
-use Rattle.search_eval.specs.Answer.{answer_bytes}
 use Rattle.pack_disk.specs.Packs.{Packs}
 use Rattle.pack_store.specs.Puts.{blobs_of}
+use Rattle.perkeep_lines.specs.Blobs.{facts_of_content}
+use Rattle.perkeep_lines.specs.Search.{query_line}
 use Rattle.perkeep_top.specs.declared.status.InputFault.{InputFault}
 use Rattle.perkeep_top.specs.declared.status.InputFault.TheVariants.{BadRef, BadDate, BadNumber, BadName, TooBig, NotAFile, Short, Deep, NoKey, TooLong, BadQuery}
 use Rattle.perkeep_top.specs.declared.status.Status.{Status}
 use Rattle.perkeep_top.specs.declared.status.Status.TheVariants as status
-use Rattle.perkeep_top.specs.Blobs.{facts_of_content}
 use Rattle.perkeep_top.specs.Frame.{Meaning, reads_first, GaveWhole, IsTooBig}
 use Rattle.perkeep_top.specs.Search.{RefusesFacts}
 
@@ -27,11 +26,7 @@ longest_query = 1048576
 abbrev pub bad_query : List ℕ → Option InputFault
 bad_query text = option_map BadQuery (first_fault text)
 
--- the answer to a query, and a line feed
-abbrev pub query_line : Facts → Accepts → Query → List ℕ
-query_line facts accepts query = answer_bytes facts accepts query ++ codes "\n"
-
--- the same over the facts of the blobs that stand there, where the disk tells
+-- the answer over the facts of the blobs that stand there, where the disk tells
 abbrev pub IsAnswerOf : Accepts → Query → Option Packs → List ℕ → Type 0
 IsAnswerOf accepts query told bytes =
     ForSome told (λ held. bytes ≡ query_line (facts_of_content (blobs_of held)) accepts query)

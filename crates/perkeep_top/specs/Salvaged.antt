@@ -5,11 +5,11 @@ use Rattle.std.specs.FinMap.{entries, get}
 use Rattle.edge_base.specs.Edge.{Took, TookFront}
 use Rattle.pack_disk.specs.Packs.{Packs}
 use Rattle.pack_store.specs.Walk.{below, from_on}
+use Rattle.perkeep_lines.specs.Outputs.{pack_report, report}
 use Rattle.perkeep_top.specs.declared.status.InputFault.TheVariants.{TooBig}
 use Rattle.perkeep_top.specs.declared.status.Status.{Status}
 use Rattle.perkeep_top.specs.declared.status.Status.TheVariants as status
 use Rattle.perkeep_top.specs.Frame.{Meaning, reads_nothing}
-use Rattle.perkeep_top.specs.Outputs.{pack_report, report}
 
 -- the text tells of all packs
 abbrev pub IsReport : Option Packs → List ℕ → Type 0

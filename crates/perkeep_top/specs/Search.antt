@@ -1,25 +1,17 @@
 -- What `search` and `search-pack` mean (docs/commands.md).
-use Rattle.std.specs.Prelude.{◌≡◌, ℕ, false, List, [], ◌++◌, codes, Option, None}
+use Rattle.std.specs.Prelude.{◌≡◌, ℕ, false, List, [], Option, None}
 use Rattle.std.specs.Option.{ForSome}
-use Rattle.claim_model.specs.Facts.{Facts}
 use Rattle.claim_verify.specs.Verifier.{Accepts}
 use Rattle.schema_date.specs.declared.date.When.{When}
-use Rattle.schema_date.specs.declared.date.When.TheVariants.{Always}
-use Rattle.search_query.specs.Queries.{value_query}
-use Rattle.search_eval.specs.Answer.{answer_bytes}
 use Rattle.pack_disk.specs.Packs.{Packs}
 use Rattle.pack_store.specs.Puts.{blobs_of}
+use Rattle.perkeep_lines.specs.Blobs.{IsDamage, facts_of_content}
+use Rattle.perkeep_lines.specs.Search.{pack_answer, search_line}
 use Rattle.perkeep_top.specs.declared.status.InputFault.TheVariants.{TooBig}
 use Rattle.perkeep_top.specs.declared.status.Status.{Status}
 use Rattle.perkeep_top.specs.declared.status.Status.TheVariants as status
 use Rattle.perkeep_top.specs.Asking.{asking}
-use Rattle.perkeep_top.specs.Blobs.{facts_of_content, pack_facts}
 use Rattle.perkeep_top.specs.Frame.{Meaning, reads_first}
-use Rattle.perkeep_top.specs.Steps.{IsDamage}
-
--- the answer to a search for an attribute's value, and a line feed
-abbrev pub search_line : Facts → Accepts → (attr value : List ℕ) → When → List ℕ
-search_line facts accepts attr value at = answer_bytes facts accepts (value_query attr value at) ++ codes "\n"
 
 -- ---- over a store
 
@@ -41,10 +33,6 @@ search_meaning accepts attr value at = asking (IsAnswer accepts attr value at) R
 -- the most bytes that a pack may have that is searched: 2 ^ 30
 abbrev pub longest_pack : ℕ
 longest_pack = 1073741824
-
--- the answer over the blobs salvaged from the pack
-unfoldable pub pack_answer : (attr value : List ℕ) → Accepts → List ℕ → List ℕ
-pack_answer attr value accepts pack = search_line (pack_facts pack) accepts attr value Always
 
 abbrev pub search_pack_meaning : Accepts → (attr value : List ℕ) → Meaning
 search_pack_meaning accepts attr value = record {

@@ -1,8 +1,7 @@
 -- What the steps of commands answer.
-use Rattle.std.specs.Prelude.{◌≡◌, ◌≢◌, ℕ, List, Option, None}
+use Rattle.std.specs.Prelude.{◌≡◌, ℕ, List, Option, None}
 use Rattle.std.specs.Option.{ForSome}
 use Rattle.std.specs.FinMap.{get}
-use Rattle.blobref.specs.Blobref.{ref_like}
 use Rattle.edge_base.specs.Edge.{Rose, Took, TookFront}
 use Rattle.edge_base.specs.declared.edge.Source.{Ghosts as SourceGhosts}
 use Rattle.edge_base.specs.declared.edge.Sink.{Ghosts as SinkGhosts}
@@ -36,13 +35,6 @@ NeverRefuses answer = ⊥
 -- the ref isn't there
 abbrev pub IsAbsent : List ℕ → Option Packs → List ℕ → Type 0
 IsAbsent r told asked = (asked ≡ r) × ForSome told (λ held. get (blobs_of held) r ≡ None)
-
--- bytes were read in place of a blob, their ref is another one, and the disk doesn't tell its packs
-pub record IsDamage (told : Option Packs) (want is : List ℕ) : Type 0 where
-  pub bytes : List ℕ
-  pub named : is ≡ ref_like want bytes
-  pub other : is ≢ want
-  pub untold : told ≡ None
 
 -- how the writing ended
 abbrev pub Writes : {K : Type 0} → SinkGhosts K → K → K → List ℕ → Status → Type 0

@@ -4,13 +4,13 @@ ghost use Rattle.perkeep_top.specs.Frame.{Ends};
 ghost use Rattle.std.specs.Prelude.{◌≡◌, IfOk};
 ghost use Rattle.perkeep_top.specs.Notes.{claim_meaning, keys_of, what_of};
 
-use crate::notes::{date_of, is_held, signed_note};
 use crate::status::{InputFault, Status};
 use crate::steps::{opened, put_blob, written};
 use blobref::{NoMemory, Ref, Text};
 use claim_verify::{KeyName, Signer};
 use edge_base::{Clock, Dice, Failed, Sink, Source};
 use pack_disk::Disk;
+use perkeep_lines::{date_of, is_held, signed_note};
 use perkeep_words::Change;
 use schema_fact::What;
 use schema_write::{claim_payload, key_blob};

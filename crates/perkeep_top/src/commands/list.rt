@@ -6,13 +6,13 @@ ghost use Rattle.perkeep_top.specs.Frame.{Ends};
 ghost use Rattle.perkeep_top.specs.Limits.{limits};
 ghost use Rattle.perkeep_top.specs.ListRefs.{list_meaning, IsListing};
 
-use crate::lines::size_lines;
 use crate::status::Status;
 use crate::steps::{opened, written};
 use blobref::{NoMemory, Octets, Ref};
 use edge_base::{Clock, Dice, Sink, Source};
 use pack_disk::Disk;
 use pack_store::Store;
+use perkeep_lines::size_lines;
 use std::alloc::Global;
 
 /// Writes a line for each of the refs greater than `after`, or for all where it is `None`, ascending, the first

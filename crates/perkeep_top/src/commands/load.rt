@@ -4,12 +4,12 @@ ghost use Rattle.perkeep_top.specs.Outside.{outside, world};
 ghost use Rattle.perkeep_top.specs.Frame.{Ends};
 ghost use Rattle.perkeep_top.specs.Load.{load_meaning};
 
-use crate::load::load_text;
 use crate::status::Status;
 use crate::steps::written;
 use claim_verify::Verifier;
 use edge_base::{Clock, Dice, Sink, Source};
 use pack_disk::Disk;
+use perkeep_lines::load_text;
 use std::alloc::Global;
 
 /// Writes what two indexes tell of the blobs of a generated store: one into which they were inserted in their order,

@@ -3,13 +3,13 @@ ghost use Rattle.perkeep_top.specs.Outside.{outside, world};
 ghost use Rattle.perkeep_top.specs.Frame.{Ends};
 ghost use Rattle.perkeep_top.specs.Notes.{permanode_meaning, keys_of};
 
-use crate::notes::{is_held, permanode_note, random_of};
 use crate::status::{InputFault, Status};
 use crate::steps::{opened, put_blob, written};
 use blobref::NoMemory;
 use claim_verify::{KeyName, Signer};
 use edge_base::{Clock, Dice, Failed, Sink, Source};
 use pack_disk::Disk;
+use perkeep_lines::{is_held, permanode_note, random_of};
 use std::alloc::Global;
 
 /// Stores the blob of a key and a new permanode that it signed, and writes the line of the permanode's ref.

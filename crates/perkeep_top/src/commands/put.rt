@@ -3,13 +3,13 @@ ghost use Rattle.perkeep_top.specs.Outside.{outside, world};
 ghost use Rattle.perkeep_top.specs.Frame.{Ends};
 ghost use Rattle.perkeep_top.specs.Put.{put_meaning};
 
-use crate::lines::ref_line;
 use crate::status::Status;
 use crate::steps::{opened, put_blob, read_input, written};
 use blobref::Ref;
 use edge_base::{Clock, Dice, Sink, Source};
 use pack_disk::Disk;
 use pack_format::MAX_SIZE;
+use perkeep_lines::ref_line;
 use std::alloc::Global;
 
 /// Stores all that the source has left as one blob, and writes the line of its ref. The line is made before the blob

@@ -3,13 +3,13 @@ ghost use Rattle.perkeep_top.specs.Outside.{outside, world};
 ghost use Rattle.perkeep_top.specs.Frame.{Ends};
 ghost use Rattle.perkeep_top.specs.PutFile.{put_file_meaning};
 
-use crate::lines::ref_line;
 use crate::status::{InputFault, Status};
 use crate::steps::{opened, written};
 use blobref::NoMemory;
 use edge_base::{Clock, Dice, Sink, Source};
 use file_cut::{LONGEST_NAME, write_file};
 use pack_disk::Disk;
+use perkeep_lines::ref_line;
 use std::alloc::Global;
 
 /// Stores the input as a file of this name, cut into blobs that are put as it is read, and writes the line of the

@@ -9,8 +9,6 @@ ghost use Rattle.perkeep_top.specs.Query.{query_meaning, too_long_status, IsAnsw
 ghost use Rattle.perkeep_top.specs.Search.{RefusesFacts};
 ghost use Rattle.perkeep_top.specs.Steps.{Finds};
 
-use crate::blobs::store_facts;
-use crate::search::query_line;
 use crate::status::{InputFault, Status};
 use crate::steps::{opened, read_input, written};
 use blobref::Octets;
@@ -18,6 +16,7 @@ use claim_verify::Verifier;
 use edge_base::{Clock, Dice, Sink, Source};
 use pack_disk::Disk;
 use pack_store::Store;
+use perkeep_lines::{query_line, store_facts};
 use search_query::Query;
 use std::alloc::Global;
 
@@ -97,6 +96,6 @@ fn answer_line<D: Disk, V: Verifier>(
 {
     match store_facts(alloc, store) {
         Ok(facts) => Ok(query_line(alloc, facts, keys, query)?),
-        Err(status) => Err(status),
+        Err(fault) => Err(Status::from(fault)),
     }
 }

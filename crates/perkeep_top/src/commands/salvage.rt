@@ -8,11 +8,11 @@ ghost use Rattle.perkeep_top.specs.Outside.{outside, world};
 ghost use Rattle.perkeep_top.specs.Frame.{Ends};
 ghost use Rattle.perkeep_top.specs.Salvaged.{salvage_meaning, IsReport, IsPackReport, Writes, WritesFront, ComesWhileTelling};
 
-use crate::lines::report_of;
 use crate::status::Status;
 use edge_base::{Clock, Dice, Failed, Sink, Source, write_all};
 use pack_disk::Disk;
 use pack_store::scan_pack;
+use perkeep_lines::report_of;
 use std::alloc::Global;
 
 /// Writes what each pack of the disk holds, pack by pack. Nothing is made, added or synced.

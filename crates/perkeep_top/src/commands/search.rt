@@ -9,8 +9,6 @@ ghost use Rattle.perkeep_top.specs.Limits.{limits};
 ghost use Rattle.perkeep_top.specs.Search.{search_meaning, IsAnswer, RefusesFacts};
 ghost use Rattle.perkeep_top.specs.Steps.{Finds};
 
-use crate::blobs::store_facts;
-use crate::search::search_line;
 use crate::status::Status;
 use crate::steps::{opened, written};
 use blobref::Octets;
@@ -18,6 +16,7 @@ use claim_verify::Verifier;
 use edge_base::{Clock, Dice, Sink, Source};
 use pack_disk::Disk;
 use pack_store::Store;
+use perkeep_lines::{search_line, store_facts};
 use schema_date::When;
 use std::alloc::Global;
 
@@ -69,6 +68,6 @@ fn answer_line<D: Disk, V: Verifier>(
 {
     match store_facts(alloc, store) {
         Ok(facts) => Ok(search_line(alloc, facts, keys, attr, value, at)?),
-        Err(status) => Err(status),
+        Err(fault) => Err(Status::from(fault)),
     }
 }

@@ -4,12 +4,12 @@ ghost use Rattle.perkeep_top.specs.Outside.{outside, world};
 ghost use Rattle.perkeep_top.specs.Frame.{Ends};
 ghost use Rattle.perkeep_top.specs.Search.{search_pack_meaning};
 
-use crate::search::pack_answer;
 use crate::status::Status;
 use crate::steps::{read_input, written};
 use claim_verify::Verifier;
 use edge_base::{Clock, Dice, Sink, Source};
 use pack_disk::Disk;
+use perkeep_lines::pack_answer;
 use std::alloc::Global;
 
 // The most bytes of a pack that is searched: 2 ^ 30.

@@ -7,13 +7,13 @@ ghost use Rattle.perkeep_top.specs.Limits.{limits};
 ghost use Rattle.perkeep_top.specs.Stat.{stat_meaning, IsSizeLine, RefusesSize};
 ghost use Rattle.perkeep_top.specs.Steps.{Finds};
 
-use crate::lines::size_line;
 use crate::status::Status;
 use crate::steps::{opened, written};
 use blobref::{Octets, Ref};
 use edge_base::{Clock, Dice, Sink, Source};
 use pack_disk::Disk;
 use pack_store::Store;
+use perkeep_lines::size_line;
 use std::alloc::Global;
 
 /// Writes the ref of a blob and its size.

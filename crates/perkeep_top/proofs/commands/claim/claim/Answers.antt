@@ -5,10 +5,11 @@ use Rattle.schema_write.specs.Blobs.{claim_payload}
 use Rattle.schema_write.specs.Drafts.{IsFault}
 use Rattle.schema_write.specs.Laws.{signature_length}
 use Rattle.pack_store.specs.Puts.{PutsBlobs, PutLeaves}
+use Rattle.perkeep_lines.specs.Notes.{IsNote}
 use Rattle.perkeep_top.specs.declared.status.InputFault.TheVariants.{NoKey}
 use Rattle.perkeep_top.specs.Frame.{Given}
 use Rattle.perkeep_top.specs.Limits.{limits}
-use Rattle.perkeep_top.specs.Notes.{keys_of, unless_held, claim_meaning, IsNote}
+use Rattle.perkeep_top.specs.Notes.{keys_of, unless_held, claim_meaning}
 use Rattle.perkeep_top.specs.Outside.{outside, world}
 use Rattle.perkeep_top.specs.Steps.{Writes}
 use Rattle.perkeep_top.proofs.Ending.{bad_words}

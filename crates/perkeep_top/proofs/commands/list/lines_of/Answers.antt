@@ -1,7 +1,7 @@
 use Rattle.std.proofs.Common.{◌∙◌, ap, flat_map, option_copied}
 use Rattle.std.proofs.lemmas.Result.{IfOk-weaker}
+use Rattle.perkeep_lines.specs.Outputs.{size_line}
 use Rattle.perkeep_top.specs.ListRefs.{IsListing}
-use Rattle.perkeep_top.specs.Outputs.{size_line}
 use Rattle.perkeep_top.proofs.Arrived.{listed_as}
 use Rattle.perkeep_top.proofs.commands.list.lines_of.Goals as goal
 

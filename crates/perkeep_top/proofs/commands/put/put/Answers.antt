@@ -2,9 +2,9 @@ use Rattle.std.proofs.Common.{◌∙◌, [], ◌∷◌, List, ℕ, Err, ap, refl
 use Rattle.blobref.specs.Blobref.{ref_of}
 use Rattle.pack_format.specs.Header.{max_size}
 use Rattle.pack_store.specs.Puts.{PutsBlobs, PutLeaves}
+use Rattle.perkeep_lines.specs.Outputs.{ref_line}
 use Rattle.perkeep_top.specs.Limits.{limits}
 use Rattle.perkeep_top.specs.Outside.{outside, world}
-use Rattle.perkeep_top.specs.Outputs.{ref_line}
 use Rattle.perkeep_top.specs.Put.{put_meaning}
 use Rattle.perkeep_top.specs.Steps.{NeverRefuses}
 use Rattle.perkeep_top.proofs.Ending.{begun, given_input, far_read, far_asked, far_put, not_put, refused, early_memory, unread_first, finished}

@@ -1,4 +1,4 @@
-use Rattle.std.proofs.Common.{◌≡◌, List, ℕ, [], Option, Some, None, refl, ap, sym, subst}
+use Rattle.std.proofs.Common.{[], refl, ap, sym, subst}
 use Rattle.std.specs.Prelude.{option_map}
 use Rattle.perkeep_top.specs.Outside.{outside, world}
 use Rattle.perkeep_top.specs.Query.{query_meaning, IsAnswerOf}

@@ -1,6 +1,7 @@
 use Rattle.std.proofs.Common.{◌∙◌, [], List, ℕ, ap, refl}
+use Rattle.perkeep_lines.specs.Search.{pack_answer}
 use Rattle.perkeep_top.specs.Outside.{outside, world}
-use Rattle.perkeep_top.specs.Search.{search_pack_meaning, longest_pack, pack_answer}
+use Rattle.perkeep_top.specs.Search.{search_pack_meaning, longest_pack}
 use Rattle.perkeep_top.proofs.Ending.{begun, given_input, far_read, early_memory, unread_first, finished}
 use Rattle.perkeep_top.proofs.commands.search_pack.search_pack.Goals as goal
 
