@@ -1,5 +1,5 @@
 -- One step of a connection.
-use Rattle.std.proofs.Common.{◌≡◌, ℕ, List, [], ◌∷◌, ◌++◌, Bool, true, false, Option, refl, sym, subst, ◌∙◌}
+use Rattle.std.proofs.Common.{◌≡◌, ℕ, List, [], ◌∷◌, ◌++◌, Bool, true, false, Option, refl, sym, ◌∙◌}
 use Rattle.edge_base.specs.Edge.{Took, TookFront}
 use Rattle.edge_base.proofs.Moves.{Took-chain}
 use Rattle.home_core.specs.Passes.{Sight}
@@ -17,57 +17,58 @@ use Rattle.blob_http.proofs.Staying.{longer_none}
 use Rattle.blob_http.proofs.Stepping.{serves_none, serves_more, serves_ends, took_none, TookFront-chain}
 use Rattle.blob_http.proofs.Hearing.{open_none, heard_none, heard_full, heard_more, heard_last, heard_breaks}
 
-module _ (tells : Bool) (v w : Sight) (told0 told told' : List Answered) (x0 x1 w0 w1 : Option (List ℕ)) (flow : Flow)
-    (s : Serves tells v w told0 told (Open x0 x1 fresh_flow flow) (Took w0 w1) HasNone) where
+module _ (tells : Bool) (v w : Sight) (noted noted' : List Answered → Type 0) (x0 x1 w0 w1 : Option (List ℕ))
+    (flow : Flow) (s : Serves tells v w noted (Open x0 x1 fresh_flow flow) (Took w0 w1) HasNone) where
+  -- one more entry was noted
+  abbrev Adds : Answered → Type 0
+  Adds entry = (before : List Answered) → noted before → noted' (before ++ entry ∷ [])
+
+  -- no entry was noted
+  abbrev Same : Type 0
+  Same = (entries : List Answered) → noted entries → noted' entries
+
   -- a request was answered, and the connection stays open
   pub step_goes_on : (x : Sight) (entry : Answered) (m : Made) (x2 w2 : Option (List ℕ)) (new : WireView)
       (closes : Bool)
-      → told' ≡ told ++ entry ∷ [] → Replies x1 x2 flow new tells w x entry m closes → closes ≡ false
+      → Adds entry → Replies x1 x2 flow new tells w x entry m closes → closes ≡ false
       → Took w1 w2 (text_of m)
-      → Serves tells v x told0 told' (Open x0 x2 fresh_flow new.flow) (Took w0 w2) HasNone
-  step_goes_on x entry m x2 w2 new closes pushed r still took =
-      subst (λ (z : List Answered). Serves tells v x told0 z (Open x0 x2 fresh_flow new.flow) (Took w0 w2) HasNone)
-      (sym pushed)
-      (serves_more tells v w x told0 told (Open x0 x1 fresh_flow flow) (Open x0 x2 fresh_flow new.flow) (Took w0 w1)
-      (Took w0 w2) r.asked entry (text_of m) s r.handles
+      → Serves tells v x noted' (Open x0 x2 fresh_flow new.flow) (Took w0 w2) HasNone
+  step_goes_on x entry m x2 w2 new closes adds r still took =
+      serves_more tells v w x noted noted' (Open x0 x1 fresh_flow flow) (Open x0 x2 fresh_flow new.flow) (Took w0 w1)
+      (Took w0 w2) r.asked entry (text_of m) s r.handles adds
       (λ before o. heard_more x0 x1 x2 flow new.flow before r.asked o r.comes (sym r.closing ∙ still))
-      (λ texts t. Took-chain w0 w1 w2 texts (text_of m) t took))
+      (λ texts t. Took-chain w0 w1 w2 texts (text_of m) t took)
 
   -- a request was answered, and the connection closes
   pub step_closes : (x : Sight) (entry : Answered) (m : Made) (x2 w2 : Option (List ℕ)) (new : WireView) (closes : Bool)
-      → told' ≡ told ++ entry ∷ [] → Replies x1 x2 flow new tells w x entry m closes → closes ≡ true
+      → Adds entry → Replies x1 x2 flow new tells w x entry m closes → closes ≡ true
       → Took w1 w2 (text_of m)
-      → Serves tells v x told0 told' (Heard x0 ended.Closed) (Wrote w0 w2 ended.Closed) (IsRest ended.Closed)
-  step_closes x entry m x2 w2 new closes pushed r closed took =
-      subst (λ (z : List Answered). Serves tells v x told0 z (Heard x0 ended.Closed) (Wrote w0 w2 ended.Closed)
-      (IsRest ended.Closed)) (sym pushed)
-      (serves_more tells v w x told0 told (Open x0 x1 fresh_flow flow) (Heard x0 ended.Closed) (Took w0 w1)
-      (Wrote w0 w2 ended.Closed) r.asked entry (text_of m) s r.handles
+      → Serves tells v x noted' (Heard x0 ended.Closed) (Wrote w0 w2 ended.Closed) (IsRest ended.Closed)
+  step_closes x entry m x2 w2 new closes adds r closed took =
+      serves_more tells v w x noted noted' (Open x0 x1 fresh_flow flow) (Heard x0 ended.Closed) (Took w0 w1)
+      (Wrote w0 w2 ended.Closed) r.asked entry (text_of m) s r.handles adds
       (λ before o. heard_last x0 x1 x2 flow new.flow before r.asked o r.comes (sym r.closing ∙ closed))
-      (λ texts t. Took-chain w0 w1 w2 texts (text_of m) t took))
+      (λ texts t. Took-chain w0 w1 w2 texts (text_of m) t took)
 
   -- the reply wasn't written whole
   pub step_breaks : (x : Sight) (entry : Answered) (m : Made) (x2 w2 : Option (List ℕ)) (new : WireView) (closes : Bool)
-      → told' ≡ told ++ entry ∷ [] → Replies x1 x2 flow new tells w x entry m closes → TookFront w1 w2 (text_of m)
-      → Serves tells v x told0 told' (Heard x0 ended.WriteFault) (Wrote w0 w2 ended.WriteFault)
+      → Adds entry → Replies x1 x2 flow new tells w x entry m closes → TookFront w1 w2 (text_of m)
+      → Serves tells v x noted' (Heard x0 ended.WriteFault) (Wrote w0 w2 ended.WriteFault)
       (IsRest ended.WriteFault)
-  step_breaks x entry m x2 w2 new closes pushed r took =
-      subst (λ (z : List Answered). Serves tells v x told0 z (Heard x0 ended.WriteFault)
-      (Wrote w0 w2 ended.WriteFault) (IsRest ended.WriteFault)) (sym pushed)
-      (serves_more tells v w x told0 told (Open x0 x1 fresh_flow flow) (Heard x0 ended.WriteFault) (Took w0 w1)
-      (Wrote w0 w2 ended.WriteFault) r.asked entry (text_of m) s r.handles
+  step_breaks x entry m x2 w2 new closes adds r took =
+      serves_more tells v w x noted noted' (Open x0 x1 fresh_flow flow) (Heard x0 ended.WriteFault) (Took w0 w1)
+      (Wrote w0 w2 ended.WriteFault) r.asked entry (text_of m) s r.handles adds
       (λ before o. heard_breaks x0 x1 x2 flow new.flow before r.asked closes o r.comes (sym r.closing))
-      (λ texts t. TookFront-chain w0 w1 w2 texts (text_of m) t took))
+      (λ texts t. TookFront-chain w0 w1 w2 texts (text_of m) t took)
 
   -- no request came, or one that has no answer
-  pub step_ends : (x : Sight) (end : Ended) → told' ≡ told → NoneComes (stream flow.bytes x1) flow.taken end
+  pub step_ends : (x : Sight) (end : Ended) → Same → NoneComes (stream flow.bytes x1) flow.taken end
       → Passes end w x
-      → Serves tells v x told0 told' (Heard x0 end) (Wrote w0 w1 end) (IsRest end)
+      → Serves tells v x noted' (Heard x0 end) (Wrote w0 w1 end) (IsRest end)
   step_ends x end same none passes =
-      subst (λ (z : List Answered). Serves tells v x told0 z (Heard x0 end) (Wrote w0 w1 end) (IsRest end)) (sym same)
-      (serves_ends tells v w x told0 told (Open x0 x1 fresh_flow flow) (Heard x0 end) (Took w0 w1) (Wrote w0 w1 end)
-      (IsRest end) passes.turns s
-      (λ asked o. heard_none x0 x1 flow asked end o none) (written end none) passes.drawn passes.rest passes.longer)
+      serves_ends tells v w x noted noted' (Open x0 x1 fresh_flow flow) (Heard x0 end) (Took w0 w1) (Wrote w0 w1 end)
+      (IsRest end) passes.turns s same
+      (λ asked o. heard_none x0 x1 flow asked end o none) (written end none) passes.drawn passes.rest passes.longer
     where
       written : (end : Ended) → NoneComes (stream flow.bytes x1) flow.taken end → (texts : List ℕ) → Took w0 w1 texts
           → Wrote w0 w1 end texts
@@ -78,18 +79,17 @@ module _ (tells : Bool) (v w : Sight) (told0 told told' : List Answered) (x0 x1 
       written ended.NoMemory none texts t = absurd none
 
   -- there was no memory for an entry, and nothing was read
-  pub step_full : told' ≡ told
-      → Serves tells v w told0 told' (Heard x0 ended.NoMemory) (Wrote w0 w1 ended.NoMemory) (IsRest ended.NoMemory)
+  pub step_full : Same
+      → Serves tells v w noted' (Heard x0 ended.NoMemory) (Wrote w0 w1 ended.NoMemory) (IsRest ended.NoMemory)
   step_full same =
-      subst (λ (z : List Answered). Serves tells v w told0 z (Heard x0 ended.NoMemory) (Wrote w0 w1 ended.NoMemory)
-      (IsRest ended.NoMemory)) (sym same)
-      (serves_ends tells v w w told0 told (Open x0 x1 fresh_flow flow) (Heard x0 ended.NoMemory) (Took w0 w1)
-      (Wrote w0 w1 ended.NoMemory) (IsRest ended.NoMemory) [] s
-      (λ asked o. heard_full x0 x1 flow asked o) (λ texts t. t) (sym (append-nil w.store.turns)) refl (longer_none w))
+      serves_ends tells v w w noted noted' (Open x0 x1 fresh_flow flow) (Heard x0 ended.NoMemory) (Took w0 w1)
+      (Wrote w0 w1 ended.NoMemory) (IsRest ended.NoMemory) [] s same
+      (λ asked o. heard_full x0 x1 flow asked o) (λ texts t. t) (sym (append-nil w.store.turns)) refl (longer_none w)
 
 -- a connection for which there was no memory
-pub no_memory : (tells : Bool) (v : Sight) (told : List Answered) (x w : Option (List ℕ))
-    → Serves tells v v told told (Heard x ended.NoMemory) (Wrote w w ended.NoMemory) (IsRest ended.NoMemory)
-no_memory tells v told x w =
-    step_full tells v v told told told x x w w fresh_flow
-    (serves_none tells v told (Open x x fresh_flow fresh_flow) (Took w w) (open_none x) (took_none w)) refl
+pub no_memory : (tells : Bool) (v : Sight) (noted : List Answered → Type 0) (x w : Option (List ℕ)) → noted []
+    → Serves tells v v noted (Heard x ended.NoMemory) (Wrote w w ended.NoMemory) (IsRest ended.NoMemory)
+no_memory tells v noted x w none =
+    step_full tells v v noted noted x x w w fresh_flow
+    (serves_none tells v noted (Open x x fresh_flow fresh_flow) (Took w w) none (open_none x) (took_none w))
+    (λ entries n. n)

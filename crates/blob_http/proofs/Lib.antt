@@ -1,6 +1,7 @@
 pub mod Bodies
 pub mod Staying
 pub mod Stepping
+pub mod Noting
 pub mod Hearing
 pub mod Codes
 pub mod Answering

@@ -1,5 +1,5 @@
 -- One more answer extends what was served.
-use Rattle.std.proofs.Common.{◌≡◌, ℕ, ◌≤◌, List, [], ◌∷◌, ◌++◌, map, length, Bool, refl, ap, sym, subst, ◌∙◌, arith}
+use Rattle.std.proofs.Common.{◌≡◌, ℕ, ◌≤◌, List, [], ◌∷◌, ◌++◌, length, Bool, refl, ap, sym, subst, ◌∙◌, arith}
 use Rattle.std.proofs.Common.{append_assoc, Option, Some, None}
 use Rattle.std.specs.List.{flat_map}
 use Rattle.std.proofs.lemmas.List.{append-nil}
@@ -47,11 +47,11 @@ drawn_more v w before rest turns all drawn none push =
 
 module _ (tells : Bool) where
   -- nothing was served yet
-  pub serves_none : (v : Sight) (told : List Answered) (heard : List Asked → Type 0) (wrote : List ℕ → Type 0)
-      → heard [] → wrote [] → Serves tells v v told told heard wrote HasNone
-  serves_none v told heard wrote h w = record {
+  pub serves_none : (v : Sight) (noted : List Answered → Type 0) (heard : List Asked → Type 0)
+      (wrote : List ℕ → Type 0) → noted [] → heard [] → wrote [] → Serves tells v v noted heard wrote HasNone
+  serves_none v noted heard wrote n h w = record {
     answers = [];
-    entries = sym (append-nil told);
+    noted = n;
     heard = h;
     written = w;
     each = All-nil (AnswerHolds tells v.index.accepts v.store.history v.index.shown);
@@ -63,20 +63,19 @@ module _ (tells : Bool) where
   }
 
   -- one more answer
-  pub serves_more : (v w x : Sight) (told told' : List Answered) (heard heard' : List Asked → Type 0)
+  pub serves_more : (v w x : Sight) (noted noted' : List Answered → Type 0) (heard heard' : List Asked → Type 0)
       (wrote wrote' : List ℕ → Type 0) (asked : Asked) (entry : Answered) (text : List ℕ)
-      → Serves tells v w told told' heard wrote HasNone → Handles tells asked w x entry text
+      → Serves tells v w noted heard wrote HasNone → Handles tells asked w x entry text
+      → ((before : List Answered) → noted before → noted' (before ++ entry ∷ []))
       → ((before : List Asked) → heard before → heard' (before ++ asked ∷ []))
       → ((texts : List ℕ) → wrote texts → wrote' (texts ++ text))
-      → Serves tells v x told (told' ++ entry ∷ []) heard' wrote' HasNone
-  serves_more v w x told told' heard heard' wrote wrote' asked entry text s h more_heard more_text =
+      → Serves tells v x noted' heard' wrote' HasNone
+  serves_more v w x noted noted' heard heard' wrote wrote' asked entry text s h more_noted more_heard more_text =
       let a : Answer = record { asked = asked; entry = entry; text = text; turns = h.turns } in
       let same : x.index.accepts ≡ v.index.accepts = h.longer.accepts ∙ s.longer.accepts in
       record {
         answers = s.answers ++ a ∷ [];
-        entries = ap (λ (z : List Answered). z ++ entry ∷ []) s.entries
-            ∙ (append_assoc told (map (λ (b : Answer). b.entry) s.answers) (entry ∷ [])
-            ∙ ap (λ (z : List Answered). told ++ z) (sym (map-append (λ (b : Answer). b.entry) s.answers (a ∷ []))));
+        noted = subst noted' (sym (map-append (λ (b : Answer). b.entry) s.answers (a ∷ []))) (more_noted _ s.noted);
         heard = subst heard' (sym (map-append (λ (b : Answer). b.asked) s.answers (a ∷ []))) (more_heard _ s.heard);
         written = subst wrote' (sym (flat_push (λ (b : Answer). b.text) s.answers a)) (more_text _ s.written);
         each = All-push (AnswerHolds tells v.index.accepts x.store.history x.index.shown) s.answers a
@@ -100,15 +99,16 @@ module _ (tells : Bool) where
       }
 
   -- no further answer, where the pass has maybe seen more, and drawn turns that belong to no answer
-  pub serves_ends : (v w x : Sight) (told told' : List Answered) (heard heard' : List Asked → Type 0)
+  pub serves_ends : (v w x : Sight) (noted noted' : List Answered → Type 0) (heard heard' : List Asked → Type 0)
       (wrote wrote' : List ℕ → Type 0)
-      (rests : List ℕ → Type 0) (turns : List ℕ) → Serves tells v w told told' heard wrote HasNone
+      (rests : List ℕ → Type 0) (turns : List ℕ) → Serves tells v w noted heard wrote HasNone
+      → ((entries : List Answered) → noted entries → noted' entries)
       → ((asked : List Asked) → heard asked → heard' asked) → ((texts : List ℕ) → wrote texts → wrote' texts)
       → x.store.turns ≡ w.store.turns ++ turns → rests turns → Longer w x
-      → Serves tells v x told told' heard' wrote' rests
-  serves_ends v w x told told' heard heard' wrote wrote' rests turns s f g drawn r longer = record {
+      → Serves tells v x noted' heard' wrote' rests
+  serves_ends v w x noted noted' heard heard' wrote wrote' rests turns s e f g drawn r longer = record {
     answers = s.answers;
-    entries = s.entries;
+    noted = e _ s.noted;
     heard = f _ s.heard;
     written = g _ s.written;
     each = All-weaker (AnswerHolds tells v.index.accepts w.store.history w.index.shown)

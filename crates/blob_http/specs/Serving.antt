@@ -149,13 +149,17 @@ Climbs m n [] p q = (m ≤ p) × (n ≤ q)
 Climbs m n (a ∷ rest) p q = (m ≤ a.entry.store_count) × (n ≤ a.entry.index_count)
     × Climbs a.entry.store_count a.entry.index_count rest p q
 
--- What was served, over the histories that the pass has seen by now: the entries are told in order; what was asked and
--- what was written is as is said; each reply is the one that is defined; the counts never fall; and the turns of the
--- store that were drawn are those of the requests, and then such as are said.
-pub record Serves (tells : Bool) (v w : Sight) (told told' : List Answered) (hears : List Asked → Type 0)
+-- the log has taken these entries: behind whatever it told before, it tells them
+abbrev pub Notes : {L : Type 0} → (L → List Answered → Type 0) → L → L → List Answered → Type 0
+Notes tells old new entries = (before : List Answered) → tells old before → tells new (before ++ entries)
+
+-- What was served, over the histories that the pass has seen by now: the entries, in order, what was asked, and what
+-- was written are as is said; each reply is the one that is defined; the counts never fall; and the turns of the store
+-- that were drawn are those of the requests, and then such as are said.
+pub record Serves (tells : Bool) (v w : Sight) (notes : List Answered → Type 0) (hears : List Asked → Type 0)
     (wrote : List ℕ → Type 0) (rest_is : List ℕ → Type 0) : Type 0 where
   pub answers : List Answer
-  pub entries : told' ≡ told ++ map (λ (a : Answer). a.entry) answers
+  pub noted : notes (map (λ (a : Answer). a.entry) answers)
   pub heard : hears (map (λ (a : Answer). a.asked) answers)
   pub written : wrote (flat_map (λ (a : Answer). a.text) answers)
   pub each : All (AnswerHolds tells v.index.accepts w.store.history w.index.shown) answers

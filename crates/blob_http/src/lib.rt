@@ -1,6 +1,7 @@
 //! Serves the requests of a connection over any home (`docs/http.md`).
 #![tactic(auto)]
 
+mod answer_log;
 mod entries;
 mod gathering;
 mod handling;
@@ -10,6 +11,7 @@ mod requests;
 mod serving;
 mod uploads;
 
+pub use answer_log::{AnswerLog, NoLog};
 pub use entries::{Answered, Outcome};
 pub use gathering::Stopped;
 pub use questions::Question;

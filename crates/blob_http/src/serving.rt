@@ -1,21 +1,19 @@
 //! A connection, over any home.
-ghost use Rattle.std.specs.Prelude.{◌≡◌, ◌≤◌, ◌+◌, ◌∷◌, ◌++◌, [], ℕ, List, Option, OnOk, Some, None, vec_len};
-ghost use Rattle.std.specs.Prelude.{vec_capacity};
+ghost use Rattle.std.specs.Prelude.{◌≡◌, ◌≤◌, ℕ, List, Option, Some, None};
 ghost use Rattle.edge_base.specs.Edge.{Took};
 ghost use Rattle.home_core.specs.Passes.{Sight};
 ghost use Rattle.http_wire.specs.declared.body.Body.{Body};
-ghost use Rattle.blob_http.specs.declared.entries.Answered.{Answered};
 ghost use Rattle.blob_http.specs.Answers.{text_of};
-ghost use Rattle.blob_http.specs.Serving.{Serves, Open, Heard, fresh_flow, Wrote, EndCause, HeardBy, WroteBy};
+ghost use Rattle.blob_http.specs.Serving.{Serves, Notes, Open, Heard, fresh_flow, Wrote, EndCause, HeardBy, WroteBy};
 ghost use Rattle.blob_http.specs.Serving.{StepCause, IsRest, HasNone, RestBy};
 
-use crate::entries::Answered;
+use crate::answer_log::AnswerLog;
 use crate::replies::write_made;
 use crate::requests::reply_next;
 use edge_base::{Sink, Source};
 use home_core::Home;
 use http_wire::Wire;
-use std::alloc::{AllocError, Global};
+use std::alloc::Global;
 use std::sync::Wait;
 
 /// Why no further request of a connection is served.
@@ -29,31 +27,31 @@ pub enum Ended {
     ReadFault,
     /// A write failed.
     WriteFault,
-    /// There was no memory for the connection's buffers, or for an entry in the list.
+    /// There was no memory for the connection's buffers, or the log had no room for a further entry.
     NoMemory,
 }
 
 /// Serves the requests of a connection until there are no more (`docs/http.md`). The bytes written are the replies to
-/// the requests, in their order, each over the first blobs and the first inserts, as many as its entry in `told` says,
-/// of the histories that the pass has seen at the end. The entry stands in `told` before its reply is written.
+/// the requests, in their order, each over the first blobs and the first inserts, as many as its entry says, of the
+/// histories that the pass has seen at the end. The log takes the entry before the reply is written.
 ///
 /// At `Closed`, `Cut` and `ReadFault` each whole reply was written; at `WriteFault` a front of them, where the last
 /// entries may lack their replies. `NoMemory` comes before anything of a request is read.
 ///
 /// It takes memory for its buffers at once (some 219 KiB), and then for a body of at most 1 MiB, for the text of a
-/// reply, and for what the calls of the home take.
-pub fn serve_connection<H: Home, S: Source, K: Sink, R: Wait>(
+/// reply, and for what the calls of the home and of the log take. Between two requests it holds its buffers alone.
+pub fn serve_connection<H: Home, S: Source, K: Sink, L: AnswerLog, R: Wait>(
     rt: &R,
     alloc: Global,
     home: &H,
     pass: &mut H::Pass,
     source: &mut S,
     sink: &mut K,
-    told: &mut Vec<Answered>,
+    log: &mut L,
 ) -> Ended
     requires { H.belongs home.now pass.old }
     ensures own { H.belongs home.now pass.new }
-    ensures serves { Serves (H.tells home.now) (H.sight pass.old) (H.sight pass.new) told.old.items told.new.items
+    ensures serves { Serves (H.tells home.now) (H.sight pass.old) (H.sight pass.new) (Notes L.tells log.old log.new)
         (Heard (S.left source.old) result) (Wrote (K.written sink.old) (K.written sink.new) result) (IsRest result) }
     ensures cause { EndCause (S.faults source.old) (S.faults source.new) (K.faults sink.old) (K.faults sink.new)
         result }
@@ -62,7 +60,7 @@ pub fn serve_connection<H: Home, S: Source, K: Sink, R: Wait>(
         return Ended::NoMemory;
     };
     'requests: for _ in rt.forever() {
-        if let Some(ended) = serve_one(rt, alloc, home, pass, &mut wire, source, sink, told) {
+        if let Some(ended) = serve_one(rt, alloc, home, pass, &mut wire, source, sink, log) {
             return ended;
         }
     }
@@ -70,7 +68,7 @@ pub fn serve_connection<H: Home, S: Source, K: Sink, R: Wait>(
 }
 
 // Serves one request, or says why there is none. Whatever was served before, it goes on from there.
-fn serve_one<H: Home, S: Source, K: Sink, R: Wait>(
+fn serve_one<H: Home, S: Source, K: Sink, L: AnswerLog, R: Wait>(
     rt: &R,
     alloc: Global,
     home: &H,
@@ -78,16 +76,16 @@ fn serve_one<H: Home, S: Source, K: Sink, R: Wait>(
     wire: &mut Wire,
     source: &mut S,
     sink: &mut K,
-    told: &mut Vec<Answered>,
+    log: &mut L,
 ) -> Option<Ended>
     requires belongs { H.belongs home.now pass.old }
     requires ready { wire.old.body ≡ Body.Done }
     ensures own { H.belongs home.now pass.new }
     ensures ready { result ≡ None → wire.new.body ≡ Body.Done }
-    ensures serves { (v : Sight) (told0 : List Answered) (x0 w0 : Option (List ℕ))
-        → Serves (H.tells home.now) v (H.sight pass.old) told0 told.old.items
+    ensures serves { (v : Sight) (log0 : L) (x0 w0 : Option (List ℕ))
+        → Serves (H.tells home.now) v (H.sight pass.old) (Notes L.tells log0 log.old)
         (Open x0 (S.left source.old) fresh_flow wire.old.flow) (Took w0 (K.written sink.old)) HasNone
-        → Serves (H.tells home.now) v (H.sight pass.new) told0 told.new.items
+        → Serves (H.tells home.now) v (H.sight pass.new) (Notes L.tells log0 log.new)
         (HeardBy x0 (S.left source.new) fresh_flow wire.new.flow result) (WroteBy w0 (K.written sink.new) result)
         (RestBy result) }
     ensures read { S.faults source.old ≤ S.faults source.new }
@@ -95,14 +93,14 @@ fn serve_one<H: Home, S: Source, K: Sink, R: Wait>(
     ensures cause { StepCause (S.faults source.old) (S.faults source.new) (K.faults sink.old) (K.faults sink.new)
         result }
 {
-    let Ok(()) = make_room(told) else {
+    let Ok(()) = log.make_room() else {
         return Some(Ended::NoMemory);
     };
     let replied = match reply_next(rt, alloc, home, pass, wire, source) {
         Ok(replied) => replied,
         Err(ended) => return Some(ended),
     };
-    push_entry(told, replied.entry);
+    log.note(replied.entry);
     let Ok(()) = write_made(sink, &replied.made) else {
         return Some(Ended::WriteFault);
     };
@@ -110,31 +108,4 @@ fn serve_one<H: Home, S: Source, K: Sink, R: Wait>(
         return Some(Ended::Closed);
     }
     None
-}
-
-// Makes room for one entry more.
-fn make_room(told: &mut Vec<Answered>) -> Result<(), AllocError>
-    ensures same { told.new.items ≡ told.old.items }
-    ensures room { OnOk result (vec_len told.new + 1 ≤ vec_capacity told.new) }
-{
-    told.reserve(1)
-}
-
-// Puts an entry behind the others, where there is room.
-fn push_entry(told: &mut Vec<Answered>, entry: Answered)
-    requires { vec_len told.old + 1 ≤ vec_capacity told.old }
-    ensures { told.new.items ≡ told.old.items ++ entry ∷ [] }
-{
-    let Answered {
-        store_count,
-        index_count,
-        kept,
-        outcome,
-    } = entry;
-    let _ = told.push(Answered {
-        store_count,
-        index_count,
-        kept,
-        outcome,
-    });
 }

@@ -1,7 +1,7 @@
 use Rattle.std.proofs.Common.{◌≡◌, ◌≤◌}
 use Rattle.edge_base.specs.Edge.{Took}
 use Rattle.http_wire.specs.declared.body.Body.TheVariants.{Done}
-use Rattle.blob_http.specs.Serving.{Serves, Open, fresh_flow, HasNone}
+use Rattle.blob_http.specs.Serving.{Serves, Notes, Open, fresh_flow, HasNone}
 use Rattle.blob_http.proofs.serving.serve_connection.Given as goal
 
 abbrev pub invariant-requests : goal.invariant-requests
@@ -9,7 +9,8 @@ invariant-requests g l =
     (goal.iterator-requests g).can_next l.iterator' × (goal.iterator-requests g).is_finite l.iterator'
     × g.H.Home.belongs l.home l.pass
     × (l.wire.body ≡ Done)
-    × Serves (g.H.Home.tells l.home) (g.H.Home.sight l.fn.pass) (g.H.Home.sight l.pass) l.fn.told.items l.told.items
+    × Serves (g.H.Home.tells l.home) (g.H.Home.sight l.fn.pass) (g.H.Home.sight l.pass)
+    (Notes g.L.AnswerLog.tells l.fn.log l.log)
     (Open (g.S.Source.left l.fn.source) (g.S.Source.left l.source) fresh_flow l.wire.flow)
     (Took (g.K.Sink.written l.fn.sink) (g.K.Sink.written l.sink)) HasNone
     × (g.S.Source.faults l.fn.source ≤ g.S.Source.faults l.source)
