@@ -50,7 +50,7 @@ fn replies<R: Wait>(rt: &R, alloc: Global, stream: &str, most: usize) -> Result<
     };
     let mut source = PieceSource::of(alloc, spelled(alloc, stream)?, most);
     let mut sink = MemSink::empty(alloc, CallList::empty(alloc));
-    let mut told: Vec<Answered> = Vec::new(alloc);
+    let mut log: Vec<Answered> = Vec::new(alloc);
     match serve_connection(
         rt,
         alloc,
@@ -58,7 +58,7 @@ fn replies<R: Wait>(rt: &R, alloc: Global, stream: &str, most: usize) -> Result<
         &mut pass,
         &mut source,
         &mut sink,
-        &mut told,
+        &mut log,
     ) {
         Ended::Closed => Ok(sink),
         _ => Err(NoMemory),
