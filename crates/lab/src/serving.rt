@@ -31,7 +31,7 @@ pub(crate) fn replies<R: Wait>(
     let most = if piece == 0 { usize::MAX } else { piece };
     let mut source = PieceSource::of(alloc, requests, most);
     let mut sink = MemSink::empty(alloc, CallList::empty(alloc));
-    let mut told: Vec<Answered> = Vec::new(alloc);
+    let mut log: Vec<Answered> = Vec::new(alloc);
     serve_connection(
         rt,
         alloc,
@@ -39,7 +39,7 @@ pub(crate) fn replies<R: Wait>(
         &mut pass,
         &mut source,
         &mut sink,
-        &mut told,
+        &mut log,
     );
     Ok(sink)
 }
