@@ -8,7 +8,7 @@ ghost use Rattle.blob_server.specs.Stands.{Attends, Gives, counts_of, stand_of};
 use crate::counting::{Connections, Hand, Left};
 use crate::desk_list::Desk;
 use crate::sharing::Attend;
-use blob_http::serve_connection;
+use blob_http::{NoLog, serve_connection};
 use edge_listen::Listener;
 use home_core::Home;
 use index_worker::{Gate, index_worker};
@@ -108,8 +108,7 @@ fn serve_next<H: Home, L: Listener, R: Wait>(
     let Ok((mut source, mut sink)) = listener.accept(rt) else {
         return false;
     };
-    let mut told = Vec::new(alloc);
-    serve_connection(rt, alloc, home, pass, &mut source, &mut sink, &mut told);
+    serve_connection(rt, alloc, home, pass, &mut source, &mut sink, &mut NoLog);
     true
 }
 
