@@ -8,6 +8,7 @@ use crate::told::Told;
 use atomic_table::{Seat, Table};
 use std::alloc::Global;
 use std::snapshot::Snapshot;
+use std::sync::Mutex;
 
 mod calls;
 mod taking;
@@ -17,6 +18,9 @@ mod taking;
 #[derive(Drop)]
 pub struct Turn<T: Told> {
     table: Table<Option<T>, View<T::Entry, T::About>, Snapshot<T>, Line, Global>,
+    // Where threads sleep until the one before them has had its turn. No contract rests on it: the tickets order the
+    // turns, and a ticket that is drawn behind the door comes up at once.
+    door: Mutex<()>,
     ghost sized: { (table.shared.table_id.words ≡ 2) × (table.shared.table_id.slots ≡ 1) },
 }
 

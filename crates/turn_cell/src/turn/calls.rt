@@ -12,7 +12,7 @@ use blobref::NoMemory;
 use std::alloc::{AllocFailed, Global};
 use std::marker::Brand;
 use std::snapshot::Snapshot;
-use std::sync::Wait;
+use std::sync::{Mutex, Wait};
 
 impl<T: Told> Turn<T> {
     /// Puts a value behind a lock, and gives the first seat. It has seen what the value brings with it, under turn 0,
@@ -37,7 +37,10 @@ impl<T: Told> Turn<T> {
             return Err((value.unwrap(), NoMemory));
         }
         match Table::new(alloc, &[0, 0], slots, &about) {
-            Ok((table, seat)) => Ok((Turn { table }, TurnSeat { seat })),
+            Ok((table, seat)) => {
+                let door = Mutex::new(());
+                Ok((Turn { table, door }, TurnSeat { seat }))
+            }
             Err(refused) => Err((taken_back(refused), NoMemory)),
         }
     }
@@ -85,8 +88,8 @@ impl<T: Told> Turn<T> {
     }
 
     /// Does a job on the value in one turn, as soon as those that were drawn before have been passed on. The seat has
-    /// then seen the history before the turn, and the entry that the turn added. Once 2^63 turns have been drawn no
-    /// further one is, and the call doesn't return.
+    /// then seen the history before the turn, and the entry that the turn added. A thread that waits for its turn sleeps
+    /// after a few looks. Once 2^63 turns have been drawn no further one is, and the call doesn't return.
     pub fn run<J: Job<T>, R: Wait>(
         &self,
         rt: &R,
@@ -102,6 +105,7 @@ impl<T: Told> Turn<T> {
             × Ran (λ before turn entry. J.says job.old c before turn result job.new entry)
             (seen seat.old) (turns seat.old) (seen seat.new) (turns seat.new) }
     {
+        let _door = self.door.lock(rt);
         let (mut value, ticket) = self.take_up(rt, &mut seat.seat);
         let answer = job.go(ticket + 1, &mut value);
         self.pass_on::<J, Brand>(&mut seat.seat, value, job, &answer);
