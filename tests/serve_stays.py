@@ -20,8 +20,6 @@ from writers import Locked
 
 # When a connection is ended that has to be ended after a minute.
 LEAST_IDLE, MOST_IDLE = IDLE - 5, IDLE + 15
-# The system takes a little of a reply that nobody reads, time and again.
-MOST_UNREAD = 5 * IDLE
 GREATEST = bytes(LARGEST_BLOB)
 
 
@@ -117,17 +115,17 @@ def talks_on(program):
 # Clients that stay for a minute, and locks that do
 
 def minutes(program):
-    """A connection on which nothing comes for a minute is ended, and one on which nothing is read within some minutes."""
+    """A connection on which nothing comes, or nothing is read, for a minute is ended."""
     checks = (silent_after_requests, slow_to_send, unread, slow_to_read, a_locked_folder, a_put_beside, a_server_beside)
     checks = [lambda check=check: check(program) for check in checks]
     return checks + [lambda what=what: silent(program, what) for what in FRONTS]
 
 
-def ends_idle(what, server, start, most=MOST_IDLE):
+def ends_idle(what, server, start):
     """The server, whose only connection this was, ends since the connection is ended; about a minute after."""
-    server.ends(what, seconds=2 * most)
+    server.ends(what, seconds=2 * MOST_IDLE)
     seconds = time.monotonic() - start
-    check(f"{what}: it was ended after {seconds:.1f} seconds", LEAST_IDLE <= seconds <= most)
+    check(f"{what}: it was ended after {seconds:.1f} seconds", LEAST_IDLE <= seconds <= MOST_IDLE)
 
 
 def silent(program, what):
@@ -170,7 +168,7 @@ def unread(program):
     with Server(program, store_of(program, GREATEST).path, "--connections=1") as server:
         start = time.monotonic()
         with held_by(server, get(blob_target(ref_of(GREATEST))) * 4) as wire:
-            ends_idle(what, server, start, MOST_UNREAD)
+            ends_idle(what, server, start)
             got = []
             with contextlib.suppress(ConnectionResetError):
                 while piece := wire.recv(1_000_000):

@@ -14,7 +14,10 @@ pub struct ReadSource<R> {
 }
 
 impl<R> ReadSource<R> {
-    pub fn new(reader: R) -> ReadSource<R> {
+    /// A source that hasn't failed so far.
+    pub fn new(reader: R) -> ReadSource<R>
+        ensures { result.faults ≡ 0 }
+    {
         ReadSource { reader, faults: 0 }
     }
 }
@@ -41,7 +44,10 @@ pub struct WriteSink<W> {
 }
 
 impl<W> WriteSink<W> {
-    pub fn new(writer: W) -> WriteSink<W> {
+    /// A sink that hasn't failed so far.
+    pub fn new(writer: W) -> WriteSink<W>
+        ensures { result.faults ≡ 0 }
+    {
         WriteSink { writer, faults: 0 }
     }
 }

@@ -6,7 +6,7 @@ ghost use Rattle.edge_listen.specs.Listening.{Accepts};
 use crate::edges::{ReadSource, WriteSink, counted};
 use edge_base::Failed;
 use edge_listen::Listener;
-use std::io::{self, ErrorKind, Read};
+use std::io::{self, ErrorKind, Read, Write};
 use std::net::{Shutdown, TcpListener, TcpStream};
 use std::sync::Wait;
 use std::time::Duration;
@@ -15,7 +15,7 @@ use std::time::Duration;
 pub type TcpIn = ReadSource<Hearing>;
 
 /// What it is told.
-pub type TcpOut = WriteSink<TcpStream>;
+pub type TcpOut = WriteSink<Telling>;
 
 /// A socket that is read. Where it is dropped its other end is told that nothing more comes, and what that one still
 /// says is read, for a second at most: a socket that is closed over bytes that nobody read takes the last reply from
@@ -37,8 +37,35 @@ impl Drop for Hearing {
     }
 }
 
+/// A socket that is written to. A write fails once there was no room for any of it in 60 seconds. It may take less than
+/// it is given, as whoever reads slowly makes room for.
+#[derive(Drop)]
+pub struct Telling {
+    stream: TcpStream,
+}
+
+impl Write for Telling {
+    fn write(&mut self, buf: &[u8]) -> io::Result<usize> {
+        for _ in 0..PATIENCE {
+            match self.stream.write(buf) {
+                Err(error) if error.kind() == ErrorKind::WouldBlock => {}
+                done => return done,
+            }
+        }
+        Err(io::Error::from(ErrorKind::TimedOut))
+    }
+
+    fn flush(&mut self) -> io::Result<()> {
+        self.stream.flush()
+    }
+}
+
 // After how many seconds a read fails for which nothing came, and a write for which there was no room.
 const PATIENCE: u64 = 60;
+
+// For how many seconds the system waits for room at a time. A write that it took a part of in that time is no failure,
+// and begins anew with the rest, so the less this is the sooner one ends who reads nothing.
+const ROOM_PAUSE: u64 = 1;
 
 // How many milliseconds an end is waited for at a time, how often, and how many reads are made before it.
 const LINGER_PAUSE: u64 = 50;
@@ -77,9 +104,10 @@ impl<'a> TcpListenerOn<'a> {
         let stream = accept(self.listener)?;
         stream.set_nodelay(true)?;
         stream.set_read_timeout(Some(Duration::from_secs(PATIENCE)))?;
-        stream.set_write_timeout(Some(Duration::from_secs(PATIENCE)))?;
+        stream.set_write_timeout(Some(Duration::from_secs(ROOM_PAUSE)))?;
         let told = stream.try_clone()?;
-        Ok((ReadSource::new(Hearing { stream }), WriteSink::new(told)))
+        let telling = Telling { stream: told };
+        Ok((ReadSource::new(Hearing { stream }), WriteSink::new(telling)))
     }
 }
 
