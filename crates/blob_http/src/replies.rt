@@ -1,5 +1,5 @@
 //! The texts of replies.
-ghost use Rattle.std.specs.Prelude.{◌≡◌, ◌++◌, [], IsSome, IfOk, OnOk, option_copied};
+ghost use Rattle.std.specs.Prelude.{◌≡◌, ◌++◌, [], IsSome, IfOk, IfSome, OnOk, option_copied};
 ghost use Rattle.http.specs.StatusCode.{IsStatusCode, reason_phrase};
 ghost use Rattle.edge_base.specs.Edge.{Took, TookFront, HasCause};
 ghost use Rattle.answer_text.specs.Search.{search_text};
@@ -235,16 +235,42 @@ fn last_ref(shown: &[(Ref, u64)]) -> Option<&Ref>
     Some(&entry.0)
 }
 
-/// Writes the reply.
-pub(crate) fn write_made<K: Sink>(sink: &mut K, made: &Made) -> Result<(), Failed>
+// At most so many bytes of a body are copied behind their head, so that the reply is written by one call of the system.
+const MOST_COPIED: usize = 16_384;
+
+/// Writes the reply, a short one by one call of the sink.
+pub(crate) fn write_made<K: Sink>(alloc: Global, sink: &mut K, made: &Made) -> Result<(), Failed>
     ensures whole { OnOk result (Took (K.written sink.old) (K.written sink.new) (text_of made.now)) }
     ensures front { TookFront (K.written sink.old) (K.written sink.new) (text_of made.now) }
     ensures cause { HasCause (K.faults sink.old) (K.faults sink.new) result }
 {
     match made {
-        Made::Told { head, body, .. } => write_both(sink, head.as_slice(), body.as_slice()),
+        Made::Told { head, body, .. } => write_told(alloc, sink, head.as_slice(), body.as_slice()),
         Made::Memory => write_all(sink, memory_reply()),
     }
+}
+
+fn write_told<K: Sink>(alloc: Global, sink: &mut K, head: &[u8], body: &[u8]) -> Result<(), Failed>
+    ensures whole { OnOk result (Took (K.written sink.old) (K.written sink.new) (head.now ++ body.now)) }
+    ensures front { TookFront (K.written sink.old) (K.written sink.new) (head.now ++ body.now) }
+    ensures cause { HasCause (K.faults sink.old) (K.faults sink.new) result }
+{
+    match joined(alloc, head, body) {
+        Some(text) => write_all(sink, text.as_slice()),
+        None => write_both(sink, head, body),
+    }
+}
+
+// The head and a short body as one text, where there is memory for it.
+fn joined(alloc: Global, head: &[u8], body: &[u8]) -> Option<Octets>
+    ensures { IfSome result (λ text. text ≡ head.now ++ body.now) }
+{
+    if body.len() > MOST_COPIED {
+        return None;
+    }
+    let mut text = Vec::from_slice(alloc, head).ok()?;
+    text.extend_from_slice(body).ok()?;
+    Some(Octets::from_vec(text))
 }
 
 fn write_both<K: Sink>(sink: &mut K, head: &[u8], body: &[u8]) -> Result<(), Failed>

@@ -101,7 +101,7 @@ fn serve_one<H: Home, S: Source, K: Sink, L: AnswerLog, R: Wait>(
         Err(ended) => return Some(ended),
     };
     log.note(replied.entry);
-    let Ok(()) = write_made(sink, &replied.made) else {
+    let Ok(()) = write_made(alloc, sink, &replied.made) else {
         return Some(Ended::WriteFault);
     };
     if replied.closes {
