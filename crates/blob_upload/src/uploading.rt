@@ -1,5 +1,5 @@
 //! A whole upload.
-ghost use Rattle.std.specs.Prelude.{◌≡◌, ◌+◌, ◌≤◌, true, length, IfOk, IfSome, OnOk, None};
+ghost use Rattle.std.specs.Prelude.{◌≡◌, ◌+◌, ◌<◌, ◌≤◌, true, length, IfOk, IfSome, OnOk, None};
 ghost use Rattle.edge_base.specs.Edge.{Rose};
 ghost use Rattle.multipart_read.specs.Parameters.{is_boundary};
 ghost use Rattle.multipart_read.specs.Reader.{fresh};
@@ -14,7 +14,7 @@ use answer_text::Refusal;
 use blobref::Listing;
 use edge_base::Source;
 use home_core::Home;
-use http_wire::{Wire, WireEnd};
+use http_wire::{Body, Wire, WireEnd};
 use multipart_read::Parts;
 use std::alloc::{AllocError, Global};
 use std::sync::Wait;
@@ -43,11 +43,16 @@ fn begin(alloc: Global, boundary: &[u8]) -> Option<Reading>
     })
 }
 
-// Room for a piece of a body.
-fn room(alloc: Global) -> Result<Vec<u8>, AllocError>
-    ensures { IfOk result (λ room. length room.items ≡ 65536) }
+// Room for a piece of a body of which so much is to come: for all of a short one.
+fn room(alloc: Global, rest: Body) -> Result<Vec<u8>, AllocError>
+    ensures some { IfOk result (λ room. 0 < length room.items) }
+    ensures most { IfOk result (λ room. length room.items ≤ 65536) }
 {
-    Vec::from_elem(alloc, 0, 65_536)
+    let size = match rest {
+        Body::Exactly(left) => left.max(1).min(65_536) as usize,
+        _ => 65_536,
+    };
+    Vec::from_elem(alloc, 0, size)
 }
 
 // Takes a piece, as far as the limit allows.
@@ -133,7 +138,7 @@ pub fn take_parts<H: Home, S: Source, R: Wait>(
     let Some(mut reading) = begin(alloc, boundary) else {
         return Came::Memory;
     };
-    let Ok(mut space) = room(alloc) else {
+    let Ok(mut space) = room(alloc, wire.rest()) else {
         return Came::Memory;
     };
     let space = space.as_mut_slice();

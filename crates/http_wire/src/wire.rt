@@ -67,6 +67,13 @@ impl Wire {
         &self.head.as_slice()[p.start..p.end]
     }
 
+    /// What is still to come of the present body.
+    pub fn rest(&self) -> Body
+        ensures { result ≡ self.now.body }
+    {
+        self.body
+    }
+
     /// Takes the next bytes of the present body into the front of the buffer, and says how many: none for a buffer that
     /// isn't empty is the body's end, as it is for a request without a body. Chunk lines and trailers are dropped.
     ///

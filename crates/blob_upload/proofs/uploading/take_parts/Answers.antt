@@ -22,7 +22,8 @@ pieces-init g c = record {
   head = refl;
   begun = refl;
   later = omega arith;
-  room = ap length c.as_mut_slice-space.ensures.value ∙ c.in-Ok.ensures;
+  some = let some = c.in-Ok.ensures.some in let same = ap length c.as_mut_slice-space.ensures.value in omega (arith, some, same);
+  room = let most = c.in-Ok.ensures.most in let same = ap length c.as_mut_slice-space.ensures.value in omega (arith, most, same);
 }
 
 pub returns-in-Err-clause-uploads : goal.returns-in-Err-clause-uploads
@@ -40,13 +41,13 @@ pub returns-then-n-eq0-clause-uploads : goal.returns-then-n-eq0-clause-uploads
 returns-then-n-eq0-clause-uploads g c =
     let left = g.S.Source.left c.pieces.source in
     let left' = g.S.Source.left c.body.new.source in
-    let room = c.pieces.invariant.room in
+    let some = c.pieces.invariant.some in
     let P : ℕ → Type 0 = λ n.
     Moves left left' c.pieces.wire.flow c.body.new.self.flow c.pieces.wire.body c.body.new.self.body
     (take n c.body.new.buf) in
     uploading_ends _ _ _ _ _ _ _ _ _ _ _ _ c.pieces.invariant.so_far c.finish.result
     (subst P c.if-n-eq0.true c.in-Ok-body.ensures.moved)
-    (c.in-Ok-body.ensures.end c.if-n-eq0.true (omega (arith, room))) c.finish.ensures
+    (c.in-Ok-body.ensures.end c.if-n-eq0.true (omega (arith, some))) c.finish.ensures
 
 pub pieces-preserved : goal.pieces-preserved
 pieces-preserved g c =
@@ -61,7 +62,8 @@ pieces-preserved g c =
       head = c.body.ensures.kept.0 ∙ c.pieces.invariant.head;
       begun = c.body.ensures.kept.1 ∙ c.pieces.invariant.begun;
       later = omega (arith, before, now);
-      room = let room = c.pieces.invariant.room in c.body.auto.buf ∙ room;
+      some = let some = c.pieces.invariant.some in omega (arith, c.body.auto.buf, some);
+      room = let room = c.pieces.invariant.room in omega (arith, c.body.auto.buf, room);
     }
 
 pub returns-in-Err-take_piece-clause-uploads : goal.returns-in-Err-take_piece-clause-uploads

@@ -1,4 +1,4 @@
-use Rattle.std.proofs.Common.{◌≡◌, ◌≤◌, ◌-◌, length}
+use Rattle.std.proofs.Common.{◌≡◌, ◌<◌, ◌≤◌, ◌-◌, length}
 use Rattle.blob_upload.specs.Faults.{most_bytes}
 use Rattle.blob_upload.proofs.Ending.{Uploading}
 use Rattle.blob_upload.proofs.uploading.take_parts.Given as goal
@@ -12,7 +12,8 @@ invariant-pieces g l = record {
   head : l.wire.head ≡ l.fn.wire.head;
   begun : l.wire.begun ≡ l.fn.wire.begun;
   later : g.S.Source.faults l.fn.source ≤ g.S.Source.faults l.source;
-  room : length l.space ≡ 65536;
+  some : 0 < length l.space;
+  room : length l.space ≤ 65536;
 }
 
 abbrev pub decreases-pieces : goal.decreases-pieces
