@@ -1,9 +1,9 @@
 //! The keyring in its file.
 use crate::ending::Ending;
-use crate::pack_file::open_regular;
 use claim_verify::{Keyring, KeyringFault};
 use edge_base::{ReadAllError, read_all};
 use edge_os::ReadSource;
+use folder_disk::open_regular;
 use perkeep_top::Status;
 use std::fs::File;
 use std::io::ErrorKind;

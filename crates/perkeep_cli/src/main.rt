@@ -2,23 +2,19 @@
 #![tactic(auto)]
 
 mod ending;
-mod folder;
 mod hand;
 mod keys;
-mod listing;
-mod locking;
-mod pack_file;
 mod serving;
 mod streams;
 
 use crate::ending::Ending;
-use crate::folder::{Access, FolderDisk};
 use crate::hand::{SystemClock, SystemDice};
 use crate::keys::read_keyring;
 use crate::serving::serve;
 use crate::streams::Closed;
 use blobref::{NoMemory, Text};
 use edge_os::{ReadSource, WriteSink};
+use folder_disk::{Access, FolderDisk};
 use perkeep_top::{Status, run};
 use perkeep_words::{Line, places, serve_words};
 use std::alloc::Global;

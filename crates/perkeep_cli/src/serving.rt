@@ -2,11 +2,11 @@
 ghost use Rattle.std.specs.Prelude.{◌≤◌, All, IfOk, vec_len};
 
 use crate::ending::Ending;
-use crate::folder::{Access, FolderDisk};
 use crate::keys::read_keyring;
 use blob_server::{Served, desks, serve_all};
 use blobref::NoMemory;
 use edge_os::TcpListenerOn;
+use folder_disk::{Access, FolderDisk};
 use home_core::Home;
 use index_worker::{Gate, GatePlace};
 use perkeep_top::{LIMITS, Status};

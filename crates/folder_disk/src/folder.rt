@@ -15,7 +15,7 @@ use std::io::{self, ErrorKind};
 
 /// What a command does with a store.
 #[derive(Clone, Copy, PartialEq)]
-pub(crate) enum Access {
+pub enum Access {
     /// It reads. Nothing is made or locked.
     Read,
     /// It also writes, and is the only one that does. The folder is made where it isn't there.
@@ -27,7 +27,7 @@ pub(crate) enum Access {
 /// that isn't there is a disk without packs. Where it is dropped each pack is cut back to the bytes that it had before
 /// something was added that wasn't synced, as well as may be, while the folder is still locked: so nobody takes for
 /// durable what only seems to stand.
-pub(crate) struct FolderDisk<'a> {
+pub struct FolderDisk<'a> {
     rt: &'a HostRuntime,
     path: &'a str,
     access: Access,
@@ -62,7 +62,10 @@ impl<'a> Drop for FolderDisk<'a> {
 }
 
 impl<'a> FolderDisk<'a> {
-    pub(crate) fn new(rt: &'a HostRuntime, path: &'a str, access: Access) -> FolderDisk<'a> {
+    /// The packs of the folder under a path. Nothing is looked at before the first call of the disk.
+    pub fn new(rt: &'a HostRuntime, path: &'a str, access: Access) -> FolderDisk<'a>
+        ensures { result.faults ≡ 0 }
+    {
         FolderDisk {
             rt,
             path,
@@ -223,7 +226,7 @@ impl<'a> FolderDisk<'a> {
 
 impl<'a> Disk for FolderDisk<'a> {
     ghost use Rattle.std.specs.Prelude.{None};
-    ghost use Rattle.perkeep_cli.specs.Silent.{tells_nothing};
+    ghost use Rattle.folder_disk.specs.Silent.{tells_nothing};
 
     ghost packs = { λ disk. None };
 

@@ -12,7 +12,7 @@ use std::os::unix::fs::OpenOptionsExt;
 const OWNER_ONLY: u32 = 0o600;
 
 /// Opens a regular file. Nothing else is opened, so that nobody waits for the other end of a pipe.
-pub(crate) fn open_regular(rt: &HostRuntime, how: &OpenOptions, path: &str) -> io::Result<File> {
+pub fn open_regular(rt: &HostRuntime, how: &OpenOptions, path: &str) -> io::Result<File> {
     if uninterrupted(|| fs::metadata(rt, path))?.is_file() {
         how.open(rt, path)
     } else {

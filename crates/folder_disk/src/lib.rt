@@ -1,0 +1,10 @@
+//! The packs of a folder as a disk (`docs/formats/packs.md`), on the system's files. What the system does is trusted.
+#![tactic(auto)]
+
+mod folder;
+mod listing;
+mod locking;
+mod pack_file;
+
+pub use folder::{Access, FolderDisk};
+pub use pack_file::open_regular;
