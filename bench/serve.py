@@ -1,6 +1,6 @@
 """Times `serve` beside programs that do the least of it, and prints how they compare, as tables.
 
-    serve.py PROGRAM HTTP_LOAD APPEND_SYNC FOLDER
+    serve.py PROGRAM HTTP_LOAD APPEND_SYNC PLAIN_PUT FOLDER
 
 Processor time is that of the server's process, all of its threads, while the requests were served; that of nginx is of
 all its processes. Each time is the best of three, taken in turn with what it is compared with. Each upload goes to a
@@ -25,7 +25,7 @@ import harness
 from connections import UPLOAD
 from http_inputs import blob_target, get, part, post
 from reference import LARGEST_BLOB, pack_name, ref_of
-from serving import HOST, PORTS, Server, is_listened_to
+from serving import HOST, PORTS, Server, is_listened_to, stored
 
 BLOBS = int(os.environ.get("BENCH_BLOBS") or 10_000)
 UPLOADS, LARGE_BLOBS = 1_000, 16
@@ -115,6 +115,29 @@ class Nginx:
         self.process.wait()
 
 
+class PlainPut:
+    """A server that does the least that an upload costs: it reads a request of this length, appends and syncs a record,
+    and answers."""
+
+    def __init__(self, bench, request, record, body):
+        self.port, self.file = PORTS.free(), bench.folder / "plain"
+        words = [bench.plain_put, str(self.port), str(self.file), str(len(request)), str(len(record)), str(len(body))]
+        self.process = subprocess.Popen(words, stdin=subprocess.DEVNULL)
+        while not is_listened_to(self.port) and self.process.poll() is None:
+            time.sleep(0.01)
+
+    def processes(self):
+        return [self.process.pid]
+
+    def __enter__(self):
+        return self
+
+    def __exit__(self, *_):
+        self.process.kill()
+        self.process.wait()
+        self.file.unlink()
+
+
 class Served(Server):
     """The program over a store of its own, of some blobs, so many in a pack. (The peak of memory has the opening in it,
     which reads each pack whole.)"""
@@ -138,9 +161,10 @@ class Served(Server):
 # Measuring
 
 class Bench:
-    def __init__(self, program, http_load, append_sync, folder):
+    def __init__(self, program, http_load, append_sync, plain_put, folder):
         self.program = harness.Program(program, folder)
-        self.http_load, self.append_sync, self.folder = http_load, append_sync, pathlib.Path(folder)
+        self.http_load, self.append_sync, self.plain_put = http_load, append_sync, plain_put
+        self.folder = pathlib.Path(folder)
 
     def load(self, server, requests, connections=1, times=1, expected=None):
         """The seconds that a server takes to answer requests, and so many bytes where these are known."""
@@ -222,18 +246,26 @@ def small_gets(bench):
 
 
 def small_uploads(bench):
-    """Blobs a second, and those of a loop that appends and syncs; also how much of that one processor was busy."""
+    """Blobs a second, and those of a loop that appends and syncs, and of a server that does only that for each request;
+    also how much of that one processor was busy."""
     blobs = small_blobs(UPLOADS)
     size = len(record(blobs[0]))
-    heading("uploads of small blobs", "a second", "of append, sync", "processor share")
+    heading("uploads of small blobs", "a second", "of append, sync", "of a plain server", "processor share")
     whole, single = [upload(blobs)], [upload([blob]) for blob in blobs]
     jobs = {"in one request": (whole, 1), "one by one": (single, 1), "one by one, 8 connections": (single, 8)}
     for what, (requests, connections) in jobs.items():
-        own, its = best(
-            lambda: bench.fresh(requests, connections)[0], lambda: Seconds(0, bench.append(UPLOADS, size))
+
+        def plain():
+            with PlainPut(bench, requests[0], record(blobs[0]), stored(blobs[0]).body) as server:
+                return bench.load(server, requests, connections)
+
+        least = [plain] if requests is single else []
+        own, its, *others = best(
+            lambda: bench.fresh(requests, connections)[0], lambda: Seconds(0, bench.append(UPLOADS, size)), *least
         )
+        beside = ratio(others[0].wall, own.wall) if others else ""
         pace = f"{UPLOADS / own.wall:,.0f}"
-        row(f"{UPLOADS:,} {what}", pace, ratio(its.wall, own.wall), ratio(own.processor, own.wall))
+        row(f"{UPLOADS:,} {what}", pace, ratio(its.wall, own.wall), beside, ratio(own.processor, own.wall))
 
 
 def large(bench):
@@ -286,8 +318,8 @@ def many_connections(bench):
             row(f"{count:,} {what} over {connections} connections", paces[0], to_one[0], paces[1], to_one[1])
 
 
-def main(program, http_load, append_sync, folder):
-    bench = Bench(program, http_load, append_sync, folder)
+def main(program, http_load, append_sync, plain_put, folder):
+    bench = Bench(program, http_load, append_sync, plain_put, folder)
     print("speeds of `serve`, those of the other programs being 1")
     for table in (small_gets, small_uploads, large, many_connections):
         table(bench)
