@@ -4,6 +4,8 @@ ghost use Rattle.std.specs.List.{position_or_len};
 ghost use Rattle.multipart_read.specs.Marks.{is_pad, mark_from, mark_behind, first_mark, Lies};
 ghost use Rattle.multipart_read.specs.Marks.{after_dash, after_pad, after_return};
 
+use memchr::memchr;
+
 /// Which mark begins at a place.
 #[derive(Clone, Copy)]
 pub enum Mark {
@@ -103,12 +105,7 @@ fn before_return(bytes: &[u8]) -> usize
     ensures value { result ≡ position_or_len (λ x. x == 13) bytes.now }
     ensures within { result ≤ length bytes.now }
 {
-    for (i, byte) in bytes.iter().enumerate() {
-        if *byte == b'\r' {
-            return i;
-        }
-    }
-    bytes.len()
+    memchr(b'\r', bytes).unwrap_or(bytes.len())
 }
 
 /// The first place at which a mark begins or may begin. The bytes are looked at once, since `start` has one CR.

@@ -1,10 +1,12 @@
 //! Parameters of a header's value, as `; name=value` (`docs/formats/multipart.md`).
 ghost use Rattle.std.specs.Prelude.{◌≡◌, ◌≤◌, ◌+◌, length, None, option_map, option_copied};
 ghost use Rattle.std.specs.List.{prefix_len, list_all};
-ghost use Rattle.httparse.specs.Grammar.{is_token_byte, is_ows, skip_ows};
+ghost use Rattle.httparse.specs.Grammar.{is_token_byte, skip_ows};
 ghost use Rattle.multipart_read.specs.Parameters.{is_like, is_quoted_byte, begins_with, token_at, quoted_at, value_at};
 ghost use Rattle.multipart_read.specs.Parameters.{parameter_at, is_blank, first_of, value_in, value_of};
 ghost use Rattle.multipart_read.specs.Parameters.{is_boundary, is_boundary_byte, boundary_of};
+
+use httparse::{is_header_name_token, is_header_value_token, is_space_or_tab};
 
 /// Whether two texts are the same but for the case of ASCII letters.
 pub fn is_like(a: &[u8], b: &[u8]) -> bool
@@ -13,17 +15,10 @@ pub fn is_like(a: &[u8], b: &[u8]) -> bool
     a.eq_ignore_ascii_case(b)
 }
 
-#[tactic(auto, unfolding(httparse::specs::Grammar::is_token_byte))]
-fn is_token_byte(byte: u8) -> bool
-    ensures { result ≡ is_token_byte byte }
-{
-    byte.is_ascii_alphanumeric() || b"!#$%&'*+-.^_`|~".contains(&byte)
-}
-
 fn is_quoted_byte(byte: u8) -> bool
     ensures { result ≡ is_quoted_byte byte }
 {
-    (byte == b'\t' || (byte >= 32 && byte != 127)) && !(byte == b'"' || byte == b'\\')
+    is_header_value_token(byte) && byte != b'"' && byte != b'\\'
 }
 
 fn token_len(text: &[u8]) -> usize
@@ -31,7 +26,7 @@ fn token_len(text: &[u8]) -> usize
     ensures within { result ≤ length text.now }
 {
     for i in 0..text.len() {
-        if !is_token_byte(text[i]) {
+        if !is_header_name_token(text[i]) {
             return i;
         }
     }
@@ -55,7 +50,7 @@ fn skip_ows(text: &[u8]) -> &[u8]
     ensures { result.now ≡ skip_ows text.now }
 {
     for i in 0..text.len() {
-        if !(text[i] == b' ' || text[i] == b'\t') {
+        if !is_space_or_tab(text[i]) {
             return &text[i..];
         }
     }
@@ -170,7 +165,8 @@ pub fn value_of<'a>(word: &[u8], wanted: &[u8], text: &'a [u8]) -> Option<&'a [u
 fn is_boundary_byte(byte: u8) -> bool
     ensures { result ≡ is_boundary_byte byte }
 {
-    byte.is_ascii_alphanumeric() || b"'()+_,-./:=? ".contains(&byte)
+    byte.is_ascii_alphanumeric()
+        || matches!(byte, b' ' | b'\''..=b')' | b'+'..=b'/' | b':' | b'=' | b'?' | b'_')
 }
 
 fn are_boundary_bytes(text: &[u8]) -> bool
