@@ -13,3 +13,4 @@ pub mod Speaking
 pub mod Targets
 pub mod Unfinished
 pub mod Values
+pub mod Within
