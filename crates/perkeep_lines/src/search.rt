@@ -2,7 +2,7 @@
 ghost use Rattle.std.specs.Prelude.{◌≡◌, ◌≢◌, ◌++◌, [], codes, IfOk};
 ghost use Rattle.std.specs.FinMap.{from_entries};
 ghost use Rattle.answer_text.specs.Search.{search_text};
-ghost use Rattle.claim_model.specs.Facts.{AreDistinct, AreValid};
+ghost use Rattle.claim_model.specs.Facts.{AreValid};
 ghost use Rattle.search_eval.specs.Answer.{answer};
 ghost use Rattle.perkeep_lines.specs.Search.{pack_answer, query_line, search_line};
 
@@ -43,7 +43,6 @@ pub fn search_line<V: Verifier>(
     at: When,
 ) -> Result<Octets, NoMemory>
     requires attr { attr.now ≢ [] }
-    requires distinct { AreDistinct facts }
     requires valid { AreValid facts }
     ensures { IfOk result (λ line. line ≡ search_line (from_entries facts) (V.accepts keys.now) attr.now value.now at) }
 {
@@ -59,7 +58,6 @@ pub fn query_line<V: Verifier>(
     keys: &V,
     query: &Query,
 ) -> Result<Octets, NoMemory>
-    requires distinct { AreDistinct facts }
     requires valid { AreValid facts }
     ensures { IfOk result (λ line. line ≡ query_line (from_entries facts) (V.accepts keys.now) query.now) }
 {
