@@ -9,6 +9,9 @@ use http::StatusCode;
 use itoa::Buffer;
 use std::alloc::Global;
 
+// Room for most heads.
+const USUAL_HEAD: usize = 160;
+
 /// The head of a reply, up to its empty line: of this code, with the kind and the number of bytes of its body, the line
 /// that the connection closes, and the methods that are allowed where that text isn't empty. The code is one that has a
 /// phrase. It fails for want of memory alone.
@@ -25,7 +28,7 @@ pub fn reply_head(
     requires phrase { IsSome (reason_phrase code) }
     ensures { IfOk result (λ octets. octets ≡ reply_head_text code kind.now len closes allow.now) }
 {
-    let mut text = Vec::new(alloc);
+    let mut text = Vec::with_capacity(alloc, USUAL_HEAD)?;
     push_status(&mut text, code)?;
     push_header(&mut text, "Content-Type: ", kind)?;
     push_header(&mut text, "Content-Length: ", Buffer::new().format(len))?;

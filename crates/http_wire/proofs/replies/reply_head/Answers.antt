@@ -10,5 +10,5 @@ joined n s t u v w x a b c d e f en es et eu ev ew ex =
 pub returns : goal.returns
 unfolding reply_head_text
 returns c =
-    c.from_vec.ensures ∙ joined _ _ _ _ _ _ _ _ _ _ _ _ _ c.new-text.ensures.items c.in_ok-push_status.ensures c.in_ok-push_header.ensures
+    c.from_vec.ensures ∙ joined _ _ _ _ _ _ _ _ _ _ _ _ _ c.in_ok-text.ensures.items c.in_ok-push_status.ensures c.in_ok-push_header.ensures
     (c.in_ok-push_header-2.ensures ∙ ap (λ (d : List ℕ). c.push_header.new.text.items ++ header_line (codes "Content-Length: ") d) c.format.ensures.text) c.in_ok-push_allow.ensures c.in_ok-push_close.ensures c.in_ok-extend_from_slice.ensures.items
