@@ -12,6 +12,7 @@ use pack_disk::Disk;
 use std::collections::BTreeSet;
 use std::fs::File;
 use std::io::{self, ErrorKind};
+use std::sync::atomic::{AtomicU64, Ordering};
 
 /// What a command does with a store.
 #[derive(Clone, Copy, PartialEq)]
@@ -40,6 +41,8 @@ pub struct FolderDisk<'a> {
     named: bool,
     reading: Reading,
     growing: Growing,
+    // Where appends are counted, if anywhere.
+    appends: Option<&'a AtomicU64>,
     faults: u64,
 }
 
@@ -56,6 +59,7 @@ impl<'a> Drop for FolderDisk<'a> {
             named: _,
             reading: _,
             growing: _,
+            appends: _,
             faults: _,
         } = self;
     }
@@ -76,8 +80,18 @@ impl<'a> FolderDisk<'a> {
             named: false,
             reading: Reading::none(rt.alloc()),
             growing: Growing::none(rt.alloc()),
+            appends: None,
             faults: 0,
         }
+    }
+
+    /// The same disk, which counts its appends there too, also those that fail: so others see that blobs come.
+    pub fn counting(self, appends: &'a AtomicU64) -> FolderDisk<'a>
+        ensures { result.faults ≡ self.entry.faults }
+    {
+        let mut disk = self;
+        disk.appends = Some(appends);
+        disk
     }
 
     // The path of something in the folder.
@@ -188,6 +202,9 @@ impl<'a> FolderDisk<'a> {
         ensures faults { self.new.faults ≡ self.old.faults }
     {
         self.begin()?;
+        if let Some(appends) = self.appends {
+            appends.fetch_add(1, Ordering::Relaxed);
+        }
         if self.growing.file(pack).is_none() {
             let path = self.pack_path(pack)?;
             self.growing.open(self.rt, pack, &path)?;

@@ -14,6 +14,7 @@ use perkeep_words::ServePlan;
 use server_home::{HomeFault, home_over};
 use std::net::{Ipv4Addr, SocketAddr, TcpListener};
 use std::sync::Wait;
+use std::sync::atomic::{AtomicU64, Ordering};
 use std::thread::{self, Threads};
 use std::time::Duration;
 
@@ -21,6 +22,9 @@ use std::time::Duration;
 const IDLE_PAUSE: u64 = 10;
 
 const FAULT_PAUSE: u64 = 100;
+
+// How many pauses an indexer makes at most while blobs go on to come: a quarter of a second.
+const MOST_PAUSES: u32 = 25;
 
 /// Serves the store of a folder on the loopback address (`docs/commands.md`), until as many connections were served as
 /// the plan says.
@@ -38,14 +42,19 @@ pub(crate) fn serve<R: Threads + Wait + Sync>(
     let Ok(listener) = TcpListener::bind(rt, address) else {
         return Ending::Served(Served::ListenerFault);
     };
-    let disk = FolderDisk::new(rt, folder, Access::Write);
+    let appends = AtomicU64::new(0);
+    let disk = FolderDisk::new(rt, folder, Access::Write).counting(&appends);
     let count = plan.workers.saturating_add(plan.indexers);
     let (home, passes) = match home_over(rt.alloc(), disk, LIMITS, keys, count) {
         Ok(home) => home,
         Err(HomeFault::Disk { .. }) => return Ending::Ran(Status::Disk),
         Err(HomeFault::NoMemory) => return Ending::Ran(Status::NoMemory),
     };
-    serve_home(rt, threads, &home, passes, &listener, plan)
+    let gate = Pauses {
+        rt,
+        appends: &appends,
+    };
+    serve_home(rt, threads, &home, passes, &listener, &gate, plan)
 }
 
 // Serves connections of the listener over a home, with a worker or an indexer for each pass.
@@ -55,6 +64,7 @@ fn serve_home<H: Home + Sync, R: Threads + Wait + Sync>(
     home: &H,
     passes: Vec<H::Pass>,
     listener: &TcpListener,
+    gate: &Pauses<'_>,
     plan: &ServePlan<'_>,
 ) -> Ending
 where
@@ -67,14 +77,13 @@ where
     let Ok(mut desks) = desks(rt.alloc(), passes, listeners) else {
         return Ending::Ran(Status::NoMemory);
     };
-    let gate = Pauses { rt };
     let served = serve_all(
         threads,
         rt.alloc(),
         home,
         &mut desks,
         plan.connections,
-        &gate,
+        gate,
     );
     Ending::Served(served)
 }
@@ -94,18 +103,39 @@ fn listeners<'a>(
     Ok(listeners)
 }
 
-// The gate of the indexers: they pause where there is nothing to do.
+// The gate of the indexers: they pause where there is nothing to do, and give way to uploads.
 #[derive(Drop)]
 struct Pauses<'a> {
     rt: &'a HostRuntime,
+    // How often something was appended to a pack.
+    appends: &'a AtomicU64,
+}
+
+impl<'a> Pauses<'a> {
+    fn pause(&self, milliseconds: u64) {
+        thread::sleep(self.rt, Duration::from_millis(milliseconds));
+    }
+
+    // Pauses once, and then on while blobs come.
+    fn give_way(&self) {
+        let mut before = self.appends.load(Ordering::Relaxed);
+        for _ in 0..MOST_PAUSES {
+            self.pause(IDLE_PAUSE);
+            let now = self.appends.load(Ordering::Relaxed);
+            if now == before {
+                return;
+            }
+            before = now;
+        }
+    }
 }
 
 impl<'a> Gate for Pauses<'a> {
     fn wait_at<R: Wait>(&self, _rt: &R, place: GatePlace) {
         match place {
             GatePlace::Before | GatePlace::After => {}
-            GatePlace::Idle => thread::sleep(self.rt, Duration::from_millis(IDLE_PAUSE)),
-            GatePlace::Fault => thread::sleep(self.rt, Duration::from_millis(FAULT_PAUSE)),
+            GatePlace::Idle => self.give_way(),
+            GatePlace::Fault => self.pause(FAULT_PAUSE),
         }
     }
 }
