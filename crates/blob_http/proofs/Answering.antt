@@ -1,6 +1,6 @@
 -- What a call of the home answered is the answer over what the pass has then seen.
-use Rattle.std.proofs.Common.{◌≡◌, ℕ, ◌+◌, ⊎_elim, List, [], ◌∷◌, ◌++◌, length, take, Bool, true, false, ◌||◌, eqb}
-use Rattle.std.proofs.Common.{Contains, refl, ap, sym, subst, ◌∙◌, arith, Option, Some, None, Result, Ok, Err, IsErr}
+use Rattle.std.proofs.Common.{◌≡◌, ℕ, ◌+◌, ◌≤◌, ⊎_elim, List, [], ◌∷◌, ◌++◌, length, take, Bool, true, false, ◌||◌, eqb}
+use Rattle.std.proofs.Common.{Contains, refl, ap, sym, subst, ◌∙◌, arith, append_assoc, Option, Some, None, Result, Ok, Err, IsErr}
 use Rattle.std.specs.List.{filter_map}
 use Rattle.std.proofs.lemmas.List.{append-nil, take_all, take-take, length-take-le}
 use Rattle.std.proofs.lemmas.List.Elements.{Contains-append_right}
@@ -23,13 +23,14 @@ use Rattle.histories.specs.Stores.{Blob, arrivals, bytes_of}
 use Rattle.histories.specs.Indexes.{Insertion, HasAllBelow, inserts}
 use Rattle.histories.specs.StoreCalls.{IsQuiet, GetSays, GetFails, StatSays, ListSays, page, sized, each_once}
 use Rattle.histories.proofs.Prefixes.{prefix_trans, prefix_length}
+use Rattle.histories.proofs.Growing.{has_rest}
 use Rattle.histories.proofs.Standing.{arrivals_append, arrivals_prefix, has_all_longer}
 use Rattle.home_core.specs.Passes.{Sight, IsSight, StoreCall, StoreTurned, Spends, Settles, Searches, Counts, Caused}
 use Rattle.home_core.specs.Searches.{SearchSays}
 use Rattle.blob_routes.specs.declared.routes.Allowed.{Allowed}
 use Rattle.blob_routes.specs.declared.pages.Page.{Page}
 use Rattle.blob_http.specs.declared.entries.Outcome.{Outcome}
-use Rattle.blob_http.specs.declared.entries.Outcome.TheVariants.{Defined}
+use Rattle.blob_http.specs.declared.entries.Outcome.TheVariants.{Defined, Memory, Disk, Full, Damaged}
 use Rattle.blob_http.specs.declared.questions.Question.{Question}
 use Rattle.blob_http.specs.declared.questions.Question.TheVariants as question
 use Rattle.blob_http.specs.declared.replies.Made.{Made}
@@ -37,9 +38,9 @@ use Rattle.blob_http.specs.declared.replies.Made.TheVariants as made
 use Rattle.blob_http.specs.Replies.{json_reply, blob_reply, refused_reply}
 use Rattle.blob_http.specs.Answers.{IsAnswer, IsBlobReply, IsDefined, reads_blobs, allow_text, outcome_of, IsTold}
 use Rattle.blob_http.specs.Answers.{IsMemory, FaultMade, BlobMade, TextMade, page_answer, cut_page, more_after}
-use Rattle.blob_http.specs.Serving.{HasCauseIn}
-use Rattle.blob_http.specs.Handling.{IsMade, Answers, entry_of}
-use Rattle.blob_http.proofs.Staying.{longer_none}
+use Rattle.blob_http.specs.Serving.{HasCauseIn, LooksAt, Longer}
+use Rattle.blob_http.specs.Handling.{IsMade, Looked, Looks, Answers, entry_of}
+use Rattle.blob_http.proofs.Staying.{longer_none, longer_chain}
 
 -- a turn that put nothing leaves the arrivals
 quiet_stays : (before : List (Stamped StoreEvent)) (n : ℕ) (e : Option StoreEvent) → IsQuiet e
@@ -83,8 +84,13 @@ refused_answers tells closes why allow m v counts is count = record {
   store_low = let p = count.puts in omega arith;
   index_low = let p = count.inserts in omega arith;
   longer = longer_none v;
+  looked = refused_looked m;
 }
   where
+    refused_looked : (m : Made) → Looked (question.Refused why allow) m []
+    refused_looked made.Memory = tt
+    refused_looked (made.Told o head body) = tt
+
     refused_made : (m : Made) → IsTold Defined (refused_reply closes (allow_text allow) why) m
         → (blobs : List Blob) (g : List Insertion)
         → IsMade tells v.index.accepts blobs g closes (question.Refused why allow) m
@@ -113,6 +119,7 @@ memory_answers tells closes q v counts count = record {
   store_low = let p = count.puts in omega arith;
   index_low = let p = count.inserts in omega arith;
   longer = longer_none v;
+  looked = tt;
 }
 
 memory_made : (tells : Bool) (accepts : Accepts) (blobs : List Blob) (g : List Insertion) (closes : Bool)
@@ -125,6 +132,21 @@ memory_cause : (turns : List ℕ) (h : List (Stamped StoreEvent)) (m : Made) →
     → HasCauseIn turns h (outcome_of m)
 memory_cause turns h made.Memory is = tt
 memory_cause turns h (made.Told o head body) is = absurd is
+
+memory_looked : (q : Question) (turns : List ℕ) (m : Made) → IsMemory m → Looked q m turns
+memory_looked q turns made.Memory is = tt
+memory_looked q turns (made.Told o head body) is = absurd is
+
+looks_at : (q : Question) (t : ℕ) (ts : List ℕ) → LooksAt q (t ∷ ts)
+looks_at (question.Refused why allow) t ts = tt
+looks_at (question.Blob r) t ts = omega arith
+looks_at (question.Stat refs) t ts = omega arith
+looks_at (question.Refs p) t ts = omega arith
+looks_at (question.Search query) t ts = omega arith
+
+looked_at : (q : Question) (m : Made) (t : ℕ) (ts : List ℕ) → Looked q m (t ∷ ts)
+looked_at q made.Memory t ts = tt
+looked_at q (made.Told o head body) t ts = looks_at q t ts
 
 module _ (tells closes : Bool) (q : Question) (m : Made) where
   spent_answers : (v w : Sight) (counts : ℕ × ℕ) → IsMemory m → Spends v w → Counts w counts
@@ -151,6 +173,7 @@ module _ (tells closes : Bool) (q : Question) (m : Made) where
           limits = ap (λ s. s.limits) spent.store;
           accepts = ap (λ s. s.accepts) spent.index;
         };
+        looked = memory_looked q [] m is;
       }
 
   module _ (says : List Blob → Option StoreEvent → Type 0)
@@ -192,6 +215,7 @@ module _ (tells closes : Bool) (q : Question) (m : Made) where
             limits = turned.turn.limits;
             accepts = ap (λ s. s.accepts) turned.index;
           };
+          looked = looked_at q m t [];
         }
 
     pub call_answers : (refused : Type 0) (v w : Sight) (counts : ℕ × ℕ) → (refused → IsMemory m)
@@ -348,33 +372,89 @@ module _ (tells closes : Bool) where
 
   -- ---- a search
 
-  pub search_failed : (query : Query) (f : GetFault) (m : Made) (v w : Sight) (before after : ℕ × ℕ)
-      → Settles (Err f) v w → FaultMade closes f m → Counts v before → Counts w after
-      → Answers tells closes (question.Search query) v w (entry_of before.0 after.1 0 m) m
-  search_failed query f m v w before after s is first last =
+  -- a stat of nothing shows what had arrived
+  looks_turned : (v w : Sight) (says : List Blob → Option StoreEvent → Type 0) → StoreTurned says v w → Looks v w
+  looks_turned v w says turned =
+      let ran = turned.turn.ran in
+      let t = ran.ticket + 1 in
+      record {
+        turn = t;
+        drawn = ran.drawn;
+        longer = record {
+          store = prefix_trans v.store.history ran.before w.store.history ran.longer (stamped t ran.entry, sym ran.added);
+          index = same_prefix v.index.history w.index.history (ap (λ s. s.history) turned.index);
+          shown = same_prefix v.index.shown w.index.shown (ap (λ s. s.shown) turned.index);
+          limits = turned.turn.limits;
+          accepts = ap (λ s. s.accepts) turned.index;
+        };
+      }
+
+  pub looks : (found : List (List ℕ × ℕ)) (result : Result (List (List ℕ × ℕ)) NoMemory)
+      (says : List Blob → Option StoreEvent → Type 0) (v w : Sight) → result ≡ Ok found
+      → StoreCall (IsErr result) says v w → Looks v w
+  looks found result says v w is call =
+      ⊎_elim (λ (a : StoreTurned says v w). looks_turned v w says a)
+      (λ (b : IsErr result × Spends v w). not_both result is b.0) call
+    where
+      not_both : (r : Result (List (List ℕ × ℕ)) NoMemory) → r ≡ Ok found → IsErr r → Looks v w
+      not_both (Ok found) is none = absurd (cc none)
+      not_both (Err e) is none = absurd (cc is)
+
+  -- it wasn't shown
+  pub not_looked : (query : Query) (refused : Type 0) (says : List Blob → Option StoreEvent → Type 0) (v w : Sight)
+      (counts : ℕ × ℕ) → StoreCall refused says v w → Counts w counts
+      → Answers tells closes (question.Search query) v w (entry_of counts.0 counts.1 0 made.Memory) made.Memory
+  not_looked query refused says v w counts call count =
+      call_answers tells closes (question.Search query) made.Memory says (λ accepts before blobs g e same said. tt)
+      (λ before h t e said. tt) refused v w counts (λ _. tt) call count
+
+  cause_behind : (t : ℕ) (turns : List ℕ) (h : List (Stamped StoreEvent)) (o : Outcome) → HasCauseIn turns h o
+      → HasCauseIn (t ∷ turns) h o
+  cause_behind t turns h Defined c = tt
+  cause_behind t turns h Memory c = tt
+  cause_behind t turns h Disk c = (c.0, c.1, has_rest (t ∷ []) turns c.0 c.2, c.3)
+  cause_behind t turns h (Full blobs pack) c = (c.0, has_rest (t ∷ []) turns c.0 c.1, c.2)
+  cause_behind t turns h (Damaged want is) c = (c.0, has_rest (t ∷ []) turns c.0 c.1, c.2)
+
+  drawn_behind : (ts us vs further : List ℕ) (t : ℕ) → us ≡ ts ++ t ∷ [] → vs ≡ us ++ further → vs ≡ ts ++ t ∷ further
+  drawn_behind ts us vs further t first then =
+      then ∙ ap (λ (z : List ℕ). z ++ further) first ∙ append_assoc ts (t ∷ []) further
+
+  arrived_before : (o v : Sight) → Longer o v → length (arrivals o.store.history) ≤ length (arrivals v.store.history)
+  arrived_before o v longer = prefix_length (arrivals o.store.history) (arrivals v.store.history)
+      (arrivals_prefix o.store.history v.store.history longer.store)
+
+  pub search_failed : (query : Query) (f : GetFault) (m : Made) (o v w : Sight) (before after : ℕ × ℕ)
+      → Looks o v → Settles (Err f) v w → FaultMade closes f m → Counts v before → Counts w after
+      → Answers tells closes (question.Search query) o w (entry_of before.0 after.1 0 m) m
+  search_failed query f m o v w before after look s is first last =
       let blobs = prefix_length (arrivals v.store.history) (arrivals w.store.history)
       (arrivals_prefix v.store.history w.store.history s.store.longer) in
       let rows = prefix_length v.index.shown w.index.shown s.shown in
+      let arrived = arrived_before o v look.longer in
+      let shown = prefix_length o.index.shown v.index.shown look.longer.shown in
       record {
-        turns = s.store.further;
-        drawn = s.store.drawn;
+        turns = look.turn ∷ s.store.further;
+        drawn = drawn_behind o.store.turns v.store.turns w.store.turns s.store.further look.turn look.drawn
+            s.store.drawn;
         store_within = let p = first.puts in omega arith;
         index_within = let p = last.inserts in omega arith;
         made = fault_made tells w.index.accepts (take before.0 (arrivals w.store.history))
             (take after.1 w.index.shown) closes (question.Search query) f m refl is;
         outcome = refl;
         kept = refl;
-        cause = told_cause s.store.further w.store.history closes f m is s.cause;
+        cause = cause_behind look.turn s.store.further w.store.history (outcome_of m)
+            (told_cause s.store.further w.store.history closes f m is s.cause);
         store_low = let p = first.puts in omega arith;
         index_low = let p = last.inserts in omega arith;
-        longer = record {
+        longer = longer_chain o v w look.longer (record {
           store = s.store.longer;
           index = s.index.longer;
           shown = s.shown;
           limits = s.limits;
-          accepts
-              = s.accepts;
-        };
+          accepts = s.accepts;
+        });
+        looked = looked_at (question.Search query) m look.turn s.store.further;
       }
 
   search_made : (query : Query) (found : Result (List (List ℕ)) NoMemory) (m : Made)
@@ -388,13 +468,13 @@ module _ (tells closes : Bool) where
   search_made query (Err e) m is accepts blobs g says all = memory_made tells accepts blobs g closes
       (question.Search query) m is
 
-  -- a search behind its settling: what was inserted is shown
+  -- a search behind its look and its settling: what was inserted is shown
   pub search_answers : (u : Unit {0}) (query : Query) (found : Result (List (List ℕ)) NoMemory) (m : Made)
-      (v x w : Sight) (before after : ℕ × ℕ)
-      → Settles (Ok u) v x → IsSight x → Searches query found x w → TextMade closes search_text found m
+      (o v x w : Sight) (before after : ℕ × ℕ)
+      → Looks o v → Settles (Ok u) v x → IsSight x → Searches query found x w → TextMade closes search_text found m
       → Counts v before → Counts w after
-      → Answers tells closes (question.Search query) v w (entry_of before.0 after.1 0 m) m
-  search_answers u query found m v x w before after s legal a is first last =
+      → Answers tells closes (question.Search query) o w (entry_of before.0 after.1 0 m) m
+  search_answers u query found m o v x w before after look s legal a is first last =
       let grown : IsPrefix v.store.history w.store.history =
       prefix_trans v.store.history x.store.history w.store.history s.store.longer
       (same_prefix x.store.history w.store.history (ap (λ y. y.history) a.store)) in
@@ -404,6 +484,8 @@ module _ (tells closes : Bool) where
       (arrivals w.store.history) = arrivals_prefix v.store.history w.store.history grown in
       let blobs = prefix_length (arrivals v.store.history) (arrivals w.store.history) arrived in
       let rows = prefix_length v.index.shown w.index.shown shown in
+      let blobs_before = arrived_before o v look.longer in
+      let rows_before = prefix_length o.index.shown v.index.shown look.longer.shown in
       let all : take after.1 w.index.shown ≡ w.index.shown = take_all after.1 w.index.shown
       (let p = last.inserts in omega arith) in
       let inserted : IsPrefix (inserts x.index.history) w.index.shown =
@@ -413,8 +495,9 @@ module _ (tells closes : Bool) where
       let count : length (take before.0 (arrivals w.store.history)) ≡ length (arrivals v.store.history) =
       length-take-le before.0 (arrivals w.store.history) (let p = first.puts in omega arith) ∙ first.puts in
       record {
-        turns = s.store.further;
-        drawn = ap (λ y. y.turns) a.store ∙ s.store.drawn;
+        turns = look.turn ∷ s.store.further;
+        drawn = drawn_behind o.store.turns v.store.turns w.store.turns s.store.further look.turn look.drawn
+            (ap (λ y. y.turns) a.store ∙ s.store.drawn);
         store_within = let p = first.puts in omega arith;
         index_within = let p = last.inserts in omega arith;
         made = search_made query found m is w.index.accepts (take before.0 (arrivals w.store.history))
@@ -424,14 +507,15 @@ module _ (tells closes : Bool) where
             (subst (HasAllBelow (length (arrivals v.store.history))) (sym all) below));
         outcome = refl;
         kept = refl;
-        cause = text_cause closes search_text found m s.store.further w.store.history is;
+        cause = text_cause closes search_text found m (look.turn ∷ s.store.further) w.store.history is;
         store_low = let p = first.puts in omega arith;
         index_low = let p = last.inserts in omega arith;
-        longer = record {
+        longer = longer_chain o v w look.longer (record {
           store = grown;
           index = prefix_trans v.index.history x.index.history w.index.history s.index.longer a.search.grew.longer;
           shown = shown;
           limits = ap (λ y. y.limits) a.store ∙ s.limits;
           accepts = a.search.accepts ∙ s.accepts;
-        };
+        });
+        looked = looked_at (question.Search query) m look.turn s.store.further;
       }

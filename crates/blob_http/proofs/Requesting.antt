@@ -51,7 +51,7 @@ use Rattle.blob_http.specs.Questions.{IsAskedAt, IsAskedBy, IsAsked}
 use Rattle.blob_http.specs.Replies.{refused_reply, memory_reply}
 use Rattle.blob_http.specs.Answers.{allow_text, outcome_of, text_of}
 use Rattle.blob_http.specs.Serving.{HasCauseIn, IsRest, Passes, IsReply, IsFrontDefined, IsBodyRefusal, Handles, IsCut}
-use Rattle.blob_http.specs.Handling.{IsMade, is_memory, is_read, Answers, ReadsHead, Replies, AlongSays, StopReplies}
+use Rattle.blob_http.specs.Handling.{IsMade, Looked, is_memory, is_read, Answers, ReadsHead, Replies, AlongSays, StopReplies}
 use Rattle.blob_http.specs.Handling.{StopEnds, NoneComes}
 use Rattle.blob_http.proofs.Staying.{longer_none}
 use Rattle.blob_http.proofs.Bodies.{moves_none}
@@ -81,7 +81,7 @@ has_pieces text says h =
 pub handles_of : (tells closes : Bool) (q : Question) (v w : Sight) (entry : Answered) (m : Made) (asked : Asked)
     → Answers tells closes q v w entry m
     → ((accepts : Accepts) (blobs : List Blob) (g : List Insertion) (turns : List ℕ)
-    → IsMade tells accepts blobs g closes q m
+    → IsMade tells accepts blobs g closes q m → Looked q m turns
     → IsReply tells accepts blobs g asked 0 turns (outcome_of m) (text_of m))
     → Handles tells asked v w entry (text_of m)
 handles_of tells closes q v w entry m asked a replied = record {
@@ -94,7 +94,7 @@ handles_of tells closes q v w entry m asked a replied = record {
         (take entry.index_count w.index.shown) asked
         entry.kept a.turns entry.outcome m a.kept a.outcome
         (replied w.index.accepts (take entry.store_count (arrivals w.store.history))
-        (take entry.index_count w.index.shown) a.turns a.made);
+        (take entry.index_count w.index.shown) a.turns a.made a.looked);
     cause = subst (λ (o : Outcome). HasCauseIn a.turns w.store.history o) (sym a.outcome) a.cause;
   };
   store_low = a.store_low;
@@ -136,7 +136,7 @@ head_replies x0 x1 flow new tells v w entry m end why closes says passed stands 
   asked = Refused end;
   comes = ((why, says), passed, stands);
   handles = handles_of tells true (refused why) v w entry m (Refused end) a
-      (λ accepts blobs g turns is. refused_says tells accepts blobs g why None
+      (λ accepts blobs g turns is looked. refused_says tells accepts blobs g why None
       (λ o text. IsReply tells accepts blobs g (Refused end) 0 turns o text) (refl, (why, says, refl))
       (refl, refl) m is);
   closing = closing;
@@ -199,7 +199,7 @@ module _ (x0 x1 x2 : Option (List ℕ)) (flow : Flow) (mid new : WireView) (says
     -- the connection closes in any case
     front_replies : (closes with_closes : Bool) (q : Question) → Answers tells with_closes q v w entry m
         → ((accepts : Accepts) (blobs : List Blob) (g : List Insertion) (turns : List ℕ)
-        → IsMade tells accepts blobs g with_closes q m
+        → IsMade tells accepts blobs g with_closes q m → Looked q m turns
         → IsReply tells accepts blobs g front 0 turns (outcome_of m) (text_of m))
         → closes ≡ true → Replies x0 x2 flow new tells v w entry m closes
     front_replies closes with_closes q a replied closing = record {
@@ -214,7 +214,7 @@ module _ (x0 x1 x2 : Option (List ℕ)) (flow : Flow) (mid new : WireView) (says
         → m ≡ made.Memory
         → closes ≡ true → Replies x0 x2 flow new tells v w entry m closes
     memory_replies closes with_closes q a none closing = front_replies closes with_closes q a
-        (λ accepts blobs g turns is. subst
+        (λ accepts blobs g turns is looked. subst
         (λ (z : Made). IsReply tells accepts blobs g front 0 turns (outcome_of z) (text_of z)) (sym none)
         (inr (refl, refl))) closing
 
@@ -224,7 +224,7 @@ module _ (x0 x1 x2 : Option (List ℕ)) (flow : Flow) (mid new : WireView) (says
         (refused_reply true (allow_text allow) why)
         → closes ≡ true → Replies x0 x2 flow new tells v w entry m closes
     refused_replies closes why allow a defined closing = front_replies closes true (question.Refused why allow) a
-        (λ accepts blobs g turns is. refused_says tells accepts blobs g why allow
+        (λ accepts blobs g turns is looked. refused_says tells accepts blobs g why allow
         (λ o text. IsReply tells accepts blobs g front 0 turns o text) (inr (refl, defined))
         (inr (refl, refl)) m is) closing
 
@@ -243,7 +243,7 @@ module _ (x0 x1 x2 : Option (List ℕ)) (flow : Flow) (mid new : WireView) (says
       asked = Whole request;
       comes = (request_read mid.head moved.0 given says head.lines head.read leads, passed);
       handles = handles_of tells says.closes q v w entry (made.Told o text rest) (Whole request) a
-          (λ accepts blobs g turns is. inr (refl, (q, asked, is)));
+          (λ accepts blobs g turns is looked. inr (refl, (q, asked, is, looked)));
       closing = closing ∙ or_false says.closes;
       ready = λ still. done;
     }

@@ -1,5 +1,5 @@
 -- What one request comes to.
-use Rattle.std.specs.Prelude.{◌≡◌, ◌≤◌, ℕ, List, [], ◌++◌, length, take, Bool, true, false, Option, IfSome, Result}
+use Rattle.std.specs.Prelude.{◌≡◌, ◌≤◌, ℕ, List, [], ◌∷◌, ◌++◌, length, take, Bool, true, false, Option, IfSome, Result}
 use Rattle.std.specs.Prelude.{Ok, Err, ◌==◌}
 use Rattle.claim_verify.specs.Verifier.{Accepts}
 use Rattle.histories.specs.Stores.{Blob, arrivals}
@@ -26,7 +26,7 @@ use Rattle.blob_http.specs.declared.serving.Ended.{Ended}
 use Rattle.blob_http.specs.declared.serving.Ended.TheVariants as ended
 use Rattle.blob_http.specs.Asked.{Asked, Comes, closes_of}
 use Rattle.blob_http.specs.Answers.{IsAnswer, outcome_of, text_of}
-use Rattle.blob_http.specs.Serving.{HasCauseIn, Longer, Handles, IsCut}
+use Rattle.blob_http.specs.Serving.{HasCauseIn, LooksAt, Longer, Handles, IsCut}
 
 abbrev pub IsMade : Bool → Accepts → List Blob → List Insertion → Bool → Question → Made → Type 0
 IsMade tells accepts blobs g closes q (made.Told o head body) = IsAnswer tells accepts blobs g closes q o (head ++ body)
@@ -35,6 +35,17 @@ IsMade tells accepts blobs g closes q made.Memory = Unit {0}
 abbrev pub is_memory : Made → Bool
 is_memory (made.Told o head body) = false
 is_memory made.Memory = true
+
+-- what was answered from the store drew a turn of it, and so did a search
+abbrev pub Looked : Question → Made → List ℕ → Type 0
+Looked q made.Memory turns = Unit {0}
+Looked q (made.Told o head body) turns = LooksAt q turns
+
+-- a turn of the store was drawn, which shows what had arrived
+pub record Looks (v w : Sight) : Type 0 where
+  pub turn : ℕ
+  pub drawn : w.store.turns ≡ v.store.turns ++ turn ∷ []
+  pub longer : Longer v w
 
 -- a question was answered, or there was no memory for that
 pub record Answers (tells closes : Bool) (q : Question) (v w : Sight) (entry : Answered) (m : Made) : Type 0 where
@@ -50,6 +61,7 @@ pub record Answers (tells closes : Bool) (q : Question) (v w : Sight) (entry : A
   pub store_low : length (arrivals v.store.history) ≤ entry.store_count
   pub index_low : length v.index.shown ≤ entry.index_count
   pub longer : Longer v w
+  pub looked : Looked q m turns
 
 -- an entry for a reply
 abbrev pub entry_of : ℕ → ℕ → ℕ → Made → Answered

@@ -88,11 +88,19 @@ IsFrontUpload blobs b after kept turns outcome text = (u : Kept b.head b.says bl
     × ((came : Came) × (wire : WireView) × (wire.body ≡ b.at) × Comes u.boundary b.given u.parts wire after came
     × Turns came kept (length turns) × IsUploadReply u.parts came outcome text)
 
+-- what is answered from the store draws a turn of it, and so does a search
+abbrev pub LooksAt : Question → List ℕ → Type 0
+LooksAt (question.Refused why allow) turns = Unit {0}
+LooksAt (question.Blob r) turns = 0 < length turns
+LooksAt (question.Stat refs) turns = 0 < length turns
+LooksAt (question.Refs page) turns = 0 < length turns
+LooksAt (question.Search query) turns = 0 < length turns
+
 -- the reply over the blobs that arrived and the Inserts; an upload alone keeps parts
 abbrev pub IsReply : Bool → Accepts → List Blob → List Insertion → Asked → ℕ → List ℕ → Outcome → List ℕ → Type 0
 IsReply tells accepts blobs g (Whole r) kept turns outcome text = IsWholeUpload blobs r kept turns outcome text
     ⊎ ((kept ≡ 0) × ((q : Question) × IsAsked r.head r.says r.body q
-    × IsAnswer tells accepts blobs g r.says.closes q outcome text))
+    × IsAnswer tells accepts blobs g r.says.closes q outcome text × LooksAt q turns))
 IsReply tells accepts blobs g (Front b after) kept turns outcome text =
     IsFrontUpload blobs b after kept turns outcome text ⊎ ((kept ≡ 0) × IsFrontReply b after outcome text)
 IsReply tells accepts blobs g (Head end) kept turns outcome text = (kept ≡ 0) × IsHeadReply end outcome text

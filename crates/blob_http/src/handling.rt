@@ -4,7 +4,8 @@ ghost use Rattle.blob_routes.specs.Pages.{most_page};
 ghost use Rattle.blob_http.specs.Questions.{IsFew};
 ghost use Rattle.blob_http.specs.declared.questions.Question.{Question};
 ghost use Rattle.blob_http.specs.Answers.{outcome_of};
-ghost use Rattle.blob_http.specs.Handling.{Answers, entry_of};
+ghost use Rattle.blob_http.specs.Handling.{Answers, Looks, entry_of};
+ghost use Rattle.home_core.specs.Passes.{Sight};
 
 use crate::entries::{Answered, Outcome};
 use crate::questions::Question;
@@ -119,6 +120,7 @@ fn answer_page<H: Home, R: Wait>(
     (entry(counts.0, counts.1, 0, &made), made)
 }
 
+// The store is looked at first: so a search finds what had arrived before it was asked, whoever put it.
 fn answer_search<H: Home, R: Wait>(
     rt: &R,
     alloc: Global,
@@ -131,6 +133,27 @@ fn answer_search<H: Home, R: Wait>(
     ensures own { H.belongs home.now pass.new }
     ensures answers { Answers (H.tells home.now) closes (Question.Search query.now) (H.sight pass.old)
         (H.sight pass.new) result.0 result.1 }
+{
+    let Ok(_) = home.stat(rt, pass, &RefList::empty(alloc)) else {
+        let counts = home.seen(pass);
+        return (entry(counts.0, counts.1, 0, &Made::Memory), Made::Memory);
+    };
+    answer_settled(rt, alloc, home, pass, query, closes)
+}
+
+// The answer to a search behind a look at the store.
+fn answer_settled<H: Home, R: Wait>(
+    rt: &R,
+    alloc: Global,
+    home: &H,
+    pass: &mut H::Pass,
+    query: &Query,
+    closes: bool,
+) -> (Answered, Made)
+    requires { H.belongs home.now pass.old }
+    ensures own { H.belongs home.now pass.new }
+    ensures answers { (v : Sight) → Looks v (H.sight pass.old)
+        → Answers (H.tells home.now) closes (Question.Search query.now) v (H.sight pass.new) result.0 result.1 }
 {
     let before = home.seen(pass);
     match home.settle(rt, pass) {
