@@ -1,14 +1,13 @@
 """Eight clients that upload and search at once, each over a connection of its own, and every reply is looked at.
 
 Each client tags permanodes with a value of its own, so it knows the whole answer to a search for it: what it has
-uploaded by then. All of them tag some with a value that they share: the answer to that has what this connection uploaded
-or was shown, and all that was acknowledged to anybody before it last asked the store, and nothing that nobody sent. By
-its ref everybody finds what was acknowledged to anybody.
+uploaded by then. All of them tag some with a value that they share: the answer to that has all that was acknowledged to
+anybody before it was asked, and what any answer to it had before, and nothing that nobody sent. By its ref everybody
+finds what was acknowledged to anybody.
 
 LOAD_SECONDS is another time than a minute.
 """
 
-import contextlib
 import json
 import os
 import threading
@@ -85,9 +84,8 @@ class Client:
         self.talk = Talk(port)
         self.value = f"of client {number}"
         self.holders, self.may_go = set(), []
-        # What has the common value and was acknowledged, to whomever, before this connection last asked the store: a
-        # common search finds that at least.
-        self.least = set()
+        # What the last common search found.
+        self.found = set()
         self.moment = writing.FIRST_MOMENT + number
         self.requests = 0
 
@@ -117,16 +115,8 @@ class Client:
         """Uploads blobs in any order, all of which have to be received."""
         blobs = self.random.sample(blobs, len(blobs))
         self.known.send(blobs, common)
-        with self.asking_the_store():
-            self.ask(what, upload(*blobs), stored(*blobs))
+        self.ask(what, upload(*blobs), stored(*blobs))
         self.known.acknowledge(blobs, common)
-        self.least.update(common)
-
-    @contextlib.contextmanager
-    def asking_the_store(self):
-        _, common = self.known.now()
-        yield
-        self.least |= common
 
     # Uploads
 
@@ -188,32 +178,30 @@ class Client:
         self.ask("its own search", question(OWN, self.value), Reply(200, search_text(sorted(self.holders))))
 
     def common(self):
+        _, least = self.known.now()
         answer = self.answer("a common search", question(COMMON, COMMON_VALUE), spelled_search)
         found = [blob["blob"] for blob in answer["blobs"]]
         compare(self.what, "the order of a common search", sorted(set(found)), found)
-        compare(self.what, "what a common search lacks", set(), self.least - set(found))
-        self.least.update(found)
+        compare(self.what, "what a common search lacks", set(), (least | self.found) - set(found))
+        self.found = set(found)
         with self.known.lock:
             compare(self.what, "what a common search has too many", set(), set(found) - self.known.common_sent)
 
     def blob(self):
         (ref,) = self.known.some(self.random, 1)
-        with self.asking_the_store():
-            self.ask(f"the blob {ref}", get(blob_target(ref)), blob_reply(self.known.sent[ref]))
+        self.ask(f"the blob {ref}", get(blob_target(ref)), blob_reply(self.known.sent[ref]))
 
     def stats(self):
         refs = [*self.known.some(self.random, 5), http_inputs.ABSENT, *self.known.some(self.random, 5)]
         standing = [ref for ref in dict.fromkeys(refs) if ref != http_inputs.ABSENT]
         told = {"stat": [entry(ref, len(self.known.sent[ref])) for ref in standing]}
-        with self.asking_the_store():
-            self.ask("stat", post(STAT, stat_pairs(*refs)), Reply(200, json_text(told)))
+        self.ask("stat", post(STAT, stat_pairs(*refs)), Reply(200, json_text(told)))
 
     def page(self):
         """A page has all that was acknowledged between its ends, and nothing that nobody sent."""
         least, _ = self.known.now()
         after, limit = f"sha224-{self.random.randbytes(28).hex()}", self.random.choice((1, 10, 100, 1_000))
-        with self.asking_the_store():
-            page = self.answer("a page", get(LISTING + f"?after={after}&limit={limit}".encode()), spelled_page)
+        page = self.answer("a page", get(LISTING + f"?after={after}&limit={limit}".encode()), spelled_page)
         refs = [blob["blobRef"] for blob in page["blobs"]]
         last = page.get("continueAfter", BEHIND_ALL)
         is_full = len(refs) == limit and last == refs[-1]
