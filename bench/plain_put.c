@@ -1,5 +1,6 @@
 /* A server that does the least that an upload of a blob over a connection costs: it reads a request of so many bytes,
- * appends a record of so many to a file, syncs it, and sends a reply of the length of a true one.
+ * takes the digest of a record of so many, appends that to a file, syncs it, and sends a reply of the length of a true
+ * one.
  *
  *     plain_put PORT FILE REQUEST RECORD REPLY
  *
@@ -8,6 +9,7 @@
 #include <arpa/inet.h>
 #include <fcntl.h>
 #include <netinet/tcp.h>
+#include <openssl/evp.h>
 #include <pthread.h>
 #include <stdio.h>
 #include <stdlib.h>
@@ -18,7 +20,15 @@
 static int file;
 static ssize_t request, record;
 static char reply[4096];
+static EVP_MD *sha224;
 static pthread_mutex_t turn = PTHREAD_MUTEX_INITIALIZER;
+
+/* Takes the digest of a record, and looks at it, so that it isn't left out. */
+static int is_digested(const char *bytes) {
+  unsigned char digest[EVP_MAX_MD_SIZE];
+  unsigned length = 0;
+  return EVP_Digest(bytes, (size_t)record, digest, &length, sha224, NULL) == 1 && length == 28;
+}
 
 /* Whether a request came whole. */
 static int read_request(int wire, char *bytes) {
@@ -33,7 +43,7 @@ static int read_request(int wire, char *bytes) {
 static void *serve(void *given) {
   int wire = (int)(long)given;
   char *bytes = malloc((size_t)(request > record ? request : record));
-  while (bytes != NULL && read_request(wire, bytes)) {
+  while (bytes != NULL && read_request(wire, bytes) && is_digested(bytes)) {
     pthread_mutex_lock(&turn);
     int is_kept = write(file, bytes, (size_t)record) == record && fdatasync(file) == 0;
     pthread_mutex_unlock(&turn);
@@ -46,6 +56,7 @@ static void *serve(void *given) {
 
 int main(int count, char **words) {
   if (count != 6) return 2;
+  sha224 = EVP_MD_fetch(NULL, "SHA224", NULL);
   file = open(words[2], O_WRONLY | O_CREAT | O_APPEND, 0666);
   request = atol(words[3]);
   record = atol(words[4]);
@@ -55,7 +66,7 @@ int main(int count, char **words) {
   address.sin_addr.s_addr = htonl(INADDR_LOOPBACK);
   int listener = socket(AF_INET, SOCK_STREAM, 0), is_on = 1;
   setsockopt(listener, SOL_SOCKET, SO_REUSEADDR, &is_on, sizeof is_on);
-  if (file < 0 || bind(listener, (struct sockaddr *)&address, sizeof address) != 0) return 1;
+  if (sha224 == NULL || file < 0 || bind(listener, (struct sockaddr *)&address, sizeof address) != 0) return 1;
   if (listen(listener, 64) != 0) return 1;
   for (;;) {
     int wire = accept(listener, NULL, NULL);

@@ -117,8 +117,8 @@ class Nginx:
 
 
 class PlainPut:
-    """A server that does the least that an upload costs: it reads a request of this length, appends and syncs a record,
-    and answers."""
+    """A server that does the least that an upload costs: it reads a request of this length, digests, appends and syncs a
+    record, and answers."""
 
     def __init__(self, bench, request, record, body):
         self.port, self.file = PORTS.free(), bench.folder / "plain"
@@ -247,8 +247,8 @@ def small_gets(bench):
 
 
 def small_uploads(bench):
-    """Blobs a second, and those of a loop that appends and syncs, and of a server that does only that for each request;
-    also how much of that one processor was busy."""
+    """Blobs a second, and those of a loop that appends and syncs, and of a server that does only that and a digest for
+    each request; also how much of that one processor was busy."""
     blobs = small_blobs(LONG_UPLOADS)
     size = len(record(blobs[0]))
     heading("uploads of small blobs", "a second", "of append, sync", "of a plain server", "processor share")
