@@ -1,0 +1,143 @@
+"""Holds the repository to the gate's budget (docs/gate.md, "The budget").
+
+    budget.py [TABLE]
+
+Looks at crates.txt and crates/, and at the table of minutes in the file TABLE, docs/gate.md where none is given: a table of bench/gate.sh.
+Each thing that passes the budget is a line.
+"""
+
+import functools
+import pathlib
+import re
+import sys
+
+TOP = pathlib.Path(__file__).resolve().parent.parent
+
+# The limits. All minutes are processor minutes of a machine that has other work beside the gate.
+EDITS, EDITS_A_CRATE, DEAREST_PROOF_WITH_EDITS = 16, 3, 4.0
+PATHS = 150_000
+WHOLE, WHOLE_FOR_1_000_LINES, TESTS, EDITS_IN_ALL, CHAIN = 280, 4.7, 45, 30, 45
+PROOF, PROOF_AT_LEAST, PROOF_FOR_1_000_LINES, PROOF_WITH_TESTS, TEST_CRATE = 4.0, 0.5, 3.0, 0.5, 8.0
+# What figures are rounded to.
+ROUNDING = 0.05
+# The proofs that were above their limits when these were set. They may not grow.
+OLDER_PROOFS = {
+    "perkeep_lines": 7.7, "query_read": 7.2, "perkeep_top": 6.8, "claim_index": 5.9, "lab": 5.1, "search_meets": 4.8, "perkeep_cli": 4.6,
+    "plain_index": 4.1, "core_home": 3.6, "folder_disk": 3.3, "blob_server": 3.2, "query_text": 2.4, "server_home": 2.4,
+    "uncounted_search": 0.9,
+}
+
+KINDS = ("proof", "tests", "edits", "programs")
+TEST = re.compile(r"#\s*\[[^]]*\btest\b")
+
+
+def lines_of_crates():
+    """The names on each line of crates.txt behind the colon, by the name before it."""
+    used = {}
+    for line in (TOP / "crates.txt").read_text().splitlines():
+        name, colon, below = line.partition("#")[0].partition(":")
+        if colon:
+            used[name.split()[0]] = below.split()
+    return used
+
+
+class Crates:
+    """What the folders say of the crates."""
+
+    def __init__(self):
+        self.used = lines_of_crates()
+        self.own = {name: [below for below in used if below in self.used] for name, used in self.used.items()}
+        self.lines = {name: sum(text.count("\n") for text in self.texts(name, ".rt", "src")) for name in self.used}
+        self.tested = {name for name in self.used if any(map(TEST.search, self.texts(name, ".rt", "src")))}
+        self.edits = {name: len(list((TOP / "crates" / name / "must-fail").glob("*.edit"))) for name in self.used}
+
+    def texts(self, name, ending, *parts):
+        for part in parts:
+            for file in (TOP / "crates" / name / part).rglob(f"*{ending}"):
+                yield file.read_text()
+
+    def unnamed(self, name):
+        """What a crate's line has and no file of the crate names."""
+        files = [*self.texts(name, ".rt", "src"), *self.texts(name, ".antt", "specs", "proofs")]
+        words = {word for text in files for word in re.findall(r"\w+", text)}
+        return [below for below in self.used[name] if below not in words]
+
+    def sums_along_paths(self, own, join):
+        """For each crate its own number, and those of the crates below it as `join` makes one of them."""
+        @functools.cache
+        def whole(name):
+            return own(name) + join(map(whole, self.own[name]))
+
+        return {name: whole(name) for name in self.used}
+
+
+def faults_of_crates(crates):
+    """What of the rules on crates doesn't hold."""
+    if sum(crates.edits.values()) > EDITS:
+        yield f"{sum(crates.edits.values())} must-fail edits, at most {EDITS}"
+    for name in crates.used:
+        if crates.edits[name] > EDITS_A_CRATE:
+            yield f"{name}: {crates.edits[name]} must-fail edits, at most {EDITS_A_CRATE}"
+        unnamed = crates.unnamed(name)
+        if unnamed:
+            yield f"{name}: its line of crates.txt has what its files don't name: {' '.join(unnamed)}"
+    paths = sum(crates.sums_along_paths(lambda name: 1, sum).values())
+    if paths > PATHS:
+        yield f"crates.txt has {paths:,} paths, at most {PATHS:,}"
+
+
+def costs(file, crates):
+    """The minutes of each crate by kind, from the table in a file."""
+    found = {}
+    for row in file.read_text().splitlines():
+        cells = [cell.strip(" `") for cell in row.strip("|").split("|")]
+        if cells[0] in crates.used and len(cells) == len(KINDS) + 4:
+            found[cells[0]] = dict(zip(KINDS, (float(cell) if cell else 0.0 for cell in cells[2:6])))
+    return found
+
+
+def faults_of_sums(crates, costs):
+    """What of the rules on the whole gate doesn't hold."""
+    proofs = {name: costs.get(name, {}).get("proof", 0.0) for name in crates.used}
+    chains = crates.sums_along_paths(proofs.get, lambda below: max(below, default=0))
+    whole = sum(sum(minutes.values()) for minutes in costs.values())
+    for minutes, most, what in (
+        (whole, WHOLE, "all"),
+        (1_000 * whole / sum(crates.lines.values()), WHOLE_FOR_1_000_LINES, "all, for 1,000 lines"),
+        (sum(minutes["tests"] for minutes in costs.values()), TESTS, "tests"),
+        (sum(minutes["edits"] for minutes in costs.values()), EDITS_IN_ALL, "edits"),
+        (max(chains.values()), CHAIN, "the longest chain of proofs"),
+    ):
+        if minutes > most + ROUNDING:
+            yield f"{what}: {minutes:.1f} processor minutes, at most {most}"
+
+
+def faults_of_costs(crates, costs):
+    """What of the rules on the minutes of single crates doesn't hold."""
+    for name, minutes in costs.items():
+        proof, whole = minutes["proof"], sum(minutes.values())
+        most = OLDER_PROOFS.get(name) or min(PROOF, PROOF_AT_LEAST + PROOF_FOR_1_000_LINES * crates.lines[name] / 1_000)
+        if proof > most + ROUNDING:
+            yield f"{name}: its proof takes {proof} minutes for {crates.lines[name]} lines, at most {most:.1f}"
+        if name.endswith("_tests"):
+            if whole > TEST_CRATE + ROUNDING:
+                yield f"{name}: {whole:.1f} minutes, at most {TEST_CRATE}"
+        elif name in crates.tested and proof > PROOF_WITH_TESTS + ROUNDING:
+            yield f"{name}: it has #[test], so the {proof} minutes of its proof are paid twice"
+        if crates.edits[name] and proof > DEAREST_PROOF_WITH_EDITS + ROUNDING:
+            yield f"{name}: it has must-fail edits, and its proof takes {proof} minutes"
+
+
+def main():
+    crates = Crates()
+    minutes = costs(TOP / (sys.argv[1] if sys.argv[1:] else "docs/gate.md"), crates)
+    found = [*faults_of_crates(crates), *faults_of_sums(crates, minutes), *faults_of_costs(crates, minutes)]
+    found += [f"{name}: the table of minutes has no row of it" for name in crates.used if name not in minutes]
+    for line in found:
+        print(f"FAILED budget {line}")
+    print(f"{len(crates.used)} passed, {len(found)} failed")
+    sys.exit(1 if found else 0)
+
+
+if __name__ == "__main__":
+    main()
