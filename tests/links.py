@@ -1,0 +1,263 @@
+"""Looks at the documents: every file of the repository whose name ends in `.md`.
+
+Relative links lead to files that are there, and their anchors to headings, by GitHub's rule for anchors. Lines outside
+code and tables have at most 120 characters. What docs/top.md quotes stands in the file that is linked before it. The
+names in docs/proved.md stand in the crates that it names, crates/README.md says what crates.txt says, and each script
+has a row on the page of its folder.
+"""
+
+import collections
+import functools
+import os
+import pathlib
+import re
+
+import harness
+from harness import check, compare
+
+TOP = pathlib.Path(__file__).resolve().parent.parent
+LONGEST_LINE = 120
+# Folders of which nothing is looked at: what is built, and what git keeps.
+PASSED_OVER = {"out", ".git"}
+CODE, TABLE, HEADING, TEXT = "code", "table", "heading", "text"
+
+# A piece of code within a line, between as many backticks on both sides.
+SPAN = re.compile(r"(?<!`)(`+)(?!`)(.+?)(?<!`)\1(?!`)", re.S)
+LINK = re.compile(r"\[[^\[\]]*\]\(([^()\s]+)\)")
+NAME = re.compile(r"[A-Za-z_]\w*(?:::\w+)*")
+ROW_OF_A_CRATE = re.compile(r"\| `(\w+)`( \*)? \| [^|]+ \| ([^|]*)\|")
+
+
+# Pages
+
+class Page:
+    """A document: its lines, each with what it is."""
+
+    def __init__(self, path):
+        self.path = path
+        self.name = str(path.relative_to(TOP))
+        self.lines = path.read_text(encoding="utf-8").splitlines()
+        self.kinds = list(kinds_of(self.lines))
+
+    def blocks(self):
+        """The paragraphs, the items of lists, the headings and the rows, each as one text without its line ends."""
+        block = []
+        for line, kind in zip(self.lines, self.kinds):
+            begins = kind != TEXT or not line.strip() or re.match(r"\s*(-|\d+\.) ", line)
+            if begins and block:
+                yield " ".join(block)
+                block = []
+            if kind != CODE and line.strip():
+                block.append(line.strip())
+        if block:
+            yield " ".join(block)
+
+    @functools.cached_property
+    def anchors(self):
+        headings = [line for line, kind in zip(self.lines, self.kinds) if kind == HEADING]
+        seen = collections.Counter()
+        return {anchor_of(heading, seen) for heading in headings}
+
+    def links(self):
+        return [target for block in self.blocks() for target in LINK.findall(SPAN.sub("", block))]
+
+
+def kinds_of(lines):
+    fenced = indented = False
+    before = ""
+    for line in lines:
+        indented = line.startswith("    ") and (indented or not before.strip()) or indented and not line.strip()
+        before = line
+        if line.lstrip().startswith("```"):
+            fenced = not fenced
+            yield CODE
+        elif fenced or indented:
+            yield CODE
+        elif line.startswith("|"):
+            yield TABLE
+        else:
+            yield HEADING if re.match(r"#+ ", line) else TEXT
+
+
+def anchor_of(heading, seen):
+    """The anchor of a heading on GitHub: one that comes again is numbered."""
+    text = re.sub(r"\[([^\]]*)\]\([^)]*\)", r"\1", heading.lstrip("#").strip())
+    anchor = re.sub(r"[^\w\- ]", "", text.lower()).replace(" ", "-")
+    seen[anchor] += 1
+    return anchor if seen[anchor] == 1 else f"{anchor}-{seen[anchor] - 1}"
+
+
+@functools.cache
+def page_at(path):
+    return Page(path)
+
+
+def pages():
+    found = []
+    for folder, folders, files in os.walk(TOP):
+        folders[:] = sorted(set(folders) - PASSED_OVER)
+        found += [pathlib.Path(folder) / name for name in sorted(files) if name.endswith(".md")]
+    return [page_at(path) for path in found]
+
+
+# Links and lines
+
+def links(program):
+    return [lambda page=page: compare(page.name, "links that lead nowhere", [], dead_links(page)) for page in pages()]
+
+
+def dead_links(page):
+    return [target for target in page.links() if not is_alive(page, target)]
+
+
+def is_alive(page, target):
+    if re.match(r"[a-z]+:", target):
+        return True
+    path, _, anchor = target.partition("#")
+    goal = pathlib.Path(os.path.normpath(page.path.parent / path)) if path else page.path
+    if not goal.is_relative_to(TOP) or not goal.exists():
+        return False
+    return not anchor or goal.suffix == ".md" and anchor in page_at(goal).anchors
+
+
+def lines(program):
+    return [lambda page=page: compare(page.name, "lines that are too long", [], long_lines(page)) for page in pages()]
+
+
+def long_lines(page):
+    numbered = enumerate(zip(page.lines, page.kinds), 1)
+    return [number for number, (line, kind) in numbered if kind in (TEXT, HEADING) and len(line) > LONGEST_LINE]
+
+
+# What is quoted
+
+def quotes(program):
+    """Each block of docs/top.md is from the file that is linked last before it."""
+    page = page_at(TOP / "docs" / "top.md")
+    found, block, source = [], None, None
+    for line, kind in zip(page.lines, page.kinds):
+        if kind != CODE:
+            source = (LINK.findall(line) or [source])[-1]
+        elif line.startswith("```") and block is None:
+            block = []
+        elif line.startswith("```"):
+            found.append(functools.partial(check_quote, page, source, block))
+            block = None
+        elif block is not None:
+            block.append(line)
+    return found
+
+
+def check_quote(page, source, block):
+    check(f"{page.name}: no file is named before {block[0]}", source is not None)
+    text = (page.path.parent / source).read_text(encoding="utf-8")
+    quoted = "\n".join(["", *block, ""])
+    check(f"{page.name}: {source} doesn't have these lines: {block[0]} ..", quoted in f"\n{text}\n")
+
+
+# What is named
+
+def ledger(program):
+    """The names in docs/proved.md: a path that begins with a crate is declared there, and any other name of an item
+    stands in one of the crates that the item names."""
+    page = page_at(TOP / "docs" / "proved.md")
+    return [functools.partial(check_names, page, block) for block in page.blocks() if crates_named(block)]
+
+
+def names_in(block):
+    return [span for _, span in SPAN.findall(block) if NAME.fullmatch(span)]
+
+
+def crates_named(block):
+    return {name.split("::")[0] for name in names_in(block)} & set(CRATES)
+
+
+def check_names(page, block):
+    crates = crates_named(block)
+    for name in names_in(block):
+        first, *rest = name.split("::")
+        if first in CRATES:
+            check(f"{page.name}: {name} isn't declared", all(is_declared(first, part) for part in rest))
+        elif block.startswith("- "):
+            parts = {first, *rest}
+            check(f"{page.name}: {name} stands in none of {sorted(crates)}", any(parts <= words_of(c) for c in crates))
+
+
+@functools.cache
+def sources_of(crate, folder):
+    files = sorted((TOP / "crates" / crate / folder).rglob("*.*"))
+    return "\n".join(file.read_text(encoding="utf-8") for file in files)
+
+
+def is_declared(crate, name):
+    return re.search(rf"\b(fn|struct|enum|trait|type|const|mod) {name}\b", sources_of(crate, "src")) is not None
+
+
+@functools.cache
+def words_of(crate):
+    return set(re.findall(r"\w+", sources_of(crate, "src") + sources_of(crate, "specs")))
+
+
+# Crates and scripts
+
+def read_crates():
+    """The crates of crates.txt, each with its heading and the crates that its line names."""
+    found, heading = {}, ""
+    for line in (TOP / "crates.txt").read_text(encoding="utf-8").splitlines():
+        if line.startswith("#"):
+            heading = line.strip("# ")
+        elif line.strip():
+            name, _, used = line.partition(":")
+            found[name.strip()] = (heading, used.split())
+    return {name: (heading, [word for word in used if word in found]) for name, (heading, used) in found.items()}
+
+
+CRATES = read_crates()
+
+
+@functools.cache
+def below(crate):
+    used = CRATES[crate][1]
+    return frozenset(used).union(*map(below, used))
+
+
+def stands_on(crate):
+    """Those crates of its line on which none of the others stands."""
+    used = CRATES[crate][1]
+    return [name for name in used if not any(name in below(other) for other in used)]
+
+
+def crates(program):
+    """The rows of crates/README.md."""
+    page = page_at(TOP / "crates" / "README.md")
+    rows, heading = {}, ""
+    for line, kind in zip(page.lines, page.kinds):
+        if kind == HEADING:
+            heading = line.strip("# ")
+        elif row := ROW_OF_A_CRATE.match(line):
+            rows[row[1]] = (heading, bool(row[2]), re.findall(r"\w+", row[3]))
+    whole = [lambda: compare(page.name, "crates", sorted(CRATES), sorted(rows))]
+    return whole + [functools.partial(check_row, page, name, rows.get(name)) for name in CRATES]
+
+
+def check_row(page, name, row):
+    in_program = name == "perkeep_cli" or name in below("perkeep_cli")
+    check(f"{page.name}: {name} has no row", row is not None)
+    compare(f"{page.name}: {name}", "heading", CRATES[name][0], row[0])
+    compare(f"{page.name}: {name}", "is no part of the program", not in_program, row[1])
+    compare(f"{page.name}: {name}", "stands on", sorted(stands_on(name)), sorted(row[2]))
+
+
+def scripts(program):
+    """Each script has a row on the page of its folder."""
+    found = [file for folder in ("tests", "bench") for file in sorted((TOP / folder).glob("*.sh"))]
+    return [functools.partial(check_script, file) for file in found]
+
+
+def check_script(file):
+    page = page_at(file.parent / "README.md")
+    check(f"{page.name} has no row of {file.name}", any(line.startswith(f"| `{file.name}` |") for line in page.lines))
+
+
+if __name__ == "__main__":
+    harness.main("links.sh", [links, lines, quotes, ledger, crates, scripts])
