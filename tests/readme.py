@@ -1,0 +1,129 @@
+"""What a newcomer reads first: whether README.md, docs/guide.md and docs/limits.md say what is so.
+
+The blocks of a page that are fenced as `sh` are one script of bash, from top to bottom. It is run in a fresh folder with
+the program as ./perkeep and the repository's examples. What a block prints, errors too, is shown in the block behind it,
+if that is fenced as `text`; there `..` stands for anything in a line. A block without one has to end well.
+"""
+
+import itertools
+import os
+import pathlib
+import re
+import shutil
+import signal
+import subprocess
+
+import harness
+from harness import LeftOut, check, compare
+from serving import PORTS
+
+TOP = pathlib.Path(__file__).resolve().parent.parent
+README, GUIDE, LIMITS = TOP / "README.md", TOP / "docs" / "guide.md", TOP / "docs" / "limits.md"
+FENCED = re.compile(r"^```(\w*)\n(.*?)^```$", re.MULTILINE | re.DOTALL)
+# The port that the pages use; another one may be taken here.
+PORT = "3179"
+TOOLS = ("bash", "curl", "openssl")
+MOST_BYTES = 14_000
+MARK = "the end of a block"
+SECONDS = 60
+
+
+# Commands
+
+def blocks(page):
+    """The commands of a page, each with what they have to print, if that is shown."""
+    fenced = [*FENCED.findall(page.read_text()), ("", "")]
+    for (kind, text), (next_kind, shown) in itertools.pairwise(fenced):
+        if kind == "sh":
+            yield text, shown if next_kind == "text" else None
+
+
+def script(commands):
+    return "exec 2>&1\n" + "".join(f"{text}printf '\\n{MARK} %s\\n' $?\n" for text in commands)
+
+
+def run_script(program, commands):
+    """What each block prints, and its status."""
+    folder = program.new_path()
+    folder.mkdir()
+    (folder / "perkeep").symlink_to(program.path)
+    (folder / "examples").symlink_to(TOP / "examples")
+    text = script(commands).replace(PORT, str(PORTS.free()))
+    words = ["bash", "-u", "-c", text]
+    streams = {"stdin": subprocess.DEVNULL, "stdout": subprocess.PIPE}
+    with subprocess.Popen(words, cwd=folder, start_new_session=True, text=True, **streams) as process:
+        try:
+            out, _ = process.communicate(timeout=SECONDS)
+        finally:
+            kill_group(process.pid)
+    return re.findall(rf"(.*?)\n{MARK} (\d+)\n", out, re.DOTALL)
+
+
+def kill_group(process):
+    """Kills what a script has left running."""
+    try:
+        os.killpg(process, signal.SIGKILL)
+    except ProcessLookupError:
+        pass
+
+
+def compare_block(text, shown, done):
+    out, status = done
+    if shown is None:
+        compare(text, "status", 0, int(status))
+        check(f"{text}it printed {out}", "perkeep: " not in out)
+    else:
+        pattern = r"[^\n]*".join(map(re.escape, shown.strip("\n").split("..")))
+        check(f"{text}printed\n{out}\nand not\n{shown}", re.fullmatch(pattern, out.strip("\n")))
+
+
+def commands_of(page, program):
+    missing = [tool for tool in TOOLS if shutil.which(tool) is None]
+    if missing:
+        raise LeftOut(f"{' and '.join(missing)} isn't there")
+    shown = list(blocks(page))
+    done = run_script(program, [text for text, _ in shown])
+    counted = [lambda: compare(page.name, "blocks that were run", len(shown), len(done))]
+    return counted + [lambda one=one, it=it: compare_block(*one, it) for one, it in zip(shown, done)]
+
+
+def session(program):
+    return commands_of(README, program)
+
+
+def guide(program):
+    return commands_of(GUIDE, program)
+
+
+# What else the pages name
+
+def size(program):
+    return [lambda: check(f"README.md has more than {MOST_BYTES} bytes", README.stat().st_size <= MOST_BYTES)]
+
+
+def crates(program):
+    """The README has a line for each crate."""
+    known = sorted(path.name for path in (TOP / "crates").iterdir() if path.is_dir())
+    lines = re.findall(r"^- `(\w+)`: .", README.read_text(), re.MULTILINE)
+    return [lambda: compare("README.md", "its crates", known, sorted(lines))]
+
+
+ROW = re.compile(r"^\| [^|]* \| ([^|]*) \| (?:`(\w+)`, )?`([\w/]+\.rt)` \|", re.MULTILINE)
+WRITTEN = {"u64::MAX": 2**64 - 1, "1 << 63": 2**63}
+
+
+def limits(program):
+    """Each row of docs/limits.md has the number that stands in the source."""
+    return [lambda row=row: limit_stands(*row) for row in ROW.findall(LIMITS.read_text())]
+
+
+def limit_stands(told, name, path):
+    text = (TOP / "crates" / path).read_text()
+    number = 2**63 if told.startswith("2^63") else int(re.search(r"[\d,]+", told)[0].replace(",", ""))
+    found = re.findall(rf"\b{name}(?:: \w+ =|:) ([^;,]+)[;,]", text) if name else re.findall(r"\b\d[\d_]*\b", text)
+    values = [WRITTEN.get(one) or int(one.replace("_", "")) for one in found if one in WRITTEN or one[0].isdigit()]
+    check(f"{path} has {name or 'no name'} {found}, and the page {told}", number in values)
+
+
+if __name__ == "__main__":
+    harness.main("readme.sh", [session, guide, size, crates, limits])
