@@ -1,0 +1,307 @@
+#!/usr/bin/env python3
+"""Makes what is installed beside the program out of docs/commands.md:
+
+    perkeep.1       the manual page
+    perkeep.bash    completions for bash
+    _perkeep        completions for zsh
+
+    install/make.py [FOLDER]
+
+They are written into FOLDER, or where none is given into the folder of this script. The page's first table has the
+lines of the commands. Each of its sections becomes one of the manual, but for those that speak of the repository alone.
+"""
+
+import pathlib
+import re
+import sys
+from typing import NamedTuple
+
+HERE = pathlib.Path(__file__).resolve().parent
+PAGE = HERE.parent / "docs" / "commands.md"
+# What the table of commands begins with, and the sections that are no part of the manual.
+HEADS = ["words", "what it does", "what it prints"]
+LEFT_OUT = ["The launcher"]
+PURPOSE = "keeps an archive of blobs, notes and files"
+MADE = "made from docs/commands.md by install/make.py"
+
+
+# The page
+
+class Command(NamedTuple):
+    """A command, as its line of the table says."""
+
+    usage: str
+    does: str
+
+    @property
+    def name(self):
+        return self.usage.split()[0]
+
+    @property
+    def words(self):
+        """What follows the name, with no brackets: the names of options, and of values and positions."""
+        return re.sub(r"[][]", "", self.usage).split()[1:]
+
+    @property
+    def options(self):
+        """The options, each with the name of its value."""
+        return [(word, value) for word, value in zip(self.words, self.words[1:]) if word.startswith("--")]
+
+    @property
+    def positions(self):
+        before = ["", *self.words]
+        return [word for word, last in zip(self.words, before) if not word.startswith("--") and not last.startswith("--")]
+
+    def may_lack(self, position):
+        return f"[{position}]" in self.usage
+
+
+def blocks_of(text):
+    """The parts between empty lines, each as its lines."""
+    return [block.splitlines() for block in re.split(r"\n{2,}", text.strip("\n"))]
+
+
+def rows_of(block):
+    """The cells of a table, its heads first, without the line below those."""
+    rows = [[cell.strip() for cell in line.strip("|").split("|")] for line in block]
+    return [rows[0], *rows[2:]]
+
+
+def is_table(block):
+    return block[0].startswith("|")
+
+
+def commands_of(blocks):
+    """The commands of the page."""
+    tables = [rows_of(block) for block in blocks if is_table(block)]
+    found = next(rows for heads, *rows in tables if heads == HEADS)
+    return [Command(usage.strip("`"), plain(does)) for usage, does, _ in found]
+
+
+def kinds_of(text):
+    """The words that KIND may be."""
+    named = re.search(r"KIND is one of the words ((?:`\w+`(?:, | and )?)+)", " ".join(text.split()))
+    return re.findall(r"`(\w+)`", named[1])
+
+
+def without_links(text):
+    """Text in which a link is its words, and a page is named by its place in the repository."""
+    return re.sub(r"\[([^]]*)\]\(([^)]*)\)", told_link, text)
+
+
+def told_link(link):
+    words, page = link[1], link[2].partition("#")[0]
+    if not page:
+        return words
+    return f"docs/{page}" if words == page else f"{words} (docs/{page})"
+
+
+def plain(text):
+    """Text with no marks."""
+    return without_links(text).replace("`", "")
+
+
+# The manual page
+
+def escaped(text):
+    """Text in which nothing is a request, and each character is the plain one."""
+    for mark, name in [("\\", r"\e"), ("-", r"\-"), ("'", r"\(aq"), ("^", r"\(ha"), ("~", r"\(ti"), ("`", r"\(ga")]:
+        text = text.replace(mark, name)
+    return re.sub(r"(?m)^\.", r"\\&.", text)
+
+
+def formatted(text):
+    """A running text: its code is bold, and what it stresses is in italics."""
+    parts = without_links(text).split("`")
+    return "".join(bold(part) if place % 2 else stressed(escaped(part)) for place, part in enumerate(parts))
+
+
+def bold(text):
+    return rf"\fB{escaped(text)}\fR"
+
+
+def stressed(text):
+    return re.sub(r"\*([^*]+)\*", r"\\fI\1\\fR", text)
+
+
+def manual_table(block):
+    """A table as a list of its rows: what the first cell has is told by the others."""
+    heads, *rows = rows_of(block)
+    lines = []
+    for first, *cells in rows:
+        told = [cells[0], *(f"{head}: {cell}" for head, cell in zip(heads[2:], cells[1:]))]
+        lines += [".TP", bold(plain(first)), formatted("; ".join(told))]
+    return lines
+
+
+def manual_list(block):
+    """A list, whose items may go over several lines."""
+    lines = []
+    for line in block:
+        item = re.fullmatch(r"(-|\d+\.) (.*)", line)
+        mark = r"\(bu" if item and item[1] == "-" else item and item[1]
+        lines += [f".IP {mark} 3", formatted(item[2])] if item else [formatted(line.strip())]
+    return lines
+
+
+def manual_block(block):
+    if block[0].startswith("#"):
+        marks, _, title = block[0].partition(" ")
+        return [f'.SH "{escaped(title.upper())}"' if marks == "##" else f'.SS "{escaped(title)}"']
+    if is_table(block):
+        return manual_table(block)
+    if block[0].startswith("    "):
+        return [".PP", ".RS 4", ".EX", *(escaped(line[4:]).replace("./perkeep", "perkeep") for line in block), ".EE", ".RE"]
+    if re.match(r"(-|\d+\.) ", block[0]):
+        return manual_list(block)
+    return [".PP", formatted("\n".join(block))]
+
+
+def is_kept(section):
+    return section.partition("\n")[0] not in LEFT_OUT
+
+
+def manual(text):
+    first, *sections = text.split("\n## ")
+    text = "\n## ".join([first, *filter(is_kept, sections)])
+    blocks = blocks_of(text)[1:]
+    lines = [rf".\" {MADE}", '.TH PERKEEP 1 "" perkeep', ".nh", ".ad l", ".SH NAME", rf"perkeep \- {PURPOSE}", ".SH SYNOPSIS"]
+    for command in commands_of(blocks):
+        lines += [".PD 0", ".PP", bold(f"perkeep {command.usage}")]
+    lines += [".PD", ".SH DESCRIPTION", *(line for block in blocks for line in manual_block(block))]
+    lines += [".SH \"SEE ALSO\"", "The pages that are named docs/ are in the sources of the program."]
+    return "\n".join(lines) + "\n"
+
+
+# Completions
+
+BASH = r"""# Completions of perkeep for bash, {made}.
+
+# The positions and options of a command.
+_perkeep_words() {{
+  positions=() options=()
+  case $1 in
+{cases}
+  esac
+}}
+
+# Offers the words that begin as the one that is being written.
+_perkeep_offer() {{
+  mapfile -t COMPREPLY < <(compgen "$@" -- "$word")
+}}
+
+_perkeep() {{
+  local word=${{COMP_WORDS[COMP_CWORD]}} place count=0 is_over='' given=' ' positions options
+  COMPREPLY=()
+  if [ "$COMP_CWORD" -eq 1 ]; then
+    _perkeep_offer -W '{names}'
+    return
+  fi
+  _perkeep_words "${{COMP_WORDS[1]}}"
+  for ((place = 2; place < COMP_CWORD; place++)); do
+    if [ -z "$is_over" ] && [ "${{COMP_WORDS[place]}}" = -- ]; then
+      is_over=1
+    elif [ -z "$is_over" ] && [[ ${{COMP_WORDS[place]}} == --* ]]; then
+      given+="${{COMP_WORDS[place]}} "
+      # Its value comes next. A `=` before that is a word of its own here.
+      [ "${{COMP_WORDS[place + 1]}}" != = ] || place=$((place + 1))
+      place=$((place + 1))
+    else
+      count=$((count + 1))
+    fi
+  done
+  # The value of an option may be anything.
+  [ "$place" -eq "$COMP_CWORD" ] || return
+  case $is_over$word in
+    -*) _perkeep_options ;;
+    *) _perkeep_position "${{positions[count]:-}}" ;;
+  esac
+}}
+
+# Offers what may stand at a position, and the options where nothing is known of that.
+_perkeep_position() {{
+  case $1 in
+    DIR)
+      compopt -o filenames 2>/dev/null
+      _perkeep_offer -d
+      ;;
+    KIND) _perkeep_offer -W '{kinds}' ;;
+    *) _perkeep_options ;;
+  esac
+}}
+
+# Offers the options that weren't given yet. There are none after a word `--`.
+_perkeep_options() {{
+  local option left=()
+  for option in "${{options[@]}}"; do
+    [[ $given == *" $option "* ]] || left+=("$option")
+  done
+  [ -n "$is_over" ] || _perkeep_offer -W "${{left[*]}}"
+}}
+
+complete -F _perkeep perkeep
+"""
+
+ZSH = r"""#compdef perkeep
+# Completions of perkeep for zsh, {made}.
+
+_perkeep() {{
+  if (( CURRENT == 2 )); then
+    local -a commands=(
+{commands}
+    )
+    _describe command commands
+    return
+  fi
+  local name=$words[2]
+  shift words
+  (( CURRENT -= 1 ))
+  case $name in
+{cases}
+  esac
+}}
+
+_perkeep "$@"
+"""
+
+
+def completions_for_bash(commands, kinds):
+    cases = [
+        f"    {command.name}) positions=({' '.join(command.positions)}) options=({' '.join(name for name, _ in command.options)}) ;;"
+        for command in commands
+    ]
+    names = " ".join(command.name for command in commands)
+    return BASH.format(made=MADE, cases="\n".join(cases), names=names, kinds=" ".join(kinds))
+
+
+def quoted(text):
+    return "'" + text.replace("'", r"'\''") + "'"
+
+
+def zsh_words(command, kinds):
+    """What zsh is told of the positions and options of a command."""
+    offers = {"DIR": "_directories", "KIND": f"({' '.join(kinds)})"}
+    for place, position in enumerate(command.positions, 1):
+        mark = "::" if command.may_lack(position) else ":"
+        yield quoted(f"{place}{mark}{position}:{offers.get(position, ' ')}")
+    for name, value in command.options:
+        yield quoted(f"{name}=:{value}: ")
+
+
+def completions_for_zsh(commands, kinds):
+    names = [f"      {quoted(f'{command.name}:{command.does}')}" for command in commands]
+    cases = [f"    {command.name}) _arguments -S {' '.join(zsh_words(command, kinds))} ;;" for command in commands]
+    return ZSH.format(made=MADE, commands="\n".join(names), cases="\n".join(cases))
+
+
+def main():
+    folder = pathlib.Path(sys.argv[1]) if len(sys.argv) > 1 else HERE
+    text = PAGE.read_text()
+    commands, kinds = commands_of(blocks_of(text)), kinds_of(text)
+    (folder / "perkeep.1").write_text(manual(text))
+    (folder / "perkeep.bash").write_text(completions_for_bash(commands, kinds))
+    (folder / "_perkeep").write_text(completions_for_zsh(commands, kinds))
+
+
+if __name__ == "__main__":
+    main()

@@ -1,0 +1,146 @@
+"""What is installed beside the program: the manual page and the completions of install/, and the unit of examples/.
+
+They have to be what install/make.py makes of docs/commands.md, and what reads them has to take them. What bash's
+completion offers is compared with the page's lines of commands, written down here.
+"""
+
+import os
+import pathlib
+import re
+import shutil
+import subprocess
+
+import harness
+from harness import SECONDS, LeftOut, check, compare
+
+TOP = pathlib.Path(__file__).resolve().parent.parent
+INSTALL = TOP / "install"
+MADE = ["_perkeep", "perkeep.1", "perkeep.bash"]
+COMMANDS = "put get stat list search query salvage search-pack permanode claim delete get-file put-file load serve".split()
+# What is written, each as bash divides it, and what is offered for the last word. There are the folders
+# `a folder` and `archive`, and a file `arrow`.
+OFFERS = [
+    ([""], COMMANDS),
+    (["se"], ["search", "search-pack", "serve"]),
+    (["search"], ["search", "search-pack"]),
+    (["other"], []),
+    (["other", ""], []),
+    (["put", ""], ["a folder", "archive"]),
+    (["put", "ar"], ["archive"]),
+    (["put", "archive", ""], []),
+    (["put", "-"], []),
+    (["search-pack", ""], []),
+    (["load", "100", ""], []),
+    (["get", "archive", ""], []),
+    (["list", "--"], ["--after", "--limit"]),
+    (["list", "archive", ""], ["--after", "--limit"]),
+    (["list", "archive", "--l"], ["--limit"]),
+    (["list", "archive", "--limit", ""], []),
+    (["list", "archive", "--limit", "5", ""], ["--after"]),
+    (["list", "--limit", "5", "ar"], ["archive"]),
+    (["list", "--limit", "="], []),
+    (["list", "--limit", "=", "5"], []),
+    (["list", "--limit", "=", "5", "ar"], ["archive"]),
+    (["list", "--limit", "=", "5", "archive", "--"], ["--after"]),
+    (["list", "--", "ar"], ["archive"]),
+    (["list", "--", "archive", "--"], []),
+    (["list", "archive", "--", "-"], []),
+    (["search", "archive", "--attr", "tag", "--"], ["--value", "--at"]),
+    (["claim", "archive", ""], ["set", "add", "del"]),
+    (["claim", "archive", "de"], ["del"]),
+    (["claim", "--key", "me", "archive", "s"], ["set"]),
+    (["claim", "archive", "set", "ref", "tag", "a", ""], ["--key"]),
+    (["permanode", "archive", "--"], ["--key"]),
+    (["serve", "archive", "--port", "3179", "--"], ["--workers", "--indexers", "--connections"]),
+]
+
+
+def run(*words, **settings):
+    """Runs a tool; answers its status, output and errors."""
+    ran = subprocess.run(words, capture_output=True, text=True, timeout=SECONDS, stdin=subprocess.DEVNULL, **settings)
+    return ran.returncode, ran.stdout, ran.stderr
+
+
+def one_of(*names):
+    """The first of these tools that is there."""
+    found = [name for name in names if shutil.which(name)]
+    if not found:
+        raise LeftOut(f"there is no {' or '.join(names)} here")
+    return found[0]
+
+
+def silent(what, *words, **settings):
+    """Runs a tool that has nothing to complain about; answers its output."""
+    status, out, err = run(*words, **settings)
+    compare(what, "exit status and errors", (0, ""), (status, err))
+    return out
+
+
+# What is made
+
+def made(program):
+    folder = program.new_path()
+    folder.mkdir()
+    silent("install/make.py", INSTALL / "make.py", folder)
+    compare("install/make.py", "what it makes", MADE, sorted(path.name for path in folder.iterdir()))
+    return [lambda name=name: is_made(folder, name) for name in MADE]
+
+
+def is_made(folder, name):
+    is_same = (folder / name).read_text() == (INSTALL / name).read_text()
+    check(f"install/{name} isn't what docs/commands.md says by now: run install/make.py", is_same)
+
+
+# Completions
+
+def bash(program):
+    folder = program.new_path()
+    for name in ("archive", "a folder"):
+        (folder / name).mkdir(parents=True)
+    (folder / "arrow").touch()
+    return [lambda words=words, offers=offers: offers_so(folder, words, offers) for words, offers in OFFERS]
+
+
+def offers_so(folder, words, offers):
+    script = 'source "$1"; shift; COMP_WORDS=(perkeep "$@"); COMP_CWORD=$#; _perkeep; printf "%s\\n" "${COMPREPLY[@]}"'
+    what = f"completions of {words}"
+    out = silent(what, "bash", "-c", script, "bash", INSTALL / "perkeep.bash", *words, cwd=folder)
+    compare(what, "offers", sorted(offers), sorted(out.split("\n")[:-1] if out.strip() else []))
+
+
+def zsh(_program):
+    shell = one_of("zsh")
+    return [lambda: silent("the completions for zsh", shell, "-n", INSTALL / "_perkeep")]
+
+
+# The manual page, and the unit
+
+def man(_program):
+    reader = one_of("groff", "mandoc")
+    words = {"groff": ["-man", "-Tutf8", "-ww"], "mandoc": ["-Tutf8", "-Werror"]}[reader]
+    return [lambda: is_read(reader, *words)]
+
+
+def is_read(*reader):
+    text = silent("the manual page", *reader, INSTALL / "perkeep.1")
+    for wanted in ("SYNOPSIS", "perkeep claim DIR KIND REF ATTR [VALUE] --key NAME", "EXIT STATUSES"):
+        check(f"the manual page doesn't have {wanted}", wanted in without_marks(text))
+
+
+def without_marks(text):
+    """Text without what a terminal takes for bold and the like."""
+    return re.sub(r"\x1b\[[0-9;]*m|.\x08", "", text)
+
+
+def unit(program):
+    tool = one_of("systemd-analyze")
+    home = program.new_path()
+    (home / ".local/bin").mkdir(parents=True)
+    (home / ".local/bin/perkeep").symlink_to("/bin/true")
+    (home / "run").mkdir()
+    settings = {"env": {**os.environ, "HOME": str(home), "XDG_RUNTIME_DIR": str(home / "run")}}
+    return [lambda: silent("the unit", tool, "verify", "--user", TOP / "examples/perkeep.service", **settings)]
+
+
+if __name__ == "__main__":
+    harness.main("install.sh", [made, bash, zsh, man, unit])
