@@ -7,7 +7,9 @@ says that it builds: its program tells from which text of a source it was made. 
 import itertools
 import os
 import pathlib
+import re
 import shutil
+import signal
 import subprocess
 import time
 
@@ -15,6 +17,8 @@ import harness
 from harness import SECONDS, check, compare
 
 TOP = pathlib.Path(__file__).resolve().parent.parent
+# The call by which the toolchain builds the program.
+BUILDS = "perkeep_cli run -- list . --limit=0"
 # Crates that the program doesn't stand on.
 APART = ("lab", "store_tests", "index_tests")
 
@@ -22,19 +26,37 @@ RT = r"""#!/usr/bin/env bash
 # version 1
 set -u
 fake=$(dirname "$0")
+# Says that a crate is proved, and leaves what the toolchain leaves of a library. It may stop there.
+prove() {
+  echo "library blobref: modules loaded=1 checked=0"
+  echo "crate $1: modules loaded=1 checked=1"
+  echo "logic=proved functions=1 native=nat,char,string"
+  [ "$1" = perkeep_cli ] || : >"../$1/out/rlib/stamp"
+  [ ! -e "$fake/stops" ] || [ "$1" != "$(<"$fake/stops")" ] || sleep 100
+}
+[ "$1" = version ] || echo "${PWD##*/} $*" >>"$fake/calls"
 case $1 in
   version) sed -n 's/^# version/a toolchain/p' "$0" ;;
+  all)
+    echo "only=0 proved=0"
+    for name in $(<"$fake/order"); do
+      echo "== $name"
+      if [ -e "$fake/breaks" ] && [ "$name" = "$(<"$fake/breaks")" ]; then
+        printf 'error: not this one\n== summary\n%s: failed (1)\n' "$name"
+        exit 1
+      fi
+      [ -e "../$name/out/rlib/stamp" ] || prove "$name"
+    done
+    printf '== summary\nblobref: ok\n'
+    ;;
   run)
-    echo "$PWD $*" >>"$fake/runs"
     echo "rt: perkeep_words: begins with what a check kept elsewhere" >&2
-    echo "rt: chose --jobs 2 for blobref" >&2
-    echo "crate blobref: modules loaded=1 checked=1" >&2
-    echo "checked pack_store::store" >&2
-    echo "crate blobref: modules loaded=1 checked=1" >&2
     text=$(cat ../pack_store/src/lib.rt)
+    for name in $(<"$fake/order"); do
+      [ -e "../$name/out/rlib/stamp" ] || prove "$name" >&2
+    done
     [ ! -e "$fake/seconds" ] || sleep "$(cat "$fake/seconds")"
     [ ! -e "$fake/meanwhile" ] || bash "$fake/meanwhile"
-    echo "rt: chose --jobs 2 for perkeep_cli" >&2
     [ ! -e "$fake/does_nothing" ] || exit 4
     if [ -e "$fake/fails" ]; then
       echo "rt: not proved, for a reason" >&2
@@ -47,24 +69,42 @@ case $1 in
     [ ! -e "$fake/fails_late" ] || exit 1
     exit 4
     ;;
+  try)
+    shift
+    while [ "$1" != -- ]; do
+      [ "$1" = --data ] && cp "${2#keyring=}" "$fake/keyring" || exit 2
+      shift 2
+    done
+    shift
+    : >"$fake/words"
+    [ $# -eq 0 ] || printf '%s\0' "$@" >"$fake/words"
+    stat -Lc %F /proc/self/fd/0 >"$fake/kind"
+    cat >"$fake/input"
+    [ ! -e "$fake/output" ] || cat "$fake/output"
+    [ ! -e "$fake/said" ] || cat "$fake/said" >&2
+    exit "$(<"$fake/ends")"
+    ;;
 esac
 """
 
 
 def crates_below(name="perkeep_cli"):
-    """The crates that a crate stands on and itself, by crates.txt."""
-    below = {}
+    """The crates that a crate stands on, each behind those that it uses, and itself, by crates.txt."""
+    uses = {}
     for line in (TOP / "crates.txt").read_text().splitlines():
-        head, colon, uses = line.partition("#")[0].partition(":")
+        head, colon, below = line.partition("#")[0].partition(":")
         if colon:
-            below[head.split()[0]] = uses.split()
-    found, waiting = set(), [name]
-    while waiting:
-        one = waiting.pop()
-        if one in below and one not in found:
-            found.add(one)
-            waiting += below[one]
-    return sorted(found)
+            uses[head.split()[0]] = below.split()
+    found = {}
+
+    def visit(name):
+        for below in uses[name]:
+            if below in uses and below not in found:
+                visit(below)
+        found[name] = True
+
+    visit(name)
+    return list(found)
 
 
 class Tree:
@@ -82,21 +122,24 @@ class Tree:
         for file in ("docs/page.md", "tests/test.sh", "README.md"):
             self.write(file, "text")
         self.write("crates/pack_store/src/lib.rt", "text 1")
-        self.tool(RT)
+        self.write("fake/order", "\n".join(crates_below()))
+        self.tool("rt", RT)
 
-    def tool(self, text):
-        self.write("fake/rt", text)
-        (self.fake / "rt").chmod(0o755)
+    def tool(self, name, text):
+        self.write(f"fake/{name}", text)
+        (self.fake / name).chmod(0o755)
 
     def write(self, name, text):
         (self.top / name).parent.mkdir(parents=True, exist_ok=True)
         (self.top / name).write_text(text)
 
     def start(self, *words, launcher=None, folder=None, **settings):
-        environment = {**os.environ, "PATH": f"{self.fake}:{os.environ['PATH']}", "PERKEEP_BUILD": "", **settings}
+        """Starts the launcher in a group of processes of its own."""
+        none_set = {"PERKEEP_BUILD": "", "PERKEEP_JOBS": "", "PERKEEP_TRY": ""}
+        environment = {**os.environ, "PATH": f"{self.fake}:{os.environ['PATH']}", **none_set, **settings}
         streams = {"stdin": subprocess.PIPE, "stdout": subprocess.PIPE, "stderr": subprocess.PIPE}
-        command = [launcher or self.top / "perkeep", *words]
-        return subprocess.Popen(command, cwd=folder or self.top, env=environment, text=True, **streams)
+        how = {"cwd": folder or self.top, "env": environment, "text": True, "start_new_session": True}
+        return subprocess.Popen([launcher or self.top / "perkeep", *words], **how, **streams)
 
     def run(self, what, *words, **settings):
         """Starts the program, which has to run; answers what was said of a build."""
@@ -117,9 +160,22 @@ class Tree:
         compare("a check", "what it says", ("", ""), (out, err))
         return {0: True, 1: False}[process.returncode]
 
+    def calls(self):
+        """The calls of the toolchain, each with the name of the folder that it was made in."""
+        calls = self.fake / "calls"
+        return calls.read_text().splitlines() if calls.exists() else []
+
     def builds(self):
-        runs = self.fake / "runs"
-        return len(runs.read_text().splitlines()) if runs.exists() else 0
+        return self.calls().count(BUILDS)
+
+    def has_tried(self):
+        """Whether the sources were run."""
+        return any(" try " in call for call in self.calls())
+
+    def prove(self, names):
+        """Leaves what the toolchain leaves of libraries that it has proved."""
+        for name in names:
+            self.write(f"crates/{name}/out/rlib/stamp", "")
 
 
 def built(program):
@@ -138,13 +194,7 @@ def starts(program):
 def first_start(program):
     tree = Tree(program)
     compare("nothing built yet", "current", False, tree.is_current())
-    said = tree.run("a first start", "put", "a folder with spaces", "")
-    lines = [line.split() for line in said.splitlines() if " proving " in line]
-    names, places = [line[2] for line in lines], [int(line[3].strip("(")) for line in lines]
-    compare("a first start", "crates at work", ["blobref", "pack_store", "perkeep_cli"], [names[0], *names[2:]])
-    check(f"a first start: the order of {places}", places[:2] == [1, 2] and sorted(set(places)) == places)
-    compare("a first start", "the last crate", ["perkeep:", "proving", "perkeep_cli", f"({places[-1]}", "of", f"{places[-1]})"], lines[-1])
-    compare("a first start", "crates", len(crates_below()), places[-1])
+    tree.run("a first start", "put", "a folder with spaces", "")
     compare("a first start", "builds", 1, tree.builds())
     compare("a first start", "current", True, tree.is_current())
 
@@ -234,7 +284,7 @@ EDITS = {
     "a file of another name": lambda tree: (tree.top / "crates/blobref/src/lib.rt").rename(tree.top / "crates/blobref/src/other.rt"),
     "a text of the same length and time": lambda tree: same_length_and_time(tree, "crates/blobref/src/lib.rt"),
     "the line of a crate": lambda tree: edit_lines(tree, "pack_format: blobref itoa", "pack_format: blobref itoa hex"),
-    "another toolchain": lambda tree: tree.tool(RT.replace("version 1", "version 2")),
+    "another toolchain": lambda tree: tree.tool("rt", RT.replace("version 1", "version 2")),
     "a program that is gone": lambda tree: (tree.top / PROGRAM).unlink(),
     "another program": lambda tree: (tree.top / PROGRAM).write_text("#!/bin/sh\necho another\n"),
     "a program that can't be run": lambda tree: (tree.top / PROGRAM).chmod(0o644),
@@ -349,5 +399,315 @@ def two_failures(program):
         compare("several launchers, a build that fails", "exit status", 70, process.returncode)
 
 
+# How it builds, and what it says of that
+
+def progress(program):
+    checks = (side_by_side, one_by_one, some_proved_before, reckoned_lanes, first_call_fails, interrupted, edited)
+    return [lambda check=check: check(program) for check in checks]
+
+
+def beginning(lacking):
+    """How what is said of a build begins that proves so many crates for the first time."""
+    told = f"perkeep: building the program: {lacking} of its {len(crates_below())} crates are to be proved, in about "
+    return told, " min (PERKEEP_TRY=1 runs it unproved, in one)", "perkeep: reading the sources"
+
+
+def compare_progress(what, lacking, proved, said):
+    """What is said of a build; `proved` are the crates that it proves in their order, with how many then are."""
+    first, second, *lines = said.splitlines()
+    before, behind, reading = beginning(lacking)
+    check(f"{what}: it begins with {first}", first.startswith(before) and first.endswith(behind))
+    minutes = first[len(before) : -len(behind)]
+    check(f"{what}: about {minutes} minutes", minutes.isdigit() and int(minutes) > 0)
+    count = len(crates_below())
+    told = [f"perkeep: proved {name} ({done} of {count}, 0 min)" for name, done in proved]
+    compare(what, "what is said", [reading, *told], [second, *lines])
+
+
+def counted(names, start=1):
+    return [(name, done) for done, name in enumerate(names, start)]
+
+
+def side_by_side(program):
+    tree = Tree(program)
+    said = tree.run("crates side by side", PERKEEP_JOBS="3")
+    compare("crates side by side", "calls", ["perkeep_cli all check --jobs 3", BUILDS], tree.calls())
+    compare_progress("crates side by side", len(crates_below()), counted(crates_below()), said)
+
+
+def one_by_one(program):
+    for jobs in ("0", "1", "2", "02"):
+        tree = Tree(program)
+        said = tree.run(f"{jobs} jobs", PERKEEP_JOBS=jobs)
+        compare(f"{jobs} jobs", "calls", [BUILDS], tree.calls())
+        compare_progress(f"{jobs} jobs", len(crates_below()), counted(crates_below()), said)
+
+
+def some_proved_before(program):
+    """Crates that are proved already are counted, and nothing else is said of them."""
+    names = crates_below()
+    before = [*names[:7], *names[10:20:2], *names[-4:-1]]
+    for jobs in ("2", "3"):
+        tree = Tree(program)
+        tree.prove(before)
+        said = tree.run(f"{jobs} jobs, some proved", PERKEEP_JOBS=jobs)
+        proved = [(name, done) for name, done in counted(names) if name not in before]
+        compare_progress(f"{jobs} jobs, some proved", len(names) - len(before), proved, said)
+
+
+def reckoned_lanes(program):
+    """Two more than there are processors, and no more than there is memory for."""
+    for processors in (1, 1_000_000):
+        tree = Tree(program)
+        tree.tool("nproc", f"#!/bin/sh\necho {processors}\n")
+        rooms = [memory_rooms()]
+        tree.run(f"{processors} processors")
+        rooms.append(memory_rooms())
+        wanted = range(min(processors + 2, min(rooms) - 1), min(processors + 2, max(rooms) + 1) + 1)
+        calls = [f"perkeep_cli all check --jobs {lanes}" if lanes >= 3 else BUILDS for lanes in wanted]
+        check(f"{processors} processors: {tree.calls()}", tree.calls()[0] in calls)
+
+
+def memory_rooms():
+    """How many crates the free memory has room for, at 1.8 GB each."""
+    found = re.search(r"MemAvailable: +(\d+) kB", pathlib.Path("/proc/meminfo").read_text())
+    return int(found[1]) * 1024 // 1_800_000_000
+
+
+def first_call_fails(program):
+    """What isn't proved side by side is tried once more, one by one. That says what is wrong, if anything."""
+    names = crates_below()
+    calls = ["perkeep_cli all check --jobs 4", BUILDS]
+    tree = Tree(program)
+    tree.write("fake/breaks", names[20])
+    said = tree.run("a first call that fails", PERKEEP_JOBS="4")
+    compare("a first call that fails", "calls", calls, tree.calls())
+    compare_progress("a first call that fails", len(names), counted(names), said)
+    tree = Tree(program)
+    tree.write("fake/breaks", names[20])
+    tree.write("fake/fails", "1")
+    fails("two calls that fail", tree, "rt: not proved, for a reason", PERKEEP_JOBS="4")
+    compare("two calls that fail", "calls", calls, tree.calls())
+
+
+def interrupted(program):
+    """A build that is interrupted ends at once, and the next one goes on where it was."""
+    names = crates_below()
+    for jobs, calls in [("2", [BUILDS]), ("5", ["perkeep_cli all check --jobs 5"])]:
+        what = f"an interrupted build with {jobs} jobs"
+        tree = Tree(program)
+        tree.write("fake/stops", names[9])
+        process = tree.start(PERKEEP_JOBS=jobs)
+        said = "".join(iter(process.stderr.readline, f"perkeep: proved {names[9]} (10 of {len(names)}, 0 min)\n"))
+        compare_progress(what, len(names), counted(names[:9]), said)
+        os.killpg(process.pid, signal.SIGINT)
+        compare(what, "what it says then", ("", ""), process.communicate(timeout=SECONDS))
+        check(f"{what}: exit status {process.returncode}", process.returncode in (-signal.SIGINT, 128 + signal.SIGINT))
+        compare(what, "calls", calls, tree.calls())
+        compare(what, "current", False, tree.is_current())
+        (tree.fake / "stops").unlink()
+        compare_progress(what, len(names) - 10, counted(names[10:], 11), tree.run(what, PERKEEP_JOBS=jobs))
+
+
+def edited(program):
+    """Where all crates were proved before nobody can tell how long the build takes."""
+    tree = built(program)
+    tree.write("crates/pack_store/src/lib.rt", "text 2")
+    told = f"perkeep: building the program: what has changed in its {len(crates_below())} crates is proved again"
+    said = tree.run("an edit", PERKEEP_JOBS="2").splitlines()
+    compare("an edit", "what is said", [told, "perkeep: reading the sources"], said[:2])
+
+
+# Running the sources
+
+# What is said first of all, and last where there is no answer.
+UNPROVED = "perkeep: not proved here: rt try runs the sources, which takes about a minute\n"
+NO_ANSWER = "perkeep: the sources couldn't be run to their end, which has to come within 60 seconds and 1 MiB of output\n"
+# How the toolchain tells that the program ended with a status. In front of it stands what the program told.
+ENDED = """interpreter: no-answer: a call of a function
+checked: ended status={0}
+races: not looked for
+run=ended status={0} runners=1 races=unchecked proved=no
+"""
+# Words, and those that are handed on in the folder @.
+HANDED = [
+    (["put", "d"], ["put", "@/d"]),
+    (["put", "a folder/d"], ["put", "@/a folder/d"]),
+    (["put", "."], ["put", "@/."]),
+    (["put", "/d"], ["put", "/d"]),
+    (["put", ""], ["put", ""]),
+    (["get", "d", "d"], ["get", "@/d", "d"]),
+    (["list", "--limit", "5", "d", "--after", "d"], ["list", "--limit", "5", "@/d", "--after", "d"]),
+    (["list", "--limit=5", "d"], ["list", "--limit=5", "@/d"]),
+    (["list", "--limit=5", "--", "d"], ["list", "--limit=5", "--", "@/d"]),
+    (["list", "--", "-d"], ["list", "--", "@/-d"]),
+    (["list", "--", "--"], ["list", "--", "@/--"]),
+    (["put-file", "d", "--", "-d"], ["put-file", "@/d", "--", "-d"]),
+    (["search", "--attr", "d", "d", "--value=d"], ["search", "--attr", "d", "@/d", "--value=d"]),
+    (["claim", "--key", "me", "d", "set", "--", "R", "tag", "-a"], ["claim", "--key", "me", "@/d", "set", "--", "R", "tag", "-a"]),
+    (["search-pack", "d", "d"], ["search-pack", "d", "d"]),
+    (["search-pack", "--", "d", "d"], ["search-pack", "--", "d", "d"]),
+    (["load", "1", "1"], ["load", "1", "1"]),
+    # These are no lines, and stay none.
+    ([], []),
+    ([""], [""]),
+    (["list"], ["list"]),
+    (["list", "-"], ["list", "-"]),
+    (["list", "-d"], ["list", "-d"]),
+    (["list", "--limit", "d"], ["list", "--limit", "d"]),
+    (["--", "list", "d"], ["--", "@/list", "d"]),
+]
+
+
+def tries(program):
+    rows = [lambda row=row: hands_on(program, *row) for row in HANDED]
+    checks = (keyrings, inputs, no_input, statuses, no_answers, refusals, proved_program, asked_for)
+    return rows + [lambda check=check: check(program) for check in checks]
+
+
+class Tried(Tree):
+    """A tree whose sources end with a status, after they wrote to standard output and standard error."""
+
+    def __init__(self, program, status=0, output="", told="", said=None):
+        super().__init__(program)
+        self.write("fake/ends", f"{status}")
+        self.write("fake/output", output)
+        self.write("fake/said", told + ENDED.format(status) if said is None else said)
+
+    def ends(self, what, words, status, out, err, source="", **settings):
+        """Starts the launcher, which has to end so."""
+        process = self.start(*words, PERKEEP_TRY="1", **settings)
+        got_out, got_err = process.communicate(source, timeout=SECONDS)
+        compare(what, "exit status", status, process.returncode)
+        compare(what, "standard output", out, got_out)
+        compare(what, "standard error", err, got_err)
+        compare(what, "current", False, self.is_current())
+
+    def given(self, name):
+        return (self.fake / name).read_text()
+
+
+def hands_on(program, words, handed):
+    tree = Tried(program)
+    folder = program.new_path()
+    folder.mkdir()
+    tree.ends(f"{words}", words, 0, "", UNPROVED, folder=folder)
+    compare(f"{words}", "words handed on", "".join(f"{word}\0".replace("@", str(folder)) for word in handed), tree.given("words"))
+    compare(f"{words}", "calls", 1, len(tree.calls()))
+    compare(f"{words}", "folder", "perkeep_cli", tree.calls()[0].split()[0])
+
+
+def keyrings(program):
+    """The working folder's keyring is handed to the commands that read it there."""
+    folder = program.new_path()
+    folder.mkdir()
+    rows = [(["search-pack", "tag", "a"], True), (["load", "1", "1"], True), (["put", "d"], False), (["list", "."], False)]
+    for words, is_handed in rows:
+        for keyring in ("me 0123\n", None):
+            tree = Tried(program)
+            (folder / "keyring").unlink(missing_ok=True)
+            if keyring is not None:
+                (folder / "keyring").write_text(keyring)
+            tree.ends(f"{words} and a keyring", words, 0, "", UNPROVED, folder=folder)
+            is_given = (tree.fake / "keyring").exists()
+            compare(f"{words} and a keyring", "whether it is handed on", is_handed and keyring is not None, is_given)
+            compare(f"{words} and a keyring", "keyring", keyring if is_given else "", tree.given("keyring") if is_given else "")
+
+
+def inputs(program):
+    """Standard input is taken whole, however slowly it comes."""
+    for words in (["put", "d"], ["put-file", "d", "name"], ["query", "d"], ["search-pack", "tag", "a"]):
+        tree = Tried(program)
+        process = tree.start(*words, PERKEEP_TRY="1")
+        process.stdin.write("slow ")
+        process.stdin.flush()
+        time.sleep(0.5)
+        compare(f"{words}", "calls before the end of standard input", [], tree.calls())
+        process.communicate("input\n", timeout=SECONDS)
+        compare(f"{words}", "exit status", 0, process.returncode)
+        compare(f"{words}", "standard input", ("regular file\n", "slow input\n"), (tree.given("kind"), tree.given("input")))
+
+
+def no_input(program):
+    """Commands that don't read standard input don't wait for its end."""
+    for words in (["get", "d", "r"], ["list", "d"], ["permanode", "d", "--key", "me"], ["load", "1", "1"], []):
+        tree = Tried(program)
+        process = tree.start(*words, PERKEEP_TRY="1")
+        compare(f"{words}", "exit status", 0, process.wait(SECONDS))
+        compare(f"{words}", "standard input", "", tree.given("input"))
+        process.communicate()
+
+
+def statuses(program):
+    """The program's own statuses, which some of the toolchain's are like."""
+    for status in (0, 1, 2, 3, 4, 5, 6, 7, 9, 10, 12, 14):
+        told = "" if status == 0 else "perkeep: word\n"
+        tree = Tried(program, status, "some\0output\nwith no end", told)
+        tree.ends(f"status {status}", ["list", "d"], status, "some\0output\nwith no end", UNPROVED + told)
+
+
+def no_answers(program):
+    """What the toolchain ends with where there is no answer, and what it says then."""
+    rows = [
+        (1, "error: this doesn't compile\nrun=none proved=no\n"),
+        (2, "rt: it doesn't start\nrun=none proved=no\n"),
+        (3, "antt hit a limit\nrun=none proved=no\n"),
+        (4, "checked: fault kind=index\nrun=fault status=0 proved=no\n"),
+        (5, "run=differs proved=no\n"),
+        (6, "perkeep: word\nchecked: no-answer: it wrote too much\nrun=no-answer runners=1 proved=no\n"),
+        (0, "run=ended status=0 runners=1 proved=no\nmore\n"),
+        (0, ""),
+        (0, "run=ended status=0 runners=1 proved=yes\n"),
+    ]
+    for status, said in rows:
+        tree = Tried(program, status, "a part of the output", said=said)
+        tree.ends(f"status {status} and {said!r}", ["list", "d"], 70, "", UNPROVED + said + NO_ANSWER)
+    tree = Tried(program)
+    (tree.fake / "rt").unlink()
+    process = tree.start("list", "d", PERKEEP_TRY="1", PATH="/usr/bin:/bin")
+    out, err = process.communicate(timeout=SECONDS)
+    compare("no toolchain", "exit status and standard output", (70, ""), (process.returncode, out))
+    check(f"no toolchain: it says {err}", err.startswith(UNPROVED) and err.endswith(NO_ANSWER))
+
+
+def refusals(program):
+    """What can't be done unproved is refused by one line, and the toolchain isn't asked."""
+    serve = "perkeep: serve isn't run unproved; PERKEEP_BUILD=only ./perkeep builds the program\n"
+    limit = 64 << 20
+    tree = Tried(program)
+    for words in (["serve"], ["serve", "d", "--port", "3179"]):
+        tree.ends(f"{words}", words, 70, "", serve)
+    too_long = f"perkeep: PERKEEP_TRY=1 takes less than {limit} bytes of standard input\n"
+    tree.ends("too much input", ["put", "d"], 70, "", too_long, source=" " * limit)
+    compare("refusals", "calls", [], tree.calls())
+    tree.ends("less input", ["put", "d"], 0, "", UNPROVED, source=" " * (limit - 1))
+    compare("less input", "standard input", limit - 1, (tree.fake / "input").stat().st_size)
+
+
+def proved_program(program):
+    """Where the built program is current it is run, without a word."""
+    tree = built(program)
+    compare("a program that is current", "what it says", "", tree.run("a program that is current", "serve", PERKEEP_TRY="1"))
+    check(f"a program that is current: {tree.calls()}", not tree.has_tried())
+
+
+def asked_for(program):
+    """Nothing that isn't proved is run unless that is asked for, in so many words."""
+    for value in ("", "0", "2", "yes", "11"):
+        tree = Tried(program)
+        tree.run(f"PERKEEP_TRY={value}", PERKEEP_TRY=value)
+        check(f"PERKEEP_TRY={value}: {tree.calls()}", not tree.has_tried())
+    tree = Tried(program)
+    tree.write("fake/fails", "1")
+    fails("a build that fails", tree)
+    check(f"a build that fails: {tree.calls()}", not tree.has_tried())
+    tree = Tried(program)
+    for setting, status in [("check", 1), ("only", 0)]:
+        process = tree.start("put", "d", PERKEEP_TRY="1", PERKEEP_BUILD=setting)
+        out, _ = process.communicate("", timeout=SECONDS)
+        compare(f"PERKEEP_BUILD={setting}", "exit status and standard output", (status, ""), (process.returncode, out))
+    check(f"PERKEEP_BUILD beside PERKEEP_TRY: {tree.calls()}", not tree.has_tried())
+
+
 if __name__ == "__main__":
-    harness.main("launcher.sh", [starts, stale, builds])
+    harness.main("launcher.sh", [starts, stale, builds, progress, tries])
