@@ -1,7 +1,7 @@
 """Runs `lab http` over streams of requests, whole and in pieces, and compares every byte of the replies.
 
 What a stream has to get is the reference's (connections.py), which Python's own client has to read. For some streams it
-is written down beside them (http_inputs.py), and the reference has to give that as well as the program.
+is written down beside them (http_inputs.py, http_rows.py), and the reference has to give that as well as the program.
 """
 
 import functools
@@ -18,6 +18,7 @@ import connections
 import harness
 import http_inputs
 import http_random
+import http_rows
 import reference
 from connections import Cut
 from harness import Difference, chance, check, compare, compare_ending, run_quickly
@@ -245,7 +246,7 @@ HOSTILE = [http_inputs.first_lines, http_inputs.heads, http_inputs.lengths, http
 HOSTILE += [http_inputs.content_types, http_inputs.stats]
 GROUPS = [pages, http_inputs.rows, *map(http_inputs.probed, HOSTILE), http_inputs.uploads, http_inputs.cut_uploads]
 GROUPS += [http_inputs.listings, http_inputs.queries, http_inputs.sessions, random_streams, http_inputs.long_bodies]
-GROUPS += [http_inputs.large_parts]
+GROUPS += [http_inputs.large_parts, http_rows.request_rows]
 
 
 def tell_starts(program):

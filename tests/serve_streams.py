@@ -1,4 +1,4 @@
-"""The streams of http_inputs.py and http_random.py, handed to servers, and streams that the client cuts.
+"""The streams of http_inputs.py, http_rows.py and http_random.py, handed to servers, and streams that the client cuts.
 
 A server keeps what it is given, so each stream meets what those before it have left, which connections.py knows.
 """
@@ -12,6 +12,7 @@ import struct
 
 import http_inputs
 import http_random
+import http_rows
 from connections import JSON, LISTING, QUERY, STAT
 from harness import chance, check, compare
 from http_inputs import get, post, upload
@@ -37,6 +38,7 @@ HOSTILE = [http_inputs.first_lines, http_inputs.heads, http_inputs.lengths, http
 HOSTILE += [http_inputs.content_types, http_inputs.stats]
 INPUTS = [http_inputs.rows, *map(http_inputs.probed, HOSTILE), http_inputs.uploads, http_inputs.cut_uploads]
 INPUTS += [http_inputs.listings, http_inputs.queries, http_inputs.long_bodies, http_inputs.large_parts]
+INPUTS += [http_rows.request_rows]
 
 
 def of_inputs(group):

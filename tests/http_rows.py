@@ -1,0 +1,167 @@
+"""Requests of a few lines with the replies that they have to get: how heads and bodies are read, and what is asked.
+
+The replies are written down here, by docs/http.md. A further request behind a stream shows whether the connection stays
+open.
+"""
+
+from connections import LISTING, QUERY, STAT, UPLOAD
+from http_inputs import A, A_ENTRY, A_PART, A_STANDS, BAD, CLOSE, KEY, LONG, MANY, NO_ROUTE, NOTHING, OK
+from http_inputs import Case, chunk, get, head, post, post_chunks, stat_pairs, told, upload
+from reference import ref_of
+from writing import octets, permanode
+
+E = "sha224-d14a028c2a3a2bc9476102bb288234c415a2b01f828ea62ac5b3e42f"
+E_ENTRY = '{"blobRef":"' + E + '","size":0}'
+CHUNKED = "Transfer-Encoding: chunked"
+# A query whose reply shows what was read.
+HELLO = b'{"hello":1}'
+
+
+# Replies
+
+def refused(what, *lines, code=BAD):
+    return told(code, f'{{"error":"{what}"}}', *lines)
+
+
+def bad_query(kind, at="", *lines):
+    return told(BAD, f'{{"error":"bad query","kind":"{kind}","at":"{at}"}}', *lines)
+
+
+def stat_reply(*entries):
+    return told(OK, '{"stat":[' + ",".join(entries) + "]}")
+
+
+def upload_reply(*entries):
+    return told(OK, '{"received":[' + ",".join(entries) + "]}")
+
+
+BAD_HEAD, BAD_LENGTH = refused("bad head", CLOSE), refused("bad length", CLOSE)
+NO_ROUTE_CLOSED = refused("no route", CLOSE, code="404 Not Found")
+
+
+def request_rows():
+    """Streams with the replies that they have to get."""
+    for rows in (heads_read, lengths_read, chunks_read, routes_asked, refs_asked, queries_asked):
+        for place, (stream, replies) in enumerate(rows()):
+            yield Case(f"{rows.__name__} {place}", stream, "small", replies)
+    for place, (stream, replies) in enumerate(pages_asked()):
+        yield Case(f"pages_asked {place}", stream, "many", replies)
+    yield Case("a search of at most three", *limited_search())
+
+
+# How heads and bodies are read
+
+def heads_read():
+    yield get(f"/camli/stat?camliversion=1&blob1={A}&blob2={E}", "Host: h"), stat_reply(A_ENTRY, E_ENTRY)
+    yield get("/a?b?c") + head("GET * HTTP/1.0", end="\n") + NOTHING, NO_ROUTE + NO_ROUTE_CLOSED
+    yield get(f"/camli/stat?camliversion=1&blob1={A}?c"), refused("bad ref")
+    yield b"\r\n\n" + head("GET /a HTTP/1.1", end="\n") + b"GET", NO_ROUTE
+    kinds = ('content-TYPE:  multipart/form-data; boundary="a b" ', "Content-Type: c")
+    yield post(UPLOAD, b"--a b--", *kinds) + NOTHING, upload_reply() + NO_ROUTE
+    yield get("/", "content-TYPE:  a b ", "Content-Type: c") + NOTHING, NO_ROUTE + NO_ROUTE
+    yield get("/", "Connection: Keep-Alive , CLOSE") + NOTHING, NO_ROUTE_CLOSED
+    yield get("/", "Connection: closed", "Connection:close") + NOTHING, NO_ROUTE_CLOSED
+    yield get("/", "Connection: closed") + NOTHING, NO_ROUTE + NO_ROUTE
+    yield b"\r\n", b""
+    yield b"GET  / HTTP/1.1\r\n\r\n", BAD_HEAD
+    yield get("/", "A : b") + NOTHING, BAD_HEAD
+
+
+def query_head(*headers, version=b"1.1", end="\r\n"):
+    return head(b"POST %b HTTP/%b" % (QUERY, version), *headers, end=end)
+
+
+def lengths_read():
+    yield query_head("Content-Length: 11", end="\n") + HELLO + b"GET", bad_query("BadKey", "hello")
+    yield query_head("Content-Length: 0") + NOTHING, bad_query("NotJson") + NO_ROUTE
+    yield head("POST / HTTP/1.1", "Content-Length: 0") + NOTHING, NO_ROUTE + NO_ROUTE
+    yield query_head("Content-Length: 3") + b"ab", b""
+    bad = [["Content-Length: 1", "Content-Length: 1"], ["Content-Length: 1, 1"], ["Content-Length: +1"]]
+    bad += [["Content-Length: 00000000000000000001"], ["Content-Length: 1", CHUNKED]]
+    bad += [["Transfer-Encoding: gzip, chunked"]]
+    for headers in bad:
+        yield query_head(*headers) + b"a" + NOTHING, BAD_LENGTH
+    yield query_head("Content-Length: 0000000000000000011") + HELLO + NOTHING, bad_query("BadKey", "hello") + NO_ROUTE
+    in_chunks = b"b\r\n" + HELLO + b"\r\n0\r\n\r\n"
+    yield query_head(CHUNKED, version=b"1.0") + in_chunks + NOTHING, bad_query("BadKey", "hello", CLOSE)
+    yield head("POST / HTTP/1.0", CHUNKED) + b"0\r\n\r\n" + NOTHING, NO_ROUTE_CLOSED
+
+
+def chunks_read():
+    pieces = [b"camliversion=1", b"&", b"blob1=" + octets(A)]
+    yield post_chunks(STAT, map(chunk, pieces)) + NOTHING, A_STANDS + NO_ROUTE
+    body = b'5;x="y"\r\n{"abc\r\n006 \r\nde":1}\r\n0\r\nT: u\n\r\n'
+    yield query_head("transfer-encoding: Chunked") + body + b"GET", bad_query("BadKey", "abcde")
+    # What came before a break is content.
+    kind, content = "Content-Type: multipart/form-data; boundary=x", A_PART + b"--x--"
+    broken = post_chunks(UPLOAD, [octets(f"{len(content):x}\r\n"), content, b"d"], kind)
+    yield broken + NOTHING, told(BAD, '{"received":[' + A_ENTRY + '],"error":"bad length"}', CLOSE)
+    for body in (b"3\r\nabcd", b"3\nabc", b"g\r\n", b"0\r\nT u\r\n\r\n"):
+        yield query_head(CHUNKED) + body, BAD_LENGTH
+        yield query_head(CHUNKED) + body + NOTHING, BAD_LENGTH
+    for body in (b"3\r\nabc", b"0\r\n"):
+        yield query_head(CHUNKED) + body, b""
+
+
+# What is asked
+
+def routes_asked():
+    empty = b"HTTP/1.1 200 OK\r\nContent-Type: application/octet-stream\r\nContent-Length: 0\r\n\r\n"
+    yield get(f"/camli/{E}") + get(f"/camli/{E}?x=1"), empty + empty
+    for target in (f"/camli/{E}/", "/camli/", "/camli/Stat", "/camli/%73tat"):
+        yield get(target), NO_ROUTE
+    rows = [(f"HEAD /camli/{E}", "GET"), ("PUT /camli/stat", "GET, POST"), ("GET /camli/upload", "POST")]
+    rows += [("POST /camli/enumerate-blobs", "GET"), ("GET /camli/search/query", "POST")]
+    rows += [("get /camli/search/query", "POST")]
+    for line, methods in rows:
+        reply = refused("method", f"Allow: {methods}", code="405 Method Not Allowed")
+        yield head(f"{line} HTTP/1.1") + NOTHING, reply + NO_ROUTE
+
+
+def refs_asked():
+    e_stands, bad_version, bad_ref = stat_reply(E_ENTRY), refused("bad version"), refused("bad ref")
+    rows = [(f"camliversion=1&blob1={E}&blob2={E}", e_stands)]
+    rows += [(f"camliversion=1&blob2={E}&blob1={A}&blob4=x", stat_reply(A_ENTRY, E_ENTRY))]
+    rows += [("camliversion=1", stat_reply()), (f"%63amliversion=%31&&blob1=%73{E[1:]}", e_stands)]
+    rows += [(f"camliversion=1&blob01=x&blob1={E}&blob1=x", e_stands)]
+    rows += [("blob1=x", bad_version), ("camliversion=2&camliversion=1", bad_version)]
+    rows += [("camliversion=1&blob1=", bad_ref), (f"camliversion=1&blob1=x&blob1={E}", bad_ref)]
+    for pairs, reply in rows:
+        yield get(f"/camli/stat?{pairs}"), reply
+    # By `POST` the query isn't looked at.
+    rows = [("camliversion=1", stat_reply()), (f"camliversion=1&blob1={E}", e_stands), ("camliversion=+1", bad_version)]
+    for pairs, reply in rows:
+        yield post(octets(f"/camli/stat?camliversion=1&blob1={E}"), octets(pairs)), reply
+        yield post(STAT, octets(pairs)), reply
+    yield post(STAT, stat_pairs(*[E] * 1_000)), e_stands
+    yield post(STAT, stat_pairs(*["x"] * 1_001)), told(LONG, '{"error":"too long","limit":1000}')
+
+
+def pages_asked():
+    sizes = {ref_of(blob): len(blob) for blob in MANY}
+    refs = sorted(sizes)
+
+    def page(some):
+        entries = ",".join(f'{{"blobRef":"{ref}","size":{sizes[ref]}}}' for ref in some)
+        return told(OK, f'{{"blobs":[{entries}],"continueAfter":"{some[-1]}"}}')
+
+    yield get(LISTING), page(refs[:1_000])
+    yield get(LISTING + b"?after=&limit=1001"), page(refs[:1_000])
+    yield get(LISTING + octets(f"?after={E}&limit=007")), page([ref for ref in refs if ref > E][:7])
+    yield get(LISTING + b"?after=x&limit=0"), refused("bad ref")
+    for limit in (b"0", b"", b"+7", b"1000000000"):
+        yield get(LISTING + b"?limit=" + limit), refused("bad number")
+
+
+def queries_asked():
+    yield post(QUERY, b'{"limit":3}'), bad_query("BadValue")
+    yield query_head(), bad_query("NotJson")
+
+
+def limited_search():
+    """A search for three of four permanodes, its store, and the replies."""
+    nodes = [permanode(f"{number:032x}") for number in range(4)]
+    received = upload_reply(*(f'{{"blobRef":"{ref_of(blob)}","size":{len(blob)}}}' for blob in (KEY, *nodes)))
+    found = ",".join(f'{{"blob":"{ref}"}}' for ref in sorted(map(ref_of, nodes))[:3])
+    search = post(QUERY, b'{"constraint":{"anything":true},"limit":3}')
+    return upload(KEY, *nodes) + search, "empty", received + told(OK, f'{{"blobs":[{found}]}}')
