@@ -2,10 +2,8 @@
 #![tactic(auto)]
 
 #[cfg(test)]
+mod ends;
+#[cfg(test)]
 mod multipart;
 #[cfg(test)]
 mod replies;
-#[cfg(test)]
-mod requests;
-#[cfg(test)]
-mod routes;
