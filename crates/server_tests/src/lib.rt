@@ -1,4 +1,4 @@
-//! Tests of the server over running threads: no part of the program.
+//! Tests of locks and of the server over running threads: no part of the program.
 #![tactic(auto)]
 
 #[cfg(test)]
@@ -9,3 +9,5 @@ mod serving;
 mod texts;
 #[cfg(test)]
 mod threads;
+#[cfg(test)]
+mod turns;

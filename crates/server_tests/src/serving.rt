@@ -48,19 +48,30 @@ impl Talk {
         self.told.load(Ordering::SeqCst) == self.wanted.as_slice().len() as u64
     }
 
-    // The connection on which a first part is said, and a second one once another connection was told so many bytes.
+    // The connection on which a first part is said, and a second one once a number is at least so much.
     fn connection<'a>(
         &'a self,
         alloc: Global,
         first: &str,
         held: &str,
-        other: &'a Talk,
+        until: &'a AtomicU64,
         least: u64,
     ) -> Result<Connection<'a>, NoMemory> {
         let first = spelled(alloc, first)?;
         let held = spelled(alloc, held)?;
-        let source = HeldSource::of(alloc, first, held, &other.told, least);
+        let source = HeldSource::of(alloc, first, held, until, least);
         Ok((source, ToldSink::of(self.wanted.as_slice(), &self.told)))
+    }
+
+    // Adds the connection on which all of it is said at once.
+    fn say<'a>(
+        &'a self,
+        alloc: Global,
+        waiting: &mut VecDeque<Connection<'a>>,
+        text: &str,
+    ) -> Result<(), NoMemory> {
+        waiting.push_back(self.connection(alloc, text, "", &self.told, 0)?)?;
+        Ok(())
     }
 }
 
@@ -71,6 +82,16 @@ fn line<'a>(alloc: Global, connection: Connection<'a>) -> Result<Line<'a>, NoMem
     let mut waiting = VecDeque::new(alloc);
     waiting.push_back(connection)?;
     Ok(MemListener::of(waiting, CallList::empty(alloc)))
+}
+
+// Adds a listener of one connection.
+fn push_line<'a>(
+    alloc: Global,
+    lines: &mut Vec<Line<'a>>,
+    connection: Connection<'a>,
+) -> Result<(), NoMemory> {
+    lines.push(line(alloc, connection)?)?;
+    Ok(())
 }
 
 // A gate that is held until a number is at least so much.
@@ -94,11 +115,11 @@ fn two_lines<'a>(
     first: &'a Talk,
     second: &'a Talk,
 ) -> Result<Vec<Line<'a>>, NoMemory> {
-    let one = first.connection(alloc, "", UPLOAD_ABC, second, KEPT_LEN)?;
-    let two = second.connection(alloc, UPLOAD_NONE, GET_AND_SEARCH, first, KEPT_LEN)?;
+    let one = first.connection(alloc, "", UPLOAD_ABC, &second.told, KEPT_LEN)?;
+    let two = second.connection(alloc, UPLOAD_NONE, GET_AND_SEARCH, &first.told, KEPT_LEN)?;
     let mut lines = Vec::new(alloc);
-    lines.push(line(alloc, one)?)?;
-    lines.push(line(alloc, two)?)?;
+    push_line(alloc, &mut lines, one)?;
+    push_line(alloc, &mut lines, two)?;
     Ok(lines)
 }
 
@@ -137,9 +158,9 @@ fn finds_uploaded<R: Threads + Wait + Sync>(
     alloc: Global,
     talk: &Talk,
 ) -> Result<bool, NoMemory> {
-    let connection = talk.connection(alloc, UPLOAD_TAGGED_AND_SEARCH, "", talk, 0)?;
+    let connection = talk.connection(alloc, UPLOAD_TAGGED_AND_SEARCH, "", &talk.told, 0)?;
     let mut lines = Vec::new(alloc);
-    lines.push(line(alloc, connection)?)?;
+    push_line(alloc, &mut lines, connection)?;
     let gate = gate(&talk.told, talk.wanted.as_slice().len() as u64);
     let ending = served(rt, alloc, signed_archive(alloc), lines, 2, 1, &gate)?;
     Ok(is_done(&ending, (3, 3)) && talk.is_told() && !gate.late.load(Ordering::SeqCst))
@@ -162,9 +183,9 @@ fn uploads<'a>(
     third: &'a Talk,
 ) -> Result<Line<'a>, NoMemory> {
     let mut waiting = VecDeque::new(alloc);
-    waiting.push_back(first.connection(alloc, UPLOAD_ABC, "", first, 0)?)?;
-    waiting.push_back(second.connection(alloc, UPLOAD_NONE, "", second, 0)?)?;
-    waiting.push_back(third.connection(alloc, UPLOAD_ABC, "", third, 0)?)?;
+    first.say(alloc, &mut waiting, UPLOAD_ABC)?;
+    second.say(alloc, &mut waiting, UPLOAD_NONE)?;
+    third.say(alloc, &mut waiting, UPLOAD_ABC)?;
     Ok(MemListener::of(waiting, CallList::empty(alloc)))
 }
 
@@ -191,28 +212,33 @@ fn a_full_store_refuses_new_blobs_alone(rt: HostRuntime) -> Result<(), NoMemory>
     Ok(())
 }
 
+// A listener whose first call fails.
+fn failing_line<'a>(alloc: Global) -> Result<Line<'a>, NoMemory> {
+    let mut fails = CallList::empty(alloc);
+    fails.push(0)?;
+    Ok(MemListener::of(VecDeque::new(alloc), fails))
+}
+
+// Adds a listener that adds its failures to a number.
+fn push_noted<'a>(
+    lines: &mut Vec<NotedListener<'a>>,
+    listener: Line<'a>,
+    failed: &'a AtomicU64,
+) -> Result<(), NoMemory> {
+    lines.push(NotedListener { listener, failed })?;
+    Ok(())
+}
+
 // The first call of the first listener fails. The second one has a connection, which is held until then.
 fn failing_lines<'a>(
     alloc: Global,
     talk: &'a Talk,
     failed: &'a AtomicU64,
 ) -> Result<Vec<NotedListener<'a>>, NoMemory> {
-    let mut fails = CallList::empty(alloc);
-    fails.push(0)?;
-    let none = MemListener::of(VecDeque::new(alloc), fails);
-    let said = spelled(alloc, UPLOAD_ABC)?;
-    let source = HeldSource::of(alloc, spelled(alloc, "")?, said, failed, 1);
-    let sink = ToldSink::of(talk.wanted.as_slice(), &talk.told);
-    let one = line(alloc, (source, sink))?;
+    let held = talk.connection(alloc, "", UPLOAD_ABC, failed, 1)?;
     let mut lines = Vec::new(alloc);
-    lines.push(NotedListener {
-        listener: none,
-        failed,
-    })?;
-    lines.push(NotedListener {
-        listener: one,
-        failed,
-    })?;
+    push_noted(&mut lines, failing_line(alloc)?, failed)?;
+    push_noted(&mut lines, line(alloc, held)?, failed)?;
     Ok(lines)
 }
 
