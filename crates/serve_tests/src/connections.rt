@@ -29,9 +29,9 @@ fn spelled(alloc: Global, text: &str) -> Result<Octets, NoMemory> {
 fn core(alloc: Global) -> Result<Core<Keyring>, NoMemory>
     ensures { IfOk result (λ core. core.state.hand ≡ []) }
 {
-    let mut core = Core::fresh(alloc, Keyring::empty(alloc));
     let bytes = Octets::copy(alloc, b"abc")?;
     let said = Ref::of(b"abc");
+    let mut core = Core::fresh(alloc, Keyring::empty(alloc));
     core.step(&Event::Put {
         session: 0,
         said,
@@ -40,18 +40,24 @@ fn core(alloc: Global) -> Result<Core<Keyring>, NoMemory>
     Ok(core)
 }
 
-// What is written to a connection on which a stream comes in pieces of at most so many bytes.
-fn replies<R: Wait>(rt: &R, alloc: Global, stream: &str, most: usize) -> Result<MemSink, NoMemory>
+// Whether this is written to a connection on which a stream comes in pieces of at most so many bytes, and ends.
+fn is_told<R: Wait>(
+    rt: &R,
+    alloc: Global,
+    stream: &str,
+    most: usize,
+    want: &[u8],
+) -> Result<bool, NoMemory>
     requires { 0 < most }
 {
+    let mut source = PieceSource::of(alloc, spelled(alloc, stream)?, most);
     let home = CoreHome::make();
     let Ok(mut pass) = CorePass::over(alloc, core(alloc)?) else {
         return Err(NoMemory);
     };
-    let mut source = PieceSource::of(alloc, spelled(alloc, stream)?, most);
     let mut sink = MemSink::empty(alloc, CallList::empty(alloc));
     let mut log: Vec<Answered> = Vec::new(alloc);
-    match serve_connection(
+    let ended = serve_connection(
         rt,
         alloc,
         &home,
@@ -59,19 +65,18 @@ fn replies<R: Wait>(rt: &R, alloc: Global, stream: &str, most: usize) -> Result<
         &mut source,
         &mut sink,
         &mut log,
-    ) {
-        Ended::Closed => Ok(sink),
-        _ => Err(NoMemory),
-    }
+    );
+    Ok(matches!(ended, Ended::Closed) && sink.written() == want)
 }
 
 // Whether a stream is answered so, whole and one byte at a time.
 fn is_answered<R: Wait>(rt: &R, alloc: Global, row: &str) -> Result<bool, NoMemory> {
     let (stream, want) = row.split_once('|').unwrap_or(("", "|"));
     let want = spelled(alloc, want)?;
-    let whole = replies(rt, alloc, stream, usize::MAX)?;
-    let drip = replies(rt, alloc, stream, 1)?;
-    Ok(whole.written() == want.as_slice() && drip.written() == want.as_slice())
+    Ok(
+        is_told(rt, alloc, stream, usize::MAX, want.as_slice())?
+            && is_told(rt, alloc, stream, 1, want.as_slice())?,
+    )
 }
 
 // The first row that isn't answered so, or nothing.
