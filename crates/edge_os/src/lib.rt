@@ -8,6 +8,3 @@ mod sockets;
 
 pub use edges::{ReadSource, WriteSink, counted};
 pub use sockets::{Hearing, TcpIn, TcpListenerOn, TcpOut};
-
-#[cfg(test)]
-mod tests;
