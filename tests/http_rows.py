@@ -62,7 +62,7 @@ def heads_read():
     yield get("/", "Connection: Keep-Alive , CLOSE") + NOTHING, NO_ROUTE_CLOSED
     yield get("/", "Connection: closed", "Connection:close") + NOTHING, NO_ROUTE_CLOSED
     yield get("/", "Connection: closed") + NOTHING, NO_ROUTE + NO_ROUTE
-    yield b"\r\n", b""
+    yield b"\r\n\n", b""
     yield b"GET  / HTTP/1.1\r\n\r\n", BAD_HEAD
     yield get("/", "A : b") + NOTHING, BAD_HEAD
 

@@ -80,7 +80,7 @@ fn first_wrong(alloc: Global, rows: &str) -> Result<&str, NoMemory> {
 
 // Heads; lengths, by RFC 9112, section 6, and its profile; and chunks, by its section 7.1.
 const ENDS: &str = "cut|20|\r\n\nGET /a HTTP/1.1\n\nGET%\
-    cut|0|\r\n%\
+    cut|0|\r\n\n%\
     bad head|0|GET  / HTTP/1.1\r\n\r\n%\
     bad head|0|GET / HTTP/1.1\r\nA : b\r\n\r\n%\
     cut|40|POST / HTTP/1.1\nContent-Length: 5\n\nhelloGET%\
