@@ -120,6 +120,52 @@ def signer(key):
     return ref_of(writing.key_blob(key))
 
 
+# The examples of docs/formats/schema.md, "Examples of written blobs"
+
+EXAMPLE_KEY = "sha224-da4a89851a3c8f7ce55ef510378a1b717451b9f0b152bb73f28508dc"
+EXAMPLE_NODE = "sha224-adef53a16a87934f7f5595fa4225e39e14c1c80a4e3ed252d959d9b1"
+# The time of the clock, the text of its moment, what is claimed of the permanode, and the claim's ref.
+EXAMPLE_CLAIMS = [
+    (
+        "1577836800.0",
+        "2020-01-01T00:00:00Z",
+        ("set", "tag", "a"),
+        "sha224-fdf2b2a7262df1d5a2da6a596527afe7a7c33c1241d7e446d13a7b61",
+    ),
+    (
+        "1577836800.500000000",
+        "2020-01-01T00:00:00.5Z",
+        ("add", "title", 'say "hi"\n'),
+        "sha224-92b1226fe36eba3cc713d64281482db4c435524c7425bff0abd59561",
+    ),
+    (
+        "1577923200.0",
+        "2020-01-02T00:00:00Z",
+        ("del", "tag"),
+        "sha224-81755f2723da750a7f5be6bd1d641ff84be48b8fead337b48c400e4f",
+    ),
+    (
+        "1577923200.0",
+        "2020-01-02T00:00:00Z",
+        ("delete",),
+        "sha224-a16318f853cbab45787c3ebbd3c5d3e350ea92d5a6b3c60adbff0669",
+    ),
+]
+
+
+def example_payload(date, kind, attribute="", *value):
+    if kind == "delete":
+        return writing.delete_payload(EXAMPLE_NODE, date)
+    return writing.attribute_payload(kind, EXAMPLE_NODE, attribute, "".join(value), date)
+
+
+def pages(program):
+    """The blobs of writing.py alone, against the page."""
+    blobs = [(EXAMPLE_KEY, writing.key_blob()), (EXAMPLE_NODE, writing.permanode())]
+    blobs += [(ref, writing.signed(example_payload(date, *change))) for _, date, change, ref in EXAMPLE_CLAIMS]
+    return [lambda ref=ref, blob=blob: compare(f"{blob}", "the ref", ref, ref_of(blob)) for ref, blob in blobs]
+
+
 def lines_of(folder):
     """One good line of each command over a folder."""
     key = ("--key", "jefe")
@@ -689,8 +735,8 @@ def first_permanode(program, library):
     what, store, other = "known random bytes", Notes(program), Notes(program)
     dice = {"front": ("env", f"LD_PRELOAD={library}", f"TEST_DICE={writing.RANDOM}")}
     ref = store.note(what, store.words("permanode", "--key=jefe"), "jefe", RANDOM, writing.permanode_payload, **dice)
-    compare(what, "the ref", ref_of(writing.permanode()), ref)
-    compare(what, "refs", [ref_of(inputs.KEY), ref], list(store.blobs()))
+    compare(what, "the ref", EXAMPLE_NODE, ref)
+    compare(what, "refs", [EXAMPLE_KEY, EXAMPLE_NODE], list(store.blobs()))
     status, out, err = program.run(what, other.words("permanode", "--key=nobody"), **dice)
     compare_ending(f"{what}, but no key", 4, status, err)
     compare(f"{what}, but no key", "standard output", b"", out)
@@ -796,7 +842,8 @@ def clock(program):
     """Claims under a clock that tells what it is told to: the text of each moment, and the clock's failures."""
     library = made_library(program, "clock", CLOCK)
     moments = [lambda time=time, date=date: tells(program, library, time, date) for time, date in TIMES]
-    return moments + [lambda time=time: fails(program, library, time) for time in NO_TIMES]
+    examples = [lambda example=example: makes_example(program, library, *example) for example in EXAMPLE_CLAIMS]
+    return moments + examples + [lambda time=time: fails(program, library, time) for time in NO_TIMES]
 
 
 def made_library(program, name, text):
@@ -839,6 +886,16 @@ def tells(program, library, time, date):
     store.note(what, delete_line, "jefe", DATE, lambda drawn: delete_payload, **clock)
 
 
+def makes_example(program, library, time, date, change, ref):
+    what, store, kind = f"the example {change}", Notes(program), change[0]
+    words = ["delete", EXAMPLE_NODE] if kind == "delete" else ["claim", kind, EXAMPLE_NODE, *change[1:]]
+    payload = example_payload(date, *change)
+    line = store.words(*words, "--key=jefe")
+    made = store.note(what, line, "jefe", DATE, lambda drawn: payload, **under_clock(library, time))
+    compare(what, "the ref", ref, made)
+    compare(what, "refs", [EXAMPLE_KEY, ref], list(store.blobs()))
+
+
 def fails(program, library, time):
     """A time that is no moment: status 12, before the disk, but behind the key. A permanode asks for no time."""
     store, failing = Notes(program, {0: pack(b"abc")}), Store(program, {}, OTHERS)
@@ -855,7 +912,7 @@ def fails(program, library, time):
     store.note(what, lines_of(store.path)[0], "jefe", RANDOM, writing.permanode_payload, **clock)
 
 
-GROUPS = [folders, rows, keys, texts, long_texts, changes, realistic, words, refused_texts, keyrings]
+GROUPS = [pages, folders, rows, keys, texts, long_texts, changes, realistic, words, refused_texts, keyrings]
 GROUPS += [clock, known_dice, dice, failing]
 
 if __name__ == "__main__":

@@ -77,6 +77,11 @@ def of_size(program, size):
     store.gets(what, [ref])
 
 
+# The refs of a file of no bytes and the empty name, and of a bytes blob of the one chunk `abc`, by another program.
+EMPTY_FILE = "sha224-f0c3f9d931e218b556c81e2e3bb6bb61d99c9dab125a965e28b82bed"
+BYTES_OF_ABC = "sha224-687927f7697527536543a7421c7e078edc39d595b7f54ccc60acc574"
+
+
 def worked_row(program):
     """The sizes of the chunks, and the file's own bytes, written out."""
     store, content = Files(program), content_of(2_500_000)
@@ -91,6 +96,8 @@ def worked_row(program):
     empty.put_file("an empty file", b"", "e")
     own = b'{"camliVersion":1,"camliType":"file","fileName":"e","parts":[]}\n'
     compare("an empty file", "blobs", [own], list(empty.blobs().values()))
+    what = "an empty file of the empty name"
+    compare(what, "the ref", EMPTY_FILE, Files(program).put_file(what, b"", ""))
 
 
 def chunks_that_repeat(program):
@@ -453,12 +460,20 @@ def which_is_first(program):
 # Long files
 
 def large(program):
-    """Files of as many chunks as one list may have, and of one byte more."""
-    return [lambda rest=rest: has_many_chunks(program, writing.MOST_CHUNKS_OF_A_LIST, rest) for rest in (b"", b"x")]
+    """Files of as many chunks as one list may have, and of three bytes more."""
+    most = writing.MOST_CHUNKS_OF_A_LIST
+    return [lambda: has_many_chunks(program, most, b""), lambda: has_two_lists(program, most)]
+
+
+def has_two_lists(program, most):
+    """The second list, a bytes blob of its own, is that of one chunk."""
+    store = has_many_chunks(program, most, b"abc")
+    check(f"the second list: there is no {BYTES_OF_ABC}", BYTES_OF_ABC in store.blobs())
 
 
 def has_many_chunks(program, count, rest, front=()):
-    """Zeros of so many chunks, and some bytes more, in and out. Words may stand in front of put-file's."""
+    """Zeros of so many chunks, and some bytes more, in and out; answers the store. Words may stand in front of
+    put-file's."""
     what, store, source = f"{count} chunks and {len(rest)} bytes", Files(program), program.new_path()
     with open(source, "wb") as file:
         file.truncate(count * BYTES_OF_A_CHUNK)
@@ -474,6 +489,7 @@ def has_many_chunks(program, count, rest, front=()):
     compare(what, "standard output", ref_of(blobs[-1]).encode() + b"\n", out)
     store.check_files(what)
     writes_zeros(store, f"{what}, back", ref_of(blobs[-1]), count, rest)
+    return store
 
 
 def writes_zeros(store, what, ref, count, rest):

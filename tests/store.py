@@ -51,8 +51,11 @@ def two_blobs(program):
         (0, "pack-00000.blobs clean\n"),
     ]:
         Store(program, {0: whole[:cut]}).reads(f"two blobs, the first {cut} bytes", "salvage", out=answer.encode())
-    leading_zero = Store(program, {0: f"[{ABC} 03]abc".encode()})
-    leading_zero.reads("a size with a leading zero", "salvage", out=b"pack-00000.blobs broken 0\n")
+    one_more = Store(program, {0: whole[:70] + b"x"})
+    one_more.reads("a blob and a byte", "salvage", out=(found + "pack-00000.blobs broken 70\n").encode())
+    for what, size in [("with a leading zero", "03"), ("above the limit", "99999999"), ("of one byte too many", "4")]:
+        store = Store(program, {0: f"[{ABC} {size}]abc".encode()})
+        store.reads(f"a size {what}", "salvage", out=b"pack-00000.blobs broken 0\n")
 
 
 def one_page(program):

@@ -243,7 +243,7 @@ def survives(program, what, packs, blobs, seed):
     """All that salvage finds is answered, the next put goes where it must, and a torn pack stays as it is."""
     store = Store(program, packs)
     store.lists(what)
-    store.gets(what, [ref_of(blobs[seed % 2])])
+    store.gets(what, map(ref_of, blobs))
     store.put(f"{what}, then a put", blobs[-1] if seed % 3 else b"new")
     if seed % 4 == 0:
         store.put(f"{what}, then another", b"newer")
