@@ -8,6 +8,3 @@ mod scanning;
 pub use found::{Clean, Found, FoundList};
 pub use laws::{arrival_rules, clean_rules, salvage_rules};
 pub use scanning::scan;
-
-#[cfg(test)]
-mod tests;

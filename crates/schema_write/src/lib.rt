@@ -12,6 +12,3 @@ pub use files::{bytes_blob, file_blob};
 pub use generated::{OctetsList, load_blobs};
 pub use laws::{files_are_read, keys_are_read, signed_are_read};
 pub use signing::{claim_payload, key_blob, permanode_payload, signed};
-
-#[cfg(test)]
-mod tests;

@@ -1,29 +1,34 @@
 //! A disk in memory, and what crashes leave of it.
-ghost use Rattle.std.specs.Prelude.{◌≡◌, IfOk, IfSome, IsSome, None};
+ghost use Rattle.std.specs.Prelude.{◌≡◌, ◌≢◌, ◌≤◌, ℕ, IfOk, IfSome, IsSome, None};
 ghost use Rattle.std.specs.FinMap.{get};
+ghost use Rattle.pack_disk.specs.Disk.{last_number};
 ghost use Rattle.pack_disk.specs.Past.{told};
 
+use crate::edges::failing;
+use blobref::NoMemory;
 use edge_base::{CallList, Failed};
 use pack_disk::{Disk, MemDisk, disk_model};
 use std::alloc::Global;
+use std::test::Fail;
 
-// A disk with one pack, number 2, whose three bytes are durable.
-fn synced(alloc: Global) -> Result<MemDisk, Failed>
-    ensures there { IfOk result (λ disk. IsSome (get (told disk.history) 2)) }
-    ensures absent { IfOk result (λ disk. get (told disk.history) 4 ≡ None) }
+// A disk with one pack, whose bytes are durable.
+pub(crate) fn synced(alloc: Global, pack: u32, bytes: &[u8]) -> Result<MemDisk, Failed>
+    requires { pack ≤ last_number }
+    ensures there { IfOk result (λ disk. IsSome (get (told disk.history) pack)) }
+    ensures absent { IfOk result (λ disk. (n : ℕ) → n ≢ pack → get (told disk.history) n ≡ None) }
 {
     let mut disk = MemDisk::empty(alloc, CallList::empty(alloc), u64::MAX);
-    disk.make(2)?;
-    disk.append(2, b"abc")?;
-    disk.sync(2)?;
+    disk.make(pack)?;
+    disk.append(pack, bytes)?;
+    disk.sync(pack)?;
     Ok(disk)
 }
 
-// The same with more bytes, and with pack 4, of which nothing is durable.
+// Three durable bytes of pack 2 and five more, and pack 4, of which nothing is durable.
 fn written(alloc: Global) -> Result<MemDisk, Failed>
     ensures { IfOk result (λ disk. IsSome (get (told disk.history) 2)) }
 {
-    let mut disk = synced(alloc)?;
+    let mut disk = synced(alloc, 2, b"abc")?;
     disk.make(4)?;
     disk.append(4, b"x")?;
     disk.append(2, b"defgh")?;
@@ -63,21 +68,21 @@ fn packs_are_read_as_written(rt: HostRuntime) -> Result<(), Failed> {
     Ok(())
 }
 
-// Whether the call fails that comes after one that does not, and is counted.
-fn fails_next(disk: &mut MemDisk, faults: u64) -> bool {
-    disk.packs(0) == Ok(None) && disk.packs(0) == Err(Failed) && disk.faults() == faults
-}
-
 // Call 1 fails, and each from call 3 on.
 #[test]
-fn calls_fail_by_their_numbers(rt: HostRuntime) {
+fn calls_fail_by_their_numbers(rt: HostRuntime) -> Result<(), NoMemory> {
     let alloc = rt.alloc();
-    let mut fails = CallList::empty(alloc);
-    let listed = fails.push(1).is_ok();
-    let mut disk = MemDisk::empty(alloc, fails, 3);
-    let first = fails_next(&mut disk, 1);
-    let second = fails_next(&mut disk, 2);
-    assert!(rt; listed && first && second && disk.packs(0) == Err(Failed));
+    let mut disk = MemDisk::empty(alloc, failing(alloc, Some(1))?, 3);
+    for (want, faults) in [
+        (Ok(None), 0),
+        (Err(Failed), 1),
+        (Ok(None), 1),
+        (Err(Failed), 2),
+        (Err(Failed), 3),
+    ] {
+        assert!(rt; disk.packs(0) == want && disk.faults() == faults);
+    }
+    Ok(())
 }
 
 // The least pack number at or above one.
@@ -87,58 +92,55 @@ fn next_number(disk: &mut MemDisk, from: u32) -> Result<Option<u32>, Failed>
     disk.packs(from)
 }
 
-// Whether these are the bytes of the pack with the least number at or above one, and none where there is no such pack.
-fn has(disk: &mut MemDisk, from: u32, want: Option<&[u8]>) -> bool {
-    let Ok(next) = next_number(disk, from) else {
+// Whether there is a pack of this number with these bytes, or, where none are given, no pack from this number on.
+pub(crate) fn holds(disk: &mut MemDisk, pack: u32, want: Option<&[u8]>) -> bool {
+    let Ok(next) = next_number(disk, pack) else {
         return false;
     };
-    let Some(pack) = next else {
-        return want.is_none();
+    let (Some(number), Some(bytes)) = (next, want) else {
+        return next.is_none() && want.is_none();
     };
-    let mut buf = [0; 16];
-    match (disk.read(pack, 0, &mut buf), want) {
-        (Ok(n), Some(bytes)) => &buf[..n] == bytes,
-        _ => false,
+    let mut buf = [0; 256];
+    match disk.read(number, 0, &mut buf) {
+        Ok(n) => number == pack && &buf[..n] == bytes,
+        Err(_) => false,
     }
 }
 
-// Whether a crash leaves these bytes of pack 2, and these of pack 4.
-fn leaves(alloc: Global, choice: u64, synced: &[u8], unsynced: &[u8]) -> Result<bool, Failed> {
-    let Ok(mut disk) = written(alloc)?.crash(choice) else {
-        return Err(Failed);
-    };
-    Ok(has(&mut disk, 3, Some(unsynced)) && has(&mut disk, 0, Some(synced)))
+// Whether a crash leaves these bytes of packs 2 and 4, of the latter maybe not even the pack, and a second one, which
+// takes all that isn't durable, pack 2 as it was synced, and no other pack.
+fn leaves(
+    alloc: Global,
+    choice: u64,
+    synced: &[u8],
+    unsynced: Option<&[u8]>,
+) -> Result<bool, Fail> {
+    let mut disk = written(alloc)?.crash(choice)?;
+    let left = holds(&mut disk, 2, Some(synced)) && holds(&mut disk, 4, unsynced);
+    let mut disk = disk.crash(1)?;
+    Ok(left && holds(&mut disk, 2, Some(b"abc")) && holds(&mut disk, 3, None))
 }
 
 #[test]
-fn crashes_leave_what_is_durable(rt: HostRuntime) -> Result<(), Failed> {
-    let alloc = rt.alloc();
-    assert!(rt; leaves(alloc, 0, b"abcdefgh", b"x")?);
-    assert!(rt; leaves(alloc, 2, b"abcde", b"")?);
-    assert!(rt; leaves(alloc, 3, b"abcd", b"x")?);
-    assert!(rt; leaves(alloc, 4, b"abcdefg", b"")?);
-    assert!(rt; leaves(alloc, 5, b"abc\0\0\0\0\0", b"\0")?);
-    assert!(rt; leaves(alloc, 6, b"abc\x9e\x3c\xda\x78\x17", b"\x9e")?);
-    assert!(rt; leaves(alloc, 7, b"abc[sha2", b"[")?);
-    Ok(())
-}
-
-// Whether a crash that takes all that isn't durable, after another one, leaves pack 2 as it was synced, and no other
-// pack.
-fn leaves_durable(alloc: Global, first: u64) -> Result<bool, Failed> {
-    let Ok(disk) = written(alloc)?.crash(first) else {
-        return Err(Failed);
-    };
-    let Ok(mut disk) = disk.crash(1) else {
-        return Err(Failed);
-    };
-    Ok(has(&mut disk, 0, Some(b"abc")) && has(&mut disk, 3, None))
-}
-
-#[test]
-fn crashes_make_nothing_durable(rt: HostRuntime) -> Result<(), Failed> {
-    for first in 0..8 {
-        assert!(rt; leaves_durable(rt.alloc(), first)?, "choice {first}");
+fn crashes_leave_what_is_durable(rt: HostRuntime) -> Result<(), Fail> {
+    for (choice, synced, unsynced) in [
+        (0, b"abcdefgh".as_slice(), Some(b"x".as_slice())),
+        (1, b"abc".as_slice(), None),
+        (2, b"abcde".as_slice(), Some(b"".as_slice())),
+        (3, b"abcd".as_slice(), Some(b"x".as_slice())),
+        (4, b"abcdefg".as_slice(), Some(b"".as_slice())),
+        (5, b"abc\0\0\0\0\0".as_slice(), Some(b"\0".as_slice())),
+        (
+            6,
+            b"abc\x9e\x3c\xda\x78\x17".as_slice(),
+            Some(b"\x9e".as_slice()),
+        ),
+        (7, b"abc[sha2".as_slice(), Some(b"[".as_slice())),
+    ] {
+        assert!(rt;
+            leaves(rt.alloc(), choice, synced, unsynced)?,
+            "choice {choice}"
+        );
     }
     Ok(())
 }

@@ -1,7 +1,16 @@
-//! Tests of disks and of stores on them. What is tested here stands in the crates below.
+//! Tests of names and small values, of sources and sinks, of packs, disks and stores, and of generated stores. What is
+//! tested here stands in the crates below.
 #![tactic(auto)]
 
 #[cfg(test)]
 mod disks;
+#[cfg(test)]
+mod edges;
+#[cfg(test)]
+mod generated;
+#[cfg(test)]
+mod headers;
+#[cfg(test)]
+mod names;
 #[cfg(test)]
 mod stores;

@@ -5,15 +5,17 @@ use Rattle.pack_disk.proofs.Steps.{some_same, made_there, made_other, nothing_to
 use Rattle.store_tests.proofs.disks.synced.Goals as goal
 
 pub make-requires-clause-absent : goal.make-requires-clause-absent
-make-requires-clause-absent c x is = ap (λ packs. get packs 2) (sym (some_same _ _ is)) ∙ nothing_told c.empty-disk.result.history 2 c.empty-disk.ensures.past
+make-requires-clause-absent c x is =
+    ap (λ packs. get packs c.args.pack) (sym (some_same _ _ is)) ∙ nothing_told c.empty-disk.result.history c.args.pack c.empty-disk.ensures.past
 
 pub append-requires : goal.append-requires
-append-requires c x is = ap (λ packs. is_some (get packs 2)) (sym (some_same _ _ is)) ∙ made_there _ _ 2 c.in_ok-make.ensures.made
+append-requires c x is =
+    ap (λ packs. is_some (get packs c.args.pack)) (sym (some_same _ _ is)) ∙ made_there _ _ c.args.pack c.in_ok-make.ensures.made
 
 pub returns-clause-there : goal.returns-clause-there
-returns-clause-there c = ap (λ packs. is_some (get packs 2)) (some_same _ _ c.sync.ensures.told) ∙ c.append.ensures.told.1
+returns-clause-there c = ap (λ packs. is_some (get packs c.args.pack)) (some_same _ _ c.sync.ensures.told) ∙ c.append.ensures.told.1
 
 pub returns-clause-absent : goal.returns-clause-absent
-returns-clause-absent c =
-    ap (λ packs. get packs 4) (some_same _ _ c.sync.ensures.told) ∙ c.append.ensures.told.0 4 (λ e. cc e)
-    ∙ made_other _ _ 2 4 c.in_ok-make.ensures.made (λ e. cc e) ∙ nothing_told c.empty-disk.result.history 4 c.empty-disk.ensures.past
+returns-clause-absent c n other =
+    ap (λ packs. get packs n) (some_same _ _ c.sync.ensures.told) ∙ c.append.ensures.told.0 n other
+    ∙ made_other _ _ c.args.pack n c.in_ok-make.ensures.made other ∙ nothing_told c.empty-disk.result.history n c.empty-disk.ensures.past

@@ -5,7 +5,7 @@ use Rattle.pack_disk.proofs.Steps.{some_same, made_there, made_other}
 use Rattle.store_tests.proofs.disks.written.Goals as goal
 
 pub make-requires-clause-absent : goal.make-requires-clause-absent
-make-requires-clause-absent c x is = ap (λ packs. get packs 4) (sym (some_same _ _ is)) ∙ c.in_ok-disk.ensures.absent
+make-requires-clause-absent c x is = ap (λ packs. get packs 4) (sym (some_same _ _ is)) ∙ c.in_ok-disk.ensures.absent 4 (λ e. cc e)
 
 pub append-requires : goal.append-requires
 append-requires c x is = ap (λ packs. is_some (get packs 4)) (sym (some_same _ _ is)) ∙ made_there _ _ 4 c.in_ok-make.ensures.made
