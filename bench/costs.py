@@ -5,11 +5,12 @@ then, and memory.
 
 A STORE is a kind, a colon and how many GB of files it has, each of 1,000,000,000 bytes. The kinds are
 
-    large    files of random bytes, of 1 GB each, stored by `put-file`
-    small    files of 300 to 20,000 random bytes, in packs that are written here
+    large    files of 100 MB
+    small    files of 300 to 20,000 bytes
 
-Each file has a note: a permanode, the file as its `camliContent`, and a tag. So a small file takes five blobs. What runs
-in less than 20 seconds is run three times, and the best counts. Needs openssl and /usr/bin/time.
+of random bytes, each cut as `put-file` does. Each has a note: a permanode, the file as its `camliContent`, and a tag. So
+a small file takes five blobs. The packs are written here, not put. What runs in less than 20 seconds is run three times,
+and the best counts. Needs openssl and /usr/bin/time.
 """
 
 import pathlib
@@ -21,17 +22,16 @@ import time
 from typing import NamedTuple
 
 from compare import MIB, TIMES
-# Before make_pack, which puts the folder of the tests in front of this one.
+# Before the tests' modules, whose folder it puts in front of this one.
 from store import write_store
-from make_pack import record
 
 import harness
 import writing
 from http_inputs import blob_target, get, post
-from reference import pack_name, ref_of
+from reference import ref_of
 from serving import Server, connect
 
-GB = 1_000_000_000
+GB, LARGE = 1_000_000_000, 100_000_000
 SMALLEST, GREATEST = 300, 20_000
 TAGS = 100
 DATE = "2026-01-01T00:00:00Z"
@@ -70,48 +70,37 @@ def tagged(permanodes):
     return sorted(permanodes[::TAGS])
 
 
-def large_store(program, folder, size):
-    """Files that the program stores, and a pack of their notes."""
-    lengths = [min(GB, size - at) for at in range(0, size, GB)]
-    refs = [put_file(program, folder, number, length) for number, length in enumerate(lengths)]
-    notes = [note(number, ref) for number, ref in enumerate(refs)]
-    pack = folder / pack_name(len(list(folder.iterdir())))
-    pack.write_bytes(b"".join(map(record, [writing.key_blob(), *sum(notes, [])])))
-    permanodes = [ref_of(blobs[0]) for blobs in notes]
-    return Stored(folder, notes[0][0], name_of(0), tagged(permanodes), permanodes[0])
+def large_lengths(size, _):
+    return [min(LARGE, size - at) for at in range(0, size, LARGE)]
 
 
-def put_file(program, folder, number, length):
-    words = [program, "put-file", str(folder), name_of(number)]
-    noise = random.Random(number)
-    with subprocess.Popen(words, stdin=subprocess.PIPE, stdout=subprocess.PIPE) as process:
-        for at in range(0, length, MIB):
-            process.stdin.write(noise.randbytes(min(MIB, length - at)))
-        process.stdin.close()
-        return process.stdout.read().decode().strip()
+def small_lengths(size, noise):
+    while size > 0:
+        length = noise.randint(SMALLEST, GREATEST)
+        size -= length
+        yield length
 
 
-def small_store(program, folder, size):
-    """Packs of files and their notes, side by side."""
-    permanodes, noise, last = [], random.Random(1), []
+KINDS = {"large": large_lengths, "small": small_lengths}
 
-    def blobs():
+
+def write(folder, kind, size):
+    """Writes a store of so many bytes of files."""
+    noise, permanodes, blobs = random.Random(1), [], []
+
+    def each():
         yield writing.key_blob()
-        left = size
-        while left > 0:
-            content = noise.randbytes(noise.randint(SMALLEST, GREATEST))
-            left -= len(content)
-            chunk, file = writing.file_blobs(name_of(len(permanodes)), [content])
-            own = note(len(permanodes), ref_of(file))
+        for number, length in enumerate(KINDS[kind](size, noise)):
+            chunks = [noise.randbytes(min(MIB, length - at)) for at in range(0, length, MIB)]
+            *content, file = writing.file_blobs(name_of(number), chunks)
+            own = note(number, ref_of(file))
             permanodes.append(ref_of(own[0]))
-            last[:] = [chunk]
-            yield from [chunk, file, *own]
+            blobs[:] = [own[0]]
+            yield from [*content, file, *own]
 
-    write_store(folder, blobs())
-    return Stored(folder, last[0], name_of(0), tagged(permanodes), permanodes[0])
-
-
-KINDS = {"large": large_store, "small": small_store}
+    write_store(folder, each())
+    (folder / "keyring").write_bytes(writing.keyring_line())
+    return Stored(folder, blobs[0], name_of(0), tagged(permanodes), permanodes[0])
 
 
 # Measuring
@@ -223,8 +212,7 @@ def main(path, folder, *stores):
     row("store", COLUMNS)
     for number, name in enumerate(stores):
         kind, size = name.split(":")
-        store = KINDS[kind](path, pathlib.Path(folder) / f"store-{number}", int(float(size) * GB))
-        (store.folder / "keyring").write_bytes(writing.keyring_line())
+        store = write(pathlib.Path(folder) / f"store-{number}", kind, int(float(size) * GB))
         row(name, measure(program, store))
         shutil.rmtree(store.folder)
 
