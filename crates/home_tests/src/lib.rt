@@ -4,8 +4,4 @@
 #[cfg(test)]
 mod blobs;
 #[cfg(test)]
-mod numbered;
-#[cfg(test)]
-mod random_events;
-#[cfg(test)]
-mod sessions;
+mod replies;
