@@ -1,21 +1,29 @@
-"""The random streams of http_streams.py: requests to a random store, good ones and changed ones."""
+"""The random streams of http_streams.py: requests to a random store, good ones and changed ones; and long sessions of
+uploads and searches over few blobs, where most uploads change what is found."""
 
 from connections import LISTING, QUERY, STAT, UPLOAD
 from harness import chance
 from http_inputs import BAD_QUERIES, METHODS, TARGETS, blob_target, chunk, head, part, stat_pairs
-from query_inputs import RandomQuery, RandomStore, spell, spell_otherwise
+from inputs import ABSENT, KEY, NODE, day
+from query_inputs import RandomQuery, RandomStore, node, spell, spell_otherwise
 from reference import ref_of
-from writing import octets, pack
+from writing import claim, delete, octets, pack, permanode
 
-# So many stores, and streams to each.
+# So many stores, and streams to each; and so many of sessions.
 STORES, STREAMS = 40, 55
+SESSION_STORES, SESSIONS = 40, 15
 OTHER_HEADERS = ("Host: localhost", "User-Agent: x/1.0 (y)", "Accept:*/*", "X-Y:", "Connection: a, b")
 CHUNKED = {"Transfer-Encoding: chunked", "transfer-encoding:Chunked\t"}
+# Of few blobs.
+TAGS, DAYS = "aaab", [day(number) for number in range(1, 6)]
 MARKS = b"\r\n\r\n :;-=&%+?,/0129aAbBfFxX\"\t\0\x7f\x80\xff"
 
 
 class RandomConnection:
     """Makes streams of requests to a random store, of whose blobs some are in its pack."""
+
+    # How often requests of each kind come, how often one closes the connection, and how many blobs an upload has.
+    KINDS, CLOSES, UPLOADED = (10, 15, 12, 25, 33, 5), 0.04, (0, 1, 2, 4, 8, 20)
 
     def __init__(self, number):
         random = chance("connection store", number)
@@ -36,13 +44,13 @@ class RandomConnection:
 
     def request(self, random):
         makers = (self.blob, self.stat, self.page, self.search, self.upload, self.other)
-        method, target, headers, body = random.choices(makers, (10, 15, 12, 25, 33, 5))[0](random)
+        method, target, headers, body = random.choices(makers, self.KINDS)[0](random)
         lines = [*headers, *framing(random, body)]
         lines += random.sample(OTHER_HEADERS, 2)
-        if random.random() < 0.04:
+        if random.random() < self.CLOSES:
             lines.append(random.choice(("Connection: close", "connection: x,Close", "CONNECTION:\tCLOSE")))
         random.shuffle(lines)
-        version = b"1.0" if random.random() < 0.02 else b"1.1"
+        version = b"1.0" if random.random() < self.CLOSES / 2 else b"1.1"
         front = random.choice(("", "\r\n", "\n")) if random.random() < 0.1 else ""
         first = b"%b %b HTTP/%b" % (method, octets(target), version)
         text = octets(front) + head(first, *lines, end=random.choice(("\r\n", "\r\n", "\n")))
@@ -86,7 +94,7 @@ class RandomConnection:
     def upload(self, random):
         boundary = random.choice((b"b", b"x-y", b"--", b"----WebKitFormBoundaryAbc0123456789", b"' '"))
         written = boundary if b" " not in boundary and random.random() < 0.5 else b'"%b"' % boundary
-        blobs = random.choices(self.store.blobs + self.others, k=random.choice((0, 1, 2, 4, 8, 20)))
+        blobs = random.choices(self.store.blobs + self.others, k=random.choice(self.UPLOADED))
         body = [b"a preamble\r\n"] if random.random() < 0.1 else []
         body += [self.part(random, blob, boundary) for blob in blobs]
         if random.random() < 0.95:
@@ -95,7 +103,7 @@ class RandomConnection:
 
     def part(self, random, blob, boundary):
         kind = random.random()
-        name = ref_of(b"abc") if kind < 0.02 else "file" if kind < 0.03 else ref_of(blob)
+        name = self.ref(random) if kind < 0.02 else "file" if kind < 0.03 else ref_of(blob)
         lines = ["Content-Type: text/plain"] if random.random() < 0.3 else []
         blanks, end = b" \t"[: random.choice((0, 0, 1, 2))], random.choice((b"\r\n", b"\r\n", b"\n"))
         return part(name, blob, *lines, blanks=blanks, end=end, boundary=boundary)
@@ -103,6 +111,54 @@ class RandomConnection:
     def other(self, random):
         method, target = random.choice(METHODS), random.choice(TARGETS)
         return method, target, [], random.choice((b"", b"", b"abc"))
+
+
+class FewBlobs:
+    """A key, one or two permanodes, and claims on them and on one another."""
+
+    def __init__(self, random):
+        self.nodes = [NODE, permanode("0" * 32)][: random.choice((1, 2))]
+        self.claims = [claim("add", ref_of(NODE), "tag", TAGS[0], DAYS[0])]
+        for _ in range(random.randrange(1, 6)):
+            self.claims.append(random.choice((self.change, self.change, self.deletion))(random))
+        # Nothing is found without a key and a permanode, so these come more often.
+        self.blobs = [KEY, *self.nodes] * 3 + self.claims
+
+    def change(self, random):
+        kind, on = random.choice(("set", "add", "add", "del")), ref_of(random.choice(self.nodes))
+        return claim(kind, on, "tag", random.choice(TAGS), random.choice(DAYS))
+
+    def deletion(self, random):
+        target = random.choice(self.claims if random.random() < 0.8 else self.nodes)
+        return delete(ref_of(target), random.choice(DAYS))
+
+    def any_ref(self, random):
+        return ref_of(random.choice(self.blobs)) if random.random() < 0.9 else ABSENT
+
+    def odd_ref(self, random):
+        return self.any_ref(random).upper()
+
+
+class RandomSession(RandomConnection):
+    """Makes long streams of uploads and searches over few blobs, of which none or some are in the store's pack. What is
+    uploaded comes in any order and more than once, and most of it changes what is found."""
+
+    KINDS, CLOSES, UPLOADED = (5, 5, 5, 45, 40, 0), 0.01, (1, 1, 1, 2, 2, 4)
+
+    def __init__(self, number):
+        random = chance("session store", number)
+        self.store, self.others = FewBlobs(random), []
+        self.pack = pack(*random.choices(self.store.blobs, k=random.choice((0, 0, 2, 4, 8))))
+
+    def stream(self, random):
+        """Good requests one behind the other."""
+        return b"".join(self.request(random) for _ in range(random.randrange(5, 40)))
+
+    def search(self, random):
+        query = {"constraint": node(attr="tag", value=random.choice(TAGS))}
+        if random.random() < 0.3:
+            query["at"] = random.choice(DAYS)
+        return b"POST", QUERY, [], octets(spell(query))
 
 
 def framing(random, body):

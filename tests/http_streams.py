@@ -202,7 +202,35 @@ def pairs_alike(text):
 
 def random_streams():
     """Streams to random stores. Each store is made when its first stream is asked for."""
-    return list(itertools.product(range(http_random.STORES), range(http_random.STREAMS)))
+    return of_stores(http_random.RandomConnection, http_random.STORES, http_random.STREAMS)
+
+
+def random_sessions():
+    """The same of sessions over few blobs."""
+    return of_stores(http_random.RandomSession, http_random.SESSION_STORES, http_random.SESSIONS)
+
+
+def of_stores(kind, stores, streams):
+    return list(itertools.product([kind], range(stores), range(streams)))
+
+
+# The beginning of an answer to a search that finds something.
+FOUND = b'{"blobs":[{"blob":'
+
+
+def sessions_find():
+    """Of the searches of random sessions many have to find something."""
+    found = 0
+    for kind, number, place in random_sessions()[::3]:
+        made = kind(number)
+        blobs = reference.content(reference.salvage(made.pack)[0])
+        replies = connections.replies(stream_of(made, number, place), blobs, KEYS)
+        found += sum(reply.body.startswith(FOUND) for reply in replies)
+    check(f"only {found} searches of a third of the sessions find something", found > 100)
+
+
+def stream_of(made, number, place):
+    return made.stream(chance("stream", number, place))
 
 
 class Shelves:
@@ -217,8 +245,8 @@ class Shelves:
         return Shelf(self.program, http_inputs.STORES[name])
 
     @functools.cache
-    def random(self, number):
-        made = http_random.RandomConnection(number)
+    def random(self, kind, number):
+        made = kind(number)
         return made, Shelf(self.program, made.pack)
 
     def answers(self, case):
@@ -226,27 +254,27 @@ class Shelves:
             shelf = self.named(case.store)
         shelf.answers(case)
 
-    def answers_random(self, number, place):
+    def answers_random(self, kind, number, place):
         with self.lock:
-            made, shelf = self.random(number)
-        stream = made.stream(chance("stream", number, place))
-        shelf.answers(Case(f"stream {place} of store {number}", stream))
+            made, shelf = self.random(kind, number)
+        shelf.answers(Case(f"stream {place} of store {number}", stream_of(made, number, place)))
 
 
 def checks_of(program, group):
     shelves = Shelves(program)
     if group is pages:
         return pages(program)
-    if group is random_streams:
-        return [lambda one=one: shelves.answers_random(*one) for one in random_streams()]
+    if group in (random_streams, random_sessions):
+        answers = [lambda one=one: shelves.answers_random(*one) for one in group()]
+        return answers + [sessions_find] * (group is random_sessions)
     return [lambda case=case: shelves.answers(case) for case in group()]
 
 
 HOSTILE = [http_inputs.first_lines, http_inputs.heads, http_inputs.lengths, http_inputs.closings, http_inputs.chunks]
 HOSTILE += [http_inputs.content_types, http_inputs.stats]
 GROUPS = [pages, http_inputs.rows, *map(http_inputs.probed, HOSTILE), http_inputs.uploads, http_inputs.cut_uploads]
-GROUPS += [http_inputs.listings, http_inputs.queries, http_inputs.sessions, random_streams, http_inputs.long_bodies]
-GROUPS += [http_inputs.large_parts, http_rows.request_rows]
+GROUPS += [http_inputs.listings, http_inputs.queries, http_inputs.sessions, random_streams, random_sessions]
+GROUPS += [http_inputs.long_bodies, http_inputs.large_parts, http_rows.request_rows]
 
 
 def tell_starts(program):

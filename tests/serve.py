@@ -1,8 +1,9 @@
 """Servers of the program (docs/commands.md, "serve"; docs/server.md): which lines start one, what else ends it at once,
 who can reach it, when it ends, and what goes wrong at it.
 
-Clients that stay are in serve_stays.py, streams in serve_streams.py, other programs as clients in serve_clients.py,
-eight clients at once in serve_load.py, kills in serve_kills.py, and calls to the system in serve_calls.py.
+Clients that stay are in serve_stays.py, streams in serve_streams.py, clients that ask in turn in serve_sessions.py,
+other programs as clients in serve_clients.py, eight clients at once in serve_load.py, kills in serve_kills.py, and
+calls to the system in serve_calls.py.
 """
 
 import contextlib
@@ -19,6 +20,7 @@ import serve_calls
 import serve_clients
 import serve_kills
 import serve_load
+import serve_sessions
 import serve_stays
 import serve_streams
 from connections import UPLOAD, Reply, entry, json_text
@@ -346,8 +348,8 @@ def cut_short(program):
 
 
 GROUPS = [words, starts, wrong, serve_stays.stays, serve_streams.sessions, serve_streams.pipelined]
-GROUPS += [serve_streams.random_streams, serve_streams.cut_streams, serve_kills.kills, serve_calls.calls]
-GROUPS += [serve_calls.failing]
+GROUPS += [serve_streams.random_streams, serve_streams.cut_streams, serve_sessions.random_sessions]
+GROUPS += [serve_kills.kills, serve_calls.calls, serve_calls.failing]
 ONE_AT_A_TIME = [serve_streams.of_inputs(group) for group in serve_streams.INPUTS]
 ONE_AT_A_TIME += [serve_clients.curl, serve_clients.requests, serve_load.clients]
 

@@ -1,0 +1,76 @@
+"""Random sessions of http_random.py as several clients have them: they ask in turn, each over a connection of its own,
+a server that is stopped now and then and started anew over the same store.
+
+One request is under way at a time, so each reply is known before. Whatever was acknowledged to one client, all of them
+find, also behind a stop. What else is in the packs then counts too: blobs that a command put while no server ran, and
+records of which nobody was told.
+"""
+
+import http_random
+import writing
+from harness import chance, compare
+from http_streams import FOUND, KEYS
+from query_inputs import KEYRING
+from reference import pack_name
+from serving import Foretold, Talk, compare_texts
+from stores import Store
+
+# So many stores, servers of each, requests to one of these, and clients that are connected at once.
+STORES, SERVERS, REQUESTS, CLIENTS = 8, 5, 60, 3
+
+
+def random_sessions(program):
+    return [lambda number=number: sessions_of(program, number) for number in range(STORES)]
+
+
+def sessions_of(program, number):
+    made = http_random.RandomSession(number)
+    store = Store(program, {0: made.pack}, {"keyring": KEYRING})
+    found = 0
+    for place in range(SERVERS):
+        what, random = f"server {place} of store {number}", chance("sessions", number, place)
+        found += one_server(what, store, made, random)
+        random.choice((leave, leave_record, leave_put))(what, store, random.choice(made.store.blobs))
+    print(f"store {number}: {found} searches found something")
+
+
+def one_server(what, store, made, random):
+    """Answers how many searches found something."""
+    one = Foretold(store, KEYS, f"--workers={CLIENTS}", f"--indexers={random.choice((1, 2, 8, 64))}")
+    talks, found = [Talk(one.port) for _ in range(CLIENTS)], 0
+    for _ in range(REQUESTS):
+        place = random.randrange(CLIENTS)
+        (reply,) = ask(what, one, talks[place], made.request(random))
+        found += reply.body.startswith(FOUND)
+        if reply.closes:
+            talks[place].close()
+            talks[place] = Talk(one.port)
+    one.ends(what)
+    for talk in talks:
+        talk.close()
+    return found
+
+
+def ask(what, one, talk, request):
+    """Sends a request, and compares every byte that comes."""
+    replies = one.replies(request)
+    talk.send(request)
+    compare_texts(what, b"".join(reply.text() for reply in replies), talk.read_text(what))
+    return replies
+
+
+# What a stop leaves
+
+def leave(what, store, blob):
+    """What was acknowledged, and nothing else."""
+
+
+def leave_record(what, store, blob):
+    """A record behind the others, which may be of a blob that stands."""
+    number = max(store.packs)
+    store.packs[number] += writing.record(blob)
+    (store.path / pack_name(number)).write_bytes(store.packs[number])
+
+
+def leave_put(what, store, blob):
+    store.put(f"a put behind {what}", blob)
