@@ -1,8 +1,6 @@
 //! Indexes over the blobs of a pack.
 ghost use Rattle.std.specs.Prelude.{◌≡◌, ◌<◌, IfOk, OnOk};
-ghost use Rattle.std.specs.List.{All};
 ghost use Rattle.claim_model.specs.Facts.{AreValid};
-ghost use Rattle.salvage_scan.specs.Scan.{LiesIn};
 
 use blobref::{NoMemory, Ref, Text};
 use claim_index::{FactList, Index};
@@ -10,6 +8,7 @@ use claim_verify::Keyring;
 use edge_base::Steps;
 use index_look::Look;
 use salvage_scan::{Found, scan};
+use schema_date::When;
 use schema_json::fact;
 use std::alloc::Global;
 use std::marker::Brand;
@@ -24,12 +23,14 @@ pub enum Arrival {
     AtOnce,
 }
 
-/// What an index is asked: by these keys, who holds the value of the attribute?
+/// What an index is asked: by these keys, who holds the value of the attribute? And what values did each permanode have
+/// at a time?
 #[derive(Drop)]
 pub struct Question {
     pub keys: Keyring,
     pub attr: Text,
     pub value: Text,
+    pub when: When,
 }
 
 // How many blobs the pack has, and how many bytes they say that they have.
@@ -90,16 +91,14 @@ fn indexed<'a, L: Ledger>(
     index_of(alloc, pack, found.as_slice(), arrival, keys, steps)
 }
 
-fn index_of<'a, L: Ledger>(
+pub(crate) fn index_of<'a, L: Ledger>(
     alloc: Global,
     pack: &[u8],
     found: &[Found],
     arrival: &Arrival,
     keys: &'a Keyring,
     steps: &mut Steps<L>,
-) -> Result<Index<&'a Keyring>, NoMemory>
-    requires { All (LiesIn pack.now) found.now }
-{
+) -> Result<Index<&'a Keyring>, NoMemory> {
     match arrival {
         Arrival::InOrder => inserted(alloc, pack, found, false, keys, steps),
         Arrival::Backwards => inserted(alloc, pack, found, true, keys, steps),
@@ -115,9 +114,7 @@ fn inserted<'a, L: Ledger>(
     backwards: bool,
     keys: &'a Keyring,
     steps: &mut Steps<L>,
-) -> Result<Index<&'a Keyring>, NoMemory>
-    requires { All (LiesIn pack.now) found.now }
-{
+) -> Result<Index<&'a Keyring>, NoMemory> {
     let mut index = Index::fresh(alloc, keys);
     for number in 0..found.len() {
         let at = if backwards {
@@ -138,9 +135,7 @@ fn insert<L: Ledger>(
     pack: &[u8],
     place: &Found,
     steps: &mut Steps<L>,
-) -> Result<(), NoMemory>
-    requires { LiesIn pack.now place.now }
-{
+) -> Result<(), NoMemory> {
     if !index.stands(&place.r, steps) {
         let said = fact(alloc, blob_at(pack, place))?;
         index.insert(number as u64, &place.r, said, steps)?;
@@ -155,15 +150,12 @@ fn filled<'a, L: Ledger>(
     found: &[Found],
     keys: &'a Keyring,
     steps: &mut Steps<L>,
-) -> Result<Index<&'a Keyring>, NoMemory>
-    requires { All (LiesIn pack.now) found.now }
-{
+) -> Result<Index<&'a Keyring>, NoMemory> {
     let facts = facts_of(alloc, pack, found)?;
     Index::of(alloc, facts, keys, steps)
 }
 
 fn facts_of(alloc: Global, pack: &[u8], found: &[Found]) -> Result<FactList, NoMemory>
-    requires { All (LiesIn pack.now) found.now }
     ensures { IfOk result AreValid }
 {
     let mut facts = FactList::empty(alloc);
@@ -181,10 +173,13 @@ fn add_fact(alloc: Global, facts: &mut FactList, r: Ref, blob: &[u8]) -> Result<
     Ok(())
 }
 
-// The bytes of a blob.
-pub(crate) fn blob_at<'a>(pack: &'a [u8], place: &Found) -> &'a [u8]
-    requires { LiesIn pack.now place.now }
-{
+// The bytes of a blob. A place that isn't in the pack, which no scan gives, has none.
+pub(crate) fn blob_at<'a>(pack: &'a [u8], place: &Found) -> &'a [u8] {
     let start = place.at as usize;
-    &pack[start..start + place.size as usize]
+    let size = place.size as usize;
+    if start <= pack.len() && size <= pack.len() - start {
+        &pack[start..start + size]
+    } else {
+        &[]
+    }
 }

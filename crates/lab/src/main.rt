@@ -1,21 +1,32 @@
 //! The yardsticks of `bench/`, in one program: `lab WORD` measures what the word names over standard input, and
 //! prints one line. `lab WORD KEYRING ATTRIBUTE VALUE` asks an index by the keys of the keyring, whose text is the word,
-//! for the holders of the value. `lab http PACK KEYRING PIECE` answers the requests on standard input over the blobs of
-//! the file PACK, by the keys of the file KEYRING: the requests are handed on at most PIECE bytes at a time, or as many
-//! as are asked for where that is 0.
+//! for the holders of the value.
+//!
+//! `lab orders KEYRING ATTRIBUTE VALUE DATE ORDER..` makes indexes of the blobs of the pack on standard input in the
+//! orders that are given, each a word of letters: `a` is the first blob of the pack, and what isn't named doesn't come.
+//! For each order it prints what two indexes tell, the first of which takes the blobs one by one, and the second all at
+//! once: their first permanode, the values of each permanode at the date, and the holders of the value. A date that is
+//! none stands for all dates.
+//!
+//! `lab http PACK KEYRING PIECE` answers the requests on standard input over the blobs of the file PACK, by the keys of
+//! the file KEYRING: the requests are handed on at most PIECE bytes at a time, or as many as are asked for where that is
+//! 0.
 //!
 //! It is no part of the archive's program. It ends with that program's exit statuses.
 #![tactic(auto)]
 
 mod indexing;
+mod ordering;
 mod serving;
 mod yardstick;
 
 use crate::indexing::Question;
+use crate::ordering::order_lines;
 use crate::serving::replies;
 use crate::yardstick::Yardstick;
 use blobref::{NoMemory, Octets, Text};
 use claim_verify::{Keyring, KeyringFault};
+use schema_date::{Date, When};
 use std::alloc::Global;
 use std::io::{Read, Write};
 use std::process::ExitCode;
@@ -58,10 +69,15 @@ fn main(rt: HostRuntime) -> ExitCode {
 // Does what the words ask. A connection waits for as long as requests come.
 fn measure<W: Wait>(rt: &HostRuntime, wait: &W) -> Result<(), Fault> {
     let words = words(rt)?;
-    if word(&words, 0) == "http" {
-        return answer(rt, wait, &words);
+    match word(&words, 0) {
+        "http" => answer(rt, wait, &words),
+        "orders" => tell(rt, &words),
+        _ => print_line(rt, &words),
     }
-    let line = line_of(rt, &words)?;
+}
+
+fn print_line(rt: &HostRuntime, words: &[Text]) -> Result<(), Fault> {
+    let line = line_of(rt, words)?;
     rt.println(format_args!("{}", line.as_str()))
         .map_err(|_| Fault::Write)
 }
@@ -74,6 +90,15 @@ fn line_of(rt: &HostRuntime, words: &[Text]) -> Result<String, Fault> {
     Ok(yardstick.line(rt.alloc(), &input, &question)?)
 }
 
+// Tells what indexes tell of the pack on standard input, in each of the orders behind the first five words.
+fn tell(rt: &HostRuntime, words: &[Text]) -> Result<(), Fault> {
+    let question = question(rt.alloc(), words)?;
+    let pack = input(rt)?;
+    let orders = words.get(5..).unwrap_or(&[]);
+    let lines = order_lines(rt.alloc(), &pack, orders, &question)?;
+    print(rt, &lines)
+}
+
 // Answers the requests of standard input over the blobs of a pack.
 fn answer<W: Wait>(rt: &HostRuntime, wait: &W, words: &[Text]) -> Result<(), Fault> {
     let pack = file(rt, word(words, 1))?;
@@ -81,9 +106,11 @@ fn answer<W: Wait>(rt: &HostRuntime, wait: &W, words: &[Text]) -> Result<(), Fau
     let piece = word(words, 3).parse().map_err(|_| Fault::Words)?;
     let requests = Octets::from_vec(input(rt)?);
     let sink = replies(wait, rt.alloc(), &pack, keys, requests, piece)?;
-    rt.stdout()
-        .write_all(sink.written())
-        .map_err(|_| Fault::Write)
+    print(rt, sink.written())
+}
+
+fn print(rt: &HostRuntime, bytes: &[u8]) -> Result<(), Fault> {
+    rt.stdout().write_all(bytes).map_err(|_| Fault::Write)
 }
 
 fn file(rt: &HostRuntime, path: &str) -> Result<Vec<u8>, Fault> {
@@ -124,7 +151,21 @@ fn question(alloc: Global, words: &[Text]) -> Result<Question, Fault> {
     let keys = keyring(alloc, word(words, 1).as_bytes())?;
     let attr = Text::copy(alloc, word(words, 2))?;
     let value = Text::copy(alloc, word(words, 3))?;
-    Ok(Question { keys, attr, value })
+    let when = time_of(word(words, 4));
+    Ok(Question {
+        keys,
+        attr,
+        value,
+        when,
+    })
+}
+
+// A text that is no date stands for all dates.
+fn time_of(text: &str) -> When {
+    match Date::read(text.as_bytes()) {
+        Some(date) => When::At(date),
+        None => When::Always,
+    }
 }
 
 fn keyring(alloc: Global, text: &[u8]) -> Result<Keyring, Fault> {

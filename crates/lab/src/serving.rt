@@ -1,6 +1,5 @@
 //! A connection over a home in memory.
 ghost use Rattle.std.specs.Prelude.{◌≡◌, ◌<◌, [], IfOk};
-ghost use Rattle.salvage_scan.specs.Scan.{LiesIn};
 
 use crate::indexing::blob_at;
 use blob_http::{Answered, serve_connection};

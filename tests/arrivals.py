@@ -1,0 +1,190 @@
+"""Runs `lab orders` over packs of a few blobs: for every order in which these can come, and each part of them, an index
+that takes them one by one, and one that takes them all at once, have to tell what the reference tells of the blobs that
+came.
+
+What a permanode has once all blobs came is written down beside them, and the reference has to tell that too.
+"""
+
+import itertools
+from typing import NamedTuple
+
+import reference
+import writing
+from harness import compare, compare_ending, main
+from inputs import CLAIM, DELETE, KEY, NODE, OTHER_SECRET, changed, day
+from reference import ref_of
+from writing import claim, delete, key_blob, keyring_line, pack, permanode, permanode_payload, signed
+
+KEYRING = keyring_line() + keyring_line("other", OTHER_SECRET)
+ALWAYS = "always"
+NOON = "T12:00:00Z"
+MOMENTS = ("2019-12-31T00:00:00Z", *(day(number, NOON) for number in range(1, 5)), ALWAYS)
+# All the tags that a permanode has at any time. A tag is one letter.
+TAGS = "akuvxy"
+LETTERS = "abcdef"
+WAYS = ("one by one", "all at once")
+
+
+class Row(NamedTuple):
+    """Blobs that come in every order, a permanode among them, and the tags that it then has at some moments."""
+
+    what: str
+    node: bytes
+    blobs: tuple
+    tags: dict
+
+
+# Blobs
+
+def on_node(kind, value, number, node=NODE):
+    """A claim of a day on the tags of a permanode."""
+    return claim(kind, ref_of(node), "tag", value, day(number))
+
+
+def delete_of(blob, number):
+    return delete(ref_of(blob), day(number))
+
+
+# A deletion of DELETE, one of that, and a second one of CLAIM.
+UNDELETE = delete_of(DELETE, 3)
+DELETE_AGAIN = delete_of(UNDELETE, 4)
+DELETE_TOO = delete_of(CLAIM, 4)
+DELETE_NODE = delete_of(NODE, 2)
+UNDELETE_NODE = delete_of(DELETE_NODE, 3)
+# At one date. The ref of the second is the greater one.
+SET_U, SET_V = on_node("set", "u", 2), on_node("set", "v", 2)
+ADD_X, ADD_X_TOO, ADD_Y = on_node("add", "x", 2), on_node("add", "x", 3), on_node("add", "y", 3)
+DROP_X, DROP_ALL = on_node("del", "x", 4), on_node("del", "", 4)
+# Its signature has another first digit.
+FORGED = changed(CLAIM, b'"camliSig":"1', b'"camliSig":"2')
+# A key in place of random digits.
+KEYED = signed(changed(permanode_payload(), f'"random":"{writing.RANDOM}"', '"key":"some words"'))
+SECOND_NODE = permanode("0" * 32)
+OTHER_KEY = key_blob("other")
+BY_OTHER = delete(ref_of(CLAIM), day(2), ref_of(OTHER_KEY), OTHER_SECRET)
+
+
+# Rows
+
+def deletions():
+    """Deletions, deletions of these, and so on."""
+    front = (KEY, NODE, CLAIM)
+    tags = {MOMENTS[0]: "", day(1, NOON): "a", day(2, NOON): "", day(3, NOON): "a", ALWAYS: "a"}
+    gone = {day(3, NOON): "a", ALWAYS: ""}
+    return [
+        Row("a deletion is deleted", NODE, (*front, DELETE, UNDELETE), tags),
+        Row("its deletion too", NODE, (*front, DELETE, UNDELETE, DELETE_AGAIN), gone),
+        Row("one deletion of two is deleted", NODE, (*front, DELETE, DELETE_TOO, UNDELETE), gone),
+        Row("a permanode comes back", NODE, (*front, DELETE_NODE, UNDELETE_NODE), {day(2, NOON): "a", ALWAYS: "a"}),
+        Row("a deletion by another key", NODE, (*front, OTHER_KEY, BY_OTHER), {day(1, NOON): "a", ALWAYS: ""}),
+    ]
+
+
+def changes():
+    """Values that are set, added and removed."""
+    front = (KEY, NODE, ADD_X)
+    return [
+        Row("two claims at one date", NODE, (KEY, NODE, SET_U, SET_V), {day(1, NOON): "", ALWAYS: "v"}),
+        Row("a value is added twice", NODE, (*front, ADD_X_TOO), {day(2, NOON): "x", ALWAYS: "xx"}),
+        Row("equal values go", NODE, (*front, ADD_X_TOO, DROP_X), {day(3, NOON): "xx", ALWAYS: ""}),
+        Row("all values go", NODE, (*front, ADD_Y, DROP_ALL), {day(3, NOON): "xy", ALWAYS: ""}),
+    ]
+
+
+def permanodes():
+    """Which permanodes and claims count."""
+    keyed, second = on_node("set", "k", 1, KEYED), on_node("add", "a", 3, SECOND_NODE)
+    return [
+        Row("a key, a permanode, its claim", NODE, (KEY, NODE, CLAIM), {MOMENTS[0]: "", ALWAYS: "a"}),
+        Row("a false signature", NODE, (KEY, NODE, FORGED), {day(1, NOON): "", ALWAYS: ""}),
+        Row("a permanode with a key", KEYED, (KEY, KEYED, keyed), {MOMENTS[0]: "", ALWAYS: "k"}),
+        Row("two permanodes", SECOND_NODE, (KEY, NODE, CLAIM, SECOND_NODE, second), {day(2, NOON): "", ALWAYS: "a"}),
+    ]
+
+
+# What has to be told
+
+def archive_of(blobs):
+    return reference.Archive({ref_of(blob): blob for blob in blobs}, reference.read_keyring(KEYRING))
+
+
+def moment_of(text):
+    return reference.ALWAYS if text == ALWAYS else reference.moment_of(text)
+
+
+def told(blobs, came, moment, tag):
+    """What an index tells once some of the blobs came: its first permanode; for each one, in the order of the pack, the
+    tags at a moment; and who holds a tag by claims of every date."""
+    archive = archive_of(came)
+    refs = [ref for ref in map(ref_of, blobs) if archive.is_permanode(ref)]
+    words = [("first", ref) for ref in sorted(refs)[:1]]
+    for ref in refs:
+        words += [("permanode", ref), *(("value", value) for value in archive.values(ref, "tag", moment_of(moment)))]
+    words += [("holder", ref) for ref in archive.holders("tag", tag)]
+    return "".join(f" {word} {text}" for word, text in words)
+
+
+def is_written(row):
+    """The reference tells what is written down in a row."""
+    archive, ref = archive_of(row.blobs), ref_of(row.node)
+    for when, tags in row.tags.items():
+        values = archive.values(ref, "tag", moment_of(when))
+        compare(f"{row.what}, at {when}", "tags by the reference", list(tags), values)
+    for tag in TAGS:
+        held = ref in archive.holders("tag", tag)
+        compare(f"{row.what}, the tag {tag}", "whether it is held by the reference", tag in row.tags[ALWAYS], held)
+
+
+def parts(program):
+    """By the reference a permanode is there once it and its key came, and its tag once its claim came too."""
+    blobs = {KEY, NODE, CLAIM}
+    return [lambda came=set(came): is_there(came, {KEY, NODE} <= came, blobs <= came) for came in parts_of(blobs)]
+
+
+def parts_of(blobs):
+    return itertools.chain.from_iterable(itertools.combinations(blobs, count) for count in range(len(blobs) + 1))
+
+
+def is_there(came, is_permanode, is_held):
+    archive, ref = archive_of(came), ref_of(NODE)
+    compare(f"{len(came)} blobs of three", "whether the permanode is there", is_permanode, archive.is_permanode(ref))
+    compare(f"{len(came)} blobs of three", "who holds the tag", [ref] * is_held, archive.holders("tag", "a"))
+
+
+# Orders
+
+def orders_of(blobs):
+    """Every order in which each part of some blobs can come, as letters of the blobs."""
+    letters = LETTERS[: len(blobs)]
+    return [order for count in range(len(blobs) + 1) for order in map("".join, itertools.permutations(letters, count))]
+
+
+def comes_in_any_order(program, row, moment, tag):
+    what, orders = f"{row.what}, at {moment}, the tag {tag}", orders_of(row.blobs)
+    words = ["orders", KEYRING, "tag", tag, moment, *orders]
+    status, out, err = program.run(what, words, pack(*row.blobs))
+    compare_ending(what, 0, status, err)
+    blob_of = dict(zip(LETTERS, row.blobs))
+    expected = {}
+    for part in map(frozenset, orders):
+        if part not in expected:
+            expected[part] = told(row.blobs, [blob_of[letter] for letter in part], moment, tag)
+    lines = out.decode().splitlines()
+    compare(what, "how many lines are told", len(WAYS) * len(orders), len(lines))
+    for (order, way), line in zip(itertools.product(orders, WAYS), lines):
+        compare(f"{what}, the order {order!r}, {way}", "what is told", expected[frozenset(order)], line)
+
+
+def checks_of(program, group):
+    """Each row as it is written down; and each, at each of the moments, and for each of the tags, in any order."""
+    if group is parts:
+        return parts(program)
+    rows, questions = group(), list(zip(MOMENTS, TAGS, strict=True))
+    return [lambda row=row: is_written(row) for row in rows] + [
+        lambda row=row, question=question: comes_in_any_order(program, row, *question)
+        for row, question in itertools.product(rows, questions)
+    ]
+
+
+if __name__ == "__main__":
+    main("arrivals.sh", [parts, deletions, changes, permanodes], checks_of=checks_of)
