@@ -58,25 +58,29 @@ fn sources_are_read_to_their_end(rt: HostRuntime) -> Result<(), NoMemory> {
     Ok(())
 }
 
-// Whether the second call of each fails, and no other, and is counted.
-fn second_calls_fail(source: &mut MemSource, sink: &mut MemSink) -> bool {
+// Whether the second read of a source fails, and no other, and is counted.
+fn second_read_fails(alloc: Global) -> Result<bool, NoMemory> {
+    let fails = failing(alloc, Some(1))?;
+    let mut source = MemSource::of(Octets::copy(alloc, b"abc")?, fails);
     let mut buf = [0; 2];
     let first = source.read(&mut buf) == Ok(2) && &buf == b"ab";
     let second = source.read(&mut buf) == Err(Failed) && source.faults() == 1;
     let third = source.read(&mut buf) == Ok(1) && &buf == b"cb";
-    let read = first && second && third;
-    let first = write_all(sink, b"abc") == Ok(());
-    let second = write_all(sink, b"d") == Err(Failed) && sink.faults() == 1;
-    let third = write_all(sink, b"e") == Ok(());
-    read && first && second && third && sink.written() == b"abce".as_slice()
+    Ok(first && second && third)
+}
+
+// Whether the second write to a sink fails, and no other, and is counted.
+fn second_write_fails(alloc: Global) -> Result<bool, NoMemory> {
+    let mut sink = MemSink::empty(alloc, failing(alloc, Some(1))?);
+    let first = write_all(&mut sink, b"abc") == Ok(());
+    let second = write_all(&mut sink, b"d") == Err(Failed) && sink.faults() == 1;
+    let third = write_all(&mut sink, b"e") == Ok(());
+    Ok(first && second && third && sink.written() == b"abce".as_slice())
 }
 
 #[test]
 fn memory_forms_count_their_faults(rt: HostRuntime) -> Result<(), NoMemory> {
-    let alloc = rt.alloc();
-    let bytes = Octets::copy(alloc, b"abc")?;
-    let mut source = MemSource::of(bytes, failing(alloc, Some(1))?);
-    let mut sink = MemSink::empty(alloc, failing(alloc, Some(1))?);
-    assert!(rt; second_calls_fail(&mut source, &mut sink));
+    assert!(rt; second_read_fails(rt.alloc())?);
+    assert!(rt; second_write_fails(rt.alloc())?);
     Ok(())
 }
