@@ -1,10 +1,21 @@
 //! The system's readers, writers and sockets as sources, sinks and listeners (`docs/architecture.md`). They tell nothing
-//! of the bytes, and count their failures; what the system does is trusted.
+//! of the bytes, and count their failures; what the system does is trusted. Who gets in by a socket is decided by
+//! [`admission_of`], from the first head of a connection alone.
 #![tactic(auto)]
 
+mod admission;
 pub mod again;
+mod at_door;
+mod connection;
 mod edges;
-mod sockets;
+mod lingering;
+mod listening;
+mod patience;
+mod terminal;
 
+pub use admission::{Admission, admission_of};
+pub use at_door::{AtDoor, Ear};
+pub use connection::{Hearing, TcpIn, TcpOut, Telling};
 pub use edges::{ReadSource, WriteSink, counted};
-pub use sockets::{Hearing, TcpIn, TcpListenerOn, TcpOut};
+pub use listening::TcpListenerOn;
+pub use terminal::{Readiness, tell_person};

@@ -1,0 +1,96 @@
+//! How long a client is waited for. What counts is the time for which calls wait for it, and no other.
+use std::time::Duration;
+
+// How many seconds are waited for the first head in all; and for the next request; and, within a request or a reply, for
+// so many bytes.
+const MAX_FOR_HEAD: u64 = 10;
+
+const MAX: u64 = 60;
+
+const ENOUGH: u64 = 1_024;
+
+/// What is waited for in reads, and for how long it was.
+#[derive(Clone, Copy)]
+pub(crate) enum Patience {
+    /// The first head, whole.
+    FirstHead { waited: Duration },
+    /// The next request, of which nothing has come.
+    Idle { waited: Duration },
+    /// More of a request.
+    Request(Progress),
+}
+
+impl Patience {
+    /// With a client of which nothing has come so far.
+    pub(crate) fn at_first() -> Patience {
+        Patience::FirstHead {
+            waited: Duration::from_secs(0),
+        }
+    }
+
+    /// Behind a reply.
+    pub(crate) fn behind_a_reply() -> Patience {
+        Patience::Idle {
+            waited: Duration::from_secs(0),
+        }
+    }
+
+    /// With a request of which something has come.
+    pub(crate) fn with_a_request() -> Patience {
+        Patience::Request(Progress::none())
+    }
+
+    /// After a call that waited so long and in which so many bytes came; None where it is over.
+    pub(crate) fn after(self, took: Duration, came: usize) -> Option<Patience> {
+        match self {
+            Patience::FirstHead { waited } => {
+                let waited = within(waited, took, MAX_FOR_HEAD)?;
+                Some(Patience::FirstHead { waited })
+            }
+            Patience::Idle { .. } if came > 0 => Some(Patience::with_a_request()),
+            Patience::Idle { waited } => {
+                let waited = within(waited, took, MAX)?;
+                Some(Patience::Idle { waited })
+            }
+            Patience::Request(progress) => Some(Patience::Request(progress.after(took, came)?)),
+        }
+    }
+}
+
+/// For how long more of a request or of a reply was waited for, and how many of its bytes went by meanwhile.
+#[derive(Clone, Copy)]
+pub(crate) struct Progress {
+    waited: Duration,
+    bytes: u64,
+}
+
+impl Progress {
+    /// Before anything was waited for.
+    pub(crate) fn none() -> Progress {
+        Progress {
+            waited: Duration::from_secs(0),
+            bytes: 0,
+        }
+    }
+
+    /// After a call that waited so long and in which so many bytes went by; None where it is over. It begins anew with
+    /// every 1,024 bytes.
+    pub(crate) fn after(self, took: Duration, went: usize) -> Option<Progress> {
+        let bytes = self.bytes.saturating_add(went as u64);
+        if bytes >= ENOUGH {
+            return Some(Progress::none());
+        }
+        let waited = within(self.waited, took, MAX)?;
+        Some(Progress { waited, bytes })
+    }
+}
+
+// What was waited for in all, where that is below so many seconds.
+fn within(waited: Duration, took: Duration, seconds: u64) -> Option<Duration> {
+    let waited = waited.saturating_add(took);
+    if waited.as_secs() < seconds {
+        Some(waited)
+    } else {
+        None
+    }
+}
