@@ -3,16 +3,20 @@ ghost use Rattle.std.specs.Prelude.{◌≡◌, ◌≤◌, length, IfOk, IfSome};
 ghost use Rattle.pack_disk.specs.Disk.{last_number};
 
 use crate::listing::{least_from, pack_numbers};
-use crate::locking::lock_folder;
+use crate::locking::{check_is_there, lock_folder};
+use crate::opening::Opening;
 use crate::pack_file::{Growing, Reading, fill};
 use edge_base::Failed;
 use edge_os::again::uninterrupted;
 use edge_os::counted;
 use pack_disk::Disk;
 use std::collections::BTreeSet;
-use std::fs::File;
+use std::fs::{self, File};
 use std::io::{self, ErrorKind};
 use std::sync::atomic::{AtomicU64, Ordering};
+
+// While so many packs have bytes that are neither synced nor cut off, no further one is made.
+const MAX_UNSETTLED: usize = 16;
 
 /// What a command does with a store.
 #[derive(Clone, Copy, PartialEq)]
@@ -25,9 +29,13 @@ pub enum Access {
 
 /// The packs of a folder: its files `pack-NNNNN.blobs`. Files of other names are ignored. Which there are is looked
 /// up at the first call, at which a writer also locks the folder, until the disk is dropped. To a reader a folder
-/// that isn't there is a disk without packs. Where it is dropped each pack is cut back to the bytes that it had before
-/// something was added that wasn't synced, as well as may be, while the folder is still locked: so nobody takes for
-/// durable what only seems to stand.
+/// that isn't there is a disk without packs.
+///
+/// What an append that failed has left is cut off at once, as well as may be, and the file of a pack that was made here
+/// and never synced goes with it; its number stays taken. Where the disk is dropped the same is done with what was added
+/// and not synced, while the folder is still locked: so nobody takes for durable what only seems to stand. Nothing is
+/// made, opened or called durable where the path no longer leads to the folder, or to the pack's file. Where standard
+/// error is a terminal, it is told there how far a long opening is.
 pub struct FolderDisk<'a> {
     rt: &'a HostRuntime,
     path: &'a str,
@@ -43,12 +51,14 @@ pub struct FolderDisk<'a> {
     growing: Growing,
     // Where appends are counted, if anywhere.
     appends: Option<&'a AtomicU64>,
+    opening: Opening<'a>,
     faults: u64,
 }
 
 impl<'a> Drop for FolderDisk<'a> {
     fn drop(self) {
         self.growing.cut();
+        self.remove_unsynced();
         let FolderDisk {
             rt: _,
             path: _,
@@ -60,6 +70,7 @@ impl<'a> Drop for FolderDisk<'a> {
             reading: _,
             growing: _,
             appends: _,
+            opening: _,
             faults: _,
         } = self;
     }
@@ -81,6 +92,7 @@ impl<'a> FolderDisk<'a> {
             reading: Reading::none(rt.alloc()),
             growing: Growing::none(rt.alloc()),
             appends: None,
+            opening: Opening::new(rt),
             faults: 0,
         }
     }
@@ -120,6 +132,8 @@ impl<'a> FolderDisk<'a> {
         }
         if self.folder.is_some() {
             self.numbers = uninterrupted(|| pack_numbers(self.rt, &entered))?;
+            let size = self.size_of_packs();
+            self.opening.begin(size);
         }
         self.begun = true;
         Ok(())
@@ -134,6 +148,23 @@ impl<'a> FolderDisk<'a> {
             Err(error) if error.kind() == ErrorKind::NotFound => Ok(None),
             Err(error) => Err(error),
         }
+    }
+
+    // How many bytes the packs have, as far as that can be told, where it is asked for.
+    fn size_of_packs(&self) -> u64 {
+        if !self.opening.is_shown() {
+            return 0;
+        }
+        let mut size = 0u64;
+        for pack in &self.numbers {
+            size = size.saturating_add(self.size_of_file(*pack).unwrap_or(0));
+        }
+        size
+    }
+
+    fn size_of_file(&self, pack: u32) -> io::Result<u64> {
+        let path = self.pack_path(pack)?;
+        Ok(uninterrupted(|| fs::metadata(self.rt, &path))?.len())
     }
 
     fn next(&mut self, from: u32) -> io::Result<Option<u32>>
@@ -157,7 +188,9 @@ impl<'a> FolderDisk<'a> {
         ensures faults { self.new.faults ≡ self.old.faults }
     {
         self.open_pack(pack)?;
-        fill(self.reading.file(pack)?, at, buf)
+        let count = fill(self.reading.file(pack)?, at, buf)?;
+        self.opening.goes_on(count);
+        Ok(count)
     }
 
     // Opens the file of a pack to read it, unless it is open.
@@ -167,6 +200,7 @@ impl<'a> FolderDisk<'a> {
         self.begin()?;
         if !self.reading.is_open(pack) {
             let path = self.pack_path(pack)?;
+            self.check_folder()?;
             self.reading.open(self.rt, pack, &path)?;
         }
         Ok(())
@@ -177,6 +211,10 @@ impl<'a> FolderDisk<'a> {
         ensures faults { self.new.faults ≡ self.old.faults }
     {
         self.begin()?;
+        if self.growing.unsettled() >= MAX_UNSETTLED {
+            return Err(io::Error::from(ErrorKind::StorageFull));
+        }
+        self.check_folder()?;
         if self.numbers.is_empty() {
             self.sync_above()?;
         }
@@ -207,9 +245,51 @@ impl<'a> FolderDisk<'a> {
         }
         if self.growing.file(pack).is_none() {
             let path = self.pack_path(pack)?;
+            self.check_folder()?;
             self.growing.open(self.rt, pack, &path)?;
         }
-        self.growing.add(pack, bytes)
+        let added = self.growing.add(pack, bytes);
+        if added.is_err() && self.growing.is_void(pack) {
+            self.remove(pack);
+        }
+        added
+    }
+
+    // Removes the packs that were made here and never synced, and that hold nothing any more.
+    fn remove_unsynced(&self) {
+        for pack in &self.numbers {
+            if self.growing.is_void(*pack) {
+                self.remove(*pack);
+            }
+        }
+    }
+
+    // Removes the file of a pack that grows, unless its path leads to another one. Where that fails the file stays, empty.
+    fn remove(&self, pack: u32) {
+        if self.check_pack(pack).is_err() {
+            return;
+        }
+        if let Ok(path) = self.pack_path(pack) {
+            let _ = fs::remove_file(self.rt, path);
+        }
+    }
+
+    // Fails unless the path leads to the folder that was opened.
+    fn check_folder(&self) -> io::Result<()> {
+        let entered = self.path_to("")?;
+        match &self.folder {
+            Some(folder) => check_is_there(self.rt, folder, &entered),
+            None => Ok(()),
+        }
+    }
+
+    // Fails unless the path of a pack that grows leads to its file.
+    fn check_pack(&self, pack: u32) -> io::Result<()> {
+        let path = self.pack_path(pack)?;
+        match self.growing.file(pack) {
+            Some(file) => check_is_there(self.rt, file, &path),
+            None => Ok(()),
+        }
     }
 
     // Makes the bytes of a pack durable, and the names of all.
@@ -224,6 +304,7 @@ impl<'a> FolderDisk<'a> {
             self.reading.file(pack)?.sync_all()?;
         }
         self.sync_names()?;
+        self.check_pack(pack)?;
         self.growing.settle(pack);
         Ok(())
     }

@@ -4,6 +4,7 @@
 mod folder;
 mod listing;
 mod locking;
+mod opening;
 mod pack_file;
 
 pub use folder::{Access, FolderDisk};

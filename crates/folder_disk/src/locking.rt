@@ -30,6 +30,15 @@ pub(crate) fn lock_folder(rt: &HostRuntime, folder: &str, entered: &str) -> io::
     Err(io::Error::from(ErrorKind::TimedOut))
 }
 
+/// Fails unless a path still leads to the file.
+pub(crate) fn check_is_there(rt: &HostRuntime, file: &File, path: &str) -> io::Result<()> {
+    if is_there(rt, file, path)? {
+        Ok(())
+    } else {
+        Err(io::Error::from(ErrorKind::NotFound))
+    }
+}
+
 // Whether a path still leads to the file.
 fn is_there(rt: &HostRuntime, file: &File, path: &str) -> io::Result<bool> {
     let held = uninterrupted(|| file.metadata())?;

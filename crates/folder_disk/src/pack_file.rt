@@ -89,6 +89,23 @@ struct Grown {
     size: u64,
     // How many were added since.
     added: u64,
+    // Whether it was made here, and not synced so far.
+    is_fresh: bool,
+}
+
+impl Grown {
+    // Cuts it back to what was synced of it, which gives the space of the rest back; answers whether that was done.
+    fn cut(&self) -> bool {
+        self.file.set_len(self.size).is_ok() && self.file.sync_all().is_ok()
+    }
+
+    // Whether it has nothing but its name: it was made here, was never synced, and has no bytes.
+    fn is_void(&self) -> bool {
+        match uninterrupted(|| self.file.metadata()) {
+            Ok(found) => self.is_fresh && found.len() == 0,
+            Err(_) => false,
+        }
+    }
 }
 
 impl Growing {
@@ -105,37 +122,60 @@ impl Growing {
             .create_new(true)
             .mode(OWNER_ONLY)
             .open(rt, path)?;
-        self.keep(number, file, 0)
+        self.keep(number, file, 0, true)
     }
 
     /// Opens the file of a pack, to add to it.
     pub(crate) fn open(&mut self, rt: &HostRuntime, number: u32, path: &str) -> io::Result<()> {
         let file = open_regular(rt, File::options().append(true), path)?;
         let size = uninterrupted(|| file.metadata())?.len();
-        self.keep(number, file, size)
+        self.keep(number, file, size, false)
     }
 
     // Keeps a file open, and closes those to which nothing was added that isn't synced.
-    fn keep(&mut self, number: u32, file: File, size: u64) -> io::Result<()> {
+    fn keep(
+        &mut self,
+        number: u32,
+        file: File,
+        size: u64,
+        is_fresh: bool,
+    ) -> io::Result<()> {
         self.packs.retain(|pack| pack.added > 0);
         self.packs.push(Grown {
             number,
             file,
             size,
             added: 0,
+            is_fresh,
         })?;
         Ok(())
     }
 
-    /// Adds the bytes behind those of a pack that is open.
+    /// Adds the bytes behind those of a pack that is open. Where that fails it is cut back, as well as may be.
     pub(crate) fn add(&mut self, number: u32, bytes: &[u8]) -> io::Result<()> {
         for pack in &mut self.packs {
             if pack.number == number {
                 pack.added = pack.added.saturating_add(bytes.len() as u64);
-                return pack.file.write_all(bytes);
+                let done = pack.file.write_all(bytes);
+                if done.is_err() && pack.cut() {
+                    pack.added = 0;
+                }
+                return done;
             }
         }
         Err(io::Error::from(ErrorKind::NotFound))
+    }
+
+    /// Whether a pack is one of these, was made here and never synced, and has no bytes.
+    pub(crate) fn is_void(&self, number: u32) -> bool {
+        self.packs
+            .iter()
+            .any(|pack| pack.number == number && pack.is_void())
+    }
+
+    /// How many packs have bytes that are neither synced nor cut off.
+    pub(crate) fn unsettled(&self) -> usize {
+        self.packs.iter().filter(|pack| pack.added > 0).count()
     }
 
     /// The file of a pack, where the pack is one of these.
@@ -150,6 +190,7 @@ impl Growing {
             if pack.number == number {
                 pack.size = pack.size.saturating_add(pack.added);
                 pack.added = 0;
+                pack.is_fresh = false;
             }
         }
     }
@@ -159,8 +200,7 @@ impl Growing {
         for pack in &self.packs {
             if pack.added > 0 {
                 // Where this fails nothing more can be done.
-                let _ = pack.file.set_len(pack.size);
-                let _ = pack.file.sync_all();
+                let _ = pack.cut();
             }
         }
     }
