@@ -1,6 +1,6 @@
 //! How the program ends.
 use blob_server::Served;
-use perkeep_top::Status;
+use perkeep_top::{InputFault, Status};
 
 /// The end of the program (`docs/commands.md`).
 #[derive(Drop)]
@@ -40,6 +40,51 @@ impl Ending {
             Ending::Served(served) => status_of(*served).word(),
             Ending::BadKeyring => "input",
         }
+    }
+
+    /// What a person can do then, where that can be said.
+    pub(crate) fn hint(&self) -> Option<&'static str> {
+        match self {
+            Ending::Ran(status) => hint_of(status),
+            Ending::Served(Served::ListenerFault) => {
+                Some("the port is taken, or no connection could be accepted; --port takes another one")
+            }
+            Ending::Served(served) => hint_of(&status_of(*served)),
+            Ending::BadKeyring => {
+                Some("each line of the keyring is a name, a space, hexadecimal digits and a line feed")
+            }
+        }
+    }
+}
+
+fn hint_of(status: &Status) -> Option<&'static str> {
+    match status {
+        Status::BadWords => Some("no line of a command has these words; docs/commands.md has them all"),
+        Status::Absent { .. } => {
+            Some("the store has no such blob; a folder that isn't there reads as an empty store")
+        }
+        Status::BadInput(fault) => Some(hint_of_input(fault)),
+        Status::Disk => Some(
+            "the folder can't be read or written, the disk is full, or another program holds the store",
+        ),
+        Status::Damaged { .. } => Some("perkeep salvage DIR tells what is whole"),
+        Status::Full { .. } => Some("the store has as many blobs or packs as it may have"),
+        _ => None,
+    }
+}
+
+fn hint_of_input(fault: &InputFault) -> &'static str {
+    match fault {
+        InputFault::BadRef => "a text that should be a blobref is none",
+        InputFault::BadDate => "a text that should be a date is none",
+        InputFault::BadNumber => "a text that should be a number is none, or out of range",
+        InputFault::BadName => "the name of an attribute is empty",
+        InputFault::TooBig { .. } => "standard input is longer than it may be",
+        InputFault::NotAFile { .. } => "a blob that should be a file, or a part of one, is none",
+        InputFault::Short { .. } | InputFault::Deep { .. } => "the blobs of the file don't fit together",
+        InputFault::NoKey => "the keyring doesn't hold the key",
+        InputFault::TooLong { .. } => "a text, a file or a query is longer than it may be",
+        InputFault::BadQuery(_) => "standard input is no query",
     }
 }
 

@@ -19,7 +19,7 @@ use perkeep_top::{Status, run};
 use perkeep_words::{Line, places, serve_words};
 use std::alloc::Global;
 use std::env;
-use std::io::ErrorKind;
+use std::io::{self, ErrorKind, IsTerminal};
 use std::process::ExitCode;
 use std::sync::Wait;
 use std::thread::Threads;
@@ -31,9 +31,19 @@ fn main(rt: HostRuntime) -> ExitCode {
     };
     if !ending.is_done() {
         // Where this fails too nothing more can be told.
-        let _ = rt.eprintln(format_args!("perkeep: {}", ending.word()));
+        let _ = tell(&rt, &ending);
     }
     ExitCode::from(ending.code())
+}
+
+// Tells how the program ended; to a person at a terminal also what may be done.
+fn tell(rt: &HostRuntime, ending: &Ending) -> io::Result<()> {
+    match ending.hint() {
+        Some(hint) if rt.stderr().is_terminal() => {
+            rt.eprintln(format_args!("perkeep: {} ({hint})", ending.word()))
+        }
+        _ => rt.eprintln(format_args!("perkeep: {}", ending.word())),
+    }
 }
 
 // Does what the command line asks for, over standard input and standard output, or as a server.

@@ -5,7 +5,7 @@ use crate::ending::Ending;
 use crate::keys::read_keyring;
 use blob_server::{Served, desks, serve_all};
 use blobref::NoMemory;
-use edge_os::TcpListenerOn;
+use edge_os::{Readiness, TcpListenerOn, tell_person};
 use folder_disk::{Access, FolderDisk};
 use home_core::Home;
 use index_worker::{Gate, GatePlace};
@@ -42,6 +42,10 @@ pub(crate) fn serve<R: Threads + Wait + Sync>(
     let Ok(listener) = TcpListener::bind(rt, address) else {
         return Ending::Served(Served::ListenerFault);
     };
+    tell_person(
+        rt,
+        format_args!("perkeep: has port {}, and reads the store", plan.port),
+    );
     let appends = AtomicU64::new(0);
     let disk = FolderDisk::new(rt, folder, Access::Write).counting(&appends);
     let count = plan.workers.saturating_add(plan.indexers);
@@ -71,7 +75,8 @@ where
     H::Pass: Drop + Send,
     requires { All (H.belongs home.now) passes.items }
 {
-    let Ok(listeners) = listeners(rt, listener, plan.workers.min(passes.len())) else {
+    let ready = Readiness::new(rt, plan.port);
+    let Ok(listeners) = listeners(rt, listener, &ready, plan.workers.min(passes.len())) else {
         return Ending::Ran(Status::NoMemory);
     };
     let Ok(mut desks) = desks(rt.alloc(), passes, listeners) else {
@@ -90,15 +95,16 @@ where
 
 // One who accepts for each worker.
 fn listeners<'a>(
-    rt: &HostRuntime,
+    rt: &'a HostRuntime,
     listener: &'a TcpListener,
+    ready: &'a Readiness<'a>,
     workers: usize,
 ) -> Result<Vec<TcpListenerOn<'a>>, NoMemory>
     ensures { IfOk result (λ listeners. vec_len listeners ≤ workers) }
 {
     let mut listeners = Vec::new(rt.alloc());
     'workers: for _ in 0..workers {
-        listeners.push(TcpListenerOn::new(listener))?;
+        listeners.push(TcpListenerOn::new(rt, listener, ready))?;
     }
     Ok(listeners)
 }
