@@ -1,9 +1,9 @@
 """Servers of the program (docs/commands.md, "serve"; docs/server.md): which lines start one, what else ends it at once,
 who can reach it, when it ends, and what goes wrong at it.
 
-Clients that stay are in serve_stays.py, streams in serve_streams.py, clients that ask in turn in serve_sessions.py,
-other programs as clients in serve_clients.py, eight clients at once in serve_load.py, kills in serve_kills.py, and
-calls to the system in serve_calls.py.
+Who gets in is in serve_door.py, clients that stay in serve_stays.py, streams in serve_streams.py, clients that ask in
+turn in serve_sessions.py, other programs as clients in serve_clients.py, eight clients at once in serve_load.py, kills
+in serve_kills.py, full disks and folders that go in serve_disk.py, and calls to the system in serve_calls.py.
 """
 
 import contextlib
@@ -18,6 +18,8 @@ import inputs
 import reference
 import serve_calls
 import serve_clients
+import serve_disk
+import serve_door
 import serve_kills
 import serve_load
 import serve_sessions
@@ -350,8 +352,10 @@ def cut_short(program):
 GROUPS = [words, starts, wrong, serve_stays.stays, serve_streams.sessions, serve_streams.pipelined]
 GROUPS += [serve_streams.random_streams, serve_streams.cut_streams, serve_sessions.random_sessions]
 GROUPS += [serve_kills.kills, serve_calls.calls, serve_calls.failing]
+GROUPS += [serve_door.sent, serve_door.values, serve_door.random_heads, serve_disk.full, serve_disk.goes]
 ONE_AT_A_TIME = [serve_streams.of_inputs(group) for group in serve_streams.INPUTS]
-ONE_AT_A_TIME += [serve_clients.curl, serve_clients.requests, serve_load.clients]
+ONE_AT_A_TIME += [serve_door.bodies, serve_clients.curl, serve_clients.requests, serve_clients.wget, serve_clients.http_client]
+ONE_AT_A_TIME += [serve_clients.node, serve_load.clients]
 
 if __name__ == "__main__":
     harness.main("serve.sh", GROUPS, ONE_AT_A_TIME, beside=[serve_stays.minutes])

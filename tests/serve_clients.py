@@ -1,8 +1,10 @@
-"""Routes as clients ask them that know nothing of this program: curl, and Python's `requests`.
+"""Routes as clients ask them that know nothing of this program: curl, wget, Python's `requests` and `http.client`, node's
+`fetch`, and any of them through a forwarder.
 
 What each has to get is worked out from an equal request that is spelled here (connections.py).
 """
 
+import http.client
 import importlib.util
 import json
 import random
@@ -11,6 +13,7 @@ import subprocess
 
 import http_inputs
 from connections import LISTING, QUERY, STAT, UPLOAD
+from forwarding import Forwarder
 from harness import LeftOut, SECONDS, check, compare
 from http_inputs import ABC, ABSENT, FORM, GOOD_QUERY, blob_part, blob_target, form, get, head, post, post_pieces, stat
 from http_inputs import stat_pairs, upload
@@ -248,3 +251,77 @@ def requests_chunks(by):
 
 REQUESTS = [requests_blobs, requests_stats, requests_pages, requests_searches, requests_forms, requests_greatest]
 REQUESTS += [requests_chunks]
+
+
+# wget, http.client, node, and a forwarder
+
+def wget(program):
+    if not shutil.which("wget"):
+        raise LeftOut("wget isn't there")
+    one = shelf(program, http_inputs.STORES["small"])
+    return [lambda: wget_gets(one), lambda: wget_posts(one), lambda: one.ends("wget")]
+
+
+def run_client(what, line, source=b""):
+    done = subprocess.run(line, input=source, stdout=subprocess.PIPE, stderr=subprocess.PIPE, timeout=SECONDS)
+    compare(what, "status and errors", (0, b""), (done.returncode, done.stderr))
+    return done.stdout
+
+
+def wget_gets(one):
+    for target in (blob_target(ABC), LISTING):
+        told = one.replies(get(target))[0].body
+        compare_texts(f"wget of {target}", told, run_client("wget", ["wget", "-q", "-O", "-", url_of(one, target)]))
+
+
+def wget_posts(one):
+    pairs = stat_pairs(ABC, ABSENT)
+    told = one.replies(post(STAT, pairs))[0].body
+    line = ["wget", "-q", "-O", "-", f"--post-data={pairs.decode()}", url_of(one, STAT)]
+    compare_texts("a post by wget", told, run_client("wget", line))
+
+
+def http_client(program):
+    """Python's `http.client`, on one connection, also through a forwarder that has another port."""
+    one = shelf(program, http_inputs.STORES["small"])
+    port = Forwarder(one.port).port
+    return [lambda: by_http_client(one, one.port), lambda: by_http_client(one, port), lambda: one.ends("http.client")]
+
+
+def by_http_client(one, port):
+    connection = http.client.HTTPConnection(HOST, port, timeout=SECONDS)
+    for blob in (b"by http.client", b"another"):
+        body = form(blob_part(blob))
+        rows = [("POST", UPLOAD, body, {"Content-Type": FORM.partition(": ")[2]}, upload(blob))]
+        rows += [("GET", blob_target(ref_of(blob)), None, {}, get(blob_target(ref_of(blob))))]
+        for method, target, content, headers, request in rows:
+            reply = one.replies(request)[0]
+            connection.request(method, target.decode(), content, headers)
+            answer = connection.getresponse()
+            compare(f"{method} {target} by http.client", "reply", (reply.code, reply.body), (answer.status, answer.read()))
+    connection.close()
+
+
+# Puts a blob, reads it, and prints both replies.
+NODE = """(async () => {
+  const [own, type, ref, body] = [process.argv[1], process.argv[2], process.argv[3], process.argv[4]];
+  const put = await fetch(own + '/camli/upload', {method: 'POST', headers: {'Content-Type': type}, body});
+  console.log(put.status, await put.text());
+  const got = await fetch(own + '/camli/' + ref);
+  console.log(got.status, await got.text());
+})()"""
+
+
+def node(program):
+    if not shutil.which("node"):
+        raise LeftOut("node isn't there")
+    one = shelf(program, http_inputs.STORES["small"])
+    return [lambda: by_node(one), lambda: one.ends("node")]
+
+
+def by_node(one):
+    blob = b"by node"
+    replies = one.replies(upload(blob)) + one.replies(get(blob_target(ref_of(blob))))
+    told = b"".join(b"%d %b\n" % (reply.code, reply.body) for reply in replies)
+    words = [url_of(one, ""), FORM.partition(": ")[2], ref_of(blob), form(blob_part(blob)).decode()]
+    compare_texts("node's fetch", told, run_client("node", ["node", "-e", NODE, *words]))

@@ -1,8 +1,9 @@
-"""Clients that stop and stay, and those that don't read: others are served meanwhile, and after a minute their
-connections are ended. And the lock of the folder, for which another writer waits.
+"""Clients that stop and stay, that say little, and those that don't read: others are served meanwhile, and their
+connections are ended after ten seconds, or after a minute. And the lock of the folder, for which another writer waits.
 """
 
 import contextlib
+import itertools
 import select
 import socket
 import time
@@ -14,12 +15,13 @@ from connections import QUERY, STAT, UPLOAD, Reply
 from harness import check, compare
 from http_inputs import ABC, FORM, GOOD_QUERY, blob_part, blob_target, form, get, post, stat_pairs, upload
 from reference import LARGEST_BLOB, ref_of
-from serving import ABC_REPLY, IDLE, PORTS, SECONDS_OF_WAITING, SOON, Server, Talk
+from serving import ABC_REPLY, FIRST_HEAD, IDLE, PORTS, SECONDS_OF_WAITING, SOON, Server, Talk
 from serving import blob_reply, compare_texts, connect, store_of, stored
 from writers import Locked
 
-# When a connection is ended that has to be ended after a minute.
-LEAST_IDLE, MOST_IDLE = IDLE - 5, IDLE + 15
+# When a connection is ended that has to be ended after so many seconds: so many earlier at the least, and so many later
+# at the most.
+EARLIER, LATER = 5, 15
 GREATEST = bytes(LARGEST_BLOB)
 
 
@@ -35,6 +37,8 @@ FRONTS = {
     "part of a chunk": http_inputs.post_pieces(STAT, [stat_pairs(ABC)])[:-20],
     "part of an upload": post(UPLOAD, form(blob_part(b"kept"), blob_part(LARGE)), FORM)[:700_000],
 }
+# Those of them that have no whole head.
+HEADLESS = ("nothing", "empty lines", "part of a head")
 
 
 def stays(program):
@@ -112,20 +116,21 @@ def talks_on(program):
             compare_texts("the other client", ABC_REPLY.text(), other.read_text("the other client"))
 
 
-# Clients that stay for a minute, and locks that do
+# Clients that stay until they are ended, and locks that do
 
 def minutes(program):
-    """A connection on which nothing comes, or nothing is read, for a minute is ended."""
-    checks = (silent_after_requests, slow_to_send, unread, slow_to_read, a_locked_folder, a_put_beside, a_server_beside)
+    """A connection on which too little comes, or too little is read, is ended."""
+    checks = (silent_after_requests, slow_to_send, small_things, unread, slow_to_read, a_locked_folder, a_put_beside)
+    checks += (a_server_beside, eight_slow_heads, eight_slow_bodies, eight_slow_readers)
     checks = [lambda check=check: check(program) for check in checks]
     return checks + [lambda what=what: silent(program, what) for what in FRONTS]
 
 
-def ends_idle(what, server, start):
-    """The server, whose only connection this was, ends since the connection is ended; about a minute after."""
-    server.ends(what, seconds=2 * MOST_IDLE)
+def ends_idle(what, server, start, idle=IDLE):
+    """The server, whose only connection this was, ends since the connection is ended; about so many seconds after."""
+    server.ends(what, seconds=2 * (idle + LATER))
     seconds = time.monotonic() - start
-    check(f"{what}: it was ended after {seconds:.1f} seconds", LEAST_IDLE <= seconds <= MOST_IDLE)
+    check(f"{what}: it was ended after {seconds:.1f} seconds", idle - EARLIER <= seconds <= idle + LATER)
 
 
 def silent(program, what):
@@ -134,7 +139,7 @@ def silent(program, what):
     with Server(program, store.path, "--connections=1") as server:
         start = time.monotonic()
         with held_by(server, FRONTS[what]) as wire:
-            ends_idle(what, server, start)
+            ends_idle(what, server, start, FIRST_HEAD if what in HEADLESS else IDLE)
             with contextlib.suppress(ConnectionResetError):
                 compare(what, "what came", b"", wire.recv(1))
     if what == "part of an upload":
@@ -153,13 +158,62 @@ def silent_after_requests(program):
 
 
 def slow_to_send(program):
-    """A client that sends a byte now and then stays for more than a minute, and is answered."""
+    """A client that goes on after a pause is answered, as long as its pauses within a request are a minute in all."""
     what, stream = "a byte now and then", get(blob_target(ABC))
     with Server(program, store_of(program, b"abc").path, "--connections=1") as server, Talk(server.port) as talk:
-        for octet in stream[:2]:
-            time.sleep(IDLE * 0.6)
+        talk.ask(what, stream, ABC_REPLY)
+        for octet in stream[:3]:
+            time.sleep(IDLE * 0.4)
             talk.send(bytes([octet]))
-        talk.ask(what, stream[2:], ABC_REPLY)
+        talk.ask(what, stream[3:], ABC_REPLY)
+
+
+def small_things(program):
+    """A client that asks a small thing now and then stays."""
+    what = "a small request now and then"
+    with Server(program, store_of(program, b"abc").path, "--connections=1") as server, Talk(server.port) as talk:
+        for _ in range(5):
+            talk.ask(what, get(blob_target(ABC)), ABC_REPLY)
+            time.sleep(IDLE * 0.4)
+        talk.ask(what, get(blob_target(ABC)), ABC_REPLY)
+
+
+def eight_slow_heads(program):
+    """Eight clients that each send a byte of a first head a second keep all workers for ten seconds and no longer."""
+    front = get(blob_target(ABC), "X: " + "x" * 100)
+    eight_beside_one(program, "slow heads", b"", lambda wire, second: wire.send(front[second : second + 1]), FIRST_HEAD)
+
+
+def eight_slow_bodies(program):
+    """The same of bodies, for a minute."""
+    front = post(UPLOAD, form(blob_part(LARGE)), FORM)[:500]
+    eight_beside_one(program, "slow bodies", front, lambda wire, _: wire.send(b"x"), IDLE)
+
+
+def eight_slow_readers(program):
+    """The same of clients that read eight bytes a second."""
+    asked = get(blob_target(ref_of(GREATEST))) * 3
+    eight_beside_one(program, "slow readers", asked, lambda wire, _: wire.recv(8), IDLE)
+
+
+def eight_beside_one(program, what, front, each_second, seconds):
+    """Eight clients that begin so, and each second do little, and one that asks and is answered soon after they ended."""
+    with Server(program, store_of(program, b"abc", GREATEST).path) as server, contextlib.ExitStack() as all_of_them:
+        wires = [all_of_them.enter_context(held_by(server, front)) for _ in range(8)]
+        time.sleep(0.5)
+        start = time.monotonic()
+        with Talk(server.port) as talk:
+            talk.send(get(blob_target(ABC)))
+            for second in itertools.count():
+                for wire in wires:
+                    with contextlib.suppress(ConnectionError):
+                        each_second(wire, second)
+                if select.select([talk.wire], [], [], 1)[0]:
+                    break
+                check(f"{what}: no answer beside them", time.monotonic() - start < seconds + LATER)
+            compare_texts(what, ABC_REPLY.text(), talk.read_text(what))
+        took = time.monotonic() - start
+        check(f"{what}: an answer beside them after {took:.1f} seconds", seconds - EARLIER <= took)
 
 
 def unread(program):

@@ -15,6 +15,7 @@ import time
 
 import harness
 import reference
+from door import heard
 from connections import OCTETS, Connection, Reply, entry, json_text
 from harness import Difference, compare, compare_ending
 from inputs import KEYRING
@@ -30,8 +31,9 @@ TRIES = 3
 SOON = 5
 # docs/commands.md, "Exit statuses"
 TAKEN = 14
-# docs/server.md, "Connections": after so many seconds a connection is ended on which nothing came, or nothing was read.
-IDLE = 60
+# docs/server.md, "Connections": after so many seconds a connection is ended whose first head hasn't come, and one on which
+# nothing came or nothing was read.
+FIRST_HEAD, IDLE = 10, 60
 # docs/store.md, "One writer"
 SECONDS_OF_WAITING = 10
 PIECE = 65_536
@@ -322,7 +324,7 @@ class Foretold:
         return self.follow(stream)[1]
 
     def follow(self, stream):
-        connection = Connection(stream, self.blobs, self.keys)
+        connection = Connection(heard(stream), self.blobs, self.keys)
         replies = connection.replies()
         self.blobs = connection.blobs
         return connection, replies
@@ -337,7 +339,7 @@ class Foretold:
         done = Exchange(self.port, [stream] if pieces is None else pieces, pause)
         compare_texts(what, told, done.bytes())
         # A connection may break where the server doesn't read it to its end, and else it mustn't.
-        is_read = not (replies and replies[-1].closes) or connection.at == len(stream)
+        is_read = heard(stream) == stream and (not (replies and replies[-1].closes) or connection.at == len(stream))
         compare(what, "whether the connection broke", False, done.was_reset and is_read)
         return told
 

@@ -1,0 +1,61 @@
+"""Who gets in by a server's door, worked out a second time.
+
+Everything here is written from docs/server.md, "Who gets in", to be read beside it. Heads are those of connections.py. It has all bytes of
+a connection at hand, and looks at how they came nowhere.
+"""
+
+import re
+
+from connections import BLANKS, HEAD, HEADER, LENGTH, LONGEST_HEAD, MOST_HEADERS, Cut, behind_empty_line, is_utf_8
+
+OWN_HOST = re.compile(rb"(localhost|127\.0\.0\.1|\[::1\])(:[0-9]*)?")
+OWN_SITES = (b"none", b"same-origin")
+BROWSER = b"mozilla/"
+ONLY_OF_BROWSERS = {b"sec-fetch-site", b"origin", b"referer"}
+
+
+def heard(stream):
+    """What the server hears of a stream."""
+    first = first_head(stream)
+    if first is None:
+        return stream
+    headers, behind = first
+    if any(is_foreign(headers, name, value) for name, value in headers):
+        return b""
+    if any(map(says_browser, headers)):
+        return stream[: behind + said_length(headers)]
+    return stream
+
+
+def first_head(stream):
+    """The headers of the first head, with their names in lower case, and the place behind it; None where there is none."""
+    try:
+        behind = behind_empty_line(stream, 0, LONGEST_HEAD, begun=False)
+    except Cut:
+        return None
+    parts = HEAD.fullmatch(stream, 0, behind) if behind is not None else None
+    if parts is None or not is_utf_8(parts["target"]):
+        return None
+    headers = [(name.lower(), value.strip(BLANKS)) for name, value in HEADER.findall(parts["headers"])]
+    return (headers, behind) if len(headers) <= MOST_HEADERS else None
+
+
+def is_foreign(headers, name, value):
+    value = value.lower()
+    if name == b"host":
+        return OWN_HOST.fullmatch(value) is None
+    if name == b"sec-fetch-site":
+        return value not in OWN_SITES
+    if name == b"origin":
+        return value not in [b"http://" + host.lower() for other, host in headers if other == b"host"]
+    return False
+
+
+def says_browser(header):
+    name, value = header
+    return name in ONLY_OF_BROWSERS or (name == b"user-agent" and value.lower().startswith(BROWSER))
+
+
+def said_length(headers):
+    first = next((value for name, value in headers if name == b"content-length"), b"0")
+    return int(first) if LENGTH.fullmatch(first) else 0

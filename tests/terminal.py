@@ -1,0 +1,145 @@
+"""What a person is told at a terminal (docs/commands.md, "On a terminal"), by a terminal of the system's for standard error. What is told
+elsewhere all other scripts compare.
+"""
+
+import os
+import pty
+import subprocess
+import termios
+import time
+
+import harness
+import tracing
+from harness import check, compare
+from inputs import ABSENT
+from reference import ref_of
+from serving import PORTS, is_listened_to
+from stores import Store
+from writers import Locked
+from writing import pack
+
+# So many seconds each read of a pack is held up, and so many packs there are.
+HELD_UP, PACKS = 1.2, 6
+BAD_KEYRING = b"me abc\n"
+
+
+class Terminal:
+    """A terminal, as standard error of programs."""
+
+    def __init__(self):
+        self.ours, self.theirs = pty.openpty()
+        modes = termios.tcgetattr(self.theirs)
+        # A line feed is written as it is.
+        modes[1] &= ~termios.OPOST
+        termios.tcsetattr(self.theirs, termios.TCSANOW, modes)
+
+    def start(self, program, words, front=()):
+        """Starts the program at the terminal; its output is to be read."""
+        streams = {"stdin": subprocess.DEVNULL, "stdout": subprocess.PIPE, "stderr": self.theirs}
+        process = subprocess.Popen([*front, program.path, *words], cwd=program.working, **streams)
+        os.close(self.theirs)
+        return process
+
+    def read(self):
+        """What has been told and wasn't read so far; nothing where all programs have closed it."""
+        try:
+            return os.read(self.ours, 65_536)
+        except OSError:
+            return b""
+
+    def read_all(self):
+        return b"".join(iter(self.read, b""))
+
+
+def told(program, words, front=()):
+    """The status, the output, and what is told at a terminal."""
+    terminal = Terminal()
+    with terminal.start(program, words, front) as process:
+        text = terminal.read_all()
+        out = process.stdout.read()
+    return process.returncode, out, text
+
+
+def hints(program):
+    """Each word, with what stands behind it."""
+    store = Store(program, {0: pack(b"abc", b"{")})
+    bad = Store(program, {0: pack(b"abc")}, {"keyring": BAD_KEYRING})
+    nowhere, folder = str(program.new_path()), str(store.path)
+    rows = [
+        (["put"], 2, "words (no line of a command has these words; docs/commands.md has them all)"),
+        (["get", nowhere, ABSENT], 3, "absent (the store has no such blob; a folder that isn't there reads as an empty store)"),
+        (["get", folder, "abc"], 4, "input (a text that should be a blobref is none)"),
+        (["search", folder, "--attr=a", "--value=b", "--at=x"], 4, "input (a text that should be a date is none)"),
+        (["list", folder, "--limit=x"], 4, "input (a text that should be a number is none, or out of range)"),
+        (["search", folder, "--attr=", "--value=b"], 4, "input (the name of an attribute is empty)"),
+        (["get-file", folder, ref_of(b"abc")], 4, "input (a blob that should be a file, or a part of one, is none)"),
+        (["permanode", folder, "--key=me"], 4, "input (the keyring doesn't hold the key)"),
+        (["query", folder], 4, "input (standard input is no query)"),
+        (["list", str(bad.path)], 4, "input (each line of the keyring is a name, a space, hexadecimal digits and a line feed)"),
+    ]
+    return [lambda row=row: is_told(program, *row) for row in rows] + [lambda: held(program), lambda: done(program)]
+
+
+def is_told(program, words, status, text):
+    compare(words, "status, output and what is told", (status, b"", f"perkeep: {text}\n".encode()), told(program, words))
+
+
+def held(program):
+    store = Store(program, {0: pack(b"abc")})
+    text = "disk (the folder can't be read or written, the disk is full, or another program holds the store)"
+    with Locked(store.path):
+        is_told(program, store.words("delete", ref_of(b"abc"), "--key=me"), 4, "input (the keyring doesn't hold the key)")
+        is_told(program, store.words("put-file", "name"), 7, text)
+
+
+def done(program):
+    """Nothing is told where all was done."""
+    store = Store(program, {0: pack(b"abc")})
+    compare("a get", "status, output and what is told", (0, b"abc", b""), told(program, store.words("get", ref_of(b"abc"))))
+
+
+def openings(program):
+    """How far a long opening is. Reads of the packs are held up by strace."""
+    tracing.need_strace(program)
+    return [lambda: long_opening(program)]
+
+
+def long_opening(program):
+    blobs = [b"%d" % number + bytes(999_999) for number in range(PACKS)]
+    store = Store(program, {number: pack(blob) for number, blob in enumerate(blobs)})
+    log = program.new_path()
+    delay = f"inject=pread64:delay_enter={int(HELD_UP * 1_000_000)}"
+    front = ("strace", "-f", "-o", str(log), "-e", "trace=pread64", "-e", delay)
+    status, out, text = told(program, store.words("stat", ref_of(blobs[0])), front)
+    compare("a long opening", "status", 0, status)
+    check("a long opening: its output", out.startswith(ref_of(blobs[0]).encode()))
+    lines = text.split(b"\r")
+    compare("a long opening", "what comes first", b"", lines[0])
+    percents = [int(line.split()[4]) for line in lines[1:-1]]
+    texts = [b"perkeep: reading the store, %d %% of 6 MB" % percent for percent in percents]
+    compare("a long opening", "what is told", [*texts, b"\x1b[K"], lines[1:])
+    check(f"a long opening: {percents} %", len(percents) >= 2 and percents == sorted(percents) and percents[-1] < 100)
+
+
+def servers(program):
+    return [lambda: server(program)]
+
+
+def server(program):
+    """A server tells that it has its port, and then that it listens."""
+    store, port = Store(program, {0: pack(b"abc")}), PORTS.free()
+    terminal = Terminal()
+    with terminal.start(program, ["serve", str(store.path), f"--port={port}"]) as process:
+        try:
+            text, until = b"", time.monotonic() + harness.SECONDS
+            while text.count(b"\n") < 2 and time.monotonic() < until:
+                text += terminal.read()
+            told = f"perkeep: has port {port}, and reads the store\nperkeep: listening on http://127.0.0.1:{port}\n"
+            compare("a server", "what is told", told.encode(), text)
+            check("a server listens", is_listened_to(port))
+        finally:
+            process.kill()
+
+
+if __name__ == "__main__":
+    harness.main("terminal.sh", [hints, openings, servers])
