@@ -522,7 +522,7 @@ def edited(program):
 
 # What is said first of all, and last where there is no answer.
 UNPROVED = "perkeep: not proved here: rt try runs the sources, which takes a few minutes\n"
-NO_ANSWER = "perkeep: the sources couldn't be run to their end, which has to come within 60 seconds and 1 MiB of output\n"
+NO_ANSWER = "perkeep: the sources gave no answer, for the reason above (a command has 60 seconds, and 1 MiB of output)\n"
 # How the toolchain tells that the program ended with a status. In front of it stands what the program told.
 ENDED = """interpreter: no-answer: a call of a function
 checked: ended status={0}
