@@ -1,8 +1,9 @@
 """What a newcomer reads first: whether README.md, docs/guide.md and docs/limits.md say what is so.
 
 The blocks of a page that are fenced as `sh` are one script of bash, from top to bottom. It is run in a fresh folder with
-the program as ./perkeep and the repository's examples. What a block prints, errors too, is shown in the block behind it,
-if that is fenced as `text`; there `..` stands for anything in a line. A block without one has to end well.
+the program as ./perkeep, and the repository's examples and their keyring. What a block prints, errors too, is shown in
+the block behind it, if that is fenced as `text`; there `..` stands for anything in a line. A block without one has to
+end well.
 """
 
 import itertools
@@ -47,7 +48,8 @@ def run_script(program, commands):
     folder = program.new_path()
     folder.mkdir()
     (folder / "perkeep").symlink_to(program.path)
-    (folder / "examples").symlink_to(TOP / "examples")
+    for name in ("examples", "keyring"):
+        (folder / name).symlink_to(TOP / name)
     text = script(commands).replace(PORT, str(PORTS.free()))
     words = ["bash", "-u", "-c", text]
     streams = {"stdin": subprocess.DEVNULL, "stdout": subprocess.PIPE}
