@@ -560,9 +560,8 @@ HANDED = [
 
 
 def tries(program):
-    rows = [lambda row=row: hands_on(program, *row) for row in HANDED]
-    checks = (keyrings, inputs, no_input, statuses, no_answers, refusals, proved_program, asked_for)
-    return rows + [lambda check=check: check(program) for check in checks]
+    checks = (hands_on, keyrings, inputs, no_input, statuses, no_answers, refusals, proved_program, asked_for)
+    return [lambda check=check: check(program) for check in checks]
 
 
 class Tried(Tree):
@@ -587,14 +586,16 @@ class Tried(Tree):
         return (self.fake / name).read_text()
 
 
-def hands_on(program, words, handed):
+def hands_on(program):
     tree = Tried(program)
     folder = program.new_path()
     folder.mkdir()
-    tree.ends(f"{words}", words, 0, "", UNPROVED, folder=folder)
-    compare(f"{words}", "words handed on", "".join(f"{word}\0".replace("@", str(folder)) for word in handed), tree.given("words"))
-    compare(f"{words}", "calls", 1, len(tree.calls()))
-    compare(f"{words}", "folder", "perkeep_cli", tree.calls()[0].split()[0])
+    for words, handed in HANDED:
+        tree.ends(f"{words}", words, 0, "", UNPROVED, folder=folder)
+        wanted = "".join(f"{word}\0".replace("@", str(folder)) for word in handed)
+        compare(f"{words}", "words handed on", wanted, tree.given("words"))
+    check(f"calls {tree.calls()}", all(call.startswith("perkeep_cli try ") for call in tree.calls()))
+    compare("the sources", "calls", len(HANDED), len(tree.calls()))
 
 
 def keyrings(program):
