@@ -668,6 +668,7 @@ def sessions():
 # Replies that are written down
 
 A = "sha224-23097d223405d8228642a477bda255b32aadbce4bda0b3f7e36c9da7"
+E = "sha224-d14a028c2a3a2bc9476102bb288234c415a2b01f828ea62ac5b3e42f"
 N = "sha224-adef53a16a87934f7f5595fa4225e39e14c1c80a4e3ed252d959d9b1"
 CLOSE = "Connection: close"
 OK, BAD, LONG = "200 OK", "400 Bad Request", "413 Payload Too Large"
@@ -675,8 +676,9 @@ OK, BAD, LONG = "200 OK", "400 Bad Request", "413 Payload Too Large"
 
 def told(code, body, *lines):
     """The reply of a code with its phrase."""
+    body = octets(body)
     lines = ["HTTP/1.1 " + code, "Content-Type: application/json", f"Content-Length: {len(body)}", *lines]
-    return octets("\r\n".join([*lines, "", body]))
+    return octets("\r\n".join([*lines, "", ""])) + body
 
 
 NO_ROUTE = told("404 Not Found", '{"error":"no route"}')
@@ -693,12 +695,13 @@ def upload_x(body):
 
 
 def post_text(path, body):
-    return octets(f"POST {path} HTTP/1.1\nContent-Length: {len(body)}\n\n{body}")
+    body = octets(body)
+    return octets(f"POST {path} HTTP/1.1\nContent-Length: {len(body)}\n\n") + body
 
 
 def rows():
     """Streams with the replies that they have to get."""
-    for place, (stream, replies) in enumerate([*head_rows(), *route_rows(), *upload_rows()]):
+    for place, (stream, replies) in enumerate([*head_rows(), *route_rows(), *answer_rows(), *upload_rows()]):
         yield Case(f"row {place}", stream, "small", replies)
 
 
@@ -743,17 +746,52 @@ def route_rows():
     absent = "sha224-" + "0" * 56
     told_absent = told("404 Not Found", '{"error":"absent","blobRef":"' + absent + '"}', CLOSE)
     yield octets(f"GET /camli/{absent} HTTP/1.1\r\nConnection: close\r\n\r\n") + NOTHING, told_absent
-    query = "/camli/search/query"
     found = '{"blobs":[{"blob":"' + N + '"}]}'
-    yield post_text(query, '{"constraint":{"permanode":{"attr":"tag","value":"a"}}}'), told(OK, found)
-    at_size = '{"error":"bad query","kind":"BadValue","at":"constraint/blobSize"}'
-    yield post_text(query, '{"constraint":{"blobSize":{}}}') + NOTHING, told(BAD, at_size) + NO_ROUTE
-    at_quote = r'{"error":"bad query","kind":"BadKey","at":"\"\u0001"}'
-    yield post_text(query, r'{"\"\u0001":1}'), told(BAD, at_quote)
-    not_json = told(BAD, '{"error":"bad query","kind":"NotJson","at":""}')
-    yield b"POST /camli/search/query HTTP/1.1\r\n\r\n", not_json
+    yield post_query('{"constraint":{"permanode":{"attr":"tag","value":"a"}}}'), told(OK, found)
+    at_size = told_fault("BadValue", "constraint/blobSize")
+    yield post_query('{"constraint":{"blobSize":{}}}') + NOTHING, at_size + NO_ROUTE
+    yield post_query(r'{"\"\u0001":1}'), told_fault("BadKey", r"\"\u0001")
+    yield b"POST /camli/search/query HTTP/1.1\r\n\r\n", told_fault("NotJson", "")
     long = told(LONG, '{"error":"too long","limit":1048576}', CLOSE)
     yield b"POST /camli/search/query HTTP/1.1\r\nContent-Length: 1048577\r\n\r\n", long
+
+
+def post_query(text):
+    return post_text("/camli/search/query", text)
+
+
+def told_fault(kind, place):
+    """The reply to a text that is no query; the place as it is written."""
+    return told(BAD, f'{{"error":"bad query","kind":"{kind}","at":"{place}"}}')
+
+
+# All that JSON escapes, DEL and letters that it doesn't, and the marker of signatures, as they are written.
+ESCAPED = r"a \"quoted\" \\ text\b\f\n\r\t\u001f" + "\x7f \u00e9\u672c " + r",\"camliSig\":\""
+# Texts that are no queries, and the kind and the place of the first fault of each.
+FIRST_FAULTS = [
+    ('{"constraint":', "NotJson", ""),
+    ('{"limit":5}', "BadValue", ""),
+    ('{"constraint":{"anything":true},"limit":0}', "BadValue", "limit"),
+    ('{"constraint":{"permanode":{"value":"a"}}}', "BadValue", "constraint/permanode"),
+    ('{"constraint":{"logical":{"op":"and","a":{"anything":true}}}}', "BadValue", "constraint/logical"),
+    ('{"constraint":{"colour":1}}', "BadKey", "constraint/colour"),
+    (r'{"a \"b\"/":1}', "BadKey", r"a \"b\"/"),
+    ('{"' + ESCAPED + '":18446744073709551615}', "BadKey", ESCAPED),
+]
+
+
+def answer_rows():
+    """Answers that list nothing, and two; and the first faults."""
+    stat_of_two = f"GET /camli/stat?camliversion=1&blob1={A}&blob2={E} HTTP/1.1\r\n\r\n"
+    yield octets(stat_of_two), told(OK, '{"stat":[' + A_ENTRY + ',{"blobRef":"' + E + '","size":0}]}')
+    yield post_query('{"constraint":{"permanode":{"attr":"tag","value":"b"}}}'), told(OK, '{"blobs":[]}')
+    node = writing.permanode("000102030405060708090a0b0c0d0e0f")
+    received = f'{{"received":[{{"blobRef":"{ref_of(node)}","size":{len(node)}}}]}}'
+    low, high = sorted([N, ref_of(node)])
+    two = '{"blobs":[{"blob":"' + low + '"},{"blob":"' + high + '"}]}'
+    yield upload(node) + post_query('{"constraint":{"anything":true}}'), told(OK, received) + told(OK, two)
+    for text, kind, place in FIRST_FAULTS:
+        yield post_query(text), told_fault(kind, place)
 
 
 def upload_rows():
@@ -766,9 +804,11 @@ def upload_rows():
     yield upload_x(A_PART + b"--x") + NOTHING, told(BAD, no_mark, CLOSE)
     yield upload_x(A_PART + b"--x\r\n"), told(BAD, received + ',"error":"bad multipart","at":121}', CLOSE)
     wrong = A_PART.replace(b"abc", b"")
-    empty = "sha224-d14a028c2a3a2bc9476102bb288234c415a2b01f828ea62ac5b3e42f"
-    digest = received + ',"error":"bad digest","said":"' + A + '","is":"' + empty + '"}'
+    digest = received + ',"error":"bad digest","said":"' + A + '","is":"' + E + '"}'
     yield upload_x(A_PART + wrong + A_PART + b"--x--") + NOTHING, told(BAD, digest, CLOSE)
     named = A_PART.replace(octets(A), b"x")
     yield upload_x(A_PART + named + A_PART + b"--x--"), told(BAD, received + ',"error":"bad ref"}', CLOSE)
     yield upload_x(A_PART + b"--x--")[:-1], b""
+    chunked = b"Content-Type: multipart/form-data; boundary=x\r\nTransfer-Encoding: chunked"
+    broken = b"POST /camli/upload HTTP/1.1\r\n%b\r\n\r\nx\n" % chunked
+    yield broken, told(BAD, '{"received":[],"error":"bad length"}', CLOSE)

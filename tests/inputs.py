@@ -355,6 +355,7 @@ MEMBERS = [
 # What stands behind the digits of the signature, and whether the claim still reads.
 ENDS = [
     (b'"}\n', True),
+    (b'"} \t\r\n', True),
     (b'"}', True),
     (b'" }', True),
     (b'"\n}\n\n\t \r\n', True),
@@ -575,6 +576,8 @@ def permanodes():
     yield "an unsigned permanode", *tagged(plain.encode() + b"}\n", False)
     yield "a permanode with a false signature", *tagged(signed(plain, OTHER_SECRET), False)
     yield "a permanode with the marker alone", *tagged(plain.encode() + MARKER + b'"}\n', False)
+    behind = changed(signed(plain), b'"}\n', b'","a":1}\n')
+    yield "a permanode with a key behind its signature", *tagged(behind, False)
 
 
 def tagged(node, is_found):
@@ -698,6 +701,7 @@ DATES = [
     ("2011-01-00T00:00:00Z", False),
     ("2011-01-32T00:00:00Z", False),
     ("2011-04-31T00:00:00Z", False),
+    ("2020-02-30T00:00:00Z", False),
     ("2011-01-01T24:00:00Z", False),
     ("2011-01-01T00:60:00Z", False),
     ("2011-01-01T00:00:60Z", False),
@@ -931,10 +935,12 @@ def delete_claims():
     for what, old, new in [
         ("no date", f'"claimDate":"{day(3)}",', ""),
         ("a bad date", day(3), "2020-01-32T00:00:00Z"),
+        ("a day that isn't there", day(3), "2020-02-30T00:00:00Z"),
         ("no target", f',"target":"{ref_of(first)}"', ""),
         ("a null target", f'"{ref_of(first)}"', "null"),
         ("a list of targets", f'"{ref_of(first)}"', f'["{ref_of(first)}"]'),
         ("another type", '"delete"', '"Delete"'),
+        ("an unknown type", '"delete"', '"undelete"'),
     ]:
         payload = changed(delete_payload(ref_of(first), day(3)), old, new)
         yield f"a delete of {what}", [first, signed(payload)], {u: True}
@@ -1091,6 +1097,8 @@ def good_keyrings():
     yield "another secret", keyring_line(secret=OTHER_SECRET), EXAMPLE, False
     yield "a second line", ours + keyring_line("other"), EXAMPLE, True
     yield "ours is the second line", keyring_line("other") + ours, EXAMPLE, True
+    yield "a secret of two bytes in front", keyring_line("other", b"\0\xff") + ours, EXAMPLE, True
+    yield "a name with a hyphen and a digit beside it", keyring_line("jefe-2") + ours, EXAMPLE, True
     yield "names that begin alike", keyring_line("jef", b"x") + ours + keyring_line("jefe-", b"x"), EXAMPLE, True
     yield "the longest secret beside it", keyring_line("a", b"\xff" * 128) + ours, EXAMPLE, True
     yield "the longest name beside it", keyring_line("a" * 64) + ours, EXAMPLE, True

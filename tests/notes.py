@@ -264,6 +264,7 @@ TEXTS = [*map(chr, range(1, 32)), "".join(map(chr, range(1, 128)))]
 TEXTS += ['"', "\\", "\x7f", "\x80", "\x85", "/", " ", "'", "<", "&", "=", "-", "--", "--key"]
 TEXTS += ['\\"', '"\\', "\\\\", "\\n", "\\u0041", "a\\", '""', "\r\n", "\x1b[0m", " a ", "a,b:c"]
 TEXTS += ["\u00e4", "a\u0308", "\u20ac", "\u2028\u2029", "\ufeff", "\ufffd\uffff", "\ud7ff\ue000", "\U0001f600"]
+TEXTS += ['a "quoted" \\ text\b\f\n\r\t\x1f\x7f \u00e9\u672c ,"camliSig":"']
 TEXTS += ['","camliSig":"', ',"camliSig":"' + "0" * 64 + '"}\n', '"}', "}", '{"a":1}', "null", "0", '","value":"b']
 STORES_OF_TEXTS = 4
 

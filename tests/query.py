@@ -189,7 +189,23 @@ def meanings(program):
         found = [query_inputs.REF[name] for name in names]
         value = {"constraint": constraint, **others}
         checks.append(lambda value=value, found=found: lives.finds("the order", value, found))
-    return checks + [lambda order=order: same_in_order(program, order) for order in range(6)]
+    checks += [lambda order=order: same_in_order(program, order) for order in range(6)]
+    return checks + kinds(program) + members(program)
+
+
+def kinds(program):
+    """What constraints tell of the kinds of blobs."""
+    blobs, found = query_inputs.kind_store()
+    shelf = Shelf(program, {0: pack(*blobs)})
+    values = {name: query_inputs.with_content(constraint) for name, constraint in query_inputs.TELLING.items()}
+    return [lambda name=name: shelf.finds(f"blobs that are {name}", values[name], found[name]) for name in found]
+
+
+def members(program):
+    """Relations over permanodes that are each other's members, and their own."""
+    shelf, refs = Shelf(program, {0: pack(*query_inputs.pair())}), query_inputs.PAIR
+    rows = [(constraint, sorted(ref_of(refs[name]) for name in names)) for constraint, names in query_inputs.PAIR_MEANINGS]
+    return [lambda row=row: shelf.finds("members", {"constraint": row[0]}, row[1]) for row in rows]
 
 
 def same_in_order(program, order):

@@ -5,6 +5,7 @@ A query is made as a value, whose dates are texts, and then spelled as JSON. `Ra
 
 import inputs
 import queries
+import reference
 import writing
 from inputs import ABSENT, OTHER_SECRET, SECRET, day
 from reference import ref_of
@@ -261,14 +262,79 @@ MEANINGS = [
 def content_store():
     """The blobs of the store, and for each name the permanode whose content the blob is."""
     blobs = blobs_of_all_kinds()
-    holders = {name: permanode(f"{number:032x}") for number, name in enumerate([*blobs, "absent", "no ref"], 100)}
     contents = {name: ref_of(blob) for name, blob in blobs.items()} | {"absent": ABSENT, "no ref": ABC.upper()}
+    others, holders = holding(contents)
+    return [*blobs.values(), *others], holders
+
+
+def holding(contents):
+    """Permanodes with these contents, and the claims that give them; and the refs of the permanodes by the same
+    names."""
+    holders = {name: permanode(f"{number:032x}") for number, name in enumerate(contents, 100)}
     claims = [claim("set", ref_of(node), "camliContent", contents[name], day(1)) for name, node in holders.items()]
-    return [*blobs.values(), *holders.values(), *claims], {name: ref_of(node) for name, node in holders.items()}
+    return [*holders.values(), *claims], {name: ref_of(node) for name, node in holders.items()}
 
 
 def with_content(constraint, **others):
     return {"constraint": {"permanode": {"attr": "camliContent", "valueInSet": constraint, **others}}}
+
+
+# A store in which constraints tell of blobs what kinds they are of
+
+# The constraints, by names.
+TELLING = {
+    "ready": ANYTHING,
+    "link": {"camliType": "link"},
+    "directory": {"camliType": "directory"},
+    "file": {"camliType": "file"},
+    "bytes": {"camliType": "bytes"},
+    "permanode": {"camliType": "permanode"},
+    "sound": {"file": {}},
+}
+LINK = '{"camliVersion":1,"camliType":"link"}'
+DIRECTORY = '{"camliVersion":2,"camliType":"x","camliVersion":1,"camliType":"directory","entries":"%s"}'
+# Blobs, and the constraints that each meets. A directory waits for its entries, and what isn't read waits for nothing.
+KINDS = [
+    (LINK, "ready link"),
+    ("perkeep-hmac-sha256 jefe", "ready"),
+    ('{"camliVersion":1.0,"camliType":"link"}', "ready"),
+    ('{"camliVersion":1}', "ready"),
+    (LINK + "}", "ready"),
+    (b'{"camliVersion":1,"camliType":"\xff"}', "ready"),
+    (LINK.ljust(reference.LARGEST_SCHEMA_BLOB), "ready link"),
+    (LINK.ljust(reference.LARGEST_SCHEMA_BLOB + 1), "ready"),
+    (DIRECTORY % ABC, "ready directory"),
+    (DIRECTORY % ABSENT, ""),
+    ('{"camliVersion":1,"camliType":"directory","entries":"sha224-23"}', "ready directory"),
+    (f'{{"camliVersion":1,"camliType":"directory","fileName":null,"entries":"{ABSENT}"}}', "ready directory"),
+    ('{"camliVersion":1,"camliType":"permanode"}', "ready permanode"),
+]
+# What stands in the brackets of parts, and whether it is a part list; none of these parts leaves its origin.
+PARTS = [
+    ('{"size":281474976710656},{"size":0,"offset":281474976710656}', True),
+    ('{"size":281474976710656},{"size":1}', False),
+    ('{"size":18446744073709551615},{"size":1}', False),
+    ('{"size":0,"offset":281474976710657}', False),
+    ('{"size":1,"offset":null}', False),
+    ('{"size":1,"blobRef":null}', False),
+    ('{"size":-0}', False),
+    ('{"offset":0}', False),
+    (f'{{"size":1,"blobRef":"{ABC}","bytesRef":"{ABC}"}}', False),
+]
+
+
+def kind_store():
+    """The blobs of the store, and for each constraint the permanodes whose contents meet it."""
+    rows = [(writing.octets(blob), met.split()) for blob, met in KINDS]
+    for parts, is_list in PARTS:
+        tree = bytes_blob([parts])
+        # No byte of the tree is asked for, but a file is sound only where each tree in it is.
+        files = [file_blob("", [parts]), file_blob("of a tree", [part(0, ref_of(tree), "bytesRef")])]
+        rows.append((tree, ["ready", "bytes"]))
+        rows += [(file, ["ready", "file", "sound"] if is_list else ["ready", "file"]) for file in files]
+    others, holders = holding({place: ref_of(blob) for place, (blob, _) in enumerate(rows)})
+    found = {name: sorted(holders[place] for place, (_, met) in enumerate(rows) if name in met) for name in TELLING}
+    return [KEY, b"abc", *(blob for blob, _ in rows), *others], found
 
 
 # A store of permanodes that change in time
@@ -468,6 +534,39 @@ NODE_ORDERS = [
     *[({"limit": limit, "sort": "mod"}, ANYTHING, BY_CHANGE[:limit]) for limit in (1, 2, 3, 5, 6, 7)],
     *[({"limit": limit, "sort": "-mod"}, ANYTHING, LATEST_FIRST[:limit]) for limit in (1, 4, 5, 6, 7)],
     *[({"limit": limit, "sort": "mod"}, TAGGED, ["b", "a"][:limit]) for limit in (1, 2)],
+]
+
+
+# A store of two permanodes that have each other and themselves as members from day 3 on, and a third one
+
+PAIR = {name: permanode(f"{number:032x}") for number, name in enumerate(("tagged", "other", "alone"), 51)}
+BEFORE = "2020-01-02T23:00:00Z"
+
+
+def pair():
+    """All blobs of the store: one permanode is tagged on day 2."""
+    refs = [ref_of(PAIR[name]) for name in ("tagged", "other")]
+    members = [claim("add", one, "camliMember", other, day(3)) for one in refs for other in refs]
+    return [*members, claim("add", refs[0], "tag", "sunset", day(2)), *PAIR.values(), KEY]
+
+
+def around(constraint, depth):
+    """Permanodes with a child with a child, and so on, that meets a constraint."""
+    for _ in range(depth):
+        constraint = node(relation=child(any=constraint))
+    return constraint
+
+
+# A constraint, and the names of the permanodes of an answer without a date.
+PAIR_MEANINGS = [
+    # So deep that going each way by itself would not end.
+    (around(TAGGED, queries.DEEPEST - 1), {"tagged", "other"}),
+    (node(relation=parent(any=TAGGED)), {"tagged", "other"}),
+    (node(relation=child(all=TAGGED)), {"alone"}),
+    (node(attr="camliMember", valueInSet=TAGGED), {"tagged", "other"}),
+    (node(attr="camliMember", valueInSet=TAGGED, at=BEFORE), set()),
+    (node(at="2030-01-01T00:00:00Z", relation=parent(any=TAGGED)), {"tagged", "other"}),
+    (node(at=BEFORE, relation=parent(any=TAGGED)), set()),
 ]
 
 

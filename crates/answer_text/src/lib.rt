@@ -12,6 +12,3 @@ pub use listings::{page_text, stat_text, upload_text};
 pub use refusal::{BadKind, Refusal};
 pub use refusals::refusal_text;
 pub use search::search_text;
-
-#[cfg(test)]
-mod tests;

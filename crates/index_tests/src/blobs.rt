@@ -22,10 +22,6 @@ pub(crate) const PERMANODE: &str =
 pub(crate) const TAG: &str =
     r#"{"camliVersion":1,"camliType":"claim","camliSigner":"sha224-da4a89851a3c8f7ce55ef510378a1b717451b9f0b152bb73f28508dc","claimDate":"2014-01-02T00:00:00Z","claimType":"add-attribute","permaNode":"sha224-01d0f2ac408584236db9de88e8cbd79887704db69e188875443566b5","attribute":"tag","value":"sunset","camliSig":"7148778c9252ee12411c4b08050e85c6ea44c062a015e3d32f602e75b91b36cd"}"#;
 
-// Of 2014-01-06: one more tag, trip.
-pub(crate) const SECOND_TAG: &str =
-    r#"{"camliVersion":1,"camliType":"claim","camliSigner":"sha224-da4a89851a3c8f7ce55ef510378a1b717451b9f0b152bb73f28508dc","claimDate":"2014-01-06T00:00:00Z","claimType":"add-attribute","permaNode":"sha224-01d0f2ac408584236db9de88e8cbd79887704db69e188875443566b5","attribute":"tag","value":"trip","camliSig":"4908fe30017e27c36319ac36efee41b6b9bfc841d25b505bfd7c60f42018cd7f"}"#;
-
 // Of 2014-01-03, 2014-01-04 and 2014-01-05: the first deletes the tag, and each other the one before it.
 pub(crate) const DELETE: &str =
     r#"{"camliVersion":1,"camliType":"claim","camliSigner":"sha224-da4a89851a3c8f7ce55ef510378a1b717451b9f0b152bb73f28508dc","claimDate":"2014-01-03T00:00:00Z","claimType":"delete","target":"sha224-5aee6bc960444ae06b0ed804ab488bb98fa9c0d302f2aa29d42c5fd1","camliSig":"5b9988416d2624d7c82e12d1e79753da3ab33a0f2093d708e2db24355df9f146"}"#;
@@ -40,25 +36,12 @@ pub(crate) const DELETE_AGAIN: &str =
 pub(crate) const FORGED: &str =
     r#"{"camliVersion":1,"camliType":"claim","camliSigner":"sha224-da4a89851a3c8f7ce55ef510378a1b717451b9f0b152bb73f28508dc","claimDate":"2014-01-03T00:00:00Z","claimType":"set-attribute","permaNode":"sha224-01d0f2ac408584236db9de88e8cbd79887704db69e188875443566b5","attribute":"tag","value":"forged","camliSig":"a6055301d16a0e69260d8c495076c258b5b3dae7c0d5df74633ed6a5e9183a45"}"#;
 
-// Two more permanodes: the first stands before it in the order of refs, the second behind it.
+// A permanode that stands before the other in the order of refs, and has it as a member from 2014-01-03 on.
 pub(crate) const LOW: &str =
     r#"{"camliVersion":1,"camliType":"permanode","camliSigner":"sha224-da4a89851a3c8f7ce55ef510378a1b717451b9f0b152bb73f28508dc","random":"000000000000000000000000000000f9","camliSig":"1fccd0b9932dcd14d0ee44e1cf40354960f3f3f40fd6d6021ef35913514e28f5"}"#;
 
-pub(crate) const HIGH: &str =
-    r#"{"camliVersion":1,"camliType":"permanode","camliSigner":"sha224-da4a89851a3c8f7ce55ef510378a1b717451b9f0b152bb73f28508dc","random":"00000000000000000000000000000002","camliSig":"cffd81e14d20ce9692155c69e9acaa21abd998630228ea7b787f1b588d809218"}"#;
-
-// Of 2014-01-03: the first and the low permanode have each other, and themselves, as members.
-pub(crate) const LOW_IN_LOW: &str =
-    r#"{"camliVersion":1,"camliType":"claim","camliSigner":"sha224-da4a89851a3c8f7ce55ef510378a1b717451b9f0b152bb73f28508dc","claimDate":"2014-01-03T00:00:00Z","claimType":"add-attribute","permaNode":"sha224-00eeaf8019242079449364c2bdc2d6222fa8930c076dca3cd550587a","attribute":"camliMember","value":"sha224-00eeaf8019242079449364c2bdc2d6222fa8930c076dca3cd550587a","camliSig":"e4275b9fdca63f74d3092238a74502e296ef001a9b321ec3825e2c5f61c28e60"}"#;
-
 pub(crate) const MAIN_IN_LOW: &str =
     r#"{"camliVersion":1,"camliType":"claim","camliSigner":"sha224-da4a89851a3c8f7ce55ef510378a1b717451b9f0b152bb73f28508dc","claimDate":"2014-01-03T00:00:00Z","claimType":"add-attribute","permaNode":"sha224-00eeaf8019242079449364c2bdc2d6222fa8930c076dca3cd550587a","attribute":"camliMember","value":"sha224-01d0f2ac408584236db9de88e8cbd79887704db69e188875443566b5","camliSig":"2504491da996dbe1ac9de1b471166f34e3678954b351a876924ad2a607a40d5a"}"#;
-
-pub(crate) const LOW_IN_MAIN: &str =
-    r#"{"camliVersion":1,"camliType":"claim","camliSigner":"sha224-da4a89851a3c8f7ce55ef510378a1b717451b9f0b152bb73f28508dc","claimDate":"2014-01-03T00:00:00Z","claimType":"add-attribute","permaNode":"sha224-01d0f2ac408584236db9de88e8cbd79887704db69e188875443566b5","attribute":"camliMember","value":"sha224-00eeaf8019242079449364c2bdc2d6222fa8930c076dca3cd550587a","camliSig":"6a59ff34067175fb0b34c5d6dc6b833fa721b412e39f9c0b15e70cdfd99e9d23"}"#;
-
-pub(crate) const MAIN_IN_MAIN: &str =
-    r#"{"camliVersion":1,"camliType":"claim","camliSigner":"sha224-da4a89851a3c8f7ce55ef510378a1b717451b9f0b152bb73f28508dc","claimDate":"2014-01-03T00:00:00Z","claimType":"add-attribute","permaNode":"sha224-01d0f2ac408584236db9de88e8cbd79887704db69e188875443566b5","attribute":"camliMember","value":"sha224-01d0f2ac408584236db9de88e8cbd79887704db69e188875443566b5","camliSig":"bbfc75a2341bd6aad40828ffca8d112ec26a87c670a625a9b292ee0d3f65865e"}"#;
 
 fn all_apart(r: &Ref, facts: &[(Ref, Fact)]) -> bool
     ensures { result ≡ list_all (λ e. not (bytes_eq r.now e.0)) facts.now }

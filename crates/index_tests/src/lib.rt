@@ -1,4 +1,5 @@
-//! Tests of dates, of what blobs say, of the index over them, and of queries.
+//! Tests of keys and dates, of what blobs say, of objects that are written, and of the index that is computed from all
+//! facts: where no command of the program tells it.
 #![tactic(auto)]
 
 #[cfg(test)]
@@ -6,12 +7,12 @@ mod blobs;
 #[cfg(test)]
 mod dates;
 #[cfg(test)]
+mod facts;
+#[cfg(test)]
 mod index;
 #[cfg(test)]
-mod nested;
+mod keys;
+#[cfg(test)]
+mod objects;
 #[cfg(test)]
 mod queries;
-#[cfg(test)]
-mod schema;
-#[cfg(test)]
-mod search;

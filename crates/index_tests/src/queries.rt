@@ -1,73 +1,34 @@
-//! Texts of queries: the first fault of those that are none, and what another one finds.
-use crate::blobs::{KEY, PERMANODE, SECOND_TAG, TAG};
-use crate::search::finds_among;
-use blobref::NoMemory;
-use query_read::{QueryFault, read};
+//! The query for a value.
+use blobref::{NoMemory, Text};
+use schema_date::When;
+use search_query::{Query, Sort};
 use std::alloc::Global;
 
-// Values that may not stand where they do, with their places.
-const BAD_VALUES: [(&str, &str); 4] = [
-    (
-        r#"{"constraint":{"logical":{"op":"and","a":{"anything":true}}}}"#,
-        "constraint/logical",
-    ),
-    (r#"{"constraint":{"anything":true},"limit":0}"#, "limit"),
-    (r#"{"limit":5}"#, ""),
-    (
-        r#"{"constraint":{"permanode":{"value":"a"}}}"#,
-        "constraint/permanode",
-    ),
-];
-
-fn is_bad_value(alloc: Global, text: &str, place: &str) -> bool {
-    match read(alloc, text.as_bytes()) {
-        Err(QueryFault::BadValue { at }) => at.as_str() == place,
-        _ => false,
+fn is_text(text: &Option<Text>, want: &str) -> bool {
+    match text {
+        Some(text) => text.as_str() == want,
+        None => false,
     }
 }
 
-fn is_bad_key(alloc: Global, text: &str, place: &str) -> bool {
-    match read(alloc, text.as_bytes()) {
-        Err(QueryFault::BadKey { at }) => at.as_str() == place,
-        _ => false,
-    }
+// Whether the query asks for the tag `a` at any date, and for as many as the commands answer.
+fn is_for_value(query: &Query) -> bool {
+    let Some(test) = &query.constraint.permanode else {
+        return false;
+    };
+    query.limit == 1_000_000
+        && query.sort == Sort::Ref
+        && query.at == When::Always
+        && is_text(&test.attr, "tag")
+        && is_text(&test.value, "a")
 }
 
-fn is_no_json(alloc: Global, text: &str) -> bool {
-    match read(alloc, text.as_bytes()) {
-        Err(QueryFault::NotJson) => true,
-        _ => false,
-    }
+fn asks_for_value(alloc: Global) -> Result<bool, NoMemory> {
+    Ok(is_for_value(&Query::for_value(alloc, "tag", "a", When::Always)?))
 }
 
 #[test]
-fn first_faults(rt: HostRuntime) -> Result<(), NoMemory> {
-    let alloc = rt.alloc();
-    assert!(rt;
-        BAD_VALUES
-            .iter()
-            .all(|row| is_bad_value(alloc, row.0, row.1))
-    );
-    assert!(rt; is_bad_key(alloc, r#"{"constraint":{"colour":1}}"#, "constraint/colour"));
-    assert!(rt; is_no_json(alloc, r#"{"constraint":"#));
-    Ok(())
-}
-
-const TWO_TAGS: &str = r#"{"constraint":{"permanode":{"attr":"tag","numValue":{"min":2}}}}"#;
-
-// Whether a text is a query with this answer over these blobs.
-fn text_finds(alloc: Global, blobs: &[&str], text: &str, want: &[&str]) -> Result<bool, NoMemory> {
-    match read(alloc, text.as_bytes()) {
-        Ok(query) => finds_among(alloc, blobs, &query, want),
-        Err(_) => Ok(false),
-    }
-}
-
-#[test]
-fn values_are_counted(rt: HostRuntime) -> Result<(), NoMemory> {
-    let alloc = rt.alloc();
-    let both = [KEY, PERMANODE, TAG, SECOND_TAG];
-    assert!(rt; text_finds(alloc, &both, TWO_TAGS, &[PERMANODE])?);
-    assert!(rt; text_finds(alloc, &both[..3], TWO_TAGS, &[])?);
+fn a_value_is_asked_for(rt: HostRuntime) -> Result<(), NoMemory> {
+    assert!(rt; asks_for_value(rt.alloc())?);
     Ok(())
 }

@@ -6,6 +6,3 @@ mod query;
 pub use query::{
     Constraint, FileTest, IntTest, Kin, Logical, Op, PermanodeTest, Query, Relation, Sort, TextTest,
 };
-
-#[cfg(test)]
-mod tests;
