@@ -133,13 +133,7 @@ impl Growing {
     }
 
     // Keeps a file open, and closes those to which nothing was added that isn't synced.
-    fn keep(
-        &mut self,
-        number: u32,
-        file: File,
-        size: u64,
-        is_fresh: bool,
-    ) -> io::Result<()> {
+    fn keep(&mut self, number: u32, file: File, size: u64, is_fresh: bool) -> io::Result<()> {
         self.packs.retain(|pack| pack.added > 0);
         self.packs.push(Grown {
             number,

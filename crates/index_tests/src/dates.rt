@@ -47,6 +47,9 @@ fn is_read(text: &str, number: i128) -> bool {
 #[test]
 fn dates_have_their_texts(rt: HostRuntime) {
     for (text, number, written) in DATES {
-        assert!(rt; is_read(text, number) && is_written(number, written), "{text}");
+        assert!(rt;
+            is_read(text, number) && is_written(number, written),
+            "{text}"
+        );
     }
 }

@@ -130,10 +130,7 @@ fn is_one_permanode<L: Ledger>(index: &PlainIndex<Keyring>, steps: &mut Steps<L>
 }
 
 // Whether the tag is the permanode's one tag, from its date on.
-fn has_tag<L: Ledger>(
-    index: &PlainIndex<Keyring>,
-    steps: &mut Steps<L>,
-) -> Result<bool, NoMemory> {
+fn has_tag<L: Ledger>(index: &PlainIndex<Keyring>, steps: &mut Steps<L>) -> Result<bool, NoMemory> {
     let p = Ref::of(PERMANODE.as_bytes());
     let now = index.values(&p, "tag", &When::Always, steps)?;
     let before = index.values(&p, "tag", &time_of("2014-01-01T23:59:59Z"), steps)?;
@@ -227,11 +224,7 @@ fn have_sizes<L: Ledger>(
 }
 
 // Whether a table tells the permanodes, and the deletions at their dates.
-fn is_plain<L: Ledger>(
-    table: &PlainIndex<Keyring>,
-    keys: &Keyring,
-    steps: &mut Steps<L>,
-) -> bool {
+fn is_plain<L: Ledger>(table: &PlainIndex<Keyring>, keys: &Keyring, steps: &mut Steps<L>) -> bool {
     let p = Ref::of(PERMANODE.as_bytes());
     let tag = Ref::of(TAG.as_bytes());
     let low = Ref::of(LOW.as_bytes());

@@ -47,11 +47,15 @@ impl Ending {
         match self {
             Ending::Ran(status) => hint_of(status),
             Ending::Served(Served::ListenerFault) => {
-                Some("the port is taken, or no connection could be accepted; --port takes another one")
+                Some(
+                    "the port is taken, or no connection could be accepted; --port takes another one",
+                )
             }
             Ending::Served(served) => hint_of(&status_of(*served)),
             Ending::BadKeyring => {
-                Some("each line of the keyring is a name, a space, hexadecimal digits and a line feed")
+                Some(
+                    "each line of the keyring is a name, a space, hexadecimal digits and a line feed",
+                )
             }
         }
     }
@@ -59,7 +63,9 @@ impl Ending {
 
 fn hint_of(status: &Status) -> Option<&'static str> {
     match status {
-        Status::BadWords => Some("no line of a command has these words; docs/commands.md has them all"),
+        Status::BadWords => Some(
+            "no line of a command has these words; docs/commands.md has them all",
+        ),
         Status::Absent { .. } => {
             Some("the store has no such blob; a folder that isn't there reads as an empty store")
         }
@@ -81,7 +87,8 @@ fn hint_of_input(fault: &InputFault) -> &'static str {
         InputFault::BadName => "the name of an attribute is empty",
         InputFault::TooBig { .. } => "standard input is longer than it may be",
         InputFault::NotAFile { .. } => "a blob that should be a file, or a part of one, is none",
-        InputFault::Short { .. } | InputFault::Deep { .. } => "the blobs of the file don't fit together",
+        InputFault::Short { .. } | InputFault::Deep { .. } =>
+            "the blobs of the file don't fit together",
         InputFault::NoKey => "the keyring doesn't hold the key",
         InputFault::TooLong { .. } => "a text, a file or a query is longer than it may be",
         InputFault::BadQuery(_) => "standard input is no query",
