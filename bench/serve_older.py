@@ -1,0 +1,52 @@
+"""Times `serve` of two programs, an older one and the one of now, and prints how the one of now compares, as a table.
+
+    serve_older.py PROGRAM OLDER HTTP_LOAD FOLDER
+
+Each is measured nine times, the two in turn, and the medians count: of processor time, and of wall for uploads one by one, which wait for
+the disk. A part above 1 is faster than the older one.
+"""
+
+import statistics
+import sys
+
+from serve import BLOBS, UPLOADS, Bench, Served, gets, heading, row, small_blobs, upload
+
+ROUNDS = 9
+# So many small blobs of the store that is read, and how often each is got.
+GETS, TIMES = min(BLOBS, 5_000), 4
+
+
+class Two:
+    """What is measured, for each of the programs in turn."""
+
+    def __init__(self, programs, http_load, folder):
+        self.benches = [Bench(program, http_load, None, None, folder) for program in programs]
+
+    def compare(self, what, seconds):
+        """Prints a row: the seconds that a bench takes, by `seconds`, of both, and the part."""
+        rounds = [[seconds(bench) for bench in (self.benches if number % 2 else self.benches[::-1])] for number in range(ROUNDS)]
+        pairs = [pair if number % 2 else pair[::-1] for number, pair in enumerate(rounds)]
+        now, older = (statistics.median(column) for column in zip(*pairs))
+        row(what, f"{now:.2f} s", f"{older:.2f} s", f"{older / now:.2f}")
+
+
+def main(program, older, http_load, folder):
+    two = Two([program, older], http_load, folder)
+    blobs = small_blobs(GETS)
+    requests, size = gets(blobs), sum(map(len, blobs))
+    heading("medians of nine", "of now", "of the older one", "part")
+    for connections in (1, 8):
+        def of_gets(bench):
+            with Served(bench, blobs) as server:
+                return bench.load(server, requests, connections, TIMES, size).processor
+
+        two.compare(f"GETs over {connections}", of_gets)
+    new = small_blobs(UPLOADS)
+    two.compare("uploads in one request", lambda bench: bench.fresh([upload(new)])[0].processor)
+    one_by_one = [upload([blob]) for blob in new]
+    two.compare("uploads one by one, processor", lambda bench: bench.fresh(one_by_one)[0].processor)
+    two.compare("uploads one by one, wall", lambda bench: bench.fresh(one_by_one)[0].wall)
+
+
+if __name__ == "__main__":
+    main(*sys.argv[1:])
