@@ -711,4 +711,6 @@ def asked_for(program):
 
 
 if __name__ == "__main__":
+    # Who was started in the background ignores interrupts, and what it starts would ignore them, too.
+    signal.signal(signal.SIGINT, signal.default_int_handler)
     harness.main("launcher.sh", [starts, stale, builds, progress, tries])
