@@ -12,8 +12,9 @@ import sys
 from serve import BLOBS, UPLOADS, Bench, Served, gets, heading, row, small_blobs, upload
 
 ROUNDS = 9
-# So many small blobs of the store that is read, and how often each is got.
-GETS, TIMES = min(BLOBS, 5_000), 4
+# So many small blobs of the store that is read, and how often each is got; so many uploads of 1,000 blobs, and of one. Processor time is
+# told in hundredths of a second, so these take some half a second of it and more.
+GETS, TIMES, UPLOADS_OF_MANY, UPLOADS_OF_ONE = min(BLOBS, 5_000), 16, 20, 5_000
 
 
 class Two:
@@ -41,11 +42,12 @@ def main(program, older, http_load, folder):
                 return bench.load(server, requests, connections, TIMES, size).processor
 
         two.compare(f"GETs over {connections}", of_gets)
-    new = small_blobs(UPLOADS)
-    two.compare("uploads in one request", lambda bench: bench.fresh([upload(new)])[0].processor)
-    one_by_one = [upload([blob]) for blob in new]
-    two.compare("uploads one by one, processor", lambda bench: bench.fresh(one_by_one)[0].processor)
-    two.compare("uploads one by one, wall", lambda bench: bench.fresh(one_by_one)[0].wall)
+    new = small_blobs(UPLOADS * UPLOADS_OF_MANY)
+    of_many = [upload(new[first : first + UPLOADS]) for first in range(0, len(new), UPLOADS)]
+    two.compare("uploads of 1,000 blobs", lambda bench: bench.fresh(of_many)[0].processor)
+    of_one = [upload([blob]) for blob in new[:UPLOADS_OF_ONE]]
+    two.compare("uploads one by one, processor", lambda bench: bench.fresh(of_one)[0].processor)
+    two.compare("uploads one by one, wall", lambda bench: bench.fresh(of_one)[0].wall)
 
 
 if __name__ == "__main__":
