@@ -409,7 +409,7 @@ def progress(program):
 def beginning(lacking):
     """How what is said of a build begins that proves so many crates for the first time."""
     told = f"perkeep: building the program: {lacking} of its {len(crates_below())} crates are to be proved, in about "
-    return told, " min (PERKEEP_TRY=1 runs it unproved, in a few)", "perkeep: reading the sources"
+    return told, " min (PERKEEP_TRY=1 runs it unproved, in two)", "perkeep: reading the sources"
 
 
 def compare_progress(what, lacking, proved, said):
@@ -521,7 +521,7 @@ def edited(program):
 # Running the sources
 
 # What is said first of all, and last where there is no answer.
-UNPROVED = "perkeep: not proved here: rt try runs the sources, which takes a few minutes\n"
+UNPROVED = "perkeep: not proved here: rt try runs the sources, which takes a minute or two\n"
 NO_ANSWER = "perkeep: the sources gave no answer, for the reason above (a command has 60 seconds, and 1 MiB of output)\n"
 # How the toolchain tells that the program ended with a status. In front of it stands what the program told.
 ENDED = """interpreter: no-answer: a call of a function
