@@ -181,7 +181,7 @@ def small_things(program):
 def eight_slow_heads(program):
     """Eight clients that each send a byte of a first head a second keep all workers for ten seconds and no longer."""
     front = get(blob_target(ABC), "X: " + "x" * 100)
-    eight_beside_one(program, "slow heads", b"", lambda wire, second: wire.send(front[second : second + 1]), FIRST_HEAD)
+    eight_beside_one(program, "slow heads", b"", lambda wire, second: wire.send(front[second : second + 1]), FIRST_HEAD, 5)
 
 
 def eight_slow_bodies(program):
@@ -196,7 +196,7 @@ def eight_slow_readers(program):
     eight_beside_one(program, "slow readers", asked, lambda wire, _: wire.recv(8), IDLE)
 
 
-def eight_beside_one(program, what, front, each_second, seconds):
+def eight_beside_one(program, what, front, each_second, seconds, later=LATER):
     """Eight clients that begin so, and each second do little, and one that asks and is answered soon after they ended."""
     with Server(program, store_of(program, b"abc", GREATEST).path) as server, contextlib.ExitStack() as all_of_them:
         wires = [all_of_them.enter_context(held_by(server, front)) for _ in range(8)]
@@ -210,7 +210,7 @@ def eight_beside_one(program, what, front, each_second, seconds):
                         each_second(wire, second)
                 if select.select([talk.wire], [], [], 1)[0]:
                     break
-                check(f"{what}: no answer beside them", time.monotonic() - start < seconds + LATER)
+                check(f"{what}: no answer beside them", time.monotonic() - start < seconds + later)
             compare_texts(what, ABC_REPLY.text(), talk.read_text(what))
         took = time.monotonic() - start
         check(f"{what}: an answer beside them after {took:.1f} seconds", seconds - EARLIER <= took)
