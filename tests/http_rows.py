@@ -52,7 +52,7 @@ def request_rows():
 # How heads and bodies are read
 
 def heads_read():
-    yield get(f"/camli/stat?camliversion=1&blob1={A}&blob2={E}", "Host: h"), stat_reply(A_ENTRY, E_ENTRY)
+    yield get(f"/camli/stat?camliversion=1&blob1={A}&blob2={E}", "Host: localhost"), stat_reply(A_ENTRY, E_ENTRY)
     yield get("/a?b?c") + head("GET * HTTP/1.0", end="\n") + NOTHING, NO_ROUTE + NO_ROUTE_CLOSED
     yield get(f"/camli/stat?camliversion=1&blob1={A}?c"), refused("bad ref")
     yield b"\r\n\n" + head("GET /a HTTP/1.1", end="\n") + b"GET", NO_ROUTE
