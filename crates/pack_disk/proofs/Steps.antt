@@ -12,6 +12,7 @@ use Rattle.pack_disk.specs.Packs.{Packs}
 use Rattle.pack_disk.specs.Disk.{SameOthers, Extends, Makes, Elapses}
 use Rattle.pack_disk.specs.PackState.{PackState, fresh, grown, settled, IsPackImage}
 use Rattle.pack_disk.specs.Past.{Past, no_past, Does, with_call, at_call, extended, told_after, told_from, began_with, told, State, changed, state_after, state_from, first_state, state, IsImage, WasImage}
+use Rattle.pack_disk.specs.Memory.{Remembered}
 use Rattle.pack_disk.specs.Told.{ties, get_at, get-extended, IsPackTold, IsTold, is_told}
 
 state_from-push : (calls : List Call) (s : State) (c : Call) → state_from s (calls ++ c ∷ []) ≡ state_after c (state_from s calls)
@@ -272,13 +273,16 @@ pub runs : {A B : Type 0} (r : Result A B) (old new : Past) (call : Call) → Do
 runs (Ok a) old new call does = inr does.ok
 runs (Err b) old new call does = inl does.err
 
--- a call of the packs that was counted
-pub does_counted : {A B C D : Type 0} (done : Result A B) (result : Result C D) (call : Call) (old mid new : Past) (P Q : Type 0) → Does call old mid done
-    → OnOk result (IsOk done × P) → OnErr result (IsErr done × Q) → new ≡ mid → Does call old new result
-does_counted (Ok a) (Ok b) call old mid new P Q does ok err same = record { ok = same ∙ does.ok; err = tt }
-does_counted (Ok a) (Err b) call old mid new P Q does ok err same = absurd (cc err.0)
-does_counted (Err a) (Ok b) call old mid new P Q does ok err same = absurd (cc ok.0)
-does_counted (Err a) (Err b) call old mid new P Q does ok err same = record { ok = tt; err = same ∙ does.err }
+pub same_history : {before now : Remembered} → before ≡ now → before.history ≡ now.history
+same_history is = ap (λ (disk : Remembered). disk.history) is
+
+-- a call of the packs that was counted; what the disk was seen as before is what it held
+pub does_counted : {A B C D : Type 0} (done : Result A B) (result : Result C D) (call : Call) (old mid new seen : Past) (P Q : Type 0) → old ≡ seen → Does call old mid done
+    → OnOk result (IsOk done × P) → OnErr result (IsErr done × Q) → new ≡ mid → Does call seen new result
+does_counted (Ok a) (Ok b) call old mid new seen P Q is does ok err same = record { ok = same ∙ does.ok ∙ ap (λ past. with_call past call) is; err = tt }
+does_counted (Ok a) (Err b) call old mid new seen P Q is does ok err same = absurd (cc err.0)
+does_counted (Err a) (Ok b) call old mid new seen P Q is does ok err same = absurd (cc ok.0)
+does_counted (Err a) (Err b) call old mid new seen P Q is does ok err same = record { ok = tt; err = same ∙ does.err ∙ is }
 
 -- ---- what a caller knows that makes packs one by one
 

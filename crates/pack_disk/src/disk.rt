@@ -20,7 +20,8 @@ pub trait Disk {
     /// What a crash at this moment may leave.
     ghost images: { Self → Packs → Type 0 };
 
-    /// The moment, as a number that doesn't fall.
+    /// The moment, as a number that doesn't fall. It counts what may change what a crash leaves: a call that only reads
+    /// lets none pass.
     ghost moment: { Self → ℕ };
 
     /// What a crash at some moment from that one on might have left, during a call or between two.
@@ -37,6 +38,7 @@ pub trait Disk {
         ensures crash { NoNew (images self.old) (images self.new) }
         ensures time { Elapses (moment self.old) (moment self.new) (images_since self.old) (images_since self.new)
             (images self.new) }
+        ensures still { moment self.new ≡ moment self.old }
         ensures cause { HasCause (faults self.old) (faults self.new) result };
 
     /// How many bytes a pack has.
@@ -48,6 +50,7 @@ pub trait Disk {
         ensures crash { NoNew (images self.old) (images self.new) }
         ensures time { Elapses (moment self.old) (moment self.new) (images_since self.old) (images_since self.new)
             (images self.new) }
+        ensures still { moment self.new ≡ moment self.old }
         ensures cause { HasCause (faults self.old) (faults self.new) result };
 
     /// Puts the pack's bytes from the place `at` on in front of the buffer, and says how many. Fewer than the buffer
@@ -61,6 +64,7 @@ pub trait Disk {
         ensures crash { NoNew (images self.old) (images self.new) }
         ensures time { Elapses (moment self.old) (moment self.new) (images_since self.old) (images_since self.new)
             (images self.new) }
+        ensures still { moment self.new ≡ moment self.old }
         ensures cause { HasCause (faults self.old) (faults self.new) result };
 
     /// Makes an empty pack. A crash may leave it missing until it was synced. After a failure it may be there without

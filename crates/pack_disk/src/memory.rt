@@ -16,6 +16,7 @@ use crate::history::History;
 use blobref::NoMemory;
 use edge_base::{CallList, Calls, Failed};
 use std::alloc::Global;
+use std::marker::Model;
 
 /// A disk in memory (`docs/formats/packs.md`, "Disks and crashes"). A contract sees the calls that were done since it
 /// began, with the packs that it began with, and which of its calls fail.
@@ -24,6 +25,14 @@ pub struct MemDisk {
     alloc: Global,
     history: History,
     calls: Calls,
+}
+
+impl Model for MemDisk {
+    ghost use Rattle.pack_disk.specs.Memory.{Remembered};
+
+    ghost Value = { Remembered };
+
+    ghost view = { λ d. record { history = d.history; calls = d.calls } };
 }
 
 impl MemDisk {
@@ -120,6 +129,7 @@ impl Disk for MemDisk {
         ensures told { Some (told self.new.history) ≡ Some (told self.old.history) }
         ensures crash { NoNew (IsImage (state self.old.history)) (IsImage (state self.new.history)) }
         ensures time { Passes self.old.history self.new.history }
+        ensures still { length self.new.history.done ≡ length self.old.history.done }
         ensures cause { HasCause self.old.calls.faults self.new.calls.faults result }
 
         ensures past { self.new.history ≡ self.old.history }
@@ -137,6 +147,7 @@ impl Disk for MemDisk {
         ensures told { Some (told self.new.history) ≡ Some (told self.old.history) }
         ensures crash { NoNew (IsImage (state self.old.history)) (IsImage (state self.new.history)) }
         ensures time { Passes self.old.history self.new.history }
+        ensures still { length self.new.history.done ≡ length self.old.history.done }
         ensures cause { HasCause self.old.calls.faults self.new.calls.faults result }
 
         ensures past { self.new.history ≡ self.old.history }
@@ -156,6 +167,7 @@ impl Disk for MemDisk {
         ensures told { Some (told self.new.history) ≡ Some (told self.old.history) }
         ensures crash { NoNew (IsImage (state self.old.history)) (IsImage (state self.new.history)) }
         ensures time { Passes self.old.history self.new.history }
+        ensures still { length self.new.history.done ≡ length self.old.history.done }
         ensures cause { HasCause self.old.calls.faults self.new.calls.faults result }
 
         ensures past { self.new.history ≡ self.old.history }

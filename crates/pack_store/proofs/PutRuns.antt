@@ -5,7 +5,7 @@ use Rattle.std.proofs.lemmas.List.{length-map}
 use Rattle.std.specs.Cmp.Lexicographic.{nat_list_cmp_total}
 use Rattle.std.specs.FinMap.{get, entries, from_entries, get-from_entries, from_entries_push, slice_cmp-IsAntisymmetric, nat_cmp-IsAntisymmetric}
 use Rattle.std.specs.Option.{ForSome, option_map, option_or, is_some}
-use Rattle.blobref.specs.Blobref.{ref_of, ref_cmp}
+use Rattle.blobref.specs.Blobref.{IsOwnRef, ref_cmp}
 use Rattle.edge_base.specs.Edge.{Rose}
 use Rattle.edge_base.specs.declared.answers.Put.{Put as Answer}
 use Rattle.edge_base.specs.declared.answers.Put.TheVariants as put
@@ -21,7 +21,7 @@ use Rattle.pack_store.specs.Rows.{arrival_of, arrivals_in, number_of}
 use Rattle.pack_store.specs.Archive.{Archive, count, greatest, needs_pack, is_filled, is_full}
 use Rattle.pack_store.specs.Adding.{AddsRecord}
 use Rattle.pack_store.specs.Packs.{HeldByAll, KeepsAll}
-use Rattle.pack_store.specs.Putting.{settled_own, Answers, Leaves, Stores, target, pack_of}
+use Rattle.pack_store.specs.Putting.{early_answer_own, Answers, Leaves, Stores, target, pack_of}
 use Rattle.pack_store.specs.PutsLast.{PutsLast, GoesOn}
 use Rattle.pack_store.specs.Puts.{blobs_of, has_blob, is_full_on, target_on, PutsOne, PutsAll, IsFull, IsAtLimit, Stands, PutsBlobs, PutLeaves}
 use Rattle.pack_store.specs.Reading.{StaysStill}
@@ -102,12 +102,9 @@ tells_at a b P x y ea eb t = let both = subst (λ o. Tells o b P) ea t in subst 
 
 -- ---- a blob that is put, into a store that is as its disk says
 
-module _ {D : Type 0} (g : Ghosts D) (limits : Limits) (s new : Archive D) (bytes : List ℕ) (puts_last : PutsLast g) where
-  abbrev r : List ℕ
-  r = ref_of bytes
-
+module _ {D : Type 0} (g : Ghosts D) (limits : Limits) (s new : Archive D) (r bytes : List ℕ) (own : IsOwnRef r bytes) (puts_last : PutsLast g) where
   abbrev Says : PutAnswer → Type 0
-  Says answer = Answers (settled_own s r (length bytes)) (count s) answer
+  Says answer = Answers (early_answer_own s r (length bytes)) (count s) answer
 
   module _ (stands : Stands g limits s) where
     counted : (held : Packs) → g.packs s.disk ≡ Some held → count s ≡ length (arrivals (entries held))
@@ -130,7 +127,7 @@ module _ {D : Type 0} (g : Ghosts D) (limits : Limits) (s new : Archive D) (byte
       lacked held tells = has_number r held s.rows (stands.arrived held tells) ∙ when.0
 
       arrived : (held now : Packs) → g.packs s.disk ≡ Some held → AddsRecord (target s) r bytes held now → arrivals (entries now) ≡ arrivals (entries held) ++ (r, bytes) ∷ []
-      arrived held now tells adds = puts_last.arrived s held now r bytes (goes_on held tells) refl small (sym (get-blobs held r) ∙ none_of_some (get (blobs_of held) r) (lacked held tells)) adds
+      arrived held now tells adds = puts_last.arrived s held now r bytes (goes_on held tells) own small (sym (get-blobs held r) ∙ none_of_some (get (blobs_of held) r) (lacked held tells)) adds
 
       stored_stands : Stands g limits new
       stored_stands = record {
@@ -139,13 +136,13 @@ module _ {D : Type 0} (g : Ghosts D) (limits : Limits) (s new : Archive D) (byte
             tells_at (g.packs s.disk) (g.packs new.disk) (λ before now. arrivals_in now new.rows ≡ arrivals_in before s.rows ++ (r, bytes) ∷ []) was.0 now was.1 tells l.arrived
             ∙ ap (λ front. front ++ (r, bytes) ∷ []) (stands.arrived was.0 was.1) ∙ sym (arrived was.0 now was.1 was.2);
         next = λ now tells. let was = tells_before (g.packs s.disk) (g.packs new.disk) (AddsRecord (target s) r bytes) now l.added tells in
-            (puts_last.goes_on s new was.0 now r bytes (goes_on was.0 was.1) refl small was.1 tells l).next;
+            (puts_last.goes_on s new was.0 now r bytes (goes_on was.0 was.1) own small was.1 tells l).next;
         current = λ now tells. let was = tells_before (g.packs s.disk) (g.packs new.disk) (AddsRecord (target s) r bytes) now l.added tells in
-            (puts_last.goes_on s new was.0 now r bytes (goes_on was.0 was.1) refl small was.1 tells l).current;
+            (puts_last.goes_on s new was.0 now r bytes (goes_on was.0 was.1) own small was.1 tells l).current;
       }
 
-      stored_packs : Tells (g.packs s.disk) (g.packs new.disk) (PutsOne limits bytes)
-      stored_packs = tells_more (g.packs s.disk) (g.packs new.disk) (AddsRecord (target s) r bytes) (PutsOne limits bytes) l.added (λ held now tells adds. inr (record {
+      stored_packs : Tells (g.packs s.disk) (g.packs new.disk) (PutsOne limits (r, bytes))
+      stored_packs = tells_more (g.packs s.disk) (g.packs new.disk) (AddsRecord (target s) r bytes) (PutsOne limits (r, bytes)) l.added (λ held now tells adds. inr (record {
         lacked = lacked held tells;
         room = sym (full_as held tells) ∙ when.1;
         added = subst (λ n. AddsRecord n r bytes held now) (target_as held tells) adds;
@@ -154,11 +151,11 @@ module _ {D : Type 0} (g : Ghosts D) (limits : Limits) (s new : Archive D) (byte
             (sym (get-from_entries nat_list_cmp_total (arrivals (entries held)) r) ∙ none_of_some (get (blobs_of held) r) (lacked held tells));
       }))
 
-    stood_packs : (n : ℕ) → Says (Ok (put.Already n)) → new ≡ s → Tells (g.packs s.disk) (g.packs new.disk) (PutsOne limits bytes)
-    stood_packs n a same = subst (λ t. Tells (g.packs s.disk) (g.packs t.disk) (PutsOne limits bytes)) (sym same) (tells_itself (g.packs s.disk) (PutsOne limits bytes) (λ held tells.
+    stood_packs : (n : ℕ) → Says (Ok (put.Already n)) → new ≡ s → Tells (g.packs s.disk) (g.packs new.disk) (PutsOne limits (r, bytes))
+    stood_packs n a same = subst (λ t. Tells (g.packs s.disk) (g.packs t.disk) (PutsOne limits (r, bytes))) (sym same) (tells_itself (g.packs s.disk) (PutsOne limits (r, bytes)) (λ held tells.
         inl (has_number r held s.rows (stands.arrived held tells) ∙ already_when (nat_lt max_size (length bytes)) (number_of r s.rows) (is_full s) (length bytes) (count s) (greatest s) (count s) n a, refl)))
 
-    no_room : (blobs pack : ℕ) → Says (Err (fault.Full blobs pack)) → IsAtLimit limits blobs pack × ForSome (g.packs s.disk) (IsFull limits bytes blobs pack)
+    no_room : (blobs pack : ℕ) → Says (Err (fault.Full blobs pack)) → IsAtLimit limits blobs pack × ForSome (g.packs s.disk) (IsFull limits (r, bytes) blobs pack)
     no_room blobs pack a =
         let f = full_when (nat_lt max_size (length bytes)) (number_of r s.rows) (is_full s) (length bytes) (count s) (greatest s) (count s) blobs pack a in
         let same = ap (λ l. nat_le l.blobs (count s) || (needs_pack s && nat_lt l.last_pack s.next)) stands.limited in
@@ -180,6 +177,7 @@ module _ {D : Type 0} (g : Ghosts D) (limits : Limits)
   -- a call that reads puts nothing
   pub reading_puts_nothing : (s new : Archive D) → StaysStill g s new → PutsBlobs g limits s [] new
   reading_puts_nothing s new still = record {
+    own = tt;
     crash = stays_keeps g counts_now only_now s.disk new.disk still.stays;
     still = λ _. still.stays;
     held = tt;
@@ -193,47 +191,49 @@ module _ {D : Type 0} (g : Ghosts D) (limits : Limits)
     same_limits = ap (λ t. t.limits) still.value;
   }
 
-  module _ (s new : Archive D) (bytes : List ℕ) (puts_last : PutsLast g) where
+  module _ (s new : Archive D) (r bytes : List ℕ) (own : IsOwnRef r bytes) (puts_last : PutsLast g) where
     abbrev Answered : PutAnswer → Type 0
-    Answered answer = Answers (settled_own s (ref_of bytes) (length bytes)) (count s) answer
+    Answered answer = Answers (early_answer_own s r (length bytes)) (count s) answer
 
     same_puts : new ≡ s → PutsBlobs g limits s [] new
     same_puts e = subst (PutsBlobs g limits s []) (sym e) (puts_nothing g limits counts_now only_now s)
 
     is_long : (n : ℕ) → Answered (Err (fault.TooBig n)) → (nat_lt max_size (length bytes) ≡ true) × (n ≡ length bytes)
-    is_long n a = big_when (nat_lt max_size (length bytes)) (number_of (ref_of bytes) s.rows) (is_full s) (length bytes) (count s) (greatest s) (count s) n a
+    is_long n a = big_when (nat_lt max_size (length bytes)) (number_of r s.rows) (is_full s) (length bytes) (count s) (greatest s) (count s) n a
 
     module _ (small : length bytes ≤ max_size) (crash : KeepsAll g s.disk new.disk) where
-      kept : (answer : Answer) → Answered (Ok answer) → Leaves g s new (ref_of bytes) bytes (Ok answer) → HeldByAll (g.images new.disk) (ref_of bytes) → PutsBlobs g limits s (bytes ∷ []) new
+      kept : (answer : Answer) → Answered (Ok answer) → Leaves g s new r bytes (Ok answer) → HeldByAll (g.images new.disk) r → PutsBlobs g limits s ((r, bytes) ∷ []) new
       kept (put.Stored n) a l held = record {
+        own = (own, tt);
         crash = crash;
         still = λ e. absurd (cc e);
         held = (held, tt);
-        stands = λ h. stored_stands g limits s new bytes puts_last h small n a l;
-        packs = λ h. told_one limits (g.packs s.disk) (g.packs new.disk) bytes (stored_packs g limits s new bytes puts_last h small n a l);
+        stands = λ h. stored_stands g limits s new r bytes own puts_last h small n a l;
+        packs = λ h. told_one limits (g.packs s.disk) (g.packs new.disk) (r, bytes) (stored_packs g limits s new r bytes own puts_last h small n a l);
         same_limits = ap (λ t. t.limits) l.value;
       }
       kept (put.Already n) a l held = record {
+        own = (own, tt);
         crash = crash;
         still = λ e. absurd (cc e);
         held = (held, tt);
         stands = λ h. subst (Stands g limits) (sym l) h;
-        packs = λ h. told_one limits (g.packs s.disk) (g.packs new.disk) bytes (stood_packs g limits s new bytes puts_last h n a l);
+        packs = λ h. told_one limits (g.packs s.disk) (g.packs new.disk) (r, bytes) (stood_packs g limits s new r bytes own puts_last h n a l);
         same_limits = ap (λ t. t.limits) l;
       }
 
-      refused : (e : PutFault) → Answered (Err e) → Leaves g s new (ref_of bytes) bytes (Err e) → (◌≡◌ {A = PutAnswer} (Err e) (Err fault.Disk) → Rose (g.faults s.disk) (g.faults new.disk))
-          → PutLeaves g limits s new bytes (Err e)
+      refused : (e : PutFault) → Answered (Err e) → Leaves g s new r bytes (Err e) → (◌≡◌ {A = PutAnswer} (Err e) (Err fault.Disk) → Rose (g.faults s.disk) (g.faults new.disk))
+          → PutLeaves g limits s new (r, bytes) (Err e)
       refused (fault.TooBig size) a l rose = let big = is_long size a in (same_puts l, big.1, omega (arith, ltb-true max_size (length bytes) big.0, big.1))
       refused (fault.BadDigest said other) a l rose =
-          absurd (digest_never (nat_lt max_size (length bytes)) (number_of (ref_of bytes) s.rows) (is_full s) (length bytes) (count s) (greatest s) (count s) said other a)
+          absurd (digest_never (nat_lt max_size (length bytes)) (number_of r s.rows) (is_full s) (length bytes) (count s) (greatest s) (count s) said other a)
       refused (fault.Full blobs pack) a l rose =
-          (same_puts l, λ h. subst (λ (t : Archive D). IsAtLimit limits blobs pack × ForSome (g.packs t.disk) (IsFull limits bytes blobs pack)) (sym l) (no_room g limits s new bytes puts_last (subst (Stands g limits) l h) blobs pack a))
+          (same_puts l, λ h. subst (λ (t : Archive D). IsAtLimit limits blobs pack × ForSome (g.packs t.disk) (IsFull limits (r, bytes) blobs pack)) (sym l) (no_room g limits s new r bytes own puts_last (subst (Stands g limits) l h) blobs pack a))
       refused fault.Disk a l rose = rose refl
       refused fault.NoMemory a l rose = same_puts l
 
       -- a blob that is put under its own ref
-      pub put_leaves : (answer : PutAnswer) → Answered answer → Leaves g s new (ref_of bytes) bytes answer → OnOk answer (HeldByAll (g.images new.disk) (ref_of bytes))
-          → (answer ≡ Err fault.Disk → Rose (g.faults s.disk) (g.faults new.disk)) → PutLeaves g limits s new bytes answer
+      pub put_leaves : (answer : PutAnswer) → Answered answer → Leaves g s new r bytes answer → OnOk answer (HeldByAll (g.images new.disk) r)
+          → (answer ≡ Err fault.Disk → Rose (g.faults s.disk) (g.faults new.disk)) → PutLeaves g limits s new (r, bytes) answer
       put_leaves (Ok answer) a l held rose = kept answer a l held
       put_leaves (Err e) a l held rose = refused e a l rose

@@ -20,7 +20,7 @@ use Rattle.pack_store.specs.Packs.{CleanIn, HeldByAll}
 use Rattle.pack_store.specs.Rows.{number_of, arrival_of, arrivals_in, AreBytes, IsKept, IsOfBlob}
 use Rattle.pack_store.specs.Adding.{AddsRecord, row_at, IsLong, KeepsRows, HasRow}
 use Rattle.pack_store.specs.Archive.{Archive, IsSound, is_filled, needs_pack, is_full}
-use Rattle.pack_store.specs.Putting.{settled_own, pack_of, fill_of, target, fill, next_after, row_after, current_after, Stores, Fails}
+use Rattle.pack_store.specs.Putting.{early_answer_own, pack_of, fill_of, target, fill, next_after, row_after, current_after, Stores, Fails}
 use Rattle.pack_store.proofs.Held.{tied}
 use Rattle.pack_store.proofs.Moments.{tells_before}
 use Rattle.pack_store.proofs.Numbers.{placed_push, placed_taken, new_more}
@@ -43,7 +43,7 @@ open_parts false None f true x y is = absurd (cc is)
 open_parts false None f false x y is = (refl, refl, refl)
 
 -- a blob for which nothing is settled is small and new, and there is room for it
-pub not_settled : {D : Type 0} (s : Archive D) (r : List ℕ) (size : ℕ) → settled_own s r size ≡ None → (size ≤ max_size) × (number_of r s.rows ≡ None) × (is_full s ≡ false)
+pub not_settled : {D : Type 0} (s : Archive D) (r : List ℕ) (size : ℕ) → early_answer_own s r size ≡ None → (size ≤ max_size) × (number_of r s.rows ≡ None) × (is_full s ≡ false)
 not_settled s r size is =
     let parts = open_parts (nat_lt max_size size) (number_of r s.rows) _ (is_full s) _ _ is in
     (grind (arith, nat_tests, parts.0), parts.1, parts.2)

@@ -4,9 +4,9 @@ use Rattle.std.specs.Cmp.Lexicographic.{nat_list_cmp_total, pointwise, texts_tie
 use Rattle.std.specs.FinMap.{get, entries, from_entries, from_entries_push, find, get-from_entries, slice_cmp-IsAntisymmetric, nat_cmp-IsAntisymmetric, insert, contains_key}
 use Rattle.std.specs.Map.{lookup}
 use Rattle.std.specs.Option.{ForSome, option_map, is_some}
-use Rattle.blobref.specs.Blobref.{ref_of, ref_cmp}
+use Rattle.blobref.specs.Blobref.{IsOwnRef, ref_cmp}
 use Rattle.edge_base.specs.Edge.{Rose}
-use Rattle.edge_base.specs.Shelf.{Blobs, with_blob, KeepLeaves, GetCause, Keeps}
+use Rattle.edge_base.specs.Shelf.{Blob, Blobs, with_blob, KeepLeaves, GetCause, Keeps}
 use Rattle.edge_base.specs.declared.answers.Put.{Put as Answer}
 use Rattle.edge_base.specs.declared.answers.Put.TheVariants as put
 use Rattle.edge_base.specs.declared.answers.PutFault.{PutFault}
@@ -24,7 +24,7 @@ use Rattle.pack_store.specs.Archive.{Archive, count, greatest, is_full}
 use Rattle.pack_store.specs.Reading.{StaysStill, IsDamage, bytes_of, entry_of, size_of}
 use Rattle.pack_store.specs.Packs.{HeldByAll, KeepsAll}
 use Rattle.pack_store.specs.PutsLast.{PutsLast}
-use Rattle.pack_store.specs.Putting.{settled_own, Answers, Leaves}
+use Rattle.pack_store.specs.Putting.{early_answer_own, Answers, Leaves}
 use Rattle.pack_store.specs.Puts.{blobs_of, HasNoRoom, PutLeaves}
 use Rattle.pack_store.specs.StoreShelf.{map_of, content_of, PutsStore, ContentStands}
 use Rattle.pack_store.proofs.Blobs.{found_or_not, none_of_some}
@@ -32,13 +32,13 @@ use Rattle.pack_store.proofs.PutRuns.{stored_when, already_when, put_leaves}
 
 -- ---- what a call that keeps a blob leaves, in a shelf's words
 
-module _ {D : Type 0} (g : Ghosts D) (s new : Archive D) (bytes : List ℕ) where
-  pub store_leaves : (answer : Result Answer PutFault) → PutLeaves g s.limits s new bytes answer
-      → KeepLeaves (λ blobs. PutsStore g s blobs new) (HasNoRoom g new.limits new bytes) (g.faults s.disk) (g.faults new.disk) bytes answer
+module _ {D : Type 0} (g : Ghosts D) (s new : Archive D) (blob : Blob) where
+  pub store_leaves : (answer : Result Answer PutFault) → PutLeaves g s.limits s new blob answer
+      → KeepLeaves (λ blobs. PutsStore g s blobs new) (HasNoRoom g new.limits new blob) (g.faults s.disk) (g.faults new.disk) blob answer
   store_leaves (Ok done) l = l
   store_leaves (Err (fault.TooBig size)) l = l
   store_leaves (Err (fault.BadDigest said is)) l = l
-  store_leaves (Err (fault.Full blobs pack)) l = (l.0, subst (λ limits. HasNoRoom g limits new bytes blobs pack) (sym l.0.same_limits) l.1)
+  store_leaves (Err (fault.Full blobs pack)) l = (l.0, subst (λ limits. HasNoRoom g limits new blob blobs pack) (sym l.0.same_limits) l.1)
   store_leaves (Err fault.Disk) l = l
   store_leaves (Err fault.NoMemory) l = l
 
@@ -46,14 +46,12 @@ module _ {D : Type 0} (g : Ghosts D) (s new : Archive D) (bytes : List ℕ) wher
 module _ {D : Type 0} (g : Ghosts D)
     (counts_now : (d : D) (t : ℕ) (c : Packs) → t ≤ g.moment d → g.images d c → g.images_since d t c)
     (only_now : (d : D) (c : Packs) → g.images_since d (g.moment d) c → g.images d c) where
-  pub store_leaves_own : (s new : Archive D) (bytes r : List ℕ) → r ≡ ref_of bytes → length bytes ≤ max_size → PutsLast g → (answer : Result Answer PutFault)
-      → KeepsAll g s.disk new.disk → Answers (settled_own s r (length bytes)) (count s) answer → Leaves g s new r bytes answer → OnOk answer (HeldByAll (g.images new.disk) r)
+  pub store_leaves_own : (s new : Archive D) (r bytes : List ℕ) → IsOwnRef r bytes → length bytes ≤ max_size → PutsLast g → (answer : Result Answer PutFault)
+      → KeepsAll g s.disk new.disk → Answers (early_answer_own s r (length bytes)) (count s) answer → Leaves g s new r bytes answer → OnOk answer (HeldByAll (g.images new.disk) r)
       → (answer ≡ Err fault.Disk → Rose (g.faults s.disk) (g.faults new.disk))
-      → KeepLeaves (λ blobs. PutsStore g s blobs new) (HasNoRoom g new.limits new bytes) (g.faults s.disk) (g.faults new.disk) bytes answer
-  store_leaves_own s new bytes r own small puts_last answer crash a l held rose = store_leaves g s new bytes answer
-      (put_leaves g s.limits counts_now only_now s new bytes puts_last small crash answer
-      (subst (λ q. Answers (settled_own s q (length bytes)) (count s) answer) own a) (subst (λ q. Leaves g s new q bytes answer) own l)
-      (subst (λ q. OnOk answer (HeldByAll (g.images new.disk) q)) own held) rose)
+      → KeepLeaves (λ blobs. PutsStore g s blobs new) (HasNoRoom g new.limits new (r, bytes)) (g.faults s.disk) (g.faults new.disk) (r, bytes) answer
+  store_leaves_own s new r bytes own small puts_last answer crash a l held rose = store_leaves g s new (r, bytes) answer
+      (put_leaves g s.limits counts_now only_now s new r bytes own puts_last small crash answer a l held rose)
 
 -- ---- what it holds
 
@@ -67,27 +65,27 @@ get_map r rows held = get-from_entries nat_list_cmp_total (arrivals_in held rows
 has_key : (r : List ℕ) (rows : List Row) (held : Packs) → contains_key (map_of rows held) r ≡ is_some (number_of r rows)
 has_key r rows held = ap is_some (get_map r rows held) ∙ found_or_not r held rows 0
 
-with_new : (held : Blobs) (bytes : List ℕ) → contains_key held (ref_of bytes) ≡ false → with_blob held bytes ≡ insert held (ref_of bytes) bytes
-with_new held bytes e = ap (λ b. cond b held (insert held (ref_of bytes) bytes)) e
+with_new : (held : Blobs) (blob : Blob) → contains_key held blob.0 ≡ false → with_blob held blob ≡ insert held blob.0 blob.1
+with_new held blob e = ap (λ b. cond b held (insert held blob.0 blob.1)) e
 
-with_old : (held : Blobs) (bytes : List ℕ) → contains_key held (ref_of bytes) ≡ true → with_blob held bytes ≡ held
-with_old held bytes e = ap (λ b. cond b held (insert held (ref_of bytes) bytes)) e
+with_old : (held : Blobs) (blob : Blob) → contains_key held blob.0 ≡ true → with_blob held blob ≡ held
+with_old held blob e = ap (λ b. cond b held (insert held blob.0 blob.1)) e
 
-grown : (a b : Option Packs) (rows rows_now : List Row) (bytes : List ℕ) → is_some (number_of (ref_of bytes) rows) ≡ false
-    → Tells a b (λ before now. arrivals_in now rows_now ≡ arrivals_in before rows ++ (ref_of bytes, bytes) ∷ [])
-    → Keeps (option_map (map_of rows) a) (option_map (map_of rows_now) b) (bytes ∷ [])
-grown None None rows rows_now bytes none t = refl
-grown None (Some y) rows rows_now bytes none t = absurd t
-grown (Some x) None rows rows_now bytes none t = absurd t
-grown (Some x) (Some y) rows rows_now bytes none t = ap Some (ap (from_entries {R = ref_cmp}) t
-    ∙ from_entries_push nat_list_cmp_total (slice_cmp-IsAntisymmetric nat_cmp-IsAntisymmetric) (arrivals_in x rows) (ref_of bytes) bytes
-    (sym (get-from_entries nat_list_cmp_total (arrivals_in x rows) (ref_of bytes)) ∙ none_of_some (get (map_of rows x) (ref_of bytes)) (has_key (ref_of bytes) rows x ∙ none))
-    ∙ sym (with_new (map_of rows x) bytes (has_key (ref_of bytes) rows x ∙ none)))
+grown : (a b : Option Packs) (rows rows_now : List Row) (blob : Blob) → is_some (number_of blob.0 rows) ≡ false
+    → Tells a b (λ before now. arrivals_in now rows_now ≡ arrivals_in before rows ++ blob ∷ [])
+    → Keeps (option_map (map_of rows) a) (option_map (map_of rows_now) b) (blob ∷ [])
+grown None None rows rows_now blob none t = refl
+grown None (Some y) rows rows_now blob none t = absurd t
+grown (Some x) None rows rows_now blob none t = absurd t
+grown (Some x) (Some y) rows rows_now blob none t = ap Some (ap (from_entries {R = ref_cmp}) t
+    ∙ from_entries_push nat_list_cmp_total (slice_cmp-IsAntisymmetric nat_cmp-IsAntisymmetric) (arrivals_in x rows) blob.0 blob.1
+    (sym (get-from_entries nat_list_cmp_total (arrivals_in x rows) blob.0) ∙ none_of_some (get (map_of rows x) blob.0) (has_key blob.0 rows x ∙ none))
+    ∙ sym (with_new (map_of rows x) blob (has_key blob.0 rows x ∙ none)))
 
-stayed : (a : Option Packs) (rows : List Row) (bytes : List ℕ) → is_some (number_of (ref_of bytes) rows) ≡ true
-    → Keeps (option_map (map_of rows) a) (option_map (map_of rows) a) (bytes ∷ [])
-stayed None rows bytes some = refl
-stayed (Some x) rows bytes some = ap Some (sym (with_old (map_of rows x) bytes (has_key (ref_of bytes) rows x ∙ some)))
+stayed : (a : Option Packs) (rows : List Row) (blob : Blob) → is_some (number_of blob.0 rows) ≡ true
+    → Keeps (option_map (map_of rows) a) (option_map (map_of rows) a) (blob ∷ [])
+stayed None rows blob some = refl
+stayed (Some x) rows blob some = ap Some (sym (with_old (map_of rows x) blob (has_key blob.0 rows x ∙ some)))
 
 same_map_of : (a b : Option Packs) (rows rows_now : List Row) → Tells a b (λ before now. arrivals_in now rows_now ≡ arrivals_in before rows)
     → option_map (map_of rows_now) b ≡ option_map (map_of rows) a
@@ -97,22 +95,17 @@ same_map_of (Some x) None rows rows_now t = absurd t
 same_map_of (Some x) (Some y) rows rows_now t = ap Some (ap (from_entries {R = ref_cmp}) t)
 
 module _ {D : Type 0} (g : Ghosts D) (s new : Archive D) where
-  content_kept : (bytes : List ℕ) (answer : Answer) → Answers (settled_own s (ref_of bytes) (length bytes)) (count s) (Ok answer) → Leaves g s new (ref_of bytes) bytes (Ok answer)
-      → Keeps (content_of g s) (content_of g new) (bytes ∷ [])
-  content_kept bytes (put.Stored n) a l = grown (g.packs s.disk) (g.packs new.disk) s.rows new.rows bytes
-      (stored_when (nat_lt max_size (length bytes)) (number_of (ref_of bytes) s.rows) (is_full s) (length bytes) (count s) (greatest s) (count s) n a).0 l.arrived
-  content_kept bytes (put.Already n) a l = subst (λ t. Keeps (content_of g s) (content_of g t) (bytes ∷ [])) (sym l) (stayed (g.packs s.disk) s.rows bytes
-      (already_when (nat_lt max_size (length bytes)) (number_of (ref_of bytes) s.rows) (is_full s) (length bytes) (count s) (greatest s) (count s) n a))
+  content_kept : (r bytes : List ℕ) (answer : Answer) → Answers (early_answer_own s r (length bytes)) (count s) (Ok answer) → Leaves g s new r bytes (Ok answer)
+      → Keeps (content_of g s) (content_of g new) ((r, bytes) ∷ [])
+  content_kept r bytes (put.Stored n) a l = grown (g.packs s.disk) (g.packs new.disk) s.rows new.rows (r, bytes)
+      (stored_when (nat_lt max_size (length bytes)) (number_of r s.rows) (is_full s) (length bytes) (count s) (greatest s) (count s) n a).0 l.arrived
+  content_kept r bytes (put.Already n) a l = subst (λ t. Keeps (content_of g s) (content_of g t) ((r, bytes) ∷ [])) (sym l) (stayed (g.packs s.disk) s.rows (r, bytes)
+      (already_when (nat_lt max_size (length bytes)) (number_of r s.rows) (is_full s) (length bytes) (count s) (greatest s) (count s) n a))
 
-  content_after : (bytes : List ℕ) (answer : Result Answer PutFault) → Answers (settled_own s (ref_of bytes) (length bytes)) (count s) answer
-      → Leaves g s new (ref_of bytes) bytes answer → OnOk answer (Keeps (content_of g s) (content_of g new) (bytes ∷ []))
-  content_after bytes (Ok answer) a l = content_kept bytes answer a l
-  content_after bytes (Err e) a l = tt
-
-  pub content_after_own : (bytes r : List ℕ) (answer : Result Answer PutFault) → r ≡ ref_of bytes → Answers (settled_own s r (length bytes)) (count s) answer
-      → Leaves g s new r bytes answer → OnOk answer (Keeps (content_of g s) (content_of g new) (bytes ∷ []))
-  content_after_own bytes r answer own a l = content_after bytes answer
-      (subst (λ q. Answers (settled_own s q (length bytes)) (count s) answer) own a) (subst (λ q. Leaves g s new q bytes answer) own l)
+  pub content_after : (r bytes : List ℕ) (answer : Result Answer PutFault) → Answers (early_answer_own s r (length bytes)) (count s) answer
+      → Leaves g s new r bytes answer → OnOk answer (Keeps (content_of g s) (content_of g new) ((r, bytes) ∷ []))
+  content_after r bytes (Ok answer) a l = content_kept r bytes answer a l
+  content_after r bytes (Err e) a l = tt
 
   pub content_refused : (r bytes : List ℕ) (answer : Result Answer PutFault) → Leaves g s new r bytes answer → OnErr answer (content_of g new ≡ content_of g s)
   content_refused r bytes (Ok answer) l = tt

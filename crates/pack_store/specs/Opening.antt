@@ -9,10 +9,6 @@ use Rattle.pack_disk.specs.declared.disk.Disk.{Ghosts}
 use Rattle.salvage_scan.specs.declared.found.Found.{Found}
 use Rattle.salvage_scan.specs.declared.found.Clean.{Clean}
 use Rattle.salvage_scan.specs.declared.found.Clean.TheVariants as scanned
-use Rattle.pack_store.specs.declared.whole.PackFault.{PackFault}
-use Rattle.pack_store.specs.declared.whole.PackFault.TheVariants as reading
-use Rattle.pack_store.specs.declared.opening.OpenFault.{OpenFault}
-use Rattle.pack_store.specs.declared.opening.OpenFault.TheVariants as opening
 use Rattle.pack_store.specs.declared.limits.Limits.{Limits}
 use Rattle.pack_store.specs.declared.rows.Row.{Row}
 use Rattle.pack_store.specs.declared.rows.Current.{Current}
@@ -43,11 +39,6 @@ pub record IsOpened {D : Type 0} (g : Ghosts D) (disk : D) (limits : Limits) (s 
   pub arrived : ForSome (g.packs disk) (λ held. arrivals_in held s.rows ≡ arrivals (entries held))
   pub next : ForSome (g.packs disk) (λ held. s.next ≡ next_of (entries held))
   pub current : ForSome (g.packs disk) (λ held. s.current ≡ current_of (entries held))
-
--- why a store isn't opened where a pack isn't read
-abbrev pub fault_of : PackFault → OpenFault
-fault_of reading.Disk = opening.Disk
-fault_of reading.NoMemory = opening.NoMemory
 
 -- ---- the packs are taken in one after another
 

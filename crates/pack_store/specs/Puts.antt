@@ -2,9 +2,8 @@
 use Rattle.std.specs.Prelude.{◌≡◌, ◌⊎◌, ◌||◌, ◌&&◌, ◌≤◌, ◌<◌, ℕ, ◌-◌, Bool, true, false, List, [], ◌∷◌, length, nat_le, nat_lt, Result, Ok, Err}
 use Rattle.std.specs.Option.{ForSome, is_some}
 use Rattle.std.specs.FinMap.{entries, get, insert}
-use Rattle.blobref.specs.Blobref.{ref_of}
 use Rattle.edge_base.specs.Edge.{Rose}
-pub use Rattle.edge_base.specs.Shelf.{Blobs}
+pub use Rattle.edge_base.specs.Shelf.{Blob, Blobs, HaveOwnRefs}
 use Rattle.edge_base.specs.declared.answers.Put.{Put}
 use Rattle.edge_base.specs.declared.answers.PutFault.{PutFault}
 use Rattle.edge_base.specs.declared.answers.PutFault.TheVariants as fault
@@ -44,19 +43,19 @@ abbrev pub target_on : Limits → Packs → ℕ
 target_on limits held = pack_of (needs_pack_on limits held) (next_of (entries held)) (current_of (entries held))
 
 -- there was room for the blob, its record was added where the next one goes, and the blobs are those before and it
-pub record Adds (limits : Limits) (bytes : List ℕ) (before now : Packs) : Type 0 where
-  pub lacked : has_blob before (ref_of bytes) ≡ false
+pub record Adds (limits : Limits) (blob : Blob) (before now : Packs) : Type 0 where
+  pub lacked : has_blob before blob.0 ≡ false
   pub room : is_full_on limits before ≡ false
-  pub added : AddsRecord (target_on limits before) (ref_of bytes) bytes before now
-  pub gains : blobs_of now ≡ insert (blobs_of before) (ref_of bytes) bytes
+  pub added : AddsRecord (target_on limits before) blob.0 blob.1 before now
+  pub gains : blobs_of now ≡ insert (blobs_of before) blob.0 blob.1
 
--- the blob stood there, or it was added
-abbrev pub PutsOne : Limits → List ℕ → Packs → Packs → Type 0
-PutsOne limits bytes before now = ((has_blob before (ref_of bytes) ≡ true) × (now ≡ before)) ⊎ Adds limits bytes before now
+-- the blob's ref stood there, or the blob was added
+abbrev pub PutsOne : Limits → Blob → Packs → Packs → Type 0
+PutsOne limits blob before now = ((has_blob before blob.0 ≡ true) × (now ≡ before)) ⊎ Adds limits blob before now
 
 -- the store lacks the blob and has no room for it; these are the number of its blobs and that of its last pack, 0 where it has none
-pub record IsFull (limits : Limits) (bytes : List ℕ) (blobs pack : ℕ) (held : Packs) : Type 0 where
-  pub lacking : has_blob held (ref_of bytes) ≡ false
+pub record IsFull (limits : Limits) (blob : Blob) (blobs pack : ℕ) (held : Packs) : Type 0 where
+  pub lacking : has_blob held blob.0 ≡ false
   pub full : is_full_on limits held ≡ true
   pub blobs_are : blobs ≡ length (arrivals (entries held))
   pub pack_is : pack ≡ next_of (entries held) - 1
@@ -68,14 +67,14 @@ IsAtLimit limits blobs pack = (limits.blobs ≤ blobs) ⊎ (limits.last_pack ≤
 -- ---- several blobs
 
 -- these blobs were put in turn
-abbrev pub PutsAll : Limits → List (List ℕ) → Packs → Packs → Type 0
+abbrev pub PutsAll : Limits → List Blob → Packs → Packs → Type 0
 PutsAll limits [] before now = now ≡ before
-PutsAll limits (bytes ∷ more) before now = (between : Packs) × PutsOne limits bytes before between × PutsAll limits more between now
+PutsAll limits (blob ∷ more) before now = (between : Packs) × PutsOne limits blob before between × PutsAll limits more between now
 
 -- every image holds these blobs
-abbrev pub HoldAll : (Packs → Type 0) → List (List ℕ) → Type 0
+abbrev pub HoldAll : (Packs → Type 0) → List Blob → Type 0
 HoldAll images [] = Unit {0}
-HoldAll images (bytes ∷ more) = HeldByAll images (ref_of bytes) × HoldAll images more
+HoldAll images (blob ∷ more) = HeldByAll images blob.0 × HoldAll images more
 
 -- ---- a store that blobs are put into
 
@@ -83,8 +82,9 @@ HoldAll images (bytes ∷ more) = HeldByAll images (ref_of bytes) × HoldAll ima
 abbrev pub Stands : {D : Type 0} → Ghosts D → Limits → Archive D → Type 0
 Stands g limits s = IsOpened g s.disk limits s
 
--- These blobs were put in turn, and nothing else was done; where none were, nothing was changed.
-pub record PutsBlobs {D : Type 0} (g : Ghosts D) (limits : Limits) (old : Archive D) (blobs : List (List ℕ)) (new : Archive D) : Type 0 where
+-- These blobs were put in turn, each under a ref of its own, and nothing else was done; where none were, nothing was changed.
+pub record PutsBlobs {D : Type 0} (g : Ghosts D) (limits : Limits) (old : Archive D) (blobs : List Blob) (new : Archive D) : Type 0 where
+  pub own : HaveOwnRefs blobs
   pub crash : KeepsAll g old.disk new.disk
   pub still : blobs ≡ [] → Stays g old.disk new.disk
   pub held : HoldAll (g.images new.disk) blobs
@@ -93,14 +93,14 @@ pub record PutsBlobs {D : Type 0} (g : Ghosts D) (limits : Limits) (old : Archiv
   pub same_limits : new.limits ≡ old.limits
 
 -- a store that is as its disk says has no room for the blob
-abbrev pub HasNoRoom : {D : Type 0} → Ghosts D → Limits → Archive D → List ℕ → ℕ → ℕ → Type 0
-HasNoRoom g limits s bytes blobs pack = Stands g limits s → IsAtLimit limits blobs pack × ForSome (g.packs s.disk) (IsFull limits bytes blobs pack)
+abbrev pub HasNoRoom : {D : Type 0} → Ghosts D → Limits → Archive D → Blob → ℕ → ℕ → Type 0
+HasNoRoom g limits s blob blobs pack = Stands g limits s → IsAtLimit limits blobs pack × ForSome (g.packs s.disk) (IsFull limits blob blobs pack)
 
 -- what a put of a blob under its own ref leaves, by its answer: it was put, or nothing was, or the disk failed
-abbrev pub PutLeaves : {D : Type 0} → Ghosts D → Limits → (old new : Archive D) → List ℕ → Result Put PutFault → Type 0
-PutLeaves g limits old new bytes (Ok done) = PutsBlobs g limits old (bytes ∷ []) new
-PutLeaves g limits old new bytes (Err (fault.TooBig size)) = PutsBlobs g limits old [] new × (size ≡ length bytes) × (max_size < size)
-PutLeaves g limits old new bytes (Err (fault.BadDigest said is)) = ⊥
-PutLeaves g limits old new bytes (Err (fault.Full blobs pack)) = PutsBlobs g limits old [] new × HasNoRoom g limits new bytes blobs pack
-PutLeaves g limits old new bytes (Err fault.Disk) = Rose (g.faults old.disk) (g.faults new.disk)
-PutLeaves g limits old new bytes (Err fault.NoMemory) = PutsBlobs g limits old [] new
+abbrev pub PutLeaves : {D : Type 0} → Ghosts D → Limits → (old new : Archive D) → Blob → Result Put PutFault → Type 0
+PutLeaves g limits old new blob (Ok done) = PutsBlobs g limits old (blob ∷ []) new
+PutLeaves g limits old new blob (Err (fault.TooBig size)) = PutsBlobs g limits old [] new × (size ≡ length blob.1) × (max_size < size)
+PutLeaves g limits old new blob (Err (fault.BadDigest said is)) = ⊥
+PutLeaves g limits old new blob (Err (fault.Full blobs pack)) = PutsBlobs g limits old [] new × HasNoRoom g limits new blob blobs pack
+PutLeaves g limits old new blob (Err fault.Disk) = Rose (g.faults old.disk) (g.faults new.disk)
+PutLeaves g limits old new blob (Err fault.NoMemory) = PutsBlobs g limits old [] new

@@ -16,18 +16,18 @@ use Rattle.pack_store.specs.Adding.{AddsRecord, row_at}
 use Rattle.pack_store.specs.Archive.{Archive, count, greatest, needs_pack, is_full}
 
 -- the answer that comes before anything is done, if one does, to a blob of this ref and size
-abbrev pub settled_own : {D : Type 0} → Archive D → List ℕ → ℕ → Option (Result Put PutFault)
-settled_own s r size =
+abbrev pub early_answer_own : {D : Type 0} → Archive D → List ℕ → ℕ → Option (Result Put PutFault)
+early_answer_own s r size =
     if nat_lt max_size size then Some (Err (fault.TooBig size))
     else option_or (option_map (λ (n : ℕ). Ok (put.Already n)) (number_of r s.rows))
     (if is_full s then Some (Err (fault.Full (count s) (greatest s))) else None)
 
 -- the same where a ref was said
-abbrev pub settled : {D : Type 0} → Archive D → List ℕ → List ℕ → Option (Result Put PutFault)
-settled s said bytes =
+abbrev pub early_answer : {D : Type 0} → Archive D → List ℕ → List ℕ → Option (Result Put PutFault)
+early_answer s said bytes =
     if nat_lt max_size (length bytes) then Some (Err (fault.TooBig (length bytes)))
     else if not (is_own_ref said bytes) then Some (Err (fault.BadDigest said (ref_like said bytes)))
-    else settled_own s said (length bytes)
+    else early_answer_own s said (length bytes)
 
 -- what else may be answered: the blob was stored under the next number, the disk failed, or memory did
 abbrev pub IsTried : ℕ → Result Put PutFault → Type 0

@@ -1,6 +1,6 @@
 -- The laws of runs of calls: of what every image since a moment holds, and of the blobs that are put.
 use Rattle.std.proofs.Common.{◌≡◌, inl, ⊎_elim, inr, ℕ, ◌≤◌, Option, None, Some, List, [], ◌∷◌, ◌++◌, refl, subst, ◌∙◌, arith}
-use Rattle.blobref.specs.Blobref.{ref_of}
+use Rattle.edge_base.specs.ShelfLaws.{HaveOwnRefs-append}
 use Rattle.pack_disk.specs.Packs.{Packs}
 use Rattle.pack_disk.specs.Disk.{Tells}
 use Rattle.pack_disk.specs.Runs.{Stays}
@@ -8,7 +8,7 @@ use Rattle.pack_disk.specs.declared.disk.Disk.{Ghosts}
 use Rattle.pack_store.specs.declared.limits.Limits.{Limits}
 use Rattle.pack_store.specs.Archive.{Archive}
 use Rattle.pack_store.specs.Packs.{HeldByAll, KeepsAll}
-use Rattle.pack_store.specs.Puts.{PutsOne, PutsAll, HoldAll, PutsBlobs}
+use Rattle.pack_store.specs.Puts.{Blob, PutsOne, PutsAll, HoldAll, PutsBlobs}
 use Rattle.pack_store.specs.StoreShelf.{PutsStore}
 
 -- ---- images
@@ -60,7 +60,7 @@ module _ {D : Type 0} (g : Ghosts D)
 
 -- ---- blobs
 
-pub puts_join : (limits : Limits) (first second : List (List ℕ)) (before between now : Packs) → PutsAll limits first before between → PutsAll limits second between now
+pub puts_join : (limits : Limits) (first second : List Blob) (before between now : Packs) → PutsAll limits first before between → PutsAll limits second between now
     → PutsAll limits (first ++ second) before now
 puts_join limits [] second before between now same all = subst (λ p. PutsAll limits second p now) same all
 puts_join limits (b ∷ more) second before between now first all = (first.0, first.1, puts_join limits more second first.0 between now first.2 all)
@@ -77,25 +77,25 @@ pub told_nothing : (limits : Limits) (a : Option Packs) → Tells a a (PutsAll l
 told_nothing limits None = tt
 told_nothing limits (Some x) = refl
 
-pub told_one : (limits : Limits) (a b : Option Packs) (bytes : List ℕ) → Tells a b (PutsOne limits bytes) → Tells a b (PutsAll limits (bytes ∷ []))
-told_one limits None None bytes t = tt
-told_one limits None (Some y) bytes t = absurd t
-told_one limits (Some x) None bytes t = absurd t
-told_one limits (Some x) (Some y) bytes t = (y, t, refl)
+pub told_one : (limits : Limits) (a b : Option Packs) (blob : Blob) → Tells a b (PutsOne limits blob) → Tells a b (PutsAll limits (blob ∷ []))
+told_one limits None None blob t = tt
+told_one limits None (Some y) blob t = absurd t
+told_one limits (Some x) None blob t = absurd t
+told_one limits (Some x) (Some y) blob t = (y, t, refl)
 
-pub hold_join : (images : Packs → Type 0) (first second : List (List ℕ)) → HoldAll images first → HoldAll images second → HoldAll images (first ++ second)
+pub hold_join : (images : Packs → Type 0) (first second : List Blob) → HoldAll images first → HoldAll images second → HoldAll images (first ++ second)
 hold_join images [] second all more = more
 hold_join images (b ∷ rest) second all more = (all.0, hold_join images rest second all.1 more)
 
-pub hold_on : (images now : Packs → Type 0) → ((r : List ℕ) → HeldByAll images r → HeldByAll now r) → (blobs : List (List ℕ)) → HoldAll images blobs → HoldAll now blobs
+pub hold_on : (images now : Packs → Type 0) → ((r : List ℕ) → HeldByAll images r → HeldByAll now r) → (blobs : List Blob) → HoldAll images blobs → HoldAll now blobs
 hold_on images now on [] all = tt
-hold_on images now on (b ∷ more) all = (on (ref_of b) all.0, hold_on images now on more all.1)
+hold_on images now on (b ∷ more) all = (on b.0 all.0, hold_on images now on more all.1)
 
-no_first : (first second : List (List ℕ)) → first ++ second ≡ [] → first ≡ []
+no_first : (first second : List Blob) → first ++ second ≡ [] → first ≡ []
 no_first [] second e = refl
 no_first (b ∷ more) second e = absurd (cc e)
 
-no_second : (first second : List (List ℕ)) → first ++ second ≡ [] → second ≡ []
+no_second : (first second : List Blob) → first ++ second ≡ [] → second ≡ []
 no_second [] second e = e
 no_second (b ∷ more) second e = absurd (cc e)
 
@@ -105,6 +105,7 @@ module _ {D : Type 0} (g : Ghosts D) (limits : Limits)
   -- no call is a run
   pub puts_nothing : (s : Archive D) → PutsBlobs g limits s [] s
   puts_nothing s = record {
+    own = tt;
     crash = keeps_itself g counts_now only_now s.disk;
     still = λ _. stays_itself g counts_now only_now s.disk;
     held = tt;
@@ -114,8 +115,9 @@ module _ {D : Type 0} (g : Ghosts D) (limits : Limits)
   }
 
   -- one run after another is a run, and puts the blobs of both
-  pub puts_then : (a b c : Archive D) (first second : List (List ℕ)) → PutsBlobs g limits a first b → PutsBlobs g limits b second c → PutsBlobs g limits a (first ++ second) c
+  pub puts_then : (a b c : Archive D) (first second : List Blob) → PutsBlobs g limits a first b → PutsBlobs g limits b second c → PutsBlobs g limits a (first ++ second) c
   puts_then a b c first second p q = record {
+    own = HaveOwnRefs-append first second p.own q.own;
     crash = keeps_then g counts_now only_now a.disk b.disk c.disk p.crash q.crash;
     still = λ e. stays_then g counts_now only_now a.disk b.disk c.disk (p.still (no_first first second e)) (q.still (no_second first second e));
     held = hold_join (g.images c.disk) first second (hold_on (g.images b.disk) (g.images c.disk) (held_after g counts_now only_now b.disk c.disk q.crash) first p.held) q.held;
@@ -133,7 +135,7 @@ module _ {D : Type 0} (g : Ghosts D)
   pub store_puts_nothing : (s : Archive D) → PutsStore g s [] s
   store_puts_nothing s = puts_nothing g s.limits counts_now only_now s
 
-  pub store_puts_then : (a b c : Archive D) (first second : List (List ℕ)) → PutsStore g a first b → PutsStore g b second c → PutsStore g a (first ++ second) c
+  pub store_puts_then : (a b c : Archive D) (first second : List Blob) → PutsStore g a first b → PutsStore g b second c → PutsStore g a (first ++ second) c
   store_puts_then a b c first second p q =
       puts_then g a.limits counts_now only_now a b c first second p (subst (λ limits. PutsBlobs g limits b second c) p.same_limits q)
 

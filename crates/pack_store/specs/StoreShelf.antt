@@ -3,7 +3,7 @@ use Rattle.std.specs.Prelude.{◌≡◌, ℕ, List, Option}
 use Rattle.std.specs.FinMap.{from_entries}
 use Rattle.std.specs.Option.{option_map}
 use Rattle.blobref.specs.Blobref.{ref_cmp}
-use Rattle.edge_base.specs.Shelf.{Blobs}
+use Rattle.edge_base.specs.Shelf.{Blob, Blobs}
 use Rattle.pack_disk.specs.Packs.{Packs}
 use Rattle.pack_disk.specs.declared.disk.Disk.{Ghosts}
 use Rattle.pack_store.specs.declared.rows.Row.{Row}
@@ -20,7 +20,7 @@ abbrev pub content_of : {D : Type 0} → Ghosts D → Archive D → Option Blobs
 content_of g s = option_map (map_of s.rows) (g.packs s.disk)
 
 -- these blobs were put in turn, within the limits that the store has, and nothing else was done
-abbrev pub PutsStore : {D : Type 0} → Ghosts D → Archive D → List (List ℕ) → Archive D → Type 0
+abbrev pub PutsStore : {D : Type 0} → Ghosts D → Archive D → List Blob → Archive D → Type 0
 PutsStore g old blobs new = PutsBlobs g old.limits old blobs new
 
 -- the shelf's map is the content of the disk's packs, where the store is as its disk says

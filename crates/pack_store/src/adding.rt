@@ -17,7 +17,7 @@ use pack_disk::Disk;
 // Where the next record goes: a pack, its length in bytes, whether it has still to be made, and the number of the
 // next pack then.
 #[derive(Clone, Copy)]
-pub(crate) struct End {
+pub(crate) struct AppendAt {
     pub(crate) pack: u32,
     pub(crate) size: u64,
     pub(crate) is_new: bool,
@@ -28,7 +28,7 @@ pub(crate) struct End {
 // pack changes.
 pub(crate) fn write_blob<D: Disk>(
     disk: &mut D,
-    end: End,
+    end: AppendAt,
     r: &Ref,
     bytes: &[u8],
     text: &[u8],
@@ -51,7 +51,7 @@ pub(crate) fn write_blob<D: Disk>(
 
 // Makes the pack where it has to be. At Ok it is there, as long as it is said to be, and clean in each image that has
 // it.
-fn ready_pack<D: Disk>(disk: &mut D, end: End) -> Result<(), Failed>
+fn ready_pack<D: Disk>(disk: &mut D, end: AppendAt) -> Result<(), Failed>
     requires ready { IsReady D.Disk disk.old end.pack end.size end.is_new }
     ensures told { Tells (D.packs disk.old) (D.packs disk.new) (SameOthers end.pack) }
     ensures same { OnOk result (Tells (D.packs disk.old) (D.packs disk.new) (SameBytes end.pack)) }

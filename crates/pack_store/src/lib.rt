@@ -24,4 +24,4 @@ pub use reading::Found;
 pub use rows::{Current, Row};
 pub use shelf::content_stands;
 pub use store::Store;
-pub use whole::{PackFault, PackScan, scan_pack};
+pub use whole::{PackScan, scan_pack};

@@ -15,21 +15,21 @@ use crate::limits::Limits;
 use crate::places::Places;
 use crate::rows::{Current, Row};
 use crate::store::Store;
-use crate::whole::{PackFault, scan_pack};
+use crate::whole::scan_pack;
 use blobref::NoMemory;
 use pack_disk::Disk;
 use salvage_scan::{Clean, Found};
 use std::alloc::Global;
 use thiserror::Error;
 
-/// Why a store wasn't opened.
+/// Why a store wasn't opened, or a pack wasn't read.
 #[derive(Clone, Copy, Debug, PartialEq, Eq, Error)]
 pub enum OpenFault {
     /// The disk failed.
-    #[error("the disk failed as the store was opened")]
+    #[error("the disk failed as a pack was read")]
     Disk,
     /// No memory was left.
-    #[error("no memory was left for the store")]
+    #[error("no memory was left for the packs")]
     NoMemory,
 }
 
@@ -40,19 +40,6 @@ impl From<NoMemory> for OpenFault {
 
     fn from(_error: NoMemory) -> OpenFault {
         OpenFault::NoMemory
-    }
-}
-
-impl From<PackFault> for OpenFault {
-    ghost use Rattle.pack_store.specs.Opening.{fault_of};
-
-    ghost from_gives = { λ fault gives. gives ≡ fault_of fault };
-
-    fn from(fault: PackFault) -> OpenFault {
-        match fault {
-            PackFault::Disk => OpenFault::Disk,
-            PackFault::NoMemory => OpenFault::NoMemory,
-        }
     }
 }
 

@@ -8,9 +8,9 @@ ghost use Rattle.pack_store.specs.Packs.{HeldByAll, KeepsAll};
 ghost use Rattle.pack_store.specs.Rows.{number_of};
 ghost use Rattle.pack_store.specs.Archive.{count, needs_pack, is_full};
 ghost use Rattle.pack_store.specs.Adding.{IsReady};
-ghost use Rattle.pack_store.specs.Putting.{settled, settled_own, Answers, Leaves, target, fill, next_after};
+ghost use Rattle.pack_store.specs.Putting.{early_answer, early_answer_own, Answers, Leaves, target, fill, next_after};
 
-use crate::adding::{End, write_blob};
+use crate::adding::{AppendAt, write_blob};
 use crate::places::Places;
 use crate::records::record_of;
 use crate::rows::{Current, Row};
@@ -31,7 +31,7 @@ impl<D: Disk> Store<D> {
     /// where a new one is needed, and synced. At `Ok` every image of the disk holds it. Whatever is answered, a crash
     /// at any moment leaves what holds every ref that each image held before.
     pub fn put(&mut self, said: &Ref, bytes: &[u8]) -> Result<Put, PutFault>
-        ensures answer { Answers (settled self.old said.now bytes.now) (count self.old) result }
+        ensures answer { Answers (early_answer self.old said.now bytes.now) (count self.old) result }
         ensures leaves { Leaves D.Disk self.old self.new said.now bytes.now result }
         ensures acknowledged { OnOk result (HeldByAll (D.images self.new.disk) said.now) }
         ensures any_moment { KeepsAll D.Disk self.old.disk self.new.disk }
@@ -52,22 +52,22 @@ impl<D: Disk> Store<D> {
     /// Stores a blob under its own ref: `put`, but for the digest, which the caller has computed.
     pub fn put_own(&mut self, r: &Ref, bytes: &[u8]) -> Result<Put, PutFault>
         requires own { IsOwnRef r.now bytes.now }
-        ensures answer { Answers (settled_own self.old r.now (length bytes.now)) (count self.old) result }
+        ensures answer { Answers (early_answer_own self.old r.now (length bytes.now)) (count self.old) result }
         ensures leaves { Leaves D.Disk self.old self.new r.now bytes.now result }
         ensures acknowledged { OnOk result (HeldByAll (D.images self.new.disk) r.now) }
         ensures any_moment { KeepsAll D.Disk self.old.disk self.new.disk }
         ensures failed { result ≡ Err PutFault.Disk → Rose (D.faults self.old.disk) (D.faults self.new.disk) }
         ensures later { D.faults self.old.disk ≤ D.faults self.new.disk }
     {
-        match self.settled(r, bytes.len() as u64) {
+        match self.early_answer(r, bytes.len() as u64) {
             Some(answer) => answer,
             None => self.add(r, bytes),
         }
     }
 
     // What is answered before anything is done, if anything is.
-    fn settled(&self, r: &Ref, size: u64) -> Option<Result<Put, PutFault>>
-        ensures answer { result ≡ settled_own self.now r.now size }
+    fn early_answer(&self, r: &Ref, size: u64) -> Option<Result<Put, PutFault>>
+        ensures answer { result ≡ early_answer_own self.now r.now size }
         ensures held { IfSome result (λ answer. OnOk answer (HeldByAll (D.images self.now.disk) r.now)) }
     {
         if size > MAX_SIZE {
@@ -88,7 +88,7 @@ impl<D: Disk> Store<D> {
     // Stores a blob that hasn't arrived, for which there is room.
     fn add(&mut self, r: &Ref, bytes: &[u8]) -> Result<Put, PutFault>
         requires own { IsOwnRef r.now bytes.now }
-        requires open { settled_own self.old r.now (length bytes.now) ≡ None }
+        requires open { early_answer_own self.old r.now (length bytes.now) ≡ None }
         ensures answer { Answers None (count self.old) result }
         ensures leaves { Leaves D.Disk self.old self.new r.now bytes.now result }
         ensures acknowledged { OnOk result (HeldByAll (D.images self.new.disk) r.now) }
@@ -128,7 +128,7 @@ impl<D: Disk> Store<D> {
     }
 
     // Where the next record goes.
-    fn end(&self) -> End
+    fn end(&self) -> AppendAt
         requires { is_full self.now ≡ false }
         ensures ready { IsReady D.Disk self.now.disk result.pack result.size result.is_new }
         ensures pack { result.pack ≡ target self.now }
@@ -138,13 +138,13 @@ impl<D: Disk> Store<D> {
         ensures small { result.size ≤ 2 ^ 63 }
     {
         match self.current {
-            Some(current) if current.size < self.limits.pack_bytes => End {
+            Some(current) if current.size < self.limits.pack_bytes => AppendAt {
                 pack: current.pack,
                 size: current.size,
                 is_new: false,
                 next: self.next,
             },
-            _ => End {
+            _ => AppendAt {
                 pack: self.next,
                 size: 0,
                 is_new: true,

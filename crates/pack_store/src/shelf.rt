@@ -20,7 +20,7 @@ impl<D: Disk> Shelf for Store<D> {
 
     ghost faults = { λ s. D.faults s.disk };
 
-    ghost fills = { λ s bytes blobs pack. HasNoRoom D.Disk s.limits s bytes blobs pack };
+    ghost fills = { λ s blob blobs pack. HasNoRoom D.Disk s.limits s blob blobs pack };
 
     ghost follows = { λ a b. KeepsAll D.Disk a.disk b.disk };
 

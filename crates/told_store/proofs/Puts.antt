@@ -16,7 +16,7 @@ use Rattle.pack_disk.specs.declared.disk.Disk.{Ghosts}
 use Rattle.pack_store.specs.declared.rows.Row.{Row}
 use Rattle.pack_store.specs.Archive.{Archive, count, greatest, needs_pack, is_full}
 use Rattle.pack_store.specs.Rows as stood
-use Rattle.pack_store.specs.Putting.{settled_own, Answers, Leaves, Stores, Fails, row_after}
+use Rattle.pack_store.specs.Putting.{early_answer_own, Answers, Leaves, Stores, Fails, row_after}
 use Rattle.histories.specs.declared.stamped.Stamped.{Stamped}
 use Rattle.histories.specs.declared.events.StoreEvent.{StoreEvent}
 use Rattle.histories.specs.declared.events.StoreEvent.TheVariants as store
@@ -119,12 +119,12 @@ module _ {D : Type 0} (g : Ghosts D) (old new : Archive D) (r bytes : List ℕ) 
       ap (λ b. cond (nat_lt max_size (length bytes)) (Some (Err (fault.TooBig (length bytes)))) (cond (not b) (Some (Err (fault.BadDigest r (ref_like r bytes)))) (option_map (λ (n : ℕ). Ok (Already n)) (number_of r (arrivals h))))) (own_true r bytes own)
       ∙ ap (λ o. cond (nat_lt max_size (length bytes)) (Some (Err (fault.TooBig (length bytes)))) (option_map (λ (n : ℕ). Ok (Already n)) o)) (sym (same_number old.rows (arrivals h) tells.rows r))
 
-  put_adds_here : (result : Result Put PutFault) → Answers (settled_own old r (length bytes)) (count old) result → Leaves g old new r bytes result
+  put_adds_here : (result : Result Put PutFault) → Answers (early_answer_own old r (length bytes)) (count old) result → Leaves g old new r bytes result
       → (result ≡ Err fault.Disk → Rose (g.faults old.disk) (g.faults new.disk)) → Adds (put_settled r bytes (arrivals h)) result
   put_adds_here result is leaves rose = subst (λ settled. Adds settled result) (sym settled_is) (by_size (nat_lt max_size (length bytes)) refl result is leaves rose)
 
 pub put_adds : {D : Type 0} (g : Ghosts D) (old new : Archive D) (r bytes : List ℕ) (result : Result Put PutFault) → IsOwnRef r bytes
-    → Answers (settled_own old r (length bytes)) (count old) result → Leaves g old new r bytes result
+    → Answers (early_answer_own old r (length bytes)) (count old) result → Leaves g old new r bytes result
     → (result ≡ Err fault.Disk → Rose (g.faults old.disk) (g.faults new.disk)) → g.faults old.disk ≤ g.faults new.disk
     → AddsEntry g old new (put_entry r bytes result (g.faults new.disk)) (λ before entry. PutSays r bytes before result entry)
 put_adds g old new r bytes result own is leaves rose later h turn tells before = put_adds_here g old new r bytes own later h turn tells result is leaves rose

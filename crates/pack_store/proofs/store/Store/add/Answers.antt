@@ -5,7 +5,7 @@ use Rattle.salvage_scan.proofs.Fronts.{length-record_under}
 use Rattle.pack_store.specs.declared.rows.Row.{Row}
 use Rattle.pack_store.specs.declared.rows.Current.{Current}
 use Rattle.pack_store.specs.Archive.{Archive}
-use Rattle.pack_store.specs.Putting.{settled_own, target, fill, next_after, row_after, current_after, Stores, Fails}
+use Rattle.pack_store.specs.Putting.{early_answer_own, target, fill, next_after, row_after, current_after, Stores, Fails}
 use Rattle.pack_store.proofs.Moments.{ok_told}
 use Rattle.pack_store.proofs.Numbers.{are_bytes}
 use Rattle.pack_store.proofs.Soundness.{not_settled, ends_failed, ends_stored, row_acknowledged}
@@ -16,7 +16,7 @@ invariant_of-self-then-is_err-2 g c =
     let disk = g.D.Disk in
     let s : Archive _ = record { rows = c.self.inside.rows.items; limits = c.self.inside.limits; next = c.self.inside.next; current = c.self.inside.current; disk = c.self.inside.disk } in
     let bytes = c.args.bytes.now in
-    let room = not_settled s c.args.r.now (length bytes) (ap (λ (t : Archive _). settled_own t c.args.r.now (length bytes)) c.self.view_is ∙ c.requires.open) in
+    let room = not_settled s c.args.r.now (length bytes) (ap (λ (t : Archive _). early_answer_own t c.args.r.now (length bytes)) c.self.view_is ∙ c.requires.open) in
     let places_is : c.take_room.new.places ≡ insert c.self.inside.places c.args.r.now (length s.rows) = ok_told c.take_room.result (sym c.is_err.ensures.value ∙ c.if-is_err.false) c.take_room.ensures.ok in
     let pack_is : c.end-end.result.pack ≡ target s = c.end-end.ensures.pack ∙ ap (λ (t : Archive _). target t) (sym c.self.view_is) in
     let next_is : c.end-end.result.next ≡ next_after s = c.end-end.ensures.next ∙ ap (λ (t : Archive _). next_after t) (sym c.self.view_is) in
@@ -28,7 +28,7 @@ returns-then-is_err-2-clause-leaves g c =
     let disk = g.D.Disk in
     let s : Archive _ = record { rows = c.self.inside.rows.items; limits = c.self.inside.limits; next = c.self.inside.next; current = c.self.inside.current; disk = c.self.inside.disk } in
     let bytes = c.args.bytes.now in
-    let room = not_settled s c.args.r.now (length bytes) (ap (λ (t : Archive _). settled_own t c.args.r.now (length bytes)) c.self.view_is ∙ c.requires.open) in
+    let room = not_settled s c.args.r.now (length bytes) (ap (λ (t : Archive _). early_answer_own t c.args.r.now (length bytes)) c.self.view_is ∙ c.requires.open) in
     let places_is : c.take_room.new.places ≡ insert c.self.inside.places c.args.r.now (length s.rows) = ok_told c.take_room.result (sym c.is_err.ensures.value ∙ c.if-is_err.false) c.take_room.ensures.ok in
     let pack_is : c.end-end.result.pack ≡ target s = c.end-end.ensures.pack ∙ ap (λ (t : Archive _). target t) (sym c.self.view_is) in
     let next_is : c.end-end.result.next ≡ next_after s = c.end-end.ensures.next ∙ ap (λ (t : Archive _). next_after t) (sym c.self.view_is) in
@@ -49,7 +49,7 @@ invariant_of-self-2 g c =
     let s : Archive _ = record { rows = c.self.inside.rows.items; limits = c.self.inside.limits; next = c.self.inside.next; current = c.self.inside.current; disk = c.self.inside.disk } in
     let bytes = c.args.bytes.now in
     let octets = are_bytes bytes (λ i. let fits = c.type_inv.bytes i in omega arith) in
-    let room = not_settled s c.args.r.now (length bytes) (ap (λ (t : Archive _). settled_own t c.args.r.now (length bytes)) c.self.view_is ∙ c.requires.open) in
+    let room = not_settled s c.args.r.now (length bytes) (ap (λ (t : Archive _). early_answer_own t c.args.r.now (length bytes)) c.self.view_is ∙ c.requires.open) in
     let places_is : c.take_room.new.places ≡ insert c.self.inside.places c.args.r.now (length s.rows) = ok_told c.take_room.result (sym c.is_err.ensures.value ∙ c.if-is_err.false) c.take_room.ensures.ok in
     let pack_is : c.end-end.result.pack ≡ target s = c.end-end.ensures.pack ∙ ap (λ (t : Archive _). target t) (sym c.self.view_is) in
     let next_is : c.end-end.result.next ≡ next_after s = c.end-end.ensures.next ∙ ap (λ (t : Archive _). next_after t) (sym c.self.view_is) in
@@ -74,7 +74,7 @@ returns-clause-leaves g c =
     let s : Archive _ = record { rows = c.self.inside.rows.items; limits = c.self.inside.limits; next = c.self.inside.next; current = c.self.inside.current; disk = c.self.inside.disk } in
     let bytes = c.args.bytes.now in
     let octets = are_bytes bytes (λ i. let fits = c.type_inv.bytes i in omega arith) in
-    let room = not_settled s c.args.r.now (length bytes) (ap (λ (t : Archive _). settled_own t c.args.r.now (length bytes)) c.self.view_is ∙ c.requires.open) in
+    let room = not_settled s c.args.r.now (length bytes) (ap (λ (t : Archive _). early_answer_own t c.args.r.now (length bytes)) c.self.view_is ∙ c.requires.open) in
     let places_is : c.take_room.new.places ≡ insert c.self.inside.places c.args.r.now (length s.rows) = ok_told c.take_room.result (sym c.is_err.ensures.value ∙ c.if-is_err.false) c.take_room.ensures.ok in
     let pack_is : c.end-end.result.pack ≡ target s = c.end-end.ensures.pack ∙ ap (λ (t : Archive _). target t) (sym c.self.view_is) in
     let next_is : c.end-end.result.next ≡ next_after s = c.end-end.ensures.next ∙ ap (λ (t : Archive _). next_after t) (sym c.self.view_is) in

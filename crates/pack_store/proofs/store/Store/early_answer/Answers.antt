@@ -2,7 +2,7 @@ use Rattle.std.proofs.Common.{sym, ◌∙◌, subst}
 use Rattle.pack_store.specs.Archive.{Archive}
 use Rattle.pack_store.specs.Packs.{HeldByAll}
 use Rattle.pack_store.proofs.Standing.{arrived_held}
-use Rattle.pack_store.proofs.store.Store.settled.Goals as goal
+use Rattle.pack_store.proofs.store.Store.early_answer.Goals as goal
 
 pub returns-in-Some-clause-held : goal.returns-in-Some-clause-held
 returns-in-Some-clause-held g c =
