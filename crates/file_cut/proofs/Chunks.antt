@@ -5,6 +5,7 @@ use Rattle.std.proofs.lemmas.Bool.{cases_lt}
 use Rattle.std.proofs.lemmas.List.Concat.{flat_map-append}
 use Rattle.edge_base.specs.Edge.{Gave, GaveAll, GaveWithin, Rose}
 use Rattle.edge_base.proofs.Moves.{Gave-chain}
+use Rattle.edge_base.specs.Shelf.{Blob}
 use Rattle.edge_base.specs.declared.answers.PutFault.{PutFault}
 use Rattle.edge_base.specs.declared.answers.PutFault.TheVariants as put_fault
 use Rattle.edge_base.specs.declared.shelf.Shelf.{Ghosts as ShelfGhosts}
@@ -265,8 +266,8 @@ run_is = refl
 
 module _ {S B : Type 0} (g : SourceGhosts S) (h : ShelfGhosts B)
     (nothing : (s : B) → h.puts s [] s)
-    (then : (a b c : B) (first second : List (List ℕ)) → h.puts a first b → h.puts b second c → h.puts a (first ++ second) c)
-    (follows : (a b : B) (blobs : List (List ℕ)) → h.puts a blobs b → h.follows a b)
+    (then : (a b c : B) (first second : List Blob) → h.puts a first b → h.puts b second c → h.puts a (first ++ second) c)
+    (follows : (a b : B) (blobs : List Blob) → h.puts a blobs b → h.follows a b)
     (follows_then : (a b c : B) → h.follows a b → h.follows b c → h.follows a c) where
   longer : (start now : B) (blobs more : List (List ℕ)) → PutsFront h start blobs now → PutsFront h start (blobs ++ more) now
   longer start now blobs more (put, rest, is, puts) = (put, rest ++ more, ap (λ (l : List (List ℕ)). l ++ more) is ∙ append_assoc put rest more, puts)

@@ -102,10 +102,10 @@ module _ {A : Type 0} (size : ℕ) (some : 0 < size) where
 
 -- ---- the blobs of chunks
 
-below_many : (size : ℕ) (chunks : List (List ℕ)) → size < length chunks → below_file size chunks ≡ flat_map run_blobs (cut size chunks)
+pub below_many : (size : ℕ) (chunks : List (List ℕ)) → size < length chunks → below_file size chunks ≡ flat_map run_blobs (cut size chunks)
 below_many size chunks h = let e : nat_le (length chunks) size ≡ false = grind (arith, nat_tests, h) in ap (λ (b : Bool). cond b chunks (flat_map run_blobs (cut size chunks))) e
 
-below_few : (size : ℕ) (chunks : List (List ℕ)) → length chunks ≤ size → below_file size chunks ≡ chunks
+pub below_few : (size : ℕ) (chunks : List (List ℕ)) → length chunks ≤ size → below_file size chunks ≡ chunks
 below_few size chunks h = let e : nat_le (length chunks) size ≡ true = grind (arith, nat_tests, h) in ap (λ (b : Bool). cond b chunks (flat_map run_blobs (cut size chunks))) e
 
 pub parts_many : (size : ℕ) (chunks : List (List ℕ)) → size < length chunks → parts_of_file size chunks ≡ map run_part (cut size chunks)

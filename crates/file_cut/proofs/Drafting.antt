@@ -4,7 +4,8 @@ use Rattle.std.proofs.lemmas.Bool.Decides.{nat_tests}
 use Rattle.std.proofs.lemmas.List.{length-map, map-append}
 use Rattle.std.proofs.lemmas.List.Concat.{flat_map-append}
 use Rattle.edge_base.specs.Edge.{Rose}
-use Rattle.edge_base.specs.Shelf.{Blobs, Keeps, KeepLeaves, max_blob}
+use Rattle.blobref.specs.Blobref.{ref_of}
+use Rattle.edge_base.specs.Shelf.{Blob, Blobs, Keeps, KeepLeaves, named, max_blob}
 use Rattle.edge_base.specs.ShelfLaws.{Keeps-then}
 use Rattle.edge_base.specs.declared.answers.PutFault.{PutFault}
 use Rattle.edge_base.specs.declared.answers.PutFault.TheVariants as fault
@@ -23,6 +24,9 @@ keeps_none (Some held) b is = is
 Rose-after : (a b c : ℕ) → a ≤ b → Rose b c → Rose a c
 Rose-after a b c le rose = omega (arith, le, rose)
 
+named-append : (first second : List (List ℕ)) → named (first ++ second) ≡ named first ++ named second
+named-append first second = map-append {A = List ℕ} {B = Blob} (λ bytes. (ref_of bytes, bytes)) first second
+
 first_more : (P : List ℕ → Type 0) (blobs more : List (List ℕ)) → FirstIs P blobs → FirstIs P (blobs ++ more)
 first_more P [] more h = absurd h
 first_more P (blob ∷ blobs) more h = h
@@ -31,17 +35,31 @@ first_more P (blob ∷ blobs) more h = h
 
 module _ {B : Type 0} (g : Ghosts B)
     (nothing : (s : B) → g.puts s [] s)
-    (then : (a b c : B) (first second : List (List ℕ)) → g.puts a first b → g.puts b second c → g.puts a (first ++ second) c)
-    (follows : (a b : B) (blobs : List (List ℕ)) → g.puts a blobs b → g.follows a b)
+    (then : (a b c : B) (first second : List Blob) → g.puts a first b → g.puts b second c → g.puts a (first ++ second) c)
+    (follows : (a b : B) (blobs : List Blob) → g.puts a blobs b → g.follows a b)
     (follows_then : (a b c : B) → g.follows a b → g.follows b c → g.follows a c) where
   pub put_none : (s : B) → Puts g s [] s
   put_none s = record { told = keeps_none (g.content s) (g.content s) refl; later = omega arith; run = nothing s }
 
+  -- runs that follow one another, under the names that the program gives
+  runs_on : (a b c : B) (first second : List (List ℕ)) → g.puts a (named first) b → g.puts b (named second) c → g.puts a (named (first ++ second)) c
+  runs_on a b c first second p q = subst (λ (blobs : List Blob). g.puts a blobs c) (sym (named-append first second)) (then a b c (named first) (named second) p q)
+
   pub put_more : (a b c : B) (first second : List (List ℕ)) → Puts g a first b → Puts g b second c → Puts g a (first ++ second) c
   put_more a b c first second p q = record {
-    told = Keeps-then (g.content a) (g.content b) (g.content c) first second p.told q.told;
+    told = subst (Keeps (g.content a) (g.content c)) (sym (named-append first second))
+        (Keeps-then (g.content a) (g.content b) (g.content c) (named first) (named second) p.told q.told);
     later = omega (arith, p.later, q.later);
-    run = then a b c first second p.run q.run;
+    run = runs_on a b c first second p.run q.run;
+  }
+
+  -- one blob was put
+  pub put_one : (a b : B) (r bytes : List ℕ) → r ≡ ref_of bytes → Keeps (g.content a) (g.content b) ((r, bytes) ∷ []) → g.faults a ≤ g.faults b
+      → g.puts a ((r, bytes) ∷ []) b → Puts g a (bytes ∷ []) b
+  put_one a b r bytes is told later run = record {
+    told = subst (λ (q : List ℕ). Keeps (g.content a) (g.content b) ((q, bytes) ∷ [])) is told;
+    later = later;
+    run = subst (λ (q : List ℕ). g.puts a ((q, bytes) ∷ []) b) is run;
   }
 
   -- no memory, before anything is done
@@ -58,32 +76,34 @@ module _ {B : Type 0} (g : Ghosts B)
 
   -- one blob was refused
   why_one : (a b : B) (bytes : List ℕ) (e : PutFault)
-      → length bytes ≤ max_blob → KeepLeaves (λ blobs. g.puts a blobs b) (g.fills b bytes) (g.faults a) (g.faults b) bytes (Err e) → WhyCut g a b [] (bytes ∷ []) e
+      → length bytes ≤ max_blob → KeepLeaves (λ blobs. g.puts a blobs b) (g.fills b (ref_of bytes, bytes)) (g.faults a) (g.faults b) (ref_of bytes, bytes) (Err e)
+      → WhyCut g a b [] (bytes ∷ []) e
   why_one a b bytes (fault.TooBig size) fits h = absurd (omega (arith, fits, h.1, h.2))
   why_one a b bytes (fault.BadDigest said is) fits h = h
   why_one a b bytes (fault.Full blobs pack) fits h = h
   why_one a b bytes fault.Disk fits h = h
   why_one a b bytes fault.NoMemory fits h = h
 
-  pub cut_one : (a b : B) (bytes : List ℕ) (e : PutFault) → g.content b ≡ g.content a → g.faults a ≤ g.faults b → g.follows a b
-      → length bytes ≤ max_blob → KeepLeaves (λ blobs. g.puts a blobs b) (g.fills b bytes) (g.faults a) (g.faults b) bytes (Err e) → IsCut g a (bytes ∷ []) b e
-  cut_one a b bytes e told later run fits h = record {
+  pub cut_one : (a b : B) (r bytes : List ℕ) (e : PutFault) → r ≡ ref_of bytes → g.content b ≡ g.content a → g.faults a ≤ g.faults b → g.follows a b
+      → length bytes ≤ max_blob → KeepLeaves (λ blobs. g.puts a blobs b) (g.fills b (r, bytes)) (g.faults a) (g.faults b) (r, bytes) (Err e) → IsCut g a (bytes ∷ []) b e
+  cut_one a b r bytes e is told later run fits h = record {
     put = [];
     rest = bytes ∷ [];
     front = refl;
     told = keeps_none (g.content a) (g.content b) told;
     later = later;
     run = run;
-    why = why_one a b bytes e fits h;
+    why = why_one a b bytes e fits
+        (subst (λ (q : List ℕ). KeepLeaves (λ blobs. g.puts a blobs b) (g.fills b (q, bytes)) (g.faults a) (g.faults b) (q, bytes) (Err e)) is h);
   }
 
   -- some were put before
   why_after : (a b c : B) (first put rest more : List (List ℕ)) (e : PutFault) → Puts g a first b → WhyCut g b c put rest e → WhyCut g a c (first ++ put) (rest ++ more) e
   why_after a b c first put rest more (fault.TooBig size) p h = h
   why_after a b c first put rest more (fault.BadDigest said is) p h = h
-  why_after a b c first put rest more (fault.Full blobs pack) p h = (then a b c first put p.run h.0, first_more _ rest more h.1)
+  why_after a b c first put rest more (fault.Full blobs pack) p h = (runs_on a b c first put p.run h.0, first_more _ rest more h.1)
   why_after a b c first put rest more fault.Disk p h = Rose-after (g.faults a) (g.faults b) (g.faults c) p.later h
-  why_after a b c first put rest more fault.NoMemory p h = then a b c first put p.run h
+  why_after a b c first put rest more fault.NoMemory p h = runs_on a b c first put p.run h
 
   pub cut_after : (a b c : B) (first blobs more whole : List (List ℕ)) (e : PutFault) → Puts g a first b → IsCut g b blobs c e → whole ≡ first ++ (blobs ++ more) → IsCut g a whole c e
   cut_after a b c first blobs more whole e p q is = record {
@@ -91,9 +111,10 @@ module _ {B : Type 0} (g : Ghosts B)
     rest = q.rest ++ more;
     front = is ∙ ap (λ (l : List (List ℕ)). first ++ (l ++ more)) q.front
         ∙ ap (λ (l : List (List ℕ)). first ++ l) (append_assoc q.put q.rest more) ∙ sym (append_assoc first q.put (q.rest ++ more));
-    told = Keeps-then (g.content a) (g.content b) (g.content c) first q.put p.told q.told;
+    told = subst (Keeps (g.content a) (g.content c)) (sym (named-append first q.put))
+        (Keeps-then (g.content a) (g.content b) (g.content c) (named first) (named q.put) p.told q.told);
     later = omega (arith, p.later, q.later);
-    run = follows_then a b c (follows a b first p.run) q.run;
+    run = follows_then a b c (follows a b (named first) p.run) q.run;
     why = why_after a b c first q.put q.rest more e p q.why;
   }
 

@@ -4,3 +4,4 @@ pub mod Source
 pub mod Filling
 pub mod Drafting
 pub mod Chunks
+pub mod Kept

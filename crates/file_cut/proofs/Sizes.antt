@@ -28,7 +28,7 @@ blob_sizes (chunk ∷ chunks) =
     ∙ ap (λ (n : ℕ). length chunk + n) (blob_sizes chunks)
     ∙ sym (length-append chunk (flat chunks))
 
-run_sizes : (runs : List (List (List ℕ))) → total_size (map run_part runs) ≡ length (flat (flat runs))
+pub run_sizes : (runs : List (List (List ℕ))) → total_size (map run_part runs) ≡ length (flat (flat runs))
 run_sizes [] = refl
 run_sizes (run ∷ runs) =
     sum_by-cons (λ (p : Part). p.size) (run_part run) (map run_part runs)
@@ -46,7 +46,7 @@ module _ {A : Type 0} (part : A → Part) (begins : (x : A) → (part x).offset 
       All-cons IsShortPart (part x) (map part xs) (omega (arith, sum, le), omega (arith, begins x))
       (each_short xs (omega (arith, sum, le)))
 
-  short_list : (xs : List A) → total_size (map part xs) ≤ greatest_length → length xs ≤ 4096 → IsShortList (map part xs)
+  pub short_list : (xs : List A) → total_size (map part xs) ≤ greatest_length → length xs ≤ 4096 → IsShortList (map part xs)
   short_list xs le few = record {
     limits = record { each = each_short xs le; together = le };
     few = omega (arith, few, length-map xs part);
@@ -55,7 +55,7 @@ module _ {A : Type 0} (part : A → Part) (begins : (x : A) → (part x).offset 
 -- ---- how many runs
 
 module _ {A : Type 0} (size : ℕ) (some : 0 < size) where
-  runs_within : (n k : ℕ) (xs : List A) → length xs ≤ k * size → length (cut_within n size xs) ≤ k
+  pub runs_within : (n k : ℕ) (xs : List A) → length xs ≤ k * size → length (cut_within n size xs) ≤ k
   runs_within zero k xs le = omega arith
   runs_within (suc n) k [] le = omega arith
   runs_within (suc n) zero (x ∷ xs) le = absurd (omega (arith, le))

@@ -2,7 +2,7 @@
 use Rattle.std.specs.Prelude.{◌≡◌, ◌≤◌, ◌<◌, ◌⊎◌, ℕ, List, [], ◌∷◌, ◌++◌, length, map, flat_map, ◌==◌, if◌then◌else◌}
 use Rattle.blobref.specs.Blobref.{ref_of}
 use Rattle.edge_base.specs.Edge.{Rose}
-use Rattle.edge_base.specs.Shelf.{Keeps}
+use Rattle.edge_base.specs.Shelf.{Keeps, named}
 use Rattle.edge_base.specs.declared.answers.PutFault.{PutFault}
 use Rattle.edge_base.specs.declared.answers.PutFault.TheVariants as fault
 use Rattle.edge_base.specs.declared.shelf.Shelf.{Ghosts}
@@ -15,11 +15,11 @@ use Rattle.file_cut.specs.Cutting.{blob_part, run_part, AreWhole, kept_of}
 
 -- ---- what was put
 
--- these blobs were put in this order, and nothing else was done
+-- these blobs were put in this order, each under the ref that the program gives it, and nothing else was done
 pub record Puts {B : Type 0} (g : Ghosts B) (start : B) (blobs : List (List ℕ)) (now : B) : Type 0 where
-  pub told : Keeps (g.content start) (g.content now) blobs
+  pub told : Keeps (g.content start) (g.content now) (named blobs)
   pub later : g.faults start ≤ g.faults now
-  pub run : g.puts start blobs now
+  pub run : g.puts start (named blobs) now
 
 -- there is a first one of these, and it is so
 abbrev pub FirstIs : (List ℕ → Type 0) → List (List ℕ) → Type 0
@@ -30,16 +30,16 @@ FirstIs P (blob ∷ blobs) = P blob
 abbrev pub WhyCut : {B : Type 0} → Ghosts B → (start now : B) → (put rest : List (List ℕ)) → PutFault → Type 0
 WhyCut g start now put rest (fault.TooBig size) = ⊥
 WhyCut g start now put rest (fault.BadDigest said is) = ⊥
-WhyCut g start now put rest (fault.Full blobs pack) = g.puts start put now × FirstIs (λ blob. g.fills now blob blobs pack) rest
+WhyCut g start now put rest (fault.Full blobs pack) = g.puts start (named put) now × FirstIs (λ blob. g.fills now (ref_of blob, blob) blobs pack) rest
 WhyCut g start now put rest fault.Disk = Rose (g.faults start) (g.faults now)
-WhyCut g start now put rest fault.NoMemory = g.puts start put now
+WhyCut g start now put rest fault.NoMemory = g.puts start (named put) now
 
 -- a front of these blobs was put, in their order, and no more; at `Disk` the shelf holds that front
 pub record IsCut {B : Type 0} (g : Ghosts B) (start : B) (blobs : List (List ℕ)) (now : B) (fault : PutFault) : Type 0 where
   pub put : List (List ℕ)
   pub rest : List (List ℕ)
   pub front : blobs ≡ put ++ rest
-  pub told : Keeps (g.content start) (g.content now) put
+  pub told : Keeps (g.content start) (g.content now) (named put)
   pub later : g.faults start ≤ g.faults now
   pub run : g.follows start now
   pub why : WhyCut g start now put rest fault

@@ -1,13 +1,13 @@
 -- A written file's bytes are those of its source.
-use Rattle.std.specs.Prelude.{◌≡◌, ◌<◌, ℕ, suc, List, [], ◌∷◌, map, flat_map, Option, None, Some}
+use Rattle.std.specs.Prelude.{◌≡◌, ◌≤◌, ℕ, List, [], ◌∷◌, length, Option, None, Some}
+use Rattle.std.specs.Option.{ForSome, option_map}
+use Rattle.std.specs.Str.{IsUtf8}
 use Rattle.std.specs.FinMap.{get}
 use Rattle.blobref.specs.Blobref.{ref_of}
-use Rattle.edge_base.specs.Shelf.{Blobs, with_blobs}
-use Rattle.schema_json.specs.Facts.{fact_of}
-use Rattle.schema_fact.specs.declared.parts.Part.{Part}
-use Rattle.claim_model.specs.Trees.{tree_parts}
-use Rattle.file_cut.specs.Cutting.{cut, blob_part, run_blob, parts_of_file}
-use Rattle.file_tree.specs.Bytes.{bytes_within}
+use Rattle.edge_base.specs.Shelf.{Blobs, named, with_blobs}
+use Rattle.file_cut.specs.Cutting.{own_blob, file_blobs}
+use Rattle.file_cut.specs.Writing.{longest_name, longest_file}
+use Rattle.file_tree.specs.Bytes.{bytes_of}
 
 -- each blob stands under its own ref
 abbrev pub AreHeld : Blobs → List (List ℕ) → Type 0
@@ -31,18 +31,15 @@ AreApart held (blob ∷ blobs) = IsFree (get held (ref_of blob)) blob × SharesN
 
 -- then each is held once they are kept
 abbrev pub KeptAreHeld : Type 0
-KeptAreHeld = (held : Blobs) (blobs : List (List ℕ)) → AreApart held blobs → AreHeld (with_blobs held blobs) blobs
+KeptAreHeld = (held : Blobs) (blobs : List (List ℕ)) → AreApart held blobs → AreHeld (with_blobs held (named blobs)) blobs
 
--- a blob of parts is held, and says its parts
-pub record IsListed (held : Blobs) (blob : List ℕ) (parts : List Part) : Type 0 where
-  pub there : get held (ref_of blob) ≡ Some blob
-  pub says : tree_parts (fact_of blob).kind ≡ Some parts
-
-abbrev pub AreListed : Blobs → List (List (List ℕ)) → Type 0
-AreListed held [] = Unit {0}
-AreListed held (run ∷ runs) = IsListed held (run_blob run) (map blob_part run) × AreListed held runs
-
--- the bytes of a file whose chunks and runs are held are its chunks in a row
+-- the file that was kept has all bytes of its source, whatever its name
 abbrev pub WrittenIsSource : Type 0
-WrittenIsSource = (held : Blobs) (size : ℕ) → 0 < size → (chunks : List (List ℕ)) (own : List ℕ) → AreHeld held chunks → AreListed held (cut size chunks) → IsListed held own (parts_of_file size chunks)
-    → (n : ℕ) → bytes_within held (suc (suc n)) (ref_of own) ≡ flat_map (λ (chunk : List ℕ). chunk) chunks
+WrittenIsSource = (held : Blobs) (name bytes : List ℕ) → IsUtf8 name → length name ≤ longest_name → length bytes ≤ longest_file → AreApart held (file_blobs name bytes)
+    → bytes_of (with_blobs held (named (file_blobs name bytes))) (ref_of (own_blob name bytes)) ≡ bytes
+
+-- The same of a call: where the source tells what it had left, and the shelf what it held and holds now, the bytes of the file at r are what
+-- was left.
+abbrev pub ReadsBack : Option (List ℕ) → (told told_now : Option Blobs) → List ℕ → List ℕ → Type 0
+ReadsBack left told told_now name r = ForSome left (λ bytes. ForSome told (λ held. AreApart held (file_blobs name bytes)
+    → option_map (λ now. bytes_of now r) told_now ≡ Some bytes))

@@ -1,6 +1,6 @@
 //! Chunks are put, and runs of them closed.
 ghost use Rattle.std.specs.Prelude.{◌≡◌, ◌≤◌, ◌<◌, ℕ, List, ◌∷◌, [], ◌++◌, length, IfOk, IfErr, OnOk};
-ghost use Rattle.blobref.specs.Blobref.{IsOwnRef, ref_of};
+ghost use Rattle.blobref.specs.Blobref.{ref_of};
 ghost use Rattle.edge_base.specs.Shelf.{max_blob};
 ghost use Rattle.schema_fact.specs.Limits.{total_size, MeetsLimits};
 ghost use Rattle.schema_write.specs.Blobs.{bytes_blob, file_blob};
@@ -59,9 +59,9 @@ fn total_size(parts: &[Part]) -> u64
     total
 }
 
-// Puts a blob under its own ref.
+// Puts a blob under the ref that the program gives it.
 fn put_blob<B: Shelf>(shelf: &mut B, r: &Ref, bytes: &[u8]) -> Result<(), PutFault>
-    requires own { IsOwnRef r.now bytes.now }
+    requires named { r.now ≡ ref_of bytes.now }
     requires short { length bytes.now ≤ max_blob }
     ensures ok { OnOk result (Puts B.Shelf shelf.old (bytes.now ∷ []) shelf.new) }
     ensures err { IfErr result (λ fault. IsCut B.Shelf shelf.old (bytes.now ∷ []) shelf.new fault) }

@@ -5,6 +5,7 @@ ghost use Rattle.edge_base.specs.Edge.{GaveAll};
 ghost use Rattle.file_cut.specs.declared.fault.CutFault.TheVariants as fault;
 ghost use Rattle.file_cut.specs.Cutting.{cut, below_file, blobs_from, own_from};
 ghost use Rattle.file_cut.specs.Drafts.{IsPut, Puts};
+ghost use Rattle.file_cut.specs.Source.{ReadsBack};
 ghost use Rattle.file_cut.specs.Writing.{AreSizes, Unwritten, Written, NotWritten, unput, longest_name};
 
 use crate::draft::{Draft, put_end, put_next};
@@ -35,6 +36,9 @@ pub const LONGEST_NAME: usize = 4_096;
 /// 1,048,576 bytes. After each of these and `NoMemory` a front of the file's blobs was put, and nothing else; after
 /// `Put(Disk)` the shelf holds such a front.
 ///
+/// What was written reads back: where no two of the blobs share a ref, nor one of them with another blob of the shelf,
+/// the bytes of the file at the answered ref are all that the source had left.
+///
 /// It holds one chunk, and at most 8,192 parts.
 pub fn write_file<S: Source, B: Shelf>(
     alloc: Global,
@@ -43,6 +47,7 @@ pub fn write_file<S: Source, B: Shelf>(
     shelf: &mut B,
 ) -> Result<Ref, CutFault>
     ensures ok { IfOk result (Written S.Source B.Shelf name.now source.old source.new shelf.old shelf.new) }
+    ensures reads { IfOk result (ReadsBack (S.left source.old) (B.content shelf.old) (B.content shelf.new) name.now) }
     ensures err { IfErr result (NotWritten S.Source B.Shelf name.now source.old source.new shelf.old shelf.new) }
     ensures named { longest_name < length name.now → result ≡ Err (fault.NameTooLong (length name.now)) }
     ensures later { S.faults source.old ≤ S.faults source.new }

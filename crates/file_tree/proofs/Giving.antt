@@ -3,7 +3,7 @@ use Rattle.std.proofs.Common.{◌≡◌, ◌≤◌, ◌+◌, ◌-◌, ℕ, zero,
 use Rattle.std.specs.FinMap.{get}
 use Rattle.std.specs.Option.{ForSome, SomeIff}
 use Rattle.edge_base.specs.Edge.{Took, TookFront, Rose}
-use Rattle.edge_base.specs.Shelf.{Blobs}
+use Rattle.edge_base.specs.Shelf.{Blob as PutBlob, Blobs}
 use Rattle.edge_base.specs.declared.shelf.Shelf.{Ghosts as ShelfGhosts}
 use Rattle.edge_base.proofs.Moves.{Took-chain}
 use Rattle.edge_base.specs.declared.answers.GetFault.{GetFault}
@@ -111,7 +111,7 @@ pub read_cause_after : {T : Type 0} (told held : Option Blobs) (a b c k l m : �
 read_cause_after told held a b c k l m (Ok x) is le sink h = tt
 read_cause_after told held a b c k l m (Err fault) is le sink h = cause_after told held a b c k l m fault is le sink h
 
-pub rests_then : {B : Type 0} (g : ShelfGhosts B) → ((a b c : B) (first second : List (List ℕ)) → g.puts a first b → g.puts b second c → g.puts a (first ++ second) c)
+pub rests_then : {B : Type 0} (g : ShelfGhosts B) → ((a b c : B) (first second : List PutBlob) → g.puts a first b → g.puts b second c → g.puts a (first ++ second) c)
     → (a b c : B) → Rests g a b → Rests g b c → Rests g a c
 rests_then g then a b c first second = record {
   told = second.told ∙ first.told;

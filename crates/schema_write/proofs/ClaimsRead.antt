@@ -12,7 +12,7 @@ use Rattle.hex.proofs.HexLemmas.{length-encode_with}
 use Rattle.serde_json.specs.Data.{Data, string, object}
 use Rattle.serde_json.specs.Find.{as_str}
 use Rattle.blobref.specs.Blobref.{is_blobref}
-use Rattle.blobref.proofs.Spelled.{blobref_parts}
+use Rattle.blobref.proofs.Spelled.{blobref_short}
 use Rattle.schema_date.specs.Dates.{date_in}
 use Rattle.schema_date.specs.DateTexts.{IsDateText}
 use Rattle.schema_date.proofs.DateUtf8.{date_utf8}
@@ -75,7 +75,7 @@ permanode_short : (signer random sig : List ℕ) → is_blobref signer ≡ true 
     → length (signed (payload_text (permanode_pairs signer random)) sig) ≤ longest_schema
 permanode_short signer random sig ref bytes h =
     let marks = encode_lower random in
-    let long : length signer ≡ 63 = (blobref_parts signer ref).length in
+    let long = blobref_short signer ref in
     let twice : length marks ≡ 2 * length random = length-encode_with lower_digits random in
     let few : length random ≡ 16 = bytes.0 in
     let signs = quoted_short signer in

@@ -1,11 +1,11 @@
 -- How long written files are: with 4,096 parts and a name of 4,096 bytes they are short enough.
-use Rattle.std.proofs.Common.{◌≡◌, ◌≤◌, ◌+◌, ◌*◌, ◌==◌, ℕ, Bool, true, false, cond, List, [], ◌∷◌, ◌++◌, codes, length, decimal, map, flat_map, drop, refl, sym, ap, ◌∙◌, arith, length-append}
+use Rattle.std.proofs.Common.{◌≡◌, ◌≤◌, ◌+◌, ◌*◌, ◌==◌, ℕ, Bool, true, false, cond, List, [], ◌∷◌, ◌++◌, codes, length, decimal, map, flat_map, inl, inr, refl, sym, ap, ◌∙◌, arith, length-append}
 use Rattle.std.proofs.lemmas.Fmt.{length-decimal-le}
 use Rattle.std.proofs.lemmas.List.Concat.{flat_map-append}
 use Rattle.std.specs.Fmt.{digits}
 use Rattle.json.specs.Print.{quoted, escape, escape_byte}
-use Rattle.blobref.specs.Blobref.{is_blobref, prefix}
-use Rattle.blobref.proofs.Spelled.{blobref_parts}
+use Rattle.blobref.specs.Blobref.{is_blobref}
+use Rattle.blobref.proofs.Spelled.{blobref_parts, blobref_short}
 use Rattle.json_laws.specs.Written.{Pair, pair_text, object_text, list_text}
 use Rattle.json_laws.proofs.Signature.{digits_plain}
 use Rattle.schema_fact.specs.Limits.{IsShortPart, greatest_length, MeetsLimits}
@@ -52,13 +52,13 @@ ref_plain : (r : List ℕ) → is_blobref r ≡ true → escape r ≡ r
 unfolding escape_byte
 ref_plain r h =
     let parts = blobref_parts r h in
-    ap escape parts.whole ∙ flat_map-append escape_byte prefix (drop 7 r) ∙ ap (λ (l : List ℕ). prefix ++ l) (digits_plain (drop 7 r) parts.digits) ∙ sym parts.whole
+    let name : escape parts.name ≡ parts.name = elim parts.form [ inl f ↦ ap escape f.0 ∙ sym f.0 | inr f ↦ ap escape f.0 ∙ sym f.0 ] in
+    ap escape parts.whole ∙ flat_map-append escape_byte parts.name parts.digits ∙ (λ i. name i ++ digits_plain parts.digits parts.lower i) ∙ sym parts.whole
 
-ref_long : (r : List ℕ) → is_blobref r ≡ true → length (quoted r) ≡ 65
+ref_long : (r : List ℕ) → is_blobref r ≡ true → length (quoted r) ≤ 65
 ref_long r h =
-    let long : length r ≡ 63 = (blobref_parts r h).length in
     let plain : length (escape r) ≡ length r = ap length (ref_plain r h) in
-    omega (arith, long, plain, length-append (escape r) (34 ∷ []))
+    omega (arith, blobref_short r h, plain, length-append (escape r) (34 ∷ []))
 
 offset_long : (offset : ℕ) → offset ≤ greatest_length → pairs_long (offset_pairs offset) ≤ 25
 offset_long offset h = by (offset == 0)

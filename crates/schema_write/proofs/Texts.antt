@@ -1,12 +1,12 @@
 -- Texts within written blobs: what is UTF-8 in them, and how long they are.
-use Rattle.std.proofs.Common.{◌≡◌, ℕ, ◌+◌, ◌*◌, ◌%◌, ◌/◌, ◌≤◌, ◌<◌, ◌^◌, Bool, true, false, cond, nat_lt, List, [], ◌∷◌, ◌++◌, codes, length, drop, decimal, refl, sym, subst, arith, append_assoc, length-append}
+use Rattle.std.proofs.Common.{◌≡◌, ℕ, ◌+◌, ◌*◌, ◌%◌, ◌/◌, ◌≤◌, ◌<◌, ◌^◌, Bool, true, false, cond, nat_lt, List, [], ◌∷◌, ◌++◌, codes, length, decimal, inl, inr, refl, sym, subst, arith, append_assoc, length-append}
 use Rattle.std.proofs.lemmas.Fmt.{IsAscii-decimal}
 use Rattle.std.proofs.lemmas.Str.{IsUtf8-append, IsUtf8-from_ascii}
 use Rattle.std.specs.Char.{digit_char}
 use Rattle.std.specs.Str.{IsUtf8}
 use Rattle.json.specs.Print.{quoted, escape, escape_byte, escape_letter}
 use Rattle.json.proofs.Printed.Utf8.{IsUtf8-are_ascii}
-use Rattle.blobref.specs.Blobref.{is_blobref, prefix}
+use Rattle.blobref.specs.Blobref.{is_blobref, sha1_name, sha224_name}
 use Rattle.blobref.proofs.Spelled.{blobref_parts, list_all-encode_lower}
 use Rattle.hex.specs.Hex.{IsBytes, encode_lower}
 use Rattle.json_laws.specs.Signing.{signed_text}
@@ -15,7 +15,12 @@ use Rattle.json_laws.proofs.Signature.{digits_ascii}
 pub blobref_utf8 : (r : List ℕ) → is_blobref r ≡ true → IsUtf8 r
 blobref_utf8 r h =
     let parts = blobref_parts r h in
-    subst IsUtf8 (sym parts.whole) (IsUtf8-append prefix (drop 7 r) (IsUtf8-are_ascii prefix refl) (IsUtf8-are_ascii (drop 7 r) (digits_ascii (drop 7 r) parts.digits)))
+    let name : IsUtf8 parts.name =
+    elim parts.form [
+      | inl f ↦ subst IsUtf8 (sym f.0) (IsUtf8-are_ascii sha1_name refl)
+      | inr f ↦ subst IsUtf8 (sym f.0) (IsUtf8-are_ascii sha224_name refl)
+    ] in
+    subst IsUtf8 (sym parts.whole) (IsUtf8-append parts.name parts.digits name (IsUtf8-are_ascii parts.digits (digits_ascii parts.digits parts.lower)))
 
 pub hex_utf8 : (bytes : List ℕ) → IsBytes bytes → IsUtf8 (encode_lower bytes)
 hex_utf8 bytes h = IsUtf8-are_ascii (encode_lower bytes) (digits_ascii (encode_lower bytes) (list_all-encode_lower bytes h))

@@ -6,7 +6,7 @@ ghost use Rattle.json_laws.specs.Payload.{pair_of};
 ghost use Rattle.schema_write.specs.Laws.{longest_schema};
 ghost use Rattle.schema_write.specs.Drafts.{IsFault, with_pairs};
 
-use blobref::{NoMemory, Octets};
+use blobref::{NoMemory, Octets, RefText};
 use json_laws::{Leaf, write_payload};
 use std::alloc::Global;
 use thiserror::Error;
@@ -59,11 +59,11 @@ pub(crate) fn as_text(bytes: &[u8]) -> &str
 }
 
 // The text of a ref.
-pub(crate) fn ref_text(r: &[u8; 63]) -> &str
+pub(crate) fn ref_text(r: &RefText) -> &str
     requires { is_blobref r.now ≡ true }
     ensures { result.now ≡ r.now }
 {
-    as_text(r)
+    as_text(r.as_slice())
 }
 
 // Writes pairs behind those of a payload.

@@ -127,7 +127,7 @@ fn source_text(
         ≡ object_text (text_pair key.now r.now ∷ number_pair (codes "size") size ∷ offset_pairs offset)) }
     ensures refs { IfOk result (λ text. is_blobref r.now ≡ true) }
 {
-    let r = r.text();
+    let r = r.spell();
     let source = (key, Leaf::Text(ref_text(&r)));
     let size = ("size", Leaf::Number(size));
     if offset == 0 {

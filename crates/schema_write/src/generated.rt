@@ -212,7 +212,7 @@ fn claim(alloc: Global, signer: &Ref, i: u64, what: &What) -> Result<Octets, NoM
     requires few { i < 100000 }
     ensures { IfOk result (λ blob. blob ≡ claim i what.now) }
 {
-    let signer = signer.text();
+    let signer = signer.spell();
     let date = date_at(i).text();
     let payload = what_payload(alloc, ref_text(&signer), as_text(date.as_slice()), what)?;
     sealed(alloc, &payload)

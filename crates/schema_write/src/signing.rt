@@ -36,7 +36,7 @@ pub fn permanode_payload(alloc: Global, signer: &Ref, random: &[u8; 16]) -> Resu
     ensures exact { IfOk result (λ payload. payload ≡ permanode_payload signer.now random.now) }
     ensures says { IfOk result (λ payload. SaysSigned signer.now payload Permanode) }
 {
-    let signer = signer.text();
+    let signer = signer.spell();
     let random = hex::encode(alloc, *random)?;
     let payload = write_payload(
         alloc,
@@ -65,7 +65,7 @@ pub fn claim_payload(
     ensures says { IfOk result (λ payload. HasAttribute what.now
         → SaysSigned signer.now payload (λ signed. Claim signed date.now what.now)) }
 {
-    let signer = signer.text();
+    let signer = signer.spell();
     let date = date.text();
     let payload = what_payload(alloc, ref_text(&signer), as_text(date.as_slice()), what)?;
     fitting(payload, SIGNATURE)
@@ -102,7 +102,7 @@ pub(crate) fn what_payload(
             valued(
                 alloc,
                 payload,
-                ref_text(&on.text()),
+                ref_text(&on.spell()),
                 attr.as_str(),
                 value.as_str(),
             )
@@ -112,7 +112,7 @@ pub(crate) fn what_payload(
             valued(
                 alloc,
                 payload,
-                ref_text(&on.text()),
+                ref_text(&on.spell()),
                 attr.as_str(),
                 value.as_str(),
             )
@@ -122,14 +122,14 @@ pub(crate) fn what_payload(
             removal(
                 alloc,
                 payload,
-                ref_text(&on.text()),
+                ref_text(&on.spell()),
                 attr.as_str(),
                 value.as_str(),
             )
         }
         What::Delete { target } => {
             let payload = claim_start(alloc, signer, date, "delete")?;
-            deletion(alloc, payload, ref_text(&target.text()))
+            deletion(alloc, payload, ref_text(&target.spell()))
         }
     }
 }

@@ -1,4 +1,5 @@
-use Rattle.file_cut.proofs.Source.{kept_are_held, written_is_source}
+use Rattle.file_cut.proofs.Kept.{written_is_source}
+use Rattle.file_cut.proofs.Source.{kept_are_held}
 use Rattle.file_cut.proofs.laws.written_is_source.Goals as goal
 
 pub returns-clause-held : goal.returns-clause-held

@@ -6,7 +6,7 @@ use Rattle.schema_write.proofs.signing.what_payload.Goals as goal
 
 pub returns-in_ok-payload-in-Set-clause-text : goal.returns-in_ok-payload-in-Set-clause-text
 returns-in_ok-payload-in-Set-clause-text c =
-    let on = sym (c.ref_text.ensures ∙ c.text.ensures.text) in
+    let on = sym (c.ref_text.ensures ∙ c.spell.ensures.text) in
     let attr = sym c.as_str.ensures in
     let value = sym c.as_str-in-Set.ensures in
     IfOk-weaker c.valued.result _ _ (λ all is. claimed c.args.signer.now c.args.date.now c.args.what.now _ c.in_ok-payload-in-Set.payload.items all.items
@@ -14,7 +14,7 @@ returns-in_ok-payload-in-Set-clause-text c =
 
 pub returns-in_ok-payload-in-Add-clause-text : goal.returns-in_ok-payload-in-Add-clause-text
 returns-in_ok-payload-in-Add-clause-text c =
-    let on = sym (c.ref_text-in-Add.ensures ∙ c.text-in-Add.ensures.text) in
+    let on = sym (c.ref_text-in-Add.ensures ∙ c.spell-in-Add.ensures.text) in
     let attr = sym c.as_str-in-Add.ensures in
     let value = sym c.as_str-in-Add-2.ensures in
     IfOk-weaker c.valued-in-Add.result _ _ (λ all is. claimed c.args.signer.now c.args.date.now c.args.what.now _ c.in_ok-payload-in-Add.payload.items all.items
@@ -22,7 +22,7 @@ returns-in_ok-payload-in-Add-clause-text c =
 
 pub returns-in_ok-payload-in-Del-clause-text : goal.returns-in_ok-payload-in-Del-clause-text
 returns-in_ok-payload-in-Del-clause-text c =
-    let on = sym (c.ref_text-in-Del.ensures ∙ c.text-in-Del.ensures.text) in
+    let on = sym (c.ref_text-in-Del.ensures ∙ c.spell-in-Del.ensures.text) in
     let attr = sym c.as_str-in-Del.ensures in
     let value = sym c.as_str-in-Del-2.ensures in
     IfOk-weaker c.removal.result _ _ (λ all is. claimed c.args.signer.now c.args.date.now c.args.what.now _ c.in_ok-payload-in-Del.payload.items all.items
@@ -30,6 +30,6 @@ returns-in_ok-payload-in-Del-clause-text c =
 
 pub returns-in_ok-payload-in-Delete-clause-text : goal.returns-in_ok-payload-in-Delete-clause-text
 returns-in_ok-payload-in-Delete-clause-text c =
-    let target = sym (c.ref_text-in-Delete.ensures ∙ c.text-in-Delete.ensures.text) in
+    let target = sym (c.ref_text-in-Delete.ensures ∙ c.spell-in-Delete.ensures.text) in
     IfOk-weaker c.deletion.result _ _ (λ all is. claimed c.args.signer.now c.args.date.now c.args.what.now _ c.in_ok-payload-in-Delete.payload.items all.items
     (c.in-Delete.is ∙ (λ i. Delete (target i))) c.in_ok-payload-in-Delete.ensures is) c.deletion.ensures
