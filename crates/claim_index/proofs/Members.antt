@@ -5,18 +5,10 @@ use Rattle.std.proofs.lemmas.Bool.{cases_Bool, false≢true, false_from_ne_true,
 use Rattle.std.proofs.lemmas.List.{append-nil}
 use Rattle.std.proofs.lemmas.List.Concat.{flat_map-cons}
 use Rattle.std.proofs.lemmas.List.Folds.{list_any-append}
-use Rattle.std.proofs.lemmas.List.Filters.{dedup_is}
-use Rattle.std.proofs.lemmas.List.Kept.{Contains-dedup, Contains-from_dedup}
-use Rattle.std.proofs.lemmas.List.Sorted.{list_any-IsPermutation}
-use Rattle.std.proofs.lemmas.Map.Views.{Contains-from_any, list_any-from_Contains}
 use Rattle.std.proofs.lemmas.Slice.Eq.{bytes_eq-Decides}
-use Rattle.std.specs.Cmp.Lexicographic.{nat_list_eq_equiv}
-use Rattle.std.specs.Prelude.{IsPermutation}
-use Rattle.std.specs.List.{Contains, list_any, flat_map, dedup}
-use Rattle.std.specs.List.Retain.{IsFiltered, DiffersFromLast}
+use Rattle.std.specs.List.{list_any, flat_map}
 use Rattle.std.specs.Str.{bytes_eq}
 use Rattle.claim_model.specs.Least.{passes_or_in}
-use Rattle.claim_model.proofs.Least.{same_truth}
 use Rattle.index_look.proofs.Texts.{take_one}
 use Rattle.index_rows.specs.Once.{AreNew}
 
@@ -84,22 +76,3 @@ take_last refs i r above below is =
 pub drop_first : (refs : List (List ℕ)) (i : ℕ) (r : List ℕ) → i < length refs → r ≡ get_or refs i r
     → drop i refs ≡ r ∷ drop (i + 1) refs
 drop_first refs i r within is = drop-cons refs i r within ∙ (λ j. sym is j ∷ drop (sym (add-one i) j) refs)
-
--- a list in another order has the same refs, and so it does where each stands once
-module _ (refs sorted once : List (List ℕ)) (permutation : IsPermutation refs sorted)
-    (filtered : IsFiltered (DiffersFromLast bytes_eq) [] sorted once) (q : List ℕ) where
-  same : (x y : List ℕ) → bytes_eq x y ≡ true → x ≡ y
-  same x y = (bytes_eq-Decides x y).0
-
-  there : (rs : List (List ℕ)) → list_any (bytes_eq q) rs ≡ true → Contains rs q
-  there rs h = Contains-from_any same q rs h
-
-  pub same_members : list_any (bytes_eq q) once ≡ list_any (bytes_eq q) refs
-  same_members =
-      ap (list_any (bytes_eq q)) (dedup_is bytes_eq sorted once filtered)
-      ∙ same_truth (list_any (bytes_eq q) (dedup bytes_eq sorted)) (list_any (bytes_eq q) sorted)
-      (λ h. list_any-from_Contains nat_list_eq_equiv q sorted
-      (Contains-from_dedup bytes_eq sorted q (there (dedup bytes_eq sorted) h)))
-      (λ h. list_any-from_Contains nat_list_eq_equiv q (dedup bytes_eq sorted)
-      (Contains-dedup nat_list_eq_equiv same sorted q (there sorted h)))
-      ∙ sym (list_any-IsPermutation (bytes_eq q) refs sorted permutation)

@@ -1,10 +1,10 @@
 -- The text of a ref is in UTF-8.
-use Rattle.std.proofs.Common.{◌≡◌, ◌<◌, ℕ, Bool, nat_lt, zero, suc, true, drop, List, [], ◌∷◌, refl, sym, subst, arith}
+use Rattle.std.proofs.Common.{◌≡◌, ◌<◌, ℕ, Bool, nat_lt, zero, suc, true, List, [], ◌∷◌, inl, inr, refl, sym, subst, arith}
 use Rattle.std.proofs.lemmas.Bool.{and_parts}
 use Rattle.std.proofs.lemmas.Str.{IsUtf8-append, IsUtf8-from_ascii}
 use Rattle.std.specs.List.{list_all}
 use Rattle.std.specs.Str.{IsUtf8, IsAscii}
-use Rattle.blobref.specs.Blobref.{is_blobref, is_lower_digit, prefix}
+use Rattle.blobref.specs.Blobref.{is_blobref, is_lower_digit, sha1_name, sha224_name}
 use Rattle.blobref.proofs.Spelled.{blobref_parts}
 use Rattle.std.proofs.lemmas.Bool.Decides.{nat_tests}
 
@@ -23,6 +23,10 @@ are_ascii p each (c ∷ cs) h (suc i) = are_ascii p each cs (and_parts (p c) (li
 pub blobref_utf8 : (r : List ℕ) → is_blobref r ≡ true → IsUtf8 r
 blobref_utf8 r h =
     let parts = blobref_parts r h in
+    let name : IsUtf8 parts.name =
+    elim parts.form [
+      | inl f ↦ subst IsUtf8 (sym f.0) (IsUtf8-from_ascii sha1_name (are_ascii (λ c. nat_lt c 128) (λ c h. h) sha1_name refl))
+      | inr f ↦ subst IsUtf8 (sym f.0) (IsUtf8-from_ascii sha224_name (are_ascii (λ c. nat_lt c 128) (λ c h. h) sha224_name refl))
+    ] in
     subst IsUtf8 (sym parts.whole)
-    (IsUtf8-append prefix (drop 7 r) (IsUtf8-from_ascii prefix (are_ascii (λ c. nat_lt c 128) (λ c h. h) prefix refl))
-    (IsUtf8-from_ascii (drop 7 r) (are_ascii is_lower_digit digit_ascii (drop 7 r) parts.digits)))
+    (IsUtf8-append parts.name parts.digits name (IsUtf8-from_ascii parts.digits (are_ascii is_lower_digit digit_ascii parts.digits parts.lower)))

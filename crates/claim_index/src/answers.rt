@@ -171,10 +171,11 @@ pub(crate) fn parents<L: Ledger>(
     ensures { IfOk result (λ refs. refs ≡ told_parents rows.now.facts rows.now.state rows.now.deletes
         rows.now.changes rows.now.holders when.now child.now) }
 {
-    let text = child.text();
+    let text = child.spell();
+    let text = text.as_slice();
     match when {
-        When::Always => holders(alloc, &rows.holders, "camliMember", as_text(&text), steps),
-        When::At(_) => holding(alloc, rows, "camliMember", &text, when, steps),
+        When::Always => holders(alloc, &rows.holders, "camliMember", as_text(text), steps),
+        When::At(_) => holding(alloc, rows, "camliMember", text, when, steps),
     }
 }
 

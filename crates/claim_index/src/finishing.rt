@@ -1,7 +1,6 @@
 //! What is left once refs were judged: delete claims are entered, and permanodes looked at again.
-ghost use Rattle.std.specs.Prelude.{◌≡◌, ◌∷◌, ◌++◌, [], ℕ, List, IfOk, OnOk};
-ghost use Rattle.std.specs.List.{flat_map, list_any};
-ghost use Rattle.std.specs.Str.{bytes_eq};
+ghost use Rattle.std.specs.Prelude.{◌≡◌, ◌∷◌, ◌++◌, [], ℕ, List, OnOk};
+ghost use Rattle.std.specs.List.{flat_map};
 ghost use Rattle.std.specs.FinMap.{contains_key};
 ghost use Rattle.claim_verify.specs.Verifier.{Accepts};
 ghost use Rattle.delete_claims.specs.Entered.{IsNewDelete};
@@ -12,7 +11,7 @@ ghost use Rattle.index_meaning.specs.Touching.{concerned_by};
 use crate::touching::concern;
 use crate::work::Work;
 use attr_fold::refold;
-use blobref::{NoMemory, Ref, RefList};
+use blobref::{NoMemory, Ref, RefList, RefSet};
 use delete_claims::enter;
 use edge_base::Steps;
 use index_rows::Rows;
@@ -112,20 +111,9 @@ fn refold_all<L: Ledger>(
     ensures halfway { OnOk result ((accepts : Accepts)
         → IsHalfway accepts [] [] concerned rows.old → IsHalfway accepts [] [] [] rows.new) }
 {
-    let refs = each_once(concerned)?;
-    for p in &refs {
+    let refs = RefSet::of(concerned)?;
+    for p in refs.as_slice() {
         refold(alloc, rows, p, steps)?;
     }
     Ok(())
-}
-
-// The refs of a list, ascending and each once.
-fn each_once(refs: RefList) -> Result<Vec<Ref>, NoMemory>
-    ensures { IfOk result (λ once. (q : List ℕ)
-        → list_any (bytes_eq q) once.items ≡ list_any (bytes_eq q) refs) }
-{
-    let mut refs = refs.into_vec();
-    refs.sort()?;
-    refs.dedup();
-    Ok(refs)
 }

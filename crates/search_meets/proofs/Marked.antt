@@ -66,18 +66,6 @@ pub chosen_right : (f : List ℕ → Bool) (rs m : List (List ℕ)) (a : List Bo
     → m ≡ map (λ (p : List ℕ × Bool). p.0) (filter (λ (p : List ℕ × Bool). p.1) (zip rs a)) → m ≡ filter f rs
 chosen_right f rs m a a-is is = is ∙ ap (λ ms. map (λ (p : List ℕ × Bool). p.0) (filter (λ (p : List ℕ × Bool). p.1) (zip rs ms))) a-is ∙ chosen_are f rs
 
--- ---- what is said of one ref
-
-place : (f : List ℕ → Bool) (rs : List (List ℕ)) (i : ℕ) (d : Bool) → i < length rs → get_or (map f rs) i d ≡ f (get_or rs i [])
-place f [] i d h = absurd (omega arith)
-place f (r ∷ rs) zero d h = refl
-place f (r ∷ rs) (suc i) d h = place f rs i d (omega arith)
-
-pub said_right : (f : List ℕ → Bool) (rs : List (List ℕ)) (marks : List Bool) (i : ℕ) (r : List ℕ) (o : Option (Bor Bool))
-    → i < length rs → ref_cmp (get_or rs i []) r ≡ Equal → IfSome o (λ x. x.now ≡ get_or marks i x.now) → marks ≡ map f rs → IfSome (option_copied o) (λ b. b ≡ f r)
-said_right f rs marks i r None h at is e = tt
-said_right f rs marks i r (Some x) h at is e = is ∙ ap (λ m. get_or m i x.now) e ∙ place f rs i x.now h ∙ ap f (same_ref (get_or rs i []) r at)
-
 -- ---- a set that a value is to be in
 
 and_true : (b : Bool) → (b && true) ≡ b

@@ -134,7 +134,7 @@ pub(crate) fn leaves_meet<K: Look, L: Ledger>(
     ensures { result ≡ leaves_meet (K.facts look.now) (leaves_of (out-Constraint constraint.now)) r.now }
 {
     type_meets(look, &constraint.camli_type, r, steps)
-        && has_prefix(&constraint.blob_ref_prefix, &r.text())
+        && has_prefix(&constraint.blob_ref_prefix, r.spell().as_slice())
         && size_meets(look, &constraint.blob_size, r, steps)
         && file_meets(look, &constraint.file, r, steps)
 }

@@ -3,7 +3,7 @@ ghost use Rattle.std.specs.Prelude.{◌≡◌, ◌∷◌, ℕ, List, Bool, true,
 ghost use Rattle.search_meets.specs.Computed.{spread};
 ghost use Rattle.search_meets.specs.Meaning.{joins};
 
-use blobref::{NoMemory, Ref, RefList};
+use blobref::{NoMemory, Ref, RefList, RefSet};
 use search_query::Op;
 use std::alloc::Global;
 
@@ -82,25 +82,21 @@ pub(crate) fn spread(alloc: Global, marks: &[bool], more: &[bool]) -> Result<Vec
     Ok(out)
 }
 
-// What is said of a ref, where it stands in the list.
-pub(crate) fn said(refs: &[Ref], marks: &[bool], r: &Ref) -> Option<bool>
+// What is said of a ref, where it stands among the refs.
+pub(crate) fn said(refs: &RefSet, marks: &[bool], r: &Ref) -> Option<bool>
     ensures { (f : List ℕ → Bool) → marks.now ≡ map f refs.now → IfSome result (λ b. b ≡ f r.now) }
 {
-    match refs.binary_search(r) {
-        Ok(i) => marks.get(i).copied(),
-        Err(_) => None,
-    }
+    let place = refs.place(r)?;
+    marks.get(place).copied()
 }
 
-// The refs of some lists, ascending, each once.
-pub(crate) fn gathered(alloc: Global, lists: &[RefList]) -> Result<Vec<Ref>, NoMemory> {
-    let mut all = Vec::new(alloc);
+// The refs of some lists.
+pub(crate) fn gathered(alloc: Global, lists: &[RefList]) -> Result<RefSet, NoMemory> {
+    let mut all = RefList::empty(alloc);
     for refs in lists {
         for r in refs.as_slice() {
             all.push(*r)?;
         }
     }
-    all.sort()?;
-    all.dedup();
-    Ok(all)
+    RefSet::of(all)
 }

@@ -11,7 +11,7 @@ use crate::kin::kin_links;
 use crate::leaves::leaves_meet;
 use crate::marks::{chosen, gathered, joined, said, spread, trues};
 use crate::valuing::{live_marks, named_marks, set_links, time_of};
-use blobref::{NoMemory, Ref, RefList};
+use blobref::{NoMemory, Ref, RefList, RefSet};
 use edge_base::Steps;
 use index_look::Look;
 use schema_date::When;
@@ -289,7 +289,7 @@ fn linked_marks<K: Look, L: Ledger>(
         (meets (K.facts look.now) (K.accepts look.now) (view constraint.now) when.now)) links.now) }
 {
     let refs = gathered(alloc, links)?;
-    let marks = marks(alloc, look, constraint, when, &refs, steps)?;
+    let marks = marks(alloc, look, constraint, when, refs.as_slice(), steps)?;
     let mut out = Vec::new(alloc);
     for linked in links {
         out.push(each_or_any(
@@ -316,7 +316,7 @@ fn each_or_any<K: Look, L: Ledger>(
     each: bool,
     when: &When,
     linked: &[Ref],
-    refs: &[Ref],
+    refs: &RefSet,
     marks: &[bool],
     steps: &mut Steps<L>,
 ) -> Result<bool, NoMemory>
@@ -340,7 +340,7 @@ fn said_or_asked<K: Look, L: Ledger>(
     constraint: &Constraint,
     when: &When,
     r: &Ref,
-    refs: &[Ref],
+    refs: &RefSet,
     given: &[bool],
     steps: &mut Steps<L>,
 ) -> Result<bool, NoMemory>
