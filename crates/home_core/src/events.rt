@@ -1,10 +1,7 @@
 //! What happens to a core, and what it replies.
-use blobref::{ListOf, Octets, Ref};
+use blobref::{BlobList, ListOf, Octets, Ref};
 use edge_base::{Inserted, Put};
 use search_query::Query;
-
-/// Blobs with their refs.
-pub type BlobList = ListOf<(Ref, Octets)>;
 
 /// Events in the order in which they happen.
 pub type EventList = ListOf<Event>;

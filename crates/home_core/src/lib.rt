@@ -14,7 +14,7 @@ mod stepping;
 mod storing;
 mod telling;
 
-pub use events::{BlobList, Event, EventList, Reply, ReplyList};
+pub use events::{Event, EventList, Reply, ReplyList};
 pub use home::{Home, Indexed};
 pub use lists::Seen;
 pub use places::{IndexPlace, StorePlace};

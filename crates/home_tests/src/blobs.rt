@@ -1,7 +1,7 @@
 //! Blobs, and events with them.
-use blobref::{NoMemory, Octets, Ref};
+use blobref::{BlobList, NoMemory, Octets, Ref};
 use claim_verify::{KeyName, Keyring};
-use home_core::{BlobList, Event, EventList};
+use home_core::{Event, EventList};
 use schema_date::When;
 use search_query::Query;
 use std::alloc::Global;
