@@ -5,7 +5,7 @@ ghost use Rattle.pack_disk.specs.Disk.{last_number};
 use crate::listing::{least_from, pack_numbers};
 use crate::locking::{check_is_there, lock_folder};
 use crate::opening::Opening;
-use crate::pack_file::{Growing, Reading, fill};
+use crate::pack_file::{OpenPacks, UnsyncedPacks, fill};
 use edge_base::Failed;
 use edge_os::again::uninterrupted;
 use edge_os::counted;
@@ -47,8 +47,8 @@ pub struct FolderDisk<'a> {
     numbers: BTreeSet<u32>,
     // Whether the names of the packs were made durable since the last pack was made.
     named: bool,
-    reading: Reading,
-    growing: Growing,
+    reading: OpenPacks,
+    growing: UnsyncedPacks,
     // Where appends are counted, if anywhere.
     appends: Option<&'a AtomicU64>,
     opening: Opening<'a>,
@@ -57,8 +57,7 @@ pub struct FolderDisk<'a> {
 
 impl<'a> Drop for FolderDisk<'a> {
     fn drop(self) {
-        self.growing.cut();
-        self.remove_unsynced();
+        self.growing.cut(self.rt);
         let FolderDisk {
             rt: _,
             path: _,
@@ -89,8 +88,8 @@ impl<'a> FolderDisk<'a> {
             folder: None,
             numbers: BTreeSet::new(rt.alloc()),
             named: false,
-            reading: Reading::none(rt.alloc()),
-            growing: Growing::none(rt.alloc()),
+            reading: OpenPacks::none(rt.alloc()),
+            growing: UnsyncedPacks::none(rt.alloc()),
             appends: None,
             opening: Opening::new(rt),
             faults: 0,
@@ -220,7 +219,7 @@ impl<'a> FolderDisk<'a> {
         }
         let path = self.pack_path(pack)?;
         self.named = false;
-        self.growing.make(self.rt, pack, &path)?;
+        self.growing.make(self.rt, pack, path)?;
         self.numbers.insert(pack)?;
         Ok(())
     }
@@ -246,32 +245,9 @@ impl<'a> FolderDisk<'a> {
         if self.growing.file(pack).is_none() {
             let path = self.pack_path(pack)?;
             self.check_folder()?;
-            self.growing.open(self.rt, pack, &path)?;
+            self.growing.open(self.rt, pack, path)?;
         }
-        let added = self.growing.add(pack, bytes);
-        if added.is_err() && self.growing.is_void(pack) {
-            self.remove(pack);
-        }
-        added
-    }
-
-    // Removes the packs that were made here and never synced, and that hold nothing any more.
-    fn remove_unsynced(&self) {
-        for pack in &self.numbers {
-            if self.growing.is_void(*pack) {
-                self.remove(*pack);
-            }
-        }
-    }
-
-    // Removes the file of a pack that grows, unless its path leads to another one. Where that fails the file stays, empty.
-    fn remove(&self, pack: u32) {
-        if self.check_pack(pack).is_err() {
-            return;
-        }
-        if let Ok(path) = self.pack_path(pack) {
-            let _ = fs::remove_file(self.rt, path);
-        }
+        self.growing.add(self.rt, pack, bytes)
     }
 
     // Fails unless the path leads to the folder that was opened.
@@ -279,15 +255,6 @@ impl<'a> FolderDisk<'a> {
         let entered = self.path_to("")?;
         match &self.folder {
             Some(folder) => check_is_there(self.rt, folder, &entered),
-            None => Ok(()),
-        }
-    }
-
-    // Fails unless the path of a pack that grows leads to its file.
-    fn check_pack(&self, pack: u32) -> io::Result<()> {
-        let path = self.pack_path(pack)?;
-        match self.growing.file(pack) {
-            Some(file) => check_is_there(self.rt, file, &path),
             None => Ok(()),
         }
     }
@@ -304,7 +271,7 @@ impl<'a> FolderDisk<'a> {
             self.reading.file(pack)?.sync_all()?;
         }
         self.sync_names()?;
-        self.check_pack(pack)?;
+        self.growing.check(self.rt, pack)?;
         self.growing.settle(pack);
         Ok(())
     }

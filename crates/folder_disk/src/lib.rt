@@ -2,6 +2,7 @@
 #![tactic(auto)]
 
 mod folder;
+mod identity;
 mod listing;
 mod locking;
 mod opening;

@@ -1,8 +1,9 @@
 //! The folder of a store, locked for one writer.
+use crate::identity::Identity;
 use edge_os::again::uninterrupted;
-use std::fs::{self, DirBuilder, File, TryLockError};
+use std::fs::{DirBuilder, File, TryLockError};
 use std::io::{self, ErrorKind};
-use std::os::unix::fs::{DirBuilderExt, MetadataExt};
+use std::os::unix::fs::DirBuilderExt;
 use std::path::Path;
 use std::thread;
 use std::time::Duration;
@@ -21,7 +22,7 @@ pub(crate) fn lock_folder(rt: &HostRuntime, folder: &str, entered: &str) -> io::
     let mut file = open_or_make(rt, folder, entered)?;
     for _ in 0..TRIES {
         match file.try_lock() {
-            Ok(()) if is_there(rt, &file, entered)? => return Ok(file),
+            Ok(()) if identity_of(&file)?.is_at(rt, entered)? => return Ok(file),
             Ok(()) => file = open_or_make(rt, folder, entered)?,
             Err(TryLockError::WouldBlock) => thread::sleep(rt, Duration::from_millis(PAUSE)),
             Err(TryLockError::Error(error)) => return Err(error),
@@ -32,21 +33,11 @@ pub(crate) fn lock_folder(rt: &HostRuntime, folder: &str, entered: &str) -> io::
 
 /// Fails unless a path still leads to the file.
 pub(crate) fn check_is_there(rt: &HostRuntime, file: &File, path: &str) -> io::Result<()> {
-    if is_there(rt, file, path)? {
-        Ok(())
-    } else {
-        Err(io::Error::from(ErrorKind::NotFound))
-    }
+    identity_of(file)?.check_at(rt, path)
 }
 
-// Whether a path still leads to the file.
-fn is_there(rt: &HostRuntime, file: &File, path: &str) -> io::Result<bool> {
-    let held = uninterrupted(|| file.metadata())?;
-    match uninterrupted(|| fs::metadata(rt, path)) {
-        Ok(found) => Ok(found.dev() == held.dev() && found.ino() == held.ino()),
-        Err(error) if error.kind() == ErrorKind::NotFound => Ok(false),
-        Err(error) => Err(error),
-    }
+fn identity_of(file: &File) -> io::Result<Identity> {
+    Ok(Identity::of(&uninterrupted(|| file.metadata())?))
 }
 
 fn open_or_make(rt: &HostRuntime, folder: &str, entered: &str) -> io::Result<File> {

@@ -1,6 +1,7 @@
 //! The files of packs: those that are read, and those that are added to.
 ghost use Rattle.std.specs.Prelude.{◌≡◌, ◌≤◌, length, IfOk};
 
+use crate::identity::Identity;
 use edge_os::again::{self, uninterrupted};
 use std::alloc::Global;
 use std::collections::BTreeMap;
@@ -25,13 +26,13 @@ const MOST_OPEN: usize = 64;
 
 /// The packs that were read. Their files stay open, until there are 64 and another one is read.
 #[derive(Drop)]
-pub(crate) struct Reading {
+pub(crate) struct OpenPacks {
     open: BTreeMap<u32, File>,
 }
 
-impl Reading {
-    pub(crate) fn none(alloc: Global) -> Reading {
-        Reading {
+impl OpenPacks {
+    pub(crate) fn none(alloc: Global) -> OpenPacks {
+        OpenPacks {
             open: BTreeMap::new(alloc),
         }
     }
@@ -77,7 +78,7 @@ pub(crate) fn fill(file: &File, at: u64, buf: &mut [u8]) -> io::Result<usize>
 /// The packs that were made or added to. Their files stay open until all that was added is synced, and another pack is
 /// made or added to.
 #[derive(Drop)]
-pub(crate) struct Growing {
+pub(crate) struct UnsyncedPacks {
     packs: Vec<Grown>,
 }
 
@@ -85,6 +86,9 @@ pub(crate) struct Growing {
 struct Grown {
     number: u32,
     file: File,
+    // The path of the file, and its identity: so one call tells whether the path still leads to it.
+    path: String,
+    identity: Identity,
     // How many bytes it had when it was opened, or synced last.
     size: u64,
     // How many were added since.
@@ -106,65 +110,78 @@ impl Grown {
             Err(_) => false,
         }
     }
+
+    // Removes the file if it has nothing but its name, unless the path leads to another one. Where that fails it stays,
+    // empty.
+    fn remove_void(&self, rt: &HostRuntime) {
+        if self.is_void() && self.identity.is_at(rt, &self.path).unwrap_or(false) {
+            let _ = fs::remove_file(rt, &self.path);
+        }
+    }
+
+    // Adds bytes behind those that it has. Where that fails it is cut back, and removed if it is void then, as well as
+    // may be.
+    fn add(&mut self, rt: &HostRuntime, bytes: &[u8]) -> io::Result<()> {
+        self.added = self.added.saturating_add(bytes.len() as u64);
+        let done = self.file.write_all(bytes);
+        if done.is_err() {
+            if self.cut() {
+                self.added = 0;
+            }
+            self.remove_void(rt);
+        }
+        done
+    }
 }
 
-impl Growing {
-    pub(crate) fn none(alloc: Global) -> Growing {
-        Growing {
+impl UnsyncedPacks {
+    pub(crate) fn none(alloc: Global) -> UnsyncedPacks {
+        UnsyncedPacks {
             packs: Vec::new(alloc),
         }
     }
 
     /// Makes the file of a pack.
-    pub(crate) fn make(&mut self, rt: &HostRuntime, number: u32, path: &str) -> io::Result<()> {
+    pub(crate) fn make(&mut self, rt: &HostRuntime, number: u32, path: String) -> io::Result<()> {
         let file = File::options()
             .append(true)
             .create_new(true)
             .mode(OWNER_ONLY)
-            .open(rt, path)?;
-        self.keep(number, file, 0, true)
+            .open(rt, &path)?;
+        self.keep(number, file, path, true)
     }
 
     /// Opens the file of a pack, to add to it.
-    pub(crate) fn open(&mut self, rt: &HostRuntime, number: u32, path: &str) -> io::Result<()> {
-        let file = open_regular(rt, File::options().append(true), path)?;
-        let size = uninterrupted(|| file.metadata())?.len();
-        self.keep(number, file, size, false)
+    pub(crate) fn open(&mut self, rt: &HostRuntime, number: u32, path: String) -> io::Result<()> {
+        let file = open_regular(rt, File::options().append(true), &path)?;
+        self.keep(number, file, path, false)
     }
 
     // Keeps a file open, and closes those to which nothing was added that isn't synced.
-    fn keep(&mut self, number: u32, file: File, size: u64, is_fresh: bool) -> io::Result<()> {
+    fn keep(&mut self, number: u32, file: File, path: String, is_fresh: bool) -> io::Result<()> {
+        let found = uninterrupted(|| file.metadata())?;
         self.packs.retain(|pack| pack.added > 0);
         self.packs.push(Grown {
             number,
             file,
-            size,
+            path,
+            identity: Identity::of(&found),
+            size: found.len(),
             added: 0,
             is_fresh,
         })?;
         Ok(())
     }
 
-    /// Adds the bytes behind those of a pack that is open. Where that fails it is cut back, as well as may be.
-    pub(crate) fn add(&mut self, number: u32, bytes: &[u8]) -> io::Result<()> {
+    /// Adds the bytes behind those of a pack that is open. Where that fails it is cut back, and where it was made here,
+    /// and never synced, its file is removed, as well as may be.
+    pub(crate) fn add(&mut self, rt: &HostRuntime, number: u32, bytes: &[u8]) -> io::Result<()> {
         for pack in &mut self.packs {
             if pack.number == number {
-                pack.added = pack.added.saturating_add(bytes.len() as u64);
-                let done = pack.file.write_all(bytes);
-                if done.is_err() && pack.cut() {
-                    pack.added = 0;
-                }
-                return done;
+                return pack.add(rt, bytes);
             }
         }
         Err(io::Error::from(ErrorKind::NotFound))
-    }
-
-    /// Whether a pack is one of these, was made here and never synced, and has no bytes.
-    pub(crate) fn is_void(&self, number: u32) -> bool {
-        self.packs
-            .iter()
-            .any(|pack| pack.number == number && pack.is_void())
     }
 
     /// How many packs have bytes that are neither synced nor cut off.
@@ -174,8 +191,19 @@ impl Growing {
 
     /// The file of a pack, where the pack is one of these.
     pub(crate) fn file(&self, number: u32) -> Option<&File> {
-        let pack = self.packs.iter().find(|pack| pack.number == number)?;
-        Some(&pack.file)
+        Some(&self.find(number)?.file)
+    }
+
+    fn find(&self, number: u32) -> Option<&Grown> {
+        self.packs.iter().find(|pack| pack.number == number)
+    }
+
+    /// Fails unless the path of a pack, where the pack is one of these, leads to its file.
+    pub(crate) fn check(&self, rt: &HostRuntime, number: u32) -> io::Result<()> {
+        match self.find(number) {
+            Some(pack) => pack.identity.check_at(rt, &pack.path),
+            None => Ok(()),
+        }
     }
 
     /// The pack was synced.
@@ -189,13 +217,15 @@ impl Growing {
         }
     }
 
-    /// Cuts the packs back to what was synced of them, as well as may be.
-    pub(crate) fn cut(&self) {
+    /// Cuts the packs back to what was synced of them, and removes those that were made here, were never synced and
+    /// hold nothing then, as well as may be.
+    pub(crate) fn cut(&self, rt: &HostRuntime) {
         for pack in &self.packs {
             if pack.added > 0 {
                 // Where this fails nothing more can be done.
                 let _ = pack.cut();
             }
+            pack.remove_void(rt);
         }
     }
 }
