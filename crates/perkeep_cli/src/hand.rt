@@ -1,5 +1,5 @@
-//! The time and the random bytes of the system. Both count their failures.
-ghost use Rattle.std.specs.Prelude.{◌≡◌, ◌↔◌, IsSome, IfSome, pos};
+//! The time and the random bytes of the system. Both count their failures, and neither tells what its next call gives.
+ghost use Rattle.std.specs.Prelude.{◌≡◌, ◌↔◌, IsSome, IfSome, None, pos};
 ghost use Rattle.std.specs.Duration.{as_nanos};
 ghost use Rattle.edge_base.specs.Moments.{IsMoment};
 
@@ -28,6 +28,8 @@ impl<'a> SystemClock<'a> {
 
 impl<'a> Clock for SystemClock<'a> {
     ghost faults = { λ clock. clock.faults };
+
+    ghost time = { λ clock. None };
 
     fn now(&mut self) -> Result<i128, Failed> {
         counted(time(self.rt).ok_or(Failed), &mut self.faults)
@@ -70,6 +72,8 @@ impl<'a> SystemDice<'a> {
 
 impl<'a> Dice for SystemDice<'a> {
     ghost faults = { λ dice. dice.faults };
+
+    ghost random = { λ dice. None };
 
     fn sixteen(&mut self) -> Result<[u8; 16], Failed> {
         counted(uninterrupted(|| random(self.rt)), &mut self.faults)

@@ -1,14 +1,13 @@
 -- Facts that are gathered place by place are those of the arrivals.
-use Rattle.std.proofs.Common.{◌≡◌, ℕ, zero, suc, ◌+◌, ◌&&◌, ◌||◌, Bool, true, false, cond, not, Some, List, [], ◌∷◌, ◌++◌, drop, map, slice_get, refl, sym, ap, subst, ◌∙◌, nat_eq, arith, append_assoc}
-use Rattle.std.proofs.lemmas.List.{append-nil}
+use Rattle.std.proofs.Common.{◌≡◌, ℕ, zero, suc, ◌+◌, ◌≤◌, ◌&&◌, ◌||◌, Bool, true, false, cond, not, Some, List, [], ◌∷◌, ◌++◌, drop, length, map, option_map, slice_get, Option, None, refl, sym, ap, subst, ◌∙◌, nat_eq, arith, append_assoc}
+use Rattle.std.proofs.lemmas.List.{append-nil, drop_all, map-append}
 use Rattle.std.proofs.lemmas.List.Elements.{All-append, All-cons, All-nil}
 use Rattle.std.proofs.lemmas.Map.Keys.{IsDistinct-head, IsDistinct-tail}
 use Rattle.std.specs.BTreeSet.{BTreeSet, Updates}
-use Rattle.std.specs.Cmp.Lexicographic.{pointwise, nat_list_cmp_total, texts_ties}
+use Rattle.std.specs.Cmp.Lexicographic.{pointwise, nat_list_cmp_total, nat_list_eq_equiv, texts_ties}
 use Rattle.std.specs.FinMap.{FinMap, find, get, entries, from_entries, get-entries, get-from_entries, same_map, IsAntisymmetric, slice_cmp-IsAntisymmetric, nat_cmp-IsAntisymmetric}
-use Rattle.std.specs.List.{list_any, list_all, AllByRecursion, IsDistinct}
+use Rattle.std.specs.List.{list_any, list_all, position_from, AllByRecursion, IsDistinct}
 use Rattle.std.specs.Map.{keys_of}
-use Rattle.std.specs.Option.{option_map}
 use Rattle.std.specs.Ordering.{eq_by_cmp}
 use Rattle.std.specs.Prelude.{IsTrue}
 use Rattle.std.specs.Str.{bytes_eq}
@@ -23,6 +22,9 @@ use Rattle.salvage_scan.specs.Salvage.{salvage}
 use Rattle.salvage_scan.specs.Scan.{place_of}
 use Rattle.salvage_scan.proofs.Arriving.{arrivals_are_firsts}
 use Rattle.salvage_scan.proofs.Slices.{blobs_at}
+use Rattle.pack_store.specs.declared.rows.Row.{Row}
+use Rattle.pack_store.specs.Reading.{ref_at}
+use Rattle.pack_store.specs.Rows.{AreNew}
 use Rattle.perkeep_lines.specs.Blobs.{Blob, entry_of, facts_of_content, pack_facts, blob_at, has_fact, with_blob, with_blobs, HasRefsOf}
 
 -- ---- arrivals, as facts
@@ -139,11 +141,76 @@ drop_next [] number x at = absurd (cc at)
 drop_next {X = X} (a ∷ all) zero x at = let same : a ≡ x = cc at in ap (λ (b : X). b ∷ all) same
 drop_next (a ∷ all) (suc n) x at = let e : suc n + 1 ≡ suc (n + 1) = omega arith in rw e (drop_next all n x at)
 
--- one arrival more, of those that are left
-pub gathered_more : (facts pushed : List Entry) (r bytes : List ℕ) (all : List Blob) (number : ℕ) → slice_get all number ≡ Some (r, bytes) → pushed ≡ with_blob facts (r, bytes)
-    → with_blobs facts (drop number all) ≡ with_blobs [] all → with_blobs pushed (drop (number + 1) all) ≡ with_blobs [] all
-gathered_more facts pushed r bytes all number at is so_far =
-    ap (λ es. with_blobs es (drop (number + 1) all)) is ∙ sym (ap (with_blobs facts) (drop_next all number (r, bytes) at)) ∙ so_far
+-- what is made of the next of a list, behind what was made of those before it
+pub made_next : {X Y : Type 0} (f : X → Y) (all : List X) (number : ℕ) (x : X) (made now : List Y) → slice_get all number ≡ Some x → now ≡ made ++ f x ∷ []
+    → made ++ map f (drop number all) ≡ map f all → now ++ map f (drop (number + 1) all) ≡ map f all
+made_next f all number x made now at is so_far =
+    let rest = map f (drop (number + 1) all) in
+    ap (λ l. l ++ rest) is ∙ append_assoc made (f x ∷ []) rest ∙ ap (λ l. made ++ map f l) (sym (drop_next all number x at)) ∙ so_far
+
+-- and of the whole list
+pub made_all : {X Y : Type 0} (f : X → Y) (all : List X) (number : ℕ) (made : List Y) → length all ≤ number → made ++ map f (drop number all) ≡ map f all → made ≡ map f all
+made_all f all number made whole is =
+    sym (ap (λ l. made ++ map f l) (drop_all number all whole) ∙ append-nil made) ∙ is
+
+-- the refs of facts, and of rows
+abbrev pub refs_of : List Entry → List (List ℕ)
+refs_of facts = map (λ (e : Entry). e.0) facts
+
+abbrev pub row_refs : List Row → List (List ℕ)
+row_refs rows = map (λ (row : Row). row.r) rows
+
+row_at : (found : Option Row) (r : List ℕ) → option_map (λ (row : Row). row.r) found ≡ Some r → (row : Row) × (found ≡ Some row) × (row.r ≡ r)
+row_at None r is = absurd (cc is)
+row_at (Some row) r is = (row, refl, cc is)
+
+-- a fact more stands under the ref of the next row
+pub refs_more : (facts pushed : List Entry) (blob : Blob) (rows : List Row) (number : ℕ) → pushed ≡ facts ++ entry_of blob ∷ [] → ref_at number rows ≡ Some blob.0
+    → refs_of facts ++ row_refs (drop number rows) ≡ row_refs rows → refs_of pushed ++ row_refs (drop (number + 1) rows) ≡ row_refs rows
+refs_more facts pushed blob rows number is at so_far =
+    let found = row_at (slice_get rows number) blob.0 at in
+    made_next (λ (row : Row). row.r) rows number found.0 (refs_of facts) (refs_of pushed) found.1
+    (ap refs_of is ∙ map-append (λ (e : Entry). e.0) facts (entry_of blob ∷ []) ∙ ap (λ r. refs_of facts ++ r ∷ []) (sym found.2)) so_far
+
+-- a ref that no row has differs from each one's
+differs : (r : List ℕ) (before : List Row) (row : Row) (after : List Row) (n : ℕ) → position_from (λ (x : Row). pointwise nat_eq r x.r) n (before ++ row ∷ after) ≡ None → bytes_eq r row.r ≡ false
+differs r [] row after n none = go (pointwise nat_eq r row.r) none
+  where
+    go : (b : Bool) → cond b (Some n) (position_from (λ (x : Row). pointwise nat_eq r x.r) (n + 1) after) ≡ None → b ≡ false
+    go true e = absurd (cc e)
+    go false e = refl
+differs r (x ∷ before) row after n none = go (pointwise nat_eq r x.r) none (differs r before row after (n + 1))
+  where
+    go : (b : Bool) → cond b (Some n) (position_from (λ (x : Row). pointwise nat_eq r x.r) (n + 1) (before ++ row ∷ after)) ≡ None
+        → (position_from (λ (x : Row). pointwise nat_eq r x.r) (n + 1) (before ++ row ∷ after) ≡ None → bytes_eq r row.r ≡ false) → bytes_eq r row.r ≡ false
+    go true e more = absurd (cc e)
+    go false e more = more e
+
+apart_from : (row : Row) (facts : List Entry) (rows before after : List Row) → refs_of facts ≡ row_refs rows → AreNew (before ++ row ∷ after) rows → IsTrue (list_all (λ (f : Entry). not (bytes_eq row.r f.0)) facts)
+apart_from row [] rows before after are new = refl
+apart_from row (f ∷ facts) [] before after are new = absurd (cc are)
+apart_from row (f ∷ facts) (next ∷ rows) before after are new =
+    let here : f.0 ≡ next.r = cc are in
+    let more : refs_of facts ≡ row_refs rows = cc are in
+    let other : bytes_eq row.r f.0 ≡ false = nat_list_eq_equiv.symm row.r f.0 ∙ ap (λ r. bytes_eq r row.r) here ∙ differs next.r before row after 0 new.0 in
+    go (bytes_eq row.r f.0) other
+    (apart_from row facts rows before (after ++ next ∷ []) more (subst (λ l. AreNew l rows) (append_assoc before (row ∷ after) (next ∷ [])) new.1))
+  where
+    go : (b : Bool) → b ≡ false → IsTrue (list_all (λ (g : Entry). not (bytes_eq row.r g.0)) facts) → IsTrue (not b && list_all (λ (g : Entry). not (bytes_eq row.r g.0)) facts)
+    go true e more = absurd (cc e)
+    go false e more = more
+
+-- facts under the refs of rows, none of which has the ref of one before it, are distinct
+distinct_behind : (facts : List Entry) (before rows : List Row) → refs_of facts ≡ row_refs rows → AreNew before rows → AreDistinct facts
+distinct_behind [] before rows are new = tt
+distinct_behind (e ∷ facts) before [] are new = absurd (cc are)
+distinct_behind (e ∷ facts) before (row ∷ rows) are new =
+    let here : row.r ≡ e.0 = cc are in
+    let more : refs_of facts ≡ row_refs rows = cc are in
+    (subst (λ r. IsTrue (list_all (λ (f : Entry). not (bytes_eq r f.0)) facts)) here (apart_from row facts rows before [] more new.1), distinct_behind facts (before ++ row ∷ []) rows more new.1)
+
+pub distinct_rows : (facts : List Entry) (rows : List Row) → refs_of facts ≡ row_refs rows → AreNew [] rows → AreDistinct facts
+distinct_rows facts rows are new = distinct_behind facts [] rows are new
 
 either_false : (a b : Bool) → (a || b) ≡ false → (a ≡ false) × (b ≡ false)
 either_false true b e = absurd (cc e)
@@ -178,37 +245,18 @@ distinct_more facts pushed blob is apart_now = subst AreDistinct (sym is) (go (h
     go false lacking = distinct_push facts (entry_of blob) lacking apart_now
 
 -- and each is valid
-pub valid_more : (facts pushed : List Entry) (blob : Blob) → pushed ≡ with_blob facts blob → AreValid facts → AreValid pushed
+pub valid_push : (facts pushed : List Entry) (blob : Blob) → pushed ≡ facts ++ entry_of blob ∷ [] → AreValid facts → AreValid pushed
 unfolding fact_of
+valid_push facts pushed blob is valid_now =
+    subst AreValid (sym is) (All-append (λ (e : Entry). IsValid e.1) facts (entry_of blob ∷ []) valid_now (All-cons (λ (e : Entry). IsValid e.1) (entry_of blob) [] (HasValidParts-kind_of blob.1) (All-nil (λ (e : Entry). IsValid e.1))))
+
+pub valid_more : (facts pushed : List Entry) (blob : Blob) → pushed ≡ with_blob facts blob → AreValid facts → AreValid pushed
 valid_more facts pushed blob is valid_now = subst AreValid (sym is) (go (has_fact facts blob.0))
   where
     go : (b : Bool) → AreValid (cond b facts (facts ++ entry_of blob ∷ []))
     go true = valid_now
-    go false = All-append (λ (e : Entry). IsValid e.1) facts (entry_of blob ∷ []) valid_now (All-cons (λ (e : Entry). IsValid e.1) (entry_of blob) [] (HasValidParts-kind_of blob.1) (All-nil (λ (e : Entry). IsValid e.1)))
+    go false = valid_push facts (facts ++ entry_of blob ∷ []) blob refl valid_now
 
-all_at : (P : List ℕ → Type 0) (before : List Blob) (f : Blob) (fs : List Blob) → AllByRecursion P (keys_of (before ++ f ∷ fs)) → P f.0
-all_at P [] f fs h = h.0
-all_at P (b ∷ before) f fs h = all_at P before f fs h.1
-
-not_among : (before : List Blob) (f : Blob) (fs : List Blob) → IsDistinct (pointwise nat_eq) (keys_of (before ++ f ∷ fs)) → list_any (λ (a : Blob). pointwise nat_eq a.0 f.0) before ≡ false
-not_among [] f fs d = refl
-not_among (b ∷ before) f fs d =
-    go (pointwise nat_eq b.0 f.0) (all_at (λ y. pointwise nat_eq b.0 y ≡ false) before f fs (IsDistinct-head (pointwise nat_eq) b.0 (keys_of (before ++ f ∷ fs)) d))
-    (not_among before f fs (IsDistinct-tail (pointwise nat_eq) b.0 (keys_of (before ++ f ∷ fs)) d))
-  where
-    go : (c : Bool) → c ≡ false → list_any (λ (a : Blob). pointwise nat_eq a.0 f.0) before ≡ false → (c || list_any (λ (a : Blob). pointwise nat_eq a.0 f.0) before) ≡ false
-    go true e more = absurd (cc e)
-    go false e more = more
-
--- what is distinct arrives as it is
-arrive_distinct : (fs before : List Blob) → IsDistinct (pointwise nat_eq) (keys_of (before ++ fs)) → arrive before fs ≡ before ++ fs
-arrive_distinct [] before d = sym (append-nil before)
-arrive_distinct (f ∷ fs) before d =
-    let joined : (before ++ f ∷ []) ++ fs ≡ before ++ f ∷ fs = append_assoc before (f ∷ []) fs in
-    ap (λ b. arrive (cond b before (before ++ f ∷ [])) fs) (not_among before f fs d)
-    ∙ arrive_distinct fs (before ++ f ∷ []) (subst (λ l. IsDistinct (pointwise nat_eq) (keys_of l)) (sym joined) d) ∙ joined
-
--- the facts of arrivals, gathered in their order
-pub facts_of_arrivals : (packs : List (ℕ × List ℕ)) → from_entries (with_blobs [] (arrivals packs)) ≡ facts_of_content (content packs)
-facts_of_arrivals packs =
-    ap from_entries (sym (entries-arrive (arrivals packs) []) ∙ ap (map entry_of) (arrive_distinct (arrivals packs) [] (arrivals_are_firsts.distinct packs))) ∙ facts-content (arrivals packs)
+-- the facts of arrivals, in their order
+pub facts_of_arrivals : (packs : List (ℕ × List ℕ)) → from_entries (map entry_of (arrivals packs)) ≡ facts_of_content (content packs)
+facts_of_arrivals packs = facts-content (arrivals packs)

@@ -1,13 +1,13 @@
 //! What the blobs of a pack and of a store say.
-ghost use Rattle.std.specs.Prelude.{◌≡◌, ◌≤◌, ◌<◌, [], map, slice_get, All, IfOk, IfErr, OnOk, Some, None};
+ghost use Rattle.std.specs.Prelude.{◌≡◌, ◌≤◌, ◌<◌, [], ◌∷◌, ◌++◌, map, slice_get, All, IfOk, IfErr, OnOk, Some, None};
 ghost use Rattle.std.specs.Option.{ForSome};
 ghost use Rattle.std.specs.FinMap.{from_entries};
 ghost use Rattle.claim_model.specs.Facts.{AreDistinct, AreValid};
 ghost use Rattle.salvage_scan.specs.Scan.{LiesIn, bytes_at};
 ghost use Rattle.pack_store.specs.Archive.{count};
-ghost use Rattle.pack_store.specs.Reading.{StaysStill};
+ghost use Rattle.pack_store.specs.Reading.{StaysStill, ref_at};
 ghost use Rattle.pack_store.specs.Rows.{arrivals_in};
-ghost use Rattle.perkeep_lines.specs.Blobs.{pack_facts, blob_at, named, with_blob, with_blobs, HasRefsOf, NotGathered};
+ghost use Rattle.perkeep_lines.specs.Blobs.{pack_facts, blob_at, entry_of, named, with_blob, with_blobs, HasRefsOf, NotGathered};
 
 use blobref::{NoMemory, Octets, Ref};
 use claim_index::FactList;
@@ -58,26 +58,27 @@ pub(crate) fn facts_of(alloc: Global, blobs: &[Octets]) -> Result<FactList, NoMe
     Ok(facts)
 }
 
-/// The facts of the blobs of a store, each ref once. Each blob is read and hashed (`Store::arrival`), and one is held at
-/// a time.
+/// The facts of the blobs of a store, in the order in which they arrived. No two arrivals have one ref
+/// (`Store::arrivals_are_held`), so each ref comes once. Each blob is read and hashed (`Store::arrival`), and one is
+/// held at a time.
 ///
-/// `Disk` comes only where the disk's count of faults rose; `Damaged` only where bytes were read in place of a blob whose
-/// ref is another one, and never where the disk tells; `NoMemory` only where no memory is left. Nothing is changed in the
-/// store, whatever is answered.
+/// `Disk` comes only where the disk's count of faults rose; `Damaged` only where bytes were read in place of a blob
+/// whose ref is another one, and never where the disk tells; `NoMemory` only where no memory is left. Nothing is
+/// changed in the store, whatever is answered.
 pub fn store_facts<D: Disk>(alloc: Global, store: &mut Store<D>) -> Result<FactList, GetFault>
     ensures facts { IfOk result (λ facts. ForSome (D.packs store.old.disk)
-        (λ held. facts ≡ with_blobs [] (arrivals_in held store.old.rows))) }
+        (λ held. facts ≡ map entry_of (arrivals_in held store.old.rows))) }
     ensures distinct { IfOk result AreDistinct }
     ensures valid { IfOk result AreValid }
     ensures refused { IfErr result (NotGathered D.Disk store.old.disk store.new.disk) }
     ensures stays { StaysStill D.Disk store.old store.new }
     ensures later { D.faults store.old.disk ≤ D.faults store.new.disk }
 {
-    let mut seen = BTreeSet::new(alloc);
+    store.arrivals_are_held();
     let mut facts = FactList::empty(alloc);
     for number in 0..store.count() {
         let (r, bytes) = arrival_at(store, number)?;
-        if let Err(NoMemory) = add_blob(alloc, r, bytes.as_slice(), &mut seen, &mut facts) {
+        if let Err(NoMemory) = push_fact(alloc, r, bytes.as_slice(), &mut facts) {
             return Err(GetFault::NoMemory);
         }
     }
@@ -89,6 +90,7 @@ fn arrival_at<D: Disk>(store: &mut Store<D>, number: u64) -> Result<(Ref, Octets
     requires { number < count store.old }
     ensures bytes { IfOk result (λ arrival. ForSome (D.packs store.old.disk)
         (λ held. slice_get (arrivals_in held store.old.rows) number ≡ Some arrival)) }
+    ensures named { IfOk result (λ arrival. ref_at number store.old.rows ≡ Some arrival.0) }
     ensures refused { IfErr result (NotGathered D.Disk store.old.disk store.new.disk) }
     ensures stays { StaysStill D.Disk store.old store.new }
     ensures later { D.faults store.old.disk ≤ D.faults store.new.disk }
@@ -129,9 +131,17 @@ fn add_blob(
     ensures seen { OnOk result (HasRefsOf seen.new facts.new) }
 {
     if seen.insert(r)? {
-        let said = fact(alloc, bytes)?;
-        facts.push((r, said))?;
+        push_fact(alloc, r, bytes, facts)?;
     }
+    Ok(())
+}
+
+// Adds the fact of a blob.
+fn push_fact(alloc: Global, r: Ref, bytes: &[u8], facts: &mut FactList) -> Result<(), NoMemory>
+    ensures { OnOk result (facts.new ≡ facts.old ++ entry_of (r, bytes.now) ∷ []) }
+{
+    let said = fact(alloc, bytes)?;
+    facts.push((r, said))?;
     Ok(())
 }
 

@@ -1,9 +1,10 @@
 //! Two indexes of the same blobs, inserted in both orders.
-ghost use Rattle.std.specs.Prelude.{◌≡◌, ◌≤◌, ◌<◌, ◌++◌, false, length, IfOk, OnOk, Some, slice_get};
+ghost use Rattle.std.specs.Prelude.{◌≡◌, ◌≤◌, ◌<◌, ◌++◌, codes, false, length, IfOk, OnOk, Some, slice_get};
 ghost use Rattle.std.specs.FinMap.{contains_key, from_entries, insert};
 ghost use Rattle.schema_date.specs.declared.date.When.TheVariants.{Always};
 ghost use Rattle.claim_model.specs.Deleted.{live_permanodes};
 ghost use Rattle.claim_model.specs.Facts.{AreDistinct, AreValid, Entry};
+ghost use Rattle.search_eval.specs.Answer.{answer};
 ghost use Rattle.perkeep_lines.specs.Load.{load_facts, load_text, order_line, tagged};
 
 use crate::blobs::facts_of;
@@ -37,12 +38,7 @@ pub fn load_text<V: Verifier>(
     ensures { IfOk result (λ text. text ≡ load_text count start (V.accepts keys.now)) }
 {
     let facts = load_facts(alloc, count, start)?;
-    let mut text = Vec::new(alloc);
-    let index = forward::<_, Brand>(alloc, &facts, keys, Blank::new(1))?;
-    push_order_line(alloc, &mut text, "forward", count, &index)?;
-    let index = backward::<_, Brand>(alloc, &facts, keys, Blank::new(1))?;
-    push_order_line(alloc, &mut text, "backward", count, &index)?;
-    Ok(Octets::from_vec(text))
+    order_lines(alloc, count, &facts, keys)
 }
 
 // The facts of the blobs of a generated store.
@@ -55,6 +51,59 @@ fn load_facts(alloc: Global, count: u64, start: u64) -> Result<FactList, NoMemor
 {
     let blobs = load_blobs(alloc, count, start)?;
     facts_of(alloc, blobs.as_slice())
+}
+
+// The lines of both orders.
+fn order_lines<V: Verifier>(
+    alloc: Global,
+    count: u64,
+    facts: &FactList,
+    keys: &V,
+) -> Result<Octets, NoMemory>
+    requires distinct { AreDistinct facts.now }
+    requires valid { AreValid facts.now }
+    ensures { IfOk result (λ text. text
+        ≡ order_line (codes "forward") count (from_entries facts.now) (V.accepts keys.now)
+        ++ order_line (codes "backward") count (from_entries facts.now) (V.accepts keys.now)) }
+{
+    let mut text = Vec::new(alloc);
+    push_forward(alloc, &mut text, count, facts, keys)?;
+    push_backward(alloc, &mut text, count, facts, keys)?;
+    Ok(Octets::from_vec(text))
+}
+
+// Writes the line of an index into which the facts were inserted in their order.
+fn push_forward<V: Verifier>(
+    alloc: Global,
+    text: &mut Vec<u8>,
+    count: u64,
+    facts: &FactList,
+    keys: &V,
+) -> Result<(), NoMemory>
+    requires distinct { AreDistinct facts.now }
+    requires valid { AreValid facts.now }
+    ensures { OnOk result (text.new.items
+        ≡ text.old.items ++ order_line (codes "forward") count (from_entries facts.now) (V.accepts keys.now)) }
+{
+    let index = forward::<_, Brand>(alloc, facts, keys, Blank::new(1))?;
+    push_order_line(alloc, text, "forward", count, &index)
+}
+
+// Writes that of an index into which they were inserted in reverse order.
+fn push_backward<V: Verifier>(
+    alloc: Global,
+    text: &mut Vec<u8>,
+    count: u64,
+    facts: &FactList,
+    keys: &V,
+) -> Result<(), NoMemory>
+    requires distinct { AreDistinct facts.now }
+    requires valid { AreValid facts.now }
+    ensures { OnOk result (text.new.items
+        ≡ text.old.items ++ order_line (codes "backward") count (from_entries facts.now) (V.accepts keys.now)) }
+{
+    let index = backward::<_, Brand>(alloc, facts, keys, Blank::new(1))?;
+    push_order_line(alloc, text, "backward", count, &index)
 }
 
 // An index into which the facts were inserted in their order. The steps are counted in the blank ledger, and told to
@@ -142,9 +191,9 @@ fn push_order_line<K: Look>(
     ensures { OnOk result (text.new.items
         ≡ text.old.items ++ order_line order.now count (K.facts look.now) (K.accepts look.now)) }
 {
-    let permanodes = live_of::<_, Brand>(alloc, look, Blank::new(1))?;
+    let permanodes = count_live::<_, Brand>(alloc, look, Blank::new(1))?;
     let answer = tagged(alloc, look)?;
-    push_load_line(text, order, count, permanodes.len() as u64, &answer)
+    push_load_line(text, order, count, permanodes, &answer)
 }
 
 // The ref of the answer to a search for the tag `t0`.
@@ -152,18 +201,27 @@ fn tagged<K: Look>(alloc: Global, look: &K) -> Result<Ref, NoMemory>
     ensures { IfOk result (λ r. r ≡ tagged (K.facts look.now) (K.accepts look.now)) }
 {
     let query = Query::for_value(alloc, "tag", "t0", When::Always)?;
-    let refs = answer_of(alloc, look, &query)?;
+    let refs = answer_to(alloc, look, query)?;
     let text = search_text(alloc, &refs)?;
     Ok(Ref::of(text.as_slice()))
 }
 
-// The genuine permanodes that aren't deleted, ascending. The steps are counted likewise.
-fn live_of<K: Look, L: Ledger>(alloc: Global, look: &K, blank: Blank) -> Result<RefList, NoMemory>
+// The answer to a query, which is let go.
+fn answer_to<K: Look>(alloc: Global, look: &K, query: Query) -> Result<RefList, NoMemory>
+    ensures { IfOk result (λ refs. refs ≡ answer (K.facts look.now) (K.accepts look.now) query) }
+{
+    answer_of(alloc, look, &query)
+}
+
+// How many genuine permanodes aren't deleted. The steps are counted likewise.
+fn count_live<K: Look, L: Ledger>(alloc: Global, look: &K, blank: Blank) -> Result<u64, NoMemory>
     requires name { blank.name ≡ L.name }
     requires parts { blank.parts ≡ L.parts }
     requires some { 0 < blank.parts }
-    ensures { IfOk result (λ refs. refs ≡ live_permanodes (K.facts look.now) (K.accepts look.now) Always) }
+    ensures { IfOk result (λ count. count
+        ≡ length (live_permanodes (K.facts look.now) (K.accepts look.now) Always)) }
 {
     let mut steps = Steps::<L>::start(blank);
-    live_permanodes(alloc, look, &When::Always, &mut steps)
+    let permanodes = live_permanodes(alloc, look, &When::Always, &mut steps)?;
+    Ok(permanodes.len() as u64)
 }

@@ -1,5 +1,6 @@
 //! Notes: what a key signs, and what is put of it.
 ghost use Rattle.std.specs.Prelude.{◌≡◌, ◌+◌, ◌≤◌, true, length, IfOk, Some};
+ghost use Rattle.std.specs.Option.{ForSome};
 ghost use Rattle.edge_base.specs.Edge.{HasCause};
 ghost use Rattle.schema_date.specs.Dates.{IsInRange};
 ghost use Rattle.schema_write.specs.Laws.{AreBytes, longest_schema, signature_length};
@@ -97,6 +98,7 @@ fn sealed_by<V: Signer>(keys: &V, name: &KeyName, payload: &[u8]) -> [u8; 32]
 /// Sixteen random bytes of the dice. `Failed` comes only where their count of faults rose.
 pub fn random_of<R: Dice>(dice: &mut R) -> Result<[u8; 16], Failed>
     ensures bytes { IfOk result (AreBytes 16) }
+    ensures told { IfOk result (λ bytes. ForSome (R.random dice.old) (λ random. bytes ≡ random)) }
     ensures cause { HasCause (R.faults dice.old) (R.faults dice.new) result }
 {
     match dice.sixteen() {
@@ -109,6 +111,7 @@ pub fn random_of<R: Dice>(dice: &mut R) -> Result<[u8; 16], Failed>
 pub fn date_of<C: Clock>(clock: &mut C) -> Result<Date, Failed>
     ensures range { IfOk result IsInRange }
     ensures text { IfOk result HasText }
+    ensures told { IfOk result (λ date. ForSome (C.time clock.old) (λ time. date ≡ time)) }
     ensures cause { HasCause (C.faults clock.old) (C.faults clock.new) result }
 {
     let Some(date) = Date::of(clock.now()?) else {

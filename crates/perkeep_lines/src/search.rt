@@ -69,8 +69,7 @@ pub fn query_line<V: Verifier>(
 fn line(alloc: Global, refs: &RefList) -> Result<Octets, NoMemory>
     ensures { IfOk result (λ line. line ≡ search_text refs.now ++ codes "\n") }
 {
-    let text = search_text(alloc, refs)?;
-    let mut bytes = Vec::from_slice(alloc, text.as_slice())?;
+    let mut bytes = search_text(alloc, refs)?.into_vec();
     bytes.push(b'\n')?;
     Ok(Octets::from_vec(bytes))
 }

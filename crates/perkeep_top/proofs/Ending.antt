@@ -1,7 +1,9 @@
 -- How far a run has come, and how it ends from there: the same for every command.
 use Rattle.std.proofs.Common.{◌≡◌, ◌⊎◌, inl, inr, ℕ, pos, ◌≤◌, Bool, true, false, Option, None, Some, Err, List, [], ◌∷◌, ◌++◌, length, refl, sym, ap, subst, ◌∙◌, arith}
 use Rattle.std.proofs.lemmas.List.{append-nil}
+use Rattle.blobref.specs.Blobref.{ref_of}
 use Rattle.edge_base.specs.Edge.{Rose, Took, TookFront}
+use Rattle.edge_base.specs.Shelf.{Blob}
 use Rattle.edge_base.specs.declared.answers.PutFault.{PutFault}
 use Rattle.edge_base.specs.declared.answers.PutFault.TheVariants as put
 use Rattle.pack_format.specs.Header.{max_size}
@@ -23,7 +25,7 @@ use Rattle.perkeep_top.specs.declared.status.InputFault.TheVariants.{BadRef, Bad
 use Rattle.perkeep_top.specs.declared.status.Status.{Status}
 use Rattle.perkeep_top.specs.declared.status.Status.TheVariants as status
 use Rattle.perkeep_top.specs.Faults.{put_status}
-use Rattle.perkeep_top.specs.Frame.{reads_nothing, reads_first, RefusedEarly, Meaning, Given, IsDrawn, IsQuiet, ReadsAll, ReadsSome, Always, Finishes, WritesSome, Stops, StopsFull, WhileReading, IsTooLong, ReadsTooMuch, read_too_much, found_unfit, said_badly, EndsBy, Ends}
+use Rattle.perkeep_top.specs.Frame.{leaves_alone, only_looks, opens_store, reads_nothing, reads_first, RefusedEarly, Meaning, Given, IsDrawn, IsQuiet, ReadsAll, ReadsSome, Always, Finishes, WritesSome, Stops, StopsFull, WhileReading, IsTooLong, ReadsTooMuch, read_too_much, found_unfit, said_badly, EndsBy, Ends}
 use Rattle.perkeep_top.specs.Limits.{limits}
 use Rattle.perkeep_top.specs.Outside.{Outside, World, world}
 use Rattle.perkeep_top.specs.Steps.{RefusesInput, Finds, Writes}
@@ -35,6 +37,10 @@ took_nothing (Some h) = ap Some (sym (append-nil h))
 
 pub later_rose : (before between now : ℕ) → before ≤ between → Rose between now → Rose before now
 later_rose before between now le rose = omega (arith, le, rose)
+
+-- bytes under the ref that the program gives them
+pub under_ref : {r bytes text : List ℕ} → bytes ≡ text → r ≡ ref_of text → ◌≡◌ {A = Blob} (r, bytes) (ref_of text, text)
+under_ref is given = λ i. (given i, is i)
 
 -- where nothing is drawn
 abbrev pub given_input : List ℕ → Given
@@ -68,6 +74,7 @@ module _ {D S K C R : Type 0} (o : Outside D S K C R)
     unread = λ _. refl;
     untimed = λ _. refl;
     undiced = λ _. refl;
+    unmoved = λ _. refl;
     disk_later = omega arith;
     source_later = omega arith;
     sink_later = omega arith;
@@ -105,6 +112,10 @@ module _ {D S K C R : Type 0} (run : Begun D S K C R) where
   abbrev b : World D S K C R
   b = run.b
 
+  -- what is drawn, where it is, came of the clock and the dice as they were before
+  abbrev Drawn : Given → Type 0
+  Drawn given = IsDrawn m (clock.time b.clock) (dice.random b.dice) given
+
   abbrev EndsAs : World D S K C R → Status → Type 0
   EndsAs now end = Ends run.o m b now end
 
@@ -114,7 +125,7 @@ module _ {D S K C R : Type 0} (run : Begun D S K C R) where
     pub wrote : WritesSome run.o m b now m.streams bytes
 
   -- and it has put these blobs, and nothing else
-  pub record Far (now : World D S K C R) (blobs : List (List ℕ)) (bytes : List ℕ) : Type 0 where
+  pub record Far (now : World D S K C R) (blobs : List Blob) (bytes : List ℕ) : Type 0 where
     pub at : At now bytes
     pub packs : Tells (disk.packs b.disk) (disk.packs now.disk) (PutsAll limits blobs)
     pub held : HoldAll (disk.images now.disk) blobs
@@ -123,7 +134,7 @@ module _ {D S K C R : Type 0} (run : Begun D S K C R) where
   pub record Has (s : S) (given : Given) : Type 0 where
     pub read : ReadsSome source m.input b.source s given.input
     pub right : m.wrong given.input ≡ None
-    pub drawn : IsDrawn m given
+    pub drawn : Drawn given
 
   stays_same : (d : D) → Stays disk d d
   stays_same d = stays_itself disk run.counts_now run.only_now d
@@ -149,6 +160,7 @@ module _ {D S K C R : Type 0} (run : Begun D S K C R) where
         sink_later = omega arith;
         untimed = λ _. refl;
         undiced = λ _. refl;
+        unmoved = λ _. refl;
         clock_later = omega arith;
         dice_later = omega arith;
       };
@@ -177,6 +189,7 @@ module _ {D S K C R : Type 0} (run : Begun D S K C R) where
         unread = far.at.always.unread;
         untimed = untimed;
         undiced = undiced;
+        unmoved = far.at.always.unmoved;
         disk_later = far.at.always.disk_later;
         source_later = far.at.always.source_later;
         sink_later = far.at.always.sink_later;
@@ -210,41 +223,57 @@ module _ {D S K C R : Type 0} (run : Begun D S K C R) where
     pub untimed : next.clock ≡ now.clock
     pub undiced : next.dice ≡ now.dice
 
-  module _ (opens : m.opens ≡ true) where
+  -- a step may ask the disk: as a store that is open there, or so that no moment of it passes
+  abbrev MayAsk : D → D → Type 0
+  MayAsk d e = (m.disk ≡ opens_store) ⊎ ((m.disk ≡ only_looks) × (disk.moment e ≡ disk.moment d))
+
+  not_alone : (d e : D) → MayAsk d e → m.disk ≡ leaves_alone → ⊥
+  not_alone d e (inl opens) alone = absurd (cc (opens, alone))
+  not_alone d e (inr looks) alone = absurd (cc (looks.0, alone))
+
+  unmoved_step : (d e : D) → MayAsk d e → m.disk ≡ only_looks → disk.moment e ≡ disk.moment d
+  unmoved_step d e (inl opens) looks = absurd (cc (opens, looks))
+  unmoved_step d e (inr same) looks = same.1
+
+  always_asked : (now next : World D S K C R) → MayAsk now.disk next.disk → Always run.o m b now → Steps now next → Always run.o m b next
+  always_asked now next asks always step = record {
+    crash = keeps_then disk run.counts_now run.only_now b.disk now.disk next.disk always.crash step.crash;
+    quiet = λ q. stays_then disk run.counts_now run.only_now b.disk now.disk next.disk (always.quiet q) (step.quiet q);
+    unopened = λ e. absurd (not_alone now.disk next.disk asks e);
+    unread = λ e. step.unread e ∙ always.unread e;
+    untimed = λ e. step.untimed ∙ always.untimed e;
+    undiced = λ e. step.undiced ∙ always.undiced e;
+    unmoved = λ e. unmoved_step now.disk next.disk asks e ∙ always.unmoved e;
+    disk_later = omega (arith, always.disk_later, step.disk_later);
+    source_later = omega (arith, always.source_later, step.source_later);
+    sink_later = omega (arith, always.sink_later, step.sink_later);
+    clock_later = subst (λ x. clock.faults b.clock ≤ clock.faults x) (sym step.untimed) always.clock_later;
+    dice_later = subst (λ x. dice.faults b.dice ≤ dice.faults x) (sym step.undiced) always.dice_later;
+  }
+
+  -- the disk is asked, and nothing changes there, as the sink is written or not
+  pub far_told : {watch : C} {cup : R} (d e : D) (s : S) (k l : K) (blobs : List Blob) (bytes written : List ℕ) → MayAsk d e → Far (world d s k watch cup) blobs bytes → Stays disk d e → disk.faults d ≤ disk.faults e → sink.faults k ≤ sink.faults l
+      → WritesSome run.o m b (world e s l watch cup) m.streams written → Far (world e s l watch cup) blobs written
+  far_told {watch = watch} {cup = cup} d e s k l blobs bytes written asks far stays later sink_later wrote = record {
+    at = record {
+      always = always_asked (world d s k watch cup) (world e s l watch cup) asks far.at.always
+          (record { disk_later = later; source_later = omega arith; sink_later = sink_later; crash = keeps_of d e stays; quiet = λ _. stays; unread = λ _. refl; untimed = refl; undiced = refl });
+      wrote = wrote;
+    };
+    packs = subst (λ p. Tells (disk.packs b.disk) p (PutsAll limits blobs)) (sym stays.told) far.packs;
+    held = hold_on (disk.images d) (disk.images e) (held_after disk run.counts_now run.only_now d e (keeps_of d e stays)) blobs far.held;
+  }
+
+  module _ (opens : m.disk ≡ opens_store) where
     pub always_then : (now next : World D S K C R) → Always run.o m b now → Steps now next → Always run.o m b next
-    always_then now next always step = record {
-      crash = keeps_then disk run.counts_now run.only_now b.disk now.disk next.disk always.crash step.crash;
-      quiet = λ q. stays_then disk run.counts_now run.only_now b.disk now.disk next.disk (always.quiet q) (step.quiet q);
-      unopened = λ e. absurd (cc (opens, e));
-      unread = λ e. step.unread e ∙ always.unread e;
-      untimed = λ e. step.untimed ∙ always.untimed e;
-      undiced = λ e. step.undiced ∙ always.undiced e;
-      disk_later = omega (arith, always.disk_later, step.disk_later);
-      source_later = omega (arith, always.source_later, step.source_later);
-      sink_later = omega (arith, always.sink_later, step.sink_later);
-      clock_later = subst (λ x. clock.faults b.clock ≤ clock.faults x) (sym step.untimed) always.clock_later;
-      dice_later = subst (λ x. dice.faults b.dice ≤ dice.faults x) (sym step.undiced) always.dice_later;
-    }
+    always_then now next always step = always_asked now next (inl opens) always step
 
-  module _ {watch : C} {cup : R} (opens : m.opens ≡ true) where
-    -- the disk is asked, and nothing changes there, as the sink is written or not
-    pub far_told : (d e : D) (s : S) (k l : K) (blobs : List (List ℕ)) (bytes written : List ℕ) → Far (world d s k watch cup) blobs bytes → Stays disk d e → disk.faults d ≤ disk.faults e → sink.faults k ≤ sink.faults l
-        → WritesSome run.o m b (world e s l watch cup) m.streams written → Far (world e s l watch cup) blobs written
-    far_told d e s k l blobs bytes written far stays later sink_later wrote = record {
-      at = record {
-        always = always_then opens (world d s k watch cup) (world e s l watch cup) far.at.always
-            (record { disk_later = later; source_later = omega arith; sink_later = sink_later; crash = keeps_of d e stays; quiet = λ _. stays; unread = λ _. refl; untimed = refl; undiced = refl });
-        wrote = wrote;
-      };
-      packs = subst (λ p. Tells (disk.packs b.disk) p (PutsAll limits blobs)) (sym stays.told) far.packs;
-      held = hold_on (disk.images d) (disk.images e) (held_after disk run.counts_now run.only_now d e (keeps_of d e stays)) blobs far.held;
-    }
-
+  module _ {watch : C} {cup : R} (opens : m.disk ≡ opens_store) where
     pub far_asked : (d e : D) (s : S) → Far (world d s b.sink watch cup) [] [] → Stays disk d e → disk.faults d ≤ disk.faults e → Far (world e s b.sink watch cup) [] []
-    far_asked d e s far stays later = far_told d e s b.sink b.sink [] [] [] far stays later (omega arith) (wrote_nothing m.streams e s)
+    far_asked d e s far stays later = far_told d e s b.sink b.sink [] [] [] (inl opens) far stays later (omega arith) (wrote_nothing m.streams e s)
 
     -- blobs are put, as the source is read or not and the sink written or not
-    pub far_puts : (old new : Archive D) (s t : S) (k l : K) (blobs more : List (List ℕ)) (bytes written : List ℕ) → Far (world old.disk s k watch cup) blobs bytes → Stands disk limits old → PutsBlobs disk limits old more new
+    pub far_puts : (old new : Archive D) (s t : S) (k l : K) (blobs more : List Blob) (bytes written : List ℕ) → Far (world old.disk s k watch cup) blobs bytes → Stands disk limits old → PutsBlobs disk limits old more new
         → (IsQuiet m → more ≡ []) → disk.faults old.disk ≤ disk.faults new.disk → source.faults s ≤ source.faults t → sink.faults k ≤ sink.faults l → (m.input ≡ reads_nothing → t ≡ s)
         → WritesSome run.o m b (world new.disk t l watch cup) m.streams written → Far (world new.disk t l watch cup) (blobs ++ more) written
     far_puts old new s t k l blobs more bytes written far stands puts quiet later source_later sink_later alone wrote = record {
@@ -268,9 +297,9 @@ module _ {D S K C R : Type 0} (run : Begun D S K C R) where
       ends = record { given = given; bytes = bytes; fit = run.fit; drawn = has.drawn; read = has.read; right = has.right; written = at.wrote; part = part; why = rose };
     }
 
-  module _ (now : World D S K C R) (blobs : List (List ℕ)) (bytes : List ℕ) (far : Far now blobs bytes) (given : Given) (rest : List (List ℕ)) (has : Has now.source given) (cut : m.blobs given ≡ blobs ++ rest)
+  module _ (now : World D S K C R) (blobs : List Blob) (bytes : List ℕ) (far : Far now blobs bytes) (given : Given) (rest : List Blob) (has : Has now.source given) (cut : m.blobs given ≡ blobs ++ rest)
       (part : m.IsPart given (disk.packs b.disk) bytes) where
-    pub stops : (Why : Given → List ℕ → List (List ℕ) → List (List ℕ) → Type 0) → Why given bytes blobs rest → Stops run.o m b now Why
+    pub stops : (Why : Given → List ℕ → List Blob → List Blob → Type 0) → Why given bytes blobs rest → Stops run.o m b now Why
     stops Why why = record {
       given = given;
       bytes = bytes;
@@ -307,8 +336,8 @@ module _ {D S K C R : Type 0} (run : Begun D S K C R) where
     damaged want is why = record { always = far.at.always; ends = stops (λ given bytes gone rest. m.Refuses given (disk.packs b.disk) bytes gone (status.Damaged want is)) why }
 
   -- all was put and, where it streams, written
-  pub done : (now : World D S K C R) (blobs : List (List ℕ)) (bytes : List ℕ) → Always run.o m b now → Tells (disk.packs b.disk) (disk.packs now.disk) (PutsAll limits blobs) → HoldAll (disk.images now.disk) blobs
-      → (given : Given) → IsDrawn m given → ReadsAll source m.input b.source now.source given.input → m.wrong given.input ≡ None → m.IsOutput given (disk.packs b.disk) bytes → m.blobs given ≡ blobs
+  pub done : (now : World D S K C R) (blobs : List Blob) (bytes : List ℕ) → Always run.o m b now → Tells (disk.packs b.disk) (disk.packs now.disk) (PutsAll limits blobs) → HoldAll (disk.images now.disk) blobs
+      → (given : Given) → Drawn given → ReadsAll source m.input b.source now.source given.input → m.wrong given.input ≡ None → m.IsOutput given (disk.packs b.disk) bytes → m.blobs given ≡ blobs
       → (end : Status) → Writes sink b.sink now.sink bytes end → EndsAs now end
   done now blobs bytes always packs held given drawn read right output all end writes = record { always = always; ends = by end writes }
     where
@@ -340,7 +369,7 @@ module _ {D S K C R : Type 0} (run : Begun D S K C R) where
       by (status.Damaged want is) w = absurd w
 
   -- what is written stands at the end alone
-  pub finished : {watch : C} {cup : R} (d : D) (s : S) (blobs : List (List ℕ)) → Far (world d s b.sink watch cup) blobs [] → (k : K) (given : Given) (bytes : List ℕ) → IsDrawn m given → ReadsAll source m.input b.source s given.input → m.wrong given.input ≡ None
+  pub finished : {watch : C} {cup : R} (d : D) (s : S) (blobs : List Blob) → Far (world d s b.sink watch cup) blobs [] → (k : K) (given : Given) (bytes : List ℕ) → Drawn given → ReadsAll source m.input b.source s given.input → m.wrong given.input ≡ None
       → m.IsOutput given (disk.packs b.disk) bytes → m.blobs given ≡ blobs → (end : Status) → Writes sink b.sink k bytes end → sink.faults b.sink ≤ sink.faults k → EndsAs (world d s k watch cup) end
   finished {watch = watch} {cup = cup} d s blobs far k given bytes drawn read right output all end writes later = done (world d s k watch cup) blobs bytes (record {
     crash = far.at.always.crash;
@@ -349,6 +378,7 @@ module _ {D S K C R : Type 0} (run : Begun D S K C R) where
     unread = far.at.always.unread;
     untimed = far.at.always.untimed;
     undiced = far.at.always.undiced;
+    unmoved = far.at.always.unmoved;
     disk_later = far.at.always.disk_later;
     source_later = far.at.always.source_later;
     sink_later = later;
@@ -357,7 +387,7 @@ module _ {D S K C R : Type 0} (run : Begun D S K C R) where
   }) far.packs far.held given drawn read right output all end writes
 
   -- what was asked of the disk, with nothing put or written so far, was refused
-  pub refused : {watch : C} {cup : R} → m.opens ≡ true → (d e : D) (s : S) → Far (world d s b.sink watch cup) [] [] → Stays disk d e → disk.faults d ≤ disk.faults e → (given : Given) → Has s given → m.IsPart given (disk.packs b.disk) []
+  pub refused : {watch : C} {cup : R} → m.disk ≡ opens_store → (d e : D) (s : S) → Far (world d s b.sink watch cup) [] [] → Stays disk d e → disk.faults d ≤ disk.faults e → (given : Given) → Has s given → m.IsPart given (disk.packs b.disk) []
       → (Why : Status → Type 0) → ((end : Status) → Why end → m.Refuses given (disk.packs b.disk) [] [] end) → (end : Status) → Finds disk d e Why end → EndsAs (world e s b.sink watch cup) end
   refused {watch = watch} {cup = cup} opens d e s far stays later given has part Why tells end why = by end why
     where
@@ -379,15 +409,15 @@ module _ {D S K C R : Type 0} (run : Begun D S K C R) where
 
   -- ---- one blob that is put, and an input that isn't read before the opening
 
-  module _ {watch : C} {cup : R} (opens : m.opens ≡ true) (puts_some : IsQuiet m → ⊥) (old new : Archive D) (s : S) (k : K) (blobs : List (List ℕ)) (bytes : List ℕ) (far : Far (world old.disk s k watch cup) blobs bytes) (stands : Stands disk limits old)
+  module _ {watch : C} {cup : R} (opens : m.disk ≡ opens_store) (puts_some : IsQuiet m → ⊥) (old new : Archive D) (s : S) (k : K) (blobs : List Blob) (bytes : List ℕ) (far : Far (world old.disk s k watch cup) blobs bytes) (stands : Stands disk limits old)
       (crash : KeepsAll disk old.disk new.disk) (later : disk.faults old.disk ≤ disk.faults new.disk) (wrote : WritesSome run.o m b (world new.disk s k watch cup) m.streams bytes) where
-    pub far_put : (more : List (List ℕ)) → PutsBlobs disk limits old more new → Far (world new.disk s k watch cup) (blobs ++ more) bytes
+    pub far_put : (more : List Blob) → PutsBlobs disk limits old more new → Far (world new.disk s k watch cup) (blobs ++ more) bytes
     far_put more puts = far_puts opens old new s s k k blobs more bytes bytes far stands puts (λ q. absurd (puts_some q)) later (omega arith) (omega arith) (λ _. refl) wrote
 
     far_same : PutsBlobs disk limits old [] new → Far (world new.disk s k watch cup) blobs bytes
     far_same puts = subst (λ l. Far (world new.disk s k watch cup) l bytes) (append-nil blobs) (far_put [] puts)
 
-    pub not_put : (given : Given) (next : List ℕ) (more : List (List ℕ)) → Has s given → m.blobs given ≡ blobs ++ next ∷ more → m.IsPart given (disk.packs b.disk) bytes → length next ≤ max_size
+    pub not_put : (given : Given) (next : Blob) (more : List Blob) → Has s given → m.blobs given ≡ blobs ++ next ∷ more → m.IsPart given (disk.packs b.disk) bytes → length next.1 ≤ max_size
         → (e : PutFault) → PutLeaves disk limits old new next (Err e) → EndsAs (world new.disk s k watch cup) (put_status e)
     not_put given next more has cut part small (put.TooBig size) w = absurd (omega (arith, w.1, w.2, small))
     not_put given next more has cut part small (put.BadDigest said is) w = absurd w

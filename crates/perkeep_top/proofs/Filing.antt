@@ -1,9 +1,11 @@
 -- How `put-file` ends, from what cutting the input gave.
 use Rattle.std.proofs.Common.{◌≡◌, Bool, if◌then◌else◌, ℕ, ◌≤◌, ◌<◌, ◌+◌, List, [], ◌∷◌, ◌++◌, length, Option, None, Some, IfSome, refl, sym, ap, subst, ◌∙◌, arith}
 use Rattle.std.proofs.lemmas.Bool.{lt-ltb, le-ltb}
-use Rattle.std.proofs.lemmas.List.{append-nil}
+use Rattle.std.proofs.lemmas.List.{append-nil, map-append}
 use Rattle.std.specs.Option.{ForSome}
+use Rattle.blobref.specs.Blobref.{ref_of}
 use Rattle.edge_base.specs.Edge.{Gave, GaveAll, Rose}
+use Rattle.edge_base.specs.Shelf.{Blob, named}
 use Rattle.edge_base.specs.declared.answers.PutFault.{PutFault}
 use Rattle.edge_base.specs.declared.answers.PutFault.TheVariants as put
 use Rattle.edge_base.specs.declared.shelf.Shelf.{Ghosts as ShelfGhosts}
@@ -36,7 +38,7 @@ abbrev pub shelf_of : {D : Type 0} → DiskGhosts D → ShelfGhosts (Archive D)
 shelf_of g = record {
   content = λ s. content_of g s;
   faults = λ s. g.faults s.disk;
-  fills = λ s bytes blobs pack. HasNoRoom g s.limits s bytes blobs pack;
+  fills = λ s blob blobs pack. HasNoRoom g s.limits s blob blobs pack;
   follows = λ a b. KeepsAll g a.disk b.disk;
   puts = λ a blobs b. PutsStore g a blobs b;
 }
@@ -63,9 +65,13 @@ all_given None now input e = (input, e, λ all is. absurd (cc is))
 all_given (Some all) now input e = (all, ([], e.0, sym (append-nil all)), λ other is. cc (e.1, is))
 
 -- a file has its own blob at least
-not_empty : (blobs : List (List ℕ)) (own : List ℕ) → blobs ++ own ∷ [] ≡ [] → ⊥
+not_empty : (blobs : List (List ℕ)) (own : List ℕ) → named (blobs ++ own ∷ []) ≡ [] → ⊥
 not_empty [] own e = absurd (cc e)
 not_empty (blob ∷ blobs) own e = absurd (cc e)
+
+-- the refs of blobs in two parts
+named_in : (all put rest : List (List ℕ)) → all ≡ put ++ rest → named all ≡ named put ++ named rest
+named_in all put rest cut = ap named cut ∙ map-append {B = Blob} (λ bytes. (ref_of bytes, bytes)) put rest
 
 -- a name that isn't too long
 short_name : (name : List ℕ) → bad_name name ≡ None → longest_name < length name → ⊥
@@ -102,31 +108,32 @@ module _ {D S K C R : Type 0} (o : Outside D S K C R)
     open_far : Far run (world first.disk b.source b.sink b.clock b.dice) [] []
     open_far = far_asked run refl b.disk first.disk b.source (far_start run) opened opened_later
 
-    of_store : (blobs : List (List ℕ)) → PutsStore o.disk first blobs last → PutsBlobs o.disk limits first blobs last
+    of_store : (blobs : List Blob) → PutsStore o.disk first blobs last → PutsBlobs o.disk limits first blobs last
     of_store blobs puts = subst (λ l. PutsBlobs o.disk l first blobs last) stands.limited puts
 
-    far_of : (blobs : List (List ℕ)) → PutsStore o.disk first blobs last → o.disk.faults first.disk ≤ o.disk.faults last.disk → Far run here blobs []
+    far_of : (blobs : List Blob) → PutsStore o.disk first blobs last → o.disk.faults first.disk ≤ o.disk.faults last.disk → Far run here blobs []
     far_of blobs puts later = far_puts run refl first last b.source t b.sink b.sink [] blobs [] [] open_far stands (of_store blobs puts) (λ q. absurd (puts_some q)) later source_later (omega arith) (λ e. absurd (cc e)) refl
 
-    stops_full : (blobs : List (List ℕ)) → PutsStore o.disk first blobs last → (count pack : ℕ) (rest : List (List ℕ)) → FirstIs (λ blob. HasNoRoom o.disk last.limits last blob count pack) rest
-        → StopsFull o (put_file_meaning name) b here count pack rest
+    stops_full : (blobs : List Blob) → PutsStore o.disk first blobs last → (count pack : ℕ) (rest : List (List ℕ)) → FirstIs (λ blob. HasNoRoom o.disk last.limits last (ref_of blob, blob) count pack) rest
+        → StopsFull o (put_file_meaning name) b here count pack (named rest)
     stops_full blobs puts count pack [] w = absurd w
     stops_full blobs puts count pack (next ∷ more) w =
         let own = of_store blobs puts in
-        subst (λ l. HasNoRoom o.disk l last next count pack) (own.same_limits ∙ stands.limited) w (own.stands stands)
+        subst (λ l. HasNoRoom o.disk l last (ref_of next, next) count pack) (own.same_limits ∙ stands.limited) w (own.stands stands)
 
     -- the store refused a blob
     not_kept : (input : List ℕ) → GaveSome (o.source.left b.source) (o.source.left t) input → (e : PutFault) → IsCut (shelf_of o.disk) first (file_blobs name input) last e → Ends o (put_file_meaning name) b here (put_status e)
     not_kept input read (put.TooBig size) w = absurd w.why
     not_kept input read (put.BadDigest said is) w = absurd w.why
     not_kept input read (put.Full count pack) w =
-        full run here w.put [] (far_of w.put w.why.0 w.later) (given_input input) w.rest (has_of t input read) w.front refl count pack (stops_full w.put w.why.0 count pack w.rest w.why.1)
+        full run here (named w.put) [] (far_of (named w.put) w.why.0 w.later) (given_input input) (named w.rest) (has_of t input read) (named_in (file_blobs name input) w.put w.rest w.front) refl count pack
+        (stops_full (named w.put) w.why.0 count pack w.rest w.why.1)
     not_kept input read put.Disk w = failed run here [] (record {
       always = always_then run refl (world first.disk b.source b.sink b.clock b.dice) here open_far.at.always
           (record { disk_later = w.later; source_later = source_later; sink_later = omega arith; crash = w.run; quiet = λ q. absurd (puts_some q); unread = λ e. absurd (cc e); untimed = refl; undiced = refl });
       wrote = refl;
     }) (given_input input) (has_of t input read) refl (later_rose (o.disk.faults b.disk) (o.disk.faults first.disk) (o.disk.faults last.disk) opened_later w.why)
-    not_kept input read put.NoMemory w = no_memory run here w.put [] (far_of w.put w.why w.later) (given_input input) w.rest (has_of t input read) w.front refl
+    not_kept input read put.NoMemory w = no_memory run here (named w.put) [] (far_of (named w.put) w.why w.later) (given_input input) (named w.rest) (has_of t input read) (named_in (file_blobs name input) w.put w.rest w.front) refl
 
     -- the input wasn't put whole
     pub not_filed : (fault : CutFault) → NotWritten o.source (shelf_of o.disk) name b.source t first last fault → Ends o (put_file_meaning name) b here (cut_status fault)
@@ -134,18 +141,18 @@ module _ {D S K C R : Type 0} (o : Outside D S K C R)
     not_filed cut.ReadFault w =
         let u = w.1 in
         let puts = u.why.0.3 in
-        let far = far_of u.why.0.0 puts.run puts.later in
+        let far = far_of (named u.why.0.0) puts.run puts.later in
         record {
           always = far.at.always;
-          ends = stops run here u.why.0.0 [] far (given_input u.input) u.why.0.1 (has_of t u.input u.read) u.why.0.2 refl (λ given bytes gone rest. Rose (o.source.faults b.source) (o.source.faults t)) u.why.1;
+          ends = stops run here (named u.why.0.0) [] far (given_input u.input) (named u.why.0.1) (has_of t u.input u.read) (named_in (file_blobs name u.input) u.why.0.0 u.why.0.1 u.why.0.2) refl (λ given bytes gone rest. Rose (o.source.faults b.source) (o.source.faults t)) u.why.1;
         }
     not_filed cut.TooLong w =
         let u = w.1 in
         let puts = u.why.0.3 in
-        let far = far_of u.why.0.0 puts.run puts.later in
+        let far = far_of (named u.why.0.0) puts.run puts.later in
         record {
           always = far.at.always;
-          ends = read_too_much (stops run here u.why.0.0 [] far (given_input u.input) u.why.0.1 (has_of t u.input u.read) u.why.0.2 refl
+          ends = read_too_much (stops run here (named u.why.0.0) [] far (given_input u.input) (named u.why.0.1) (has_of t u.input u.read) (named_in (file_blobs name u.input) u.why.0.0 u.why.0.1 u.why.0.2) refl
               (λ given bytes gone rest. IsTooMany o (put_file_meaning name) b here (TooLong (longest_file + 1)) longest_file)
               (refl, more_left (o.source.left b.source) longest_file u.input u.read.2 u.why.1));
         }
@@ -156,14 +163,17 @@ module _ {D S K C R : Type 0} (o : Outside D S K C R)
       abbrev given : Given
       given = given_input w.0
 
-      abbrev far : Far run here (file_blobs name w.0) []
-      far = far_of (file_blobs name w.0) w.3.run w.3.later
+      abbrev blobs : List Blob
+      blobs = named (file_blobs name w.0)
+
+      abbrev far : Far run here blobs []
+      far = far_of blobs w.3.run w.3.later
 
       -- all was put, and no memory was left for the line
       pub unlined : Ends o (put_file_meaning name) b here status.NoMemory
-      unlined = no_memory run here (file_blobs name w.0) [] far given [] (has_of t w.0 (all_given (o.source.left b.source) (o.source.left t) w.0 w.1)) (sym (append-nil (file_blobs name w.0))) refl
+      unlined = no_memory run here blobs [] far given [] (has_of t w.0 (all_given (o.source.left b.source) (o.source.left t) w.0 w.1)) (sym (append-nil blobs)) refl
 
       -- and the line was written or not
       pub filed : (k : K) (end : Status) → Writes o.sink b.sink k (ref_line r) end → o.sink.faults b.sink ≤ o.sink.faults k → Ends o (put_file_meaning name) b (world last.disk t k b.clock b.dice) end
       filed k end writes sink_later =
-          finished run last.disk t (file_blobs name w.0) far k given (ref_line r) (λ e. absurd (cc e), λ e. absurd (cc e)) (w.2, w.1) refl (ap ref_line w.4) refl end writes sink_later
+          finished run last.disk t blobs far k given (ref_line r) (λ e. absurd (cc e), λ e. absurd (cc e)) (w.2, w.1) refl (ap ref_line w.4) refl end writes sink_later

@@ -9,3 +9,5 @@ pub mod Walked
 pub mod Noting
 pub mod Filing
 pub mod Querying
+pub mod Asked
+pub mod Counting

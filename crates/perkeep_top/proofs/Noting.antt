@@ -8,13 +8,14 @@ use Rattle.schema_write.specs.Drafts.{IsFault}
 use Rattle.schema_write.specs.declared.draft.DraftFault.{DraftFault}
 use Rattle.schema_write.specs.declared.draft.DraftFault.TheVariants as draft
 use Rattle.edge_base.specs.Edge.{Rose}
+use Rattle.edge_base.specs.Shelf.{Blob}
 use Rattle.edge_base.specs.declared.answers.PutFault.{PutFault}
 use Rattle.pack_disk.specs.Packs.{Packs}
 use Rattle.pack_disk.specs.Runs.{Stays}
 use Rattle.pack_store.specs.Archive.{Archive}
 use Rattle.pack_store.specs.Packs.{KeepsAll}
 use Rattle.pack_store.specs.Puts.{Stands, PutsBlobs, PutLeaves}
-use Rattle.perkeep_lines.specs.Notes.{sealed}
+use Rattle.perkeep_lines.specs.Notes.{sealed, CanBeSigned}
 use Rattle.perkeep_lines.specs.Outputs.{ref_line}
 use Rattle.perkeep_top.specs.declared.status.InputFault.TheVariants.{TooLong}
 use Rattle.perkeep_top.specs.declared.status.Status.{Status}
@@ -49,7 +50,7 @@ module _ {D S K C R : Type 0} (o : Outside D S K C R)
   pub hand_failed : ((time ≡ true) × Rose (o.clock.faults b.clock) (o.clock.faults watch)) ⊎ ((random ≡ true) × Rose (o.dice.faults b.dice) (o.dice.faults cup)) → EndsAt b.disk b.sink status.HandFault
   hand_failed rose = not_drawn run b.source watch cup drawn_far [] (refl, refl) refl rose
 
-  module _ (given : Given) (empty : given.input ≡ []) (drawn : IsDrawn m given) where
+  module _ (given : Given) (empty : given.input ≡ []) (drawn : IsDrawn m (o.clock.time b.clock) (o.dice.random b.dice) given) where
     has : Has run b.source given
     has = record { read = (refl, empty); right = refl; drawn = drawn }
 
@@ -61,11 +62,11 @@ module _ {D S K C R : Type 0} (o : Outside D S K C R)
       open_far : Far run (world first.disk b.source b.sink watch cup) [] []
       open_far = far_asked run refl b.disk first.disk b.source drawn_far opened opened_later
 
-      abbrev key : List ℕ
-      key = key_blob name
+      abbrev key : Blob
+      key = (ref_of (key_blob name), key_blob name)
 
-      abbrev blob : List ℕ
-      blob = sealed keys.seals name (payload given)
+      abbrev blob : Blob
+      blob = (ref_of (sealed keys.seals name (payload given)), sealed keys.seals name (payload given))
 
       -- no memory was left for the texts
       pub note_memory : EndsAt first.disk b.sink status.NoMemory
@@ -83,7 +84,7 @@ module _ {D S K C R : Type 0} (o : Outside D S K C R)
       puts_some : IsQuiet m → ⊥
       puts_some q = cc (q given)
 
-      module _ (short : length key ≤ max_size) (second : Archive D) (crash : KeepsAll o.disk first.disk second.disk) (later : o.disk.faults first.disk ≤ o.disk.faults second.disk) where
+      module _ (short : length key.1 ≤ max_size) (second : Archive D) (crash : KeepsAll o.disk first.disk second.disk) (later : o.disk.faults first.disk ≤ o.disk.faults second.disk) where
         -- the key's blob wasn't put
         pub key_not_put : (e : PutFault) → PutLeaves o.disk limits first second key (Err e) → EndsAt second.disk b.sink (put_status e)
         key_not_put e w = not_put run refl puts_some first second b.source b.sink [] [] open_far stands crash later refl given key (blob ∷ []) has refl refl short e w
@@ -93,11 +94,11 @@ module _ {D S K C R : Type 0} (o : Outside D S K C R)
           key_far = far_put run refl puts_some first second b.source b.sink [] [] open_far stands crash later refl (key ∷ []) puts
 
           -- the signed blob wasn't put
-          pub blob_not_put : length blob ≤ max_size → (e : PutFault) → PutLeaves o.disk limits second last blob (Err e) → EndsAt last.disk b.sink (put_status e)
+          pub blob_not_put : length blob.1 ≤ max_size → (e : PutFault) → PutLeaves o.disk limits second last blob (Err e) → EndsAt last.disk b.sink (put_status e)
           blob_not_put few e w = not_put run refl puts_some second last b.source b.sink (key ∷ []) [] key_far (puts.stands stands) last_crash last_later refl given blob [] has refl refl few e w
 
           -- both were put, and the line was written or not
-          pub note_put : PutsBlobs o.disk limits second (blob ∷ []) last → (k : K) (end : Status) → Writes o.sink b.sink k (ref_line (ref_of blob)) end → o.sink.faults b.sink ≤ o.sink.faults k → EndsAt last.disk k end
-          note_put more k end writes sink_later = finished run last.disk b.source (key ∷ blob ∷ [])
+          pub note_put : CanBeSigned keys.seals name (payload given) → PutsBlobs o.disk limits second (blob ∷ []) last → (k : K) (end : Status) → Writes o.sink b.sink k (ref_line blob.0) end → o.sink.faults b.sink ≤ o.sink.faults k → EndsAt last.disk k end
+          note_put can more k end writes sink_later = finished run last.disk b.source (key ∷ blob ∷ [])
               (far_put run refl puts_some second last b.source b.sink (key ∷ []) [] key_far (puts.stands stands) last_crash last_later refl (blob ∷ []) more)
-              k given (ref_line (ref_of blob)) drawn (refl, empty) refl refl refl end writes sink_later
+              k given (ref_line blob.0) drawn (refl, empty) refl (record { line = refl; can = can }) refl end writes sink_later

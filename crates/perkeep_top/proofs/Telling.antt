@@ -1,5 +1,5 @@
 -- How `salvage` ends, from what was written by then.
-use Rattle.std.proofs.Common.{ℕ, ◌≤◌, List, [], refl, subst}
+use Rattle.std.proofs.Common.{◌≡◌, inr, ℕ, ◌≤◌, List, [], refl, subst}
 use Rattle.edge_base.specs.Edge.{Rose, Took}
 use Rattle.pack_disk.specs.Packs.{Packs}
 use Rattle.pack_disk.specs.Runs.{Stays}
@@ -13,7 +13,7 @@ use Rattle.perkeep_top.proofs.Ending.{Begun, Far, Has, nothing_given, far_start,
 module _ {D S K C R : Type 0} (o : Outside D S K C R)
     (counts_now : (d : D) (t : ℕ) (c : Packs) → t ≤ o.disk.moment d → o.disk.images d c → o.disk.images_since d t c)
     (only_now : (d : D) (c : Packs) → o.disk.images_since d (o.disk.moment d) c → o.disk.images d c)
-    (b : World D S K C R) (e : D) (k : K) (stays : Stays o.disk b.disk e) (later : o.disk.faults b.disk ≤ o.disk.faults e) (sink_later : o.sink.faults b.sink ≤ o.sink.faults k) where
+    (b : World D S K C R) (e : D) (k : K) (stays : Stays o.disk b.disk e) (still : o.disk.moment e ≡ o.disk.moment b.disk) (later : o.disk.faults b.disk ≤ o.disk.faults e) (sink_later : o.sink.faults b.sink ≤ o.sink.faults k) where
   abbrev run : Begun D S K C R
   run = record { o = o; counts_now = counts_now; only_now = only_now; m = salvage_meaning; fit = refl; b = b }
 
@@ -21,7 +21,7 @@ module _ {D S K C R : Type 0} (o : Outside D S K C R)
   here = world e b.source k b.clock b.dice
 
   far : (bytes : List ℕ) → Took (o.sink.written b.sink) (o.sink.written k) bytes → Far run here [] bytes
-  far bytes took = far_told run refl b.disk e b.source b.sink k [] [] bytes (far_start run) stays later sink_later took
+  far bytes took = far_told run b.disk e b.source b.sink k [] [] bytes (inr (refl, still)) (far_start run) stays later sink_later took
 
   has : Has run b.source nothing_given
   has = record { read = (refl, refl); right = refl; drawn = (λ e. absurd (cc e), λ e. absurd (cc e)) }

@@ -1,14 +1,14 @@
 -- What a command means that asks the store of a disk, and writes its answer at the end (docs/commands.md).
-use Rattle.std.specs.Prelude.{◌≡◌, ℕ, true, false, List, [], Option, None}
+use Rattle.std.specs.Prelude.{◌≡◌, ℕ, false, List, [], Option, None}
 use Rattle.pack_disk.specs.Packs.{Packs}
 use Rattle.perkeep_top.specs.declared.status.InputFault.TheVariants.{TooBig}
 use Rattle.perkeep_top.specs.declared.status.Status.{Status}
-use Rattle.perkeep_top.specs.Frame.{Meaning, reads_nothing}
+use Rattle.perkeep_top.specs.Frame.{Meaning, opens_store, reads_nothing}
 
 -- it reads no input and puts nothing; what it writes, and when it is refused, is by the packs
 abbrev pub asking : (Option Packs → List ℕ → Type 0) → (Option Packs → Status → Type 0) → Meaning
 asking IsAnswer Refuses = record {
-  opens = true;
+  disk = opens_store;
   input = reads_nothing;
   draws_time = false;
   draws_random = false;

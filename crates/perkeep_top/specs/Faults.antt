@@ -5,8 +5,6 @@ use Rattle.edge_base.specs.declared.answers.PutFault.{PutFault}
 use Rattle.edge_base.specs.declared.answers.PutFault.TheVariants as put
 use Rattle.pack_store.specs.declared.opening.OpenFault.{OpenFault}
 use Rattle.pack_store.specs.declared.opening.OpenFault.TheVariants as opening
-use Rattle.pack_store.specs.declared.whole.PackFault.{PackFault}
-use Rattle.pack_store.specs.declared.whole.PackFault.TheVariants as pack
 use Rattle.query_read.specs.declared.fault.QueryFault.{QueryFault}
 use Rattle.query_read.specs.declared.fault.QueryFault.TheVariants as query
 use Rattle.schema_write.specs.declared.draft.DraftFault.{DraftFault}
@@ -25,10 +23,6 @@ use Rattle.perkeep_top.specs.declared.status.Status.TheVariants.{NoMemory, BadIn
 abbrev pub open_status : OpenFault → Status
 open_status opening.Disk = Disk
 open_status opening.NoMemory = NoMemory
-
-abbrev pub pack_status : PackFault → Status
-pack_status pack.Disk = Disk
-pack_status pack.NoMemory = NoMemory
 
 abbrev pub get_status : GetFault → Status
 get_status get.Disk = Disk

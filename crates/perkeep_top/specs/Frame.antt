@@ -5,6 +5,7 @@ use Rattle.schema_date.specs.Dates.{IsInRange}
 use Rattle.schema_write.specs.Laws.{AreBytes}
 use Rattle.schema_date.specs.DateTexts.{IsDateText}
 use Rattle.edge_base.specs.Edge.{Rose, Gave, GaveAll, GaveFront, Took, TookFront}
+use Rattle.edge_base.specs.Shelf.{Blob}
 use Rattle.edge_base.specs.declared.edge.Source.{Ghosts as SourceGhosts}
 use Rattle.pack_disk.specs.Packs.{Packs}
 use Rattle.pack_disk.specs.Disk.{Tells}
@@ -18,6 +19,12 @@ use Rattle.perkeep_top.specs.Limits.{limits}
 use Rattle.perkeep_top.specs.Outside.{Outside, World}
 
 -- ---- what a command means
+
+-- how it asks the disk: not at all; so that it only looks at what stands there; or as a store, which it opens, and that syncs each pack
+pub data DiskUse : Type 0 where
+  leaves_alone : DiskUse
+  only_looks : DiskUse
+  opens_store : DiskUse
 
 -- whether it reads the source, and then when: before the store is opened, or as the store stands open; and at most how many bytes
 pub data Input : Type 0 where
@@ -35,8 +42,7 @@ pub record Given : Type 0 where
   pub random : List ℕ
 
 pub record Meaning : Type 1 where
-  -- whether it asks the disk
-  pub opens : Bool
+  pub disk : DiskUse
   pub input : Input
   -- whether it asks the clock and the dice
   pub draws_time : Bool
@@ -47,20 +53,30 @@ pub record Meaning : Type 1 where
   pub too_long : ℕ → InputFault
   -- what is wrong with an input that isn't too long, if anything is
   pub wrong : List ℕ → Option InputFault
-  -- the blobs that it puts, in their order
-  pub blobs : Given → List (List ℕ)
+  -- the blobs that it puts, in their order, each with its ref
+  pub blobs : Given → List Blob
   -- what it writes, by what it is given and, where the disk tells them, the packs that it finds
   pub IsOutput : Given → Option Packs → List ℕ → Type 0
   -- whether it writes as it goes, and what it may have written where it is refused
   pub streams : Bool
   pub IsPart : Given → Option Packs → List ℕ → Type 0
   -- when it is refused for what it finds, by what it has written and put by then, and its status
-  pub Refuses : Given → Option Packs → List ℕ → List (List ℕ) → Status → Type 0
+  pub Refuses : Given → Option Packs → List ℕ → List Blob → Status → Type 0
 
--- where they are drawn, the time is one that a date can tell, and the random bytes are sixteen
-abbrev pub IsDrawn : Meaning → Given → Type 0
-IsDrawn m given = (m.draws_time ≡ true → IsInRange given.date × IsDateText given.date given.date_text)
-    × (m.draws_random ≡ true → AreBytes 16 given.random)
+-- a time that a date can tell, with its written text: the clock's, where that tells it
+pub record IsTime (told : Option ℤ) (given : Given) : Type 0 where
+  pub range : IsInRange given.date
+  pub text : IsDateText given.date given.date_text
+  pub clock : ForSome told (λ time. given.date ≡ time)
+
+-- sixteen random bytes: those of the dice, where they tell them
+pub record AreRandom (told : Option (List ℕ)) (given : Given) : Type 0 where
+  pub sixteen : AreBytes 16 given.random
+  pub dice : ForSome told (λ random. given.random ≡ random)
+
+-- what is drawn, by what the clock and the dice tell
+abbrev pub IsDrawn : Meaning → Option ℤ → Option (List ℕ) → Given → Type 0
+IsDrawn m time random given = (m.draws_time ≡ true → IsTime time given) × (m.draws_random ≡ true → AreRandom random given)
 
 -- it puts nothing
 abbrev pub IsQuiet : Meaning → Type 0
@@ -106,10 +122,12 @@ module _ {D S K C R : Type 0} (o : Outside D S K C R) (m : Meaning) (old new : W
     pub crash : KeepsAll o.disk old.disk new.disk
     pub quiet : IsQuiet m → Stays o.disk old.disk new.disk
     -- what the command doesn't ask is left alone
-    pub unopened : m.opens ≡ false → new.disk ≡ old.disk
+    pub unopened : m.disk ≡ leaves_alone → new.disk ≡ old.disk
     pub unread : m.input ≡ reads_nothing → new.source ≡ old.source
     pub untimed : m.draws_time ≡ false → new.clock ≡ old.clock
     pub undiced : m.draws_random ≡ false → new.dice ≡ old.dice
+    -- where it only looks at the disk, no moment of that passes: nothing is synced, made or added
+    pub unmoved : m.disk ≡ only_looks → o.disk.moment new.disk ≡ o.disk.moment old.disk
     -- no count of faults falls
     pub disk_later : o.disk.faults old.disk ≤ o.disk.faults new.disk
     pub source_later : o.source.faults old.source ≤ o.source.faults new.source
@@ -122,7 +140,7 @@ module _ {D S K C R : Type 0} (o : Outside D S K C R) (m : Meaning) (old new : W
     pub given : Given
     pub bytes : List ℕ
     pub fit : m.bad ≡ None
-    pub drawn : IsDrawn m given
+    pub drawn : IsDrawn m (o.clock.time old.clock) (o.dice.random old.dice) given
     pub read : ReadsAll o.source m.input old.source new.source given.input
     pub right : m.wrong given.input ≡ None
     pub output : m.IsOutput given told bytes
@@ -146,7 +164,7 @@ module _ {D S K C R : Type 0} (o : Outside D S K C R) (m : Meaning) (old new : W
     pub given : Given
     pub bytes : List ℕ
     pub fit : m.bad ≡ None
-    pub drawn : IsDrawn m given
+    pub drawn : IsDrawn m (o.clock.time old.clock) (o.dice.random old.dice) given
     pub read : ReadsSome o.source m.input old.source new.source given.input
     pub right : m.wrong given.input ≡ None
     pub written : WritesSome m.streams bytes
@@ -154,20 +172,20 @@ module _ {D S K C R : Type 0} (o : Outside D S K C R) (m : Meaning) (old new : W
     pub why : Why given bytes
 
   -- a front of the blobs was put, and no more
-  pub record PutsFront (Why : List (List ℕ) → List (List ℕ) → Type 0) (given : Given) : Type 0 where
-    pub blobs : List (List ℕ)
-    pub rest : List (List ℕ)
+  pub record PutsFront (Why : List Blob → List Blob → Type 0) (given : Given) : Type 0 where
+    pub blobs : List Blob
+    pub rest : List Blob
     pub cut : m.blobs given ≡ blobs ++ rest
     pub put : Tells told (o.disk.packs new.disk) (PutsAll limits blobs)
     pub held : HoldAll (o.disk.images new.disk) blobs
     pub why : Why blobs rest
 
   -- a refusal of that kind with a cause that the given, what was written, what was put and what is left to put give
-  abbrev pub Stops : (Given → List ℕ → List (List ℕ) → List (List ℕ) → Type 0) → Type 0
+  abbrev pub Stops : (Given → List ℕ → List Blob → List Blob → Type 0) → Type 0
   Stops Why = RefusedLate (λ given bytes. PutsFront (Why given bytes) given)
 
   -- the next blob is lacking, and there is no room for it
-  abbrev pub StopsFull : ℕ → ℕ → List (List ℕ) → Type 0
+  abbrev pub StopsFull : ℕ → ℕ → List Blob → Type 0
   StopsFull blobs pack [] = ⊥
   StopsFull blobs pack (next ∷ more) = IsAtLimit limits blobs pack × ForSome (o.disk.packs new.disk) (IsFull limits next blobs pack)
 

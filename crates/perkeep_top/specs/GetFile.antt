@@ -9,7 +9,7 @@ use Rattle.pack_store.specs.Puts.{blobs_of}
 use Rattle.perkeep_top.specs.declared.status.InputFault.TheVariants.{TooBig, NotAFile, Short, Deep}
 use Rattle.perkeep_top.specs.declared.status.Status.{Status}
 use Rattle.perkeep_top.specs.declared.status.Status.TheVariants as status
-use Rattle.perkeep_top.specs.Frame.{Meaning, reads_nothing}
+use Rattle.perkeep_top.specs.Frame.{Meaning, opens_store, reads_nothing}
 
 -- what is read of the file, over the blobs of these packs
 abbrev pub walk_of : List ℕ → Packs → Read
@@ -40,7 +40,7 @@ RefusesFile r told bytes _ = ⊥
 -- it writes as it goes
 abbrev pub get_file_meaning : List ℕ → Meaning
 get_file_meaning r = record {
-  opens = true;
+  disk = opens_store;
   input = reads_nothing;
   draws_time = false;
   draws_random = false;

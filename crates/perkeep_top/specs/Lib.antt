@@ -17,3 +17,4 @@ pub mod Query
 pub mod Salvaged
 pub mod Load
 pub mod Run
+pub mod Stored

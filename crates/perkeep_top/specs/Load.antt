@@ -3,12 +3,12 @@ use Rattle.std.specs.Prelude.{◌≡◌, ℕ, false, [], None}
 use Rattle.claim_verify.specs.Verifier.{Accepts}
 use Rattle.perkeep_lines.specs.Load.{load_text}
 use Rattle.perkeep_top.specs.declared.status.InputFault.TheVariants.{TooBig}
-use Rattle.perkeep_top.specs.Frame.{Meaning, reads_nothing}
+use Rattle.perkeep_top.specs.Frame.{Meaning, leaves_alone, reads_nothing}
 
 -- it touches no disk and reads no input
 abbrev pub load_meaning : Accepts → ℕ → ℕ → Meaning
 load_meaning accepts count start = record {
-  opens = false;
+  disk = leaves_alone;
   input = reads_nothing;
   draws_time = false;
   draws_random = false;

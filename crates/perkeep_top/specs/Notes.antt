@@ -2,6 +2,7 @@
 use Rattle.std.specs.Prelude.{◌≡◌, ◌<◌, ◌+◌, ℕ, Bool, true, false, List, [], ◌∷◌, length, Option, None, Some}
 use Rattle.blobref.specs.Blobref.{ref_of}
 use Rattle.claim_verify.specs.Verifier.{Accepts, Seals}
+use Rattle.edge_base.specs.Shelf.{Blob, named}
 use Rattle.perkeep_words.specs.declared.change.Change.{Change}
 use Rattle.perkeep_words.specs.declared.change.Change.TheVariants as change
 use Rattle.schema_fact.specs.declared.kinds.What.{What}
@@ -9,13 +10,13 @@ use Rattle.schema_fact.specs.declared.kinds.What.TheVariants.{Set, Add, Del}
 use Rattle.schema_json.specs.Facts.{key_blob}
 use Rattle.schema_write.specs.Blobs.{permanode_payload, claim_payload}
 use Rattle.schema_write.specs.Laws.{longest_schema, signature_length}
-use Rattle.perkeep_lines.specs.Notes.{sealed}
+use Rattle.perkeep_lines.specs.Notes.{sealed, CanBeSigned}
 use Rattle.perkeep_lines.specs.Outputs.{ref_line}
 use Rattle.perkeep_top.specs.declared.status.InputFault.{InputFault}
 use Rattle.perkeep_top.specs.declared.status.InputFault.TheVariants.{TooBig, NoKey, TooLong}
 use Rattle.perkeep_top.specs.declared.status.Status.{Status}
 use Rattle.perkeep_top.specs.declared.status.Status.TheVariants as status
-use Rattle.perkeep_top.specs.Frame.{Meaning, Given, reads_nothing}
+use Rattle.perkeep_top.specs.Frame.{Meaning, Given, opens_store, reads_nothing}
 
 -- what contracts know of the keys: which names are held, what they sign, and what is accepted
 pub record Keys : Type 0 where
@@ -32,21 +33,30 @@ unless_held true = None
 unless_held false = Some NoKey
 
 -- the payload would be too long once it is signed, and nothing was put
-abbrev pub RefusesNote : List ℕ → List (List ℕ) → Status → Type 0
+abbrev pub RefusesNote : List ℕ → List Blob → Status → Type 0
 RefusesNote payload gone (status.BadInput (TooLong len)) = (gone ≡ []) × (len ≡ length payload + signature_length) × (longest_schema < len)
 RefusesNote payload gone _ = ⊥
 
+-- the line of the signed blob's ref; that blob is no longer than a schema blob may be
+pub record IsNoteOutput (seals : Seals) (name payload bytes : List ℕ) : Type 0 where
+  pub line : bytes ≡ ref_line (ref_of (sealed seals name payload))
+  pub can : CanBeSigned seals name payload
+
+-- the blobs of a note: the key's, and the payload as the key signs it
+abbrev pub note_blobs : Seals → (name payload : List ℕ) → List Blob
+note_blobs seals name payload = named (key_blob name ∷ sealed seals name payload ∷ [])
+
 abbrev pub note_meaning : Keys → List ℕ → (time random : Bool) → (Given → List ℕ) → Meaning
 note_meaning keys name time random payload = record {
-  opens = true;
+  disk = opens_store;
   input = reads_nothing;
   draws_time = time;
   draws_random = random;
   bad = unless_held (keys.holds name);
   too_long = TooBig;
   wrong = λ input. None;
-  blobs = λ given. key_blob name ∷ sealed keys.seals name (payload given) ∷ [];
-  IsOutput = λ given told bytes. bytes ≡ ref_line (ref_of (sealed keys.seals name (payload given)));
+  blobs = λ given. note_blobs keys.seals name (payload given);
+  IsOutput = λ given told bytes. IsNoteOutput keys.seals name (payload given) bytes;
   streams = false;
   IsPart = λ given told bytes. bytes ≡ [];
   Refuses = λ given told bytes gone answer. RefusesNote (payload given) gone answer;

@@ -1,5 +1,5 @@
 -- What `query` means (docs/commands.md).
-use Rattle.std.specs.Prelude.{◌≡◌, ℕ, true, false, List, [], Option, Some, None, option_map}
+use Rattle.std.specs.Prelude.{◌≡◌, ℕ, false, List, [], Option, Some, None, option_map}
 use Rattle.std.specs.Option.{ForSome}
 use Rattle.claim_verify.specs.Verifier.{Accepts}
 use Rattle.edge_base.specs.Edge.{Rose}
@@ -15,7 +15,7 @@ use Rattle.perkeep_top.specs.declared.status.InputFault.{InputFault}
 use Rattle.perkeep_top.specs.declared.status.InputFault.TheVariants.{BadRef, BadDate, BadNumber, BadName, TooBig, NotAFile, Short, Deep, NoKey, TooLong, BadQuery}
 use Rattle.perkeep_top.specs.declared.status.Status.{Status}
 use Rattle.perkeep_top.specs.declared.status.Status.TheVariants as status
-use Rattle.perkeep_top.specs.Frame.{Meaning, reads_first, GaveWhole, IsTooBig}
+use Rattle.perkeep_top.specs.Frame.{Meaning, opens_store, reads_first, GaveWhole, IsTooBig}
 use Rattle.perkeep_top.specs.Search.{RefusesFacts}
 
 -- the most bytes that a query may have
@@ -39,7 +39,7 @@ pub record IsAnswerTo (accepts : Accepts) (text : List ℕ) (told : Option Packs
 
 abbrev pub query_meaning : Accepts → Meaning
 query_meaning accepts = record {
-  opens = true;
+  disk = opens_store;
   input = reads_first longest_query;
   draws_time = false;
   draws_random = false;

@@ -9,7 +9,7 @@ use Rattle.perkeep_lines.specs.Outputs.{pack_report, report}
 use Rattle.perkeep_top.specs.declared.status.InputFault.TheVariants.{TooBig}
 use Rattle.perkeep_top.specs.declared.status.Status.{Status}
 use Rattle.perkeep_top.specs.declared.status.Status.TheVariants as status
-use Rattle.perkeep_top.specs.Frame.{Meaning, reads_nothing}
+use Rattle.perkeep_top.specs.Frame.{Meaning, only_looks, reads_nothing}
 
 -- the text tells of all packs
 abbrev pub IsReport : Option Packs → List ℕ → Type 0
@@ -22,7 +22,7 @@ IsReportFront told text = (rest : List ℕ) × IsReport told (text ++ rest)
 -- it writes as it goes, and the disk or memory may fail in the midst of it
 abbrev pub salvage_meaning : Meaning
 salvage_meaning = record {
-  opens = true;
+  disk = only_looks;
   input = reads_nothing;
   draws_time = false;
   draws_random = false;

@@ -11,7 +11,7 @@ use Rattle.perkeep_top.specs.declared.status.InputFault.TheVariants.{TooBig}
 use Rattle.perkeep_top.specs.declared.status.Status.{Status}
 use Rattle.perkeep_top.specs.declared.status.Status.TheVariants as status
 use Rattle.perkeep_top.specs.Asking.{asking}
-use Rattle.perkeep_top.specs.Frame.{Meaning, reads_first}
+use Rattle.perkeep_top.specs.Frame.{Meaning, leaves_alone, reads_first}
 
 -- ---- over a store
 
@@ -36,7 +36,7 @@ longest_pack = 1073741824
 
 abbrev pub search_pack_meaning : Accepts → (attr value : List ℕ) → Meaning
 search_pack_meaning accepts attr value = record {
-  opens = false;
+  disk = leaves_alone;
   input = reads_first longest_pack;
   draws_time = false;
   draws_random = false;

@@ -36,8 +36,9 @@ use std::alloc::Global;
 /// command meets, a write that failed. After `BadWords`, and where a text is wrong or a key isn't held, nothing was
 /// touched. After a refusal of the command a front of the blobs that it puts was put, and nothing else; what it writes
 /// as it goes is a front of its output. What it doesn't ask for, the source, the disk, the clock or the dice, is left
-/// alone. `NoMemory` comes only where no memory is left, and may come at any time. Whatever is answered, a crash at
-/// any moment leaves what holds every ref that each image held before.
+/// alone, and where it only looks at the disk, no moment of that passes. `NoMemory` comes only where no memory is
+/// left, and may come at any time. Whatever is answered, a crash at any moment leaves what holds every ref that each
+/// image held before.
 pub fn run<D: Disk, V: Signer, S: Source, K: Sink, C: Clock, R: Dice>(
     alloc: Global,
     words: &[Text],

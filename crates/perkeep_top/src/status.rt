@@ -6,7 +6,7 @@ use blobref::{NoMemory, Ref};
 use edge_base::{GetFault, PutFault};
 use file_cut::{CutFault, LONGEST_FILE};
 use file_tree::FileFault;
-use pack_store::{OpenFault, PackFault};
+use pack_store::OpenFault;
 use perkeep_words::TextFault;
 use query_read::QueryFault;
 use schema_write::DraftFault;
@@ -125,19 +125,6 @@ impl From<OpenFault> for Status {
         match fault {
             OpenFault::Disk => Status::Disk,
             OpenFault::NoMemory => Status::NoMemory,
-        }
-    }
-}
-
-impl From<PackFault> for Status {
-    ghost use Rattle.perkeep_top.specs.Faults.{pack_status};
-
-    ghost from_gives = { λ fault status. status ≡ pack_status fault };
-
-    fn from(fault: PackFault) -> Status {
-        match fault {
-            PackFault::Disk => Status::Disk,
-            PackFault::NoMemory => Status::NoMemory,
         }
     }
 }

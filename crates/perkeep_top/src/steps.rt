@@ -59,7 +59,7 @@ pub(crate) fn opened<D: Disk>(alloc: Global, disk: D) -> Result<Store<D>, (D, St
     }
 }
 
-/// Puts a blob under its own ref, which is given.
+/// Puts a blob under the ref that `Ref::of` gives it, which the caller has computed.
 pub(crate) fn put_blob<D: Disk>(
     store: &mut Store<D>,
     r: &Ref,
@@ -67,7 +67,7 @@ pub(crate) fn put_blob<D: Disk>(
 ) -> Result<Put, PutFault>
     requires own { r.now ≡ ref_of bytes.now }
     requires small { length bytes.now ≤ max_size }
-    ensures leaves { PutLeaves D.Disk limits store.old store.new bytes.now result }
+    ensures leaves { PutLeaves D.Disk limits store.old store.new (r.now, bytes.now) result }
     ensures keeps { KeepsAll D.Disk store.old.disk store.new.disk }
     ensures later { D.faults store.old.disk ≤ D.faults store.new.disk }
 {

@@ -15,7 +15,8 @@ use pack_store::scan_pack;
 use perkeep_lines::report_of;
 use std::alloc::Global;
 
-/// Writes what each pack of the disk holds, pack by pack. Nothing is made, added or synced.
+/// Writes what each pack of the disk holds, pack by pack. Nothing is made, added or synced: no moment of the disk
+/// passes.
 pub(crate) fn salvage<D: Disk, S: Source, K: Sink, C: Clock, R: Dice>(
     alloc: Global,
     mut disk: D,
@@ -41,6 +42,7 @@ fn tell_packs<D: Disk, K: Sink>(alloc: Global, disk: &mut D, sink: &mut K) -> Re
     ensures comes { IfErr result (ComesWhileTelling (Rose (K.faults sink.old) (K.faults sink.new))
         (Rose (D.faults disk.old) (D.faults disk.new))) }
     ensures stays { Stays D.Disk disk.old disk.new }
+    ensures still { D.moment disk.new ≡ D.moment disk.old }
     ensures disk_later { D.faults disk.old ≤ D.faults disk.new }
     ensures sink_later { K.faults sink.old ≤ K.faults sink.new }
 {
@@ -75,6 +77,7 @@ fn tell_pack<D: Disk, K: Sink>(
     ensures comes { IfErr result (ComesWhileTelling (Rose (K.faults sink.old) (K.faults sink.new))
         (Rose (D.faults disk.old) (D.faults disk.new))) }
     ensures stays { Stays D.Disk disk.old disk.new }
+    ensures still { D.moment disk.new ≡ D.moment disk.old }
     ensures disk_later { D.faults disk.old ≤ D.faults disk.new }
     ensures sink_later { K.faults sink.old ≤ K.faults sink.new }
 {

@@ -17,6 +17,7 @@ returns g c =
       blob = c.in_ok-blob.ensures.exact ∙ is;
       named = named;
       lined = c.in_ok-line.ensures ∙ ap ref_line named;
+      can = record { sig = c.sealed_by-sig.result; made = c.sealed_by-sig.ensures.sig; bytes = c.sealed_by-sig.ensures.bytes; within = c.requires.short };
       key_short = key_short c.args.name.now (subst (λ (n : List ℕ). is_key_name n ≡ true) c.bytes-name.ensures.text c.bytes-name.ensures.form);
       blob_short = subst (λ (b : List ℕ). length b ≤ max_size) is (signed_short c.args.payload.now c.sealed_by-sig.result c.sealed_by-sig.ensures.bytes c.requires.short);
     }

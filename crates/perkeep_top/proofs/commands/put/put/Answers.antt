@@ -1,5 +1,6 @@
 use Rattle.std.proofs.Common.{◌∙◌, [], ◌∷◌, List, ℕ, Err, ap, refl, subst}
 use Rattle.blobref.specs.Blobref.{ref_of}
+use Rattle.edge_base.specs.Shelf.{Blob, named}
 use Rattle.pack_format.specs.Header.{max_size}
 use Rattle.pack_store.specs.Puts.{PutsBlobs, PutLeaves}
 use Rattle.perkeep_lines.specs.Outputs.{ref_line}
@@ -7,7 +8,7 @@ use Rattle.perkeep_top.specs.Limits.{limits}
 use Rattle.perkeep_top.specs.Outside.{outside, world}
 use Rattle.perkeep_top.specs.Put.{put_meaning}
 use Rattle.perkeep_top.specs.Steps.{NeverRefuses}
-use Rattle.perkeep_top.proofs.Ending.{begun, given_input, far_read, far_asked, far_put, not_put, refused, early_memory, unread_first, finished}
+use Rattle.perkeep_top.proofs.Ending.{begun, under_ref, given_input, far_read, far_asked, far_put, not_put, refused, early_memory, unread_first, finished}
 use Rattle.perkeep_top.proofs.commands.put.put.Goals as goal
 
 pub returns-in-Err : goal.returns-in-Err
@@ -33,7 +34,8 @@ returns-in-Ok-put_blob g c =
     let read = far_read run c.read_input.new.source (λ e. absurd (cc e)) c.in-Ok.ensures.later in
     let so = far_asked run refl c.args.disk c.in-Ok-opened.store.disk c.read_input.new.source read c.in-Ok-opened.ensures.stays c.in-Ok-opened.ensures.later in
     let done = far_put run refl (λ q. cc (q (given_input []))) c.in-Ok-opened.store c.put_blob.new.store c.read_input.new.source c.args.sink.now [] [] so c.in-Ok-opened.ensures.stands c.in-Ok-put_blob.ensures.keeps c.in-Ok-put_blob.ensures.later refl
-    (c.in-Ok.bytes.items ∷ []) (subst (λ (x : List ℕ). PutsBlobs g.D.Disk limits c.in-Ok-opened.store (x ∷ []) c.put_blob.new.store) c.deref-2.ensures.value c.in-Ok-put_blob.ensures.leaves) in
+    (named (c.in-Ok.bytes.items ∷ [])) (subst (λ (x : Blob). PutsBlobs g.D.Disk limits c.in-Ok-opened.store (x ∷ []) c.put_blob.new.store)
+    (under_ref c.deref-2.ensures.value (c.of-r.ensures ∙ ap ref_of c.deref.ensures.value)) c.in-Ok-put_blob.ensures.leaves) in
     rw c.give_back.ensures (
     finished run c.put_blob.new.store.disk c.read_input.new.source _ done c.written.new.sink (given_input c.in-Ok.bytes.items) c.as_slice.result.now
     (λ e. absurd (cc e), λ e. absurd (cc e)) c.in-Ok.ensures.read refl (c.as_slice.ensures ∙ c.in-Ok-ref_line.ensures ∙ ap ref_line c.of-r.ensures ∙ ap (λ (x : List ℕ). ref_line (ref_of x)) c.deref.ensures.value) refl c.written.result c.written.ensures.wrote c.written.ensures.later)
@@ -45,5 +47,6 @@ returns g c =
     let so = far_asked run refl c.args.disk c.in-Ok-opened.store.disk c.read_input.new.source read c.in-Ok-opened.ensures.stays c.in-Ok-opened.ensures.later in
     rw (c.give_back-in-Err-put_blob.ensures, c.from.ensures) (
     not_put run refl (λ q. cc (q (given_input []))) c.in-Ok-opened.store c.put_blob.new.store c.read_input.new.source c.args.sink.now [] [] so c.in-Ok-opened.ensures.stands c.in-Err-put_blob.ensures.keeps c.in-Err-put_blob.ensures.later refl
-    (given_input c.in-Ok.bytes.items) c.in-Ok.bytes.items [] (record { read = c.in-Ok.ensures.read; right = refl; drawn = (λ e. absurd (cc e), λ e. absurd (cc e)) }) refl refl c.in-Ok.ensures.read.0 c.in-Err-put_blob.fault
-    (subst (λ (x : List ℕ). PutLeaves g.D.Disk limits c.in-Ok-opened.store c.put_blob.new.store x (Err c.in-Err-put_blob.fault)) c.deref-2.ensures.value c.in-Err-put_blob.ensures.leaves))
+    (given_input c.in-Ok.bytes.items) (ref_of c.in-Ok.bytes.items, c.in-Ok.bytes.items) [] (record { read = c.in-Ok.ensures.read; right = refl; drawn = (λ e. absurd (cc e), λ e. absurd (cc e)) }) refl refl c.in-Ok.ensures.read.0 c.in-Err-put_blob.fault
+    (subst (λ (x : Blob). PutLeaves g.D.Disk limits c.in-Ok-opened.store c.put_blob.new.store x (Err c.in-Err-put_blob.fault))
+    (under_ref c.deref-2.ensures.value (c.of-r.ensures ∙ ap ref_of c.deref.ensures.value)) c.in-Err-put_blob.ensures.leaves))

@@ -1,4 +1,4 @@
-use Rattle.std.proofs.Common.{◌≡◌, ◌∙◌, sym, subst, arith, Some}
+use Rattle.std.proofs.Common.{◌≡◌, ◌∙◌, refl, sym, subst, arith, Some}
 use Rattle.std.specs.Option.{ForSome}
 use Rattle.pack_disk.specs.Packs.{least_from}
 use Rattle.pack_store.proofs.Moments.{stays_itself, stays_by_call, stays_then}
@@ -15,6 +15,7 @@ packs-init g c =
       wrote = first_below (disk.packs c.args.disk.now) (g.K.Sink.written c.args.sink.now);
       cut = first_cut (disk.packs c.args.disk.now);
       stays = stays_itself disk g.met.D.Disk.counts_now g.met.D.Disk.only_now c.args.disk.now;
+      still = refl;
       disk_later = omega arith;
       sink_later = omega arith;
     }
@@ -51,6 +52,7 @@ packs-preserved g c =
           (subst (λ o. Writes (IsPackReport c.in-Some.pack o) (g.K.Sink.written c.packs.sink) (g.K.Sink.written c.tell_pack.new.sink)) (c.packs-in-packs.ensures.told ∙ c.packs.invariant.stays.told) c.in_default-tell_pack.ensures.done);
       cut = cut_more told c.packs.next c.in-Some.pack least c.packs.invariant.cut;
       stays = stays_then disk g.met.D.Disk.counts_now g.met.D.Disk.only_now c.args.disk.now c.packs.disk c.tell_pack.new.disk c.packs.invariant.stays more;
+      still = c.tell_pack.ensures.still ∙ c.packs-in-packs.ensures.still ∙ c.packs.invariant.still;
       disk_later = omega (arith, c.packs.invariant.disk_later, c.packs-in-packs.ensures.cause.later, c.tell_pack.ensures.disk_later);
       sink_later = omega (arith, c.packs.invariant.sink_later, c.tell_pack.ensures.sink_later);
     }

@@ -1,0 +1,17 @@
+//! Laws of runs.
+ghost use Rattle.perkeep_top.specs.Notes.{keys_of};
+ghost use Rattle.perkeep_top.specs.Outside.{outside};
+ghost use Rattle.perkeep_top.specs.Stored.{StoredNotesCount};
+
+use claim_verify::Signer;
+use edge_base::{Clock, Dice, Sink, Source};
+use pack_disk::Disk;
+
+/// The law that what `permanode`, `claim` and `delete` stored counts (`docs/claims.md`). Where `run` ended with `Done`,
+/// the key's blob and the signed one were put; the latter's fact is the permanode, or the claim of that date which says
+/// what was asked; and the keys accept its signature. So it is genuine among any blobs of which both are, a deletion
+/// once its target is ready. It follows from the clause of `run`.
+pub fn stored_notes_count<D: Disk, V: Signer, S: Source, K: Sink, C: Clock, R: Dice>(_keys: &V)
+    ensures { StoredNotesCount (outside D.Disk S.Source K.Sink C.Clock R.Dice)
+        (keys_of (V.holds _keys.now) (V.seals _keys.now) (V.accepts _keys.now)) }
+{}
