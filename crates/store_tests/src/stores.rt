@@ -3,7 +3,7 @@ ghost use Rattle.pack_store.specs.Archive.{AreLimits};
 
 use crate::disks::{holds, synced};
 use crate::edges::failing;
-use crate::names::{ABC, EMPTY, named};
+use crate::names::{ABC, EMPTY, OLDER_ABC, OLDER_EMPTY, named};
 use blobref::{NoMemory, Ref, RefList};
 use edge_base::{CallList, Put, PutFault};
 use pack_disk::MemDisk;
@@ -39,6 +39,14 @@ const ABC_AND_MORE: &[u8] =
 // Both records, that of `abc` first.
 const BOTH_RECORDS: &[u8] =
     b"[sha224-23097d223405d8228642a477bda255b32aadbce4bda0b3f7e36c9da7 3]abc[sha224-d14a028c2a3a2bc9476102bb288234c415a2b01f828ea62ac5b3e42f 0]";
+
+// `abc` under the name that older stores give it, and then under the other one.
+const UNDER_BOTH_NAMES: &[u8] =
+    b"[sha1-a9993e364706816aba3e25717850c26c9cd0d89d 3]abc[sha224-23097d223405d8228642a477bda255b32aadbce4bda0b3f7e36c9da7 3]abc";
+
+// The first of these with another byte.
+const OTHER_BYTES: &[u8] =
+    b"[sha1-a9993e364706816aba3e25717850c26c9cd0d89d 3]abd[sha224-23097d223405d8228642a477bda255b32aadbce4bda0b3f7e36c9da7 3]abc";
 
 // The record of no bytes.
 const EMPTY_RECORD: &[u8] = b"[sha224-d14a028c2a3a2bc9476102bb288234c415a2b01f828ea62ac5b3e42f 0]";
@@ -122,6 +130,31 @@ fn false_refs_are_refused(rt: HostRuntime) -> Result<(), Fail> {
     };
     let puts = [(EMPTY, b"abc".as_slice(), Err(refused))];
     assert!(rt; leaves(alloc, disk, WIDE, &puts, 0, [None, None])?);
+    Ok(())
+}
+
+// `abc` is stored under either name, once under each. What is refused carries the ref of the bytes under the digest that
+// was said.
+#[test]
+fn both_names_of_a_blob(rt: HostRuntime) -> Result<(), Fail> {
+    let alloc = rt.alloc();
+    let disk = MemDisk::empty(alloc, CallList::empty(alloc), u64::MAX);
+    let refused = PutFault::BadDigest {
+        said: named(OLDER_ABC),
+        is: named(OLDER_EMPTY),
+    };
+    let puts = [
+        (OLDER_ABC, b"".as_slice(), Err(refused)),
+        (OLDER_ABC, b"abc".as_slice(), Ok(Put::Stored { number: 0 })),
+        (ABC, b"abc".as_slice(), Ok(Put::Stored { number: 1 })),
+        (OLDER_ABC, b"abc".as_slice(), Ok(Put::Already { number: 0 })),
+    ];
+    let packs = [Some(UNDER_BOTH_NAMES), None];
+    assert!(rt; leaves(alloc, disk, WIDE, &puts, 0, packs)?);
+    let mut store = opened(alloc, synced(alloc, 0, UNDER_BOTH_NAMES)?, WIDE)?;
+    let read = reads(&mut store, &named(OLDER_ABC), b"abc");
+    let both = [(named(OLDER_ABC), 3), (named(ABC), 3)];
+    assert!(rt; read && lists(&store, None, 9, &both));
     Ok(())
 }
 
@@ -233,20 +266,20 @@ fn abc_is_stored(store: &mut Store<MemDisk>) -> bool {
         && store.stat(&empty) == None
 }
 
+// Whether these are the refs behind one, or from the first on, so many at most, with the sizes of their blobs.
+fn lists(store: &Store<MemDisk>, after: Option<&Ref>, limit: usize, want: &[(Ref, u64)]) -> bool {
+    match store.list(after, limit) {
+        Ok(listing) => listing.as_slice() == want,
+        Err(_) => false,
+    }
+}
+
 // Whether both are listed. The ref of `abc` is the lesser one.
 fn both_are_listed(store: &Store<MemDisk>) -> bool {
     let (empty, abc) = (named(EMPTY), named(ABC));
-    for (after, limit, want) in [
-        (None, 9, [(abc, 3), (empty, 0)].as_slice()),
-        (None, 1, [(abc, 3)].as_slice()),
-        (Some(&abc), 9, [(empty, 0)].as_slice()),
-    ] {
-        match store.list(after, limit) {
-            Ok(listing) if listing.as_slice() == want => {}
-            _ => return false,
-        }
-    }
-    true
+    lists(store, None, 9, &[(abc, 3), (empty, 0)])
+        && lists(store, None, 1, &[(abc, 3)])
+        && lists(store, Some(&abc), 9, &[(empty, 0)])
 }
 
 #[test]
@@ -266,19 +299,32 @@ fn blobs_are_put_and_read(rt: HostRuntime) -> Result<(), Fail> {
     Ok(())
 }
 
-// A scan finds `abc`, and one byte behind it that belongs to nothing.
+// Whether a scan of a pack with these bytes finds so, and tells so whether it is clean.
+fn scans(alloc: Global, bytes: &[u8], found: &[Found], clean: Clean) -> Result<bool, Fail> {
+    let mut disk = synced(alloc, 0, bytes)?;
+    let scan = scan_pack(alloc, &mut disk, 0)?;
+    Ok(scan.found.as_slice() == found && scan.clean == clean && scan.size == bytes.len() as u64)
+}
+
+// `abc` as it is found under a ref, from a place on.
+fn abc_at(name: &str, at: u64) -> Found {
+    Found {
+        r: named(name),
+        at,
+        size: 3,
+    }
+}
+
+// A scan finds each record, and the first byte that belongs to nothing.
 #[test]
 fn packs_are_scanned(rt: HostRuntime) -> Result<(), Fail> {
     let alloc = rt.alloc();
-    let mut disk = synced(alloc, 0, ABC_AND_MORE)?;
-    let scan = scan_pack(alloc, &mut disk, 0)?;
-    let found = Found {
-        r: named(ABC),
-        at: 67,
-        size: 3,
-    };
-    assert!(rt; scan.found.as_slice() == [found].as_slice());
-    assert!(rt; scan.clean == Clean::No { at: 70 } && scan.size == 71);
+    let one = [abc_at(ABC, 67)];
+    assert!(rt; scans(alloc, ABC_AND_MORE, &one, Clean::No { at: 70 })?);
+    let both = [abc_at(OLDER_ABC, 49), abc_at(ABC, 119)];
+    assert!(rt; scans(alloc, UNDER_BOTH_NAMES, &both, Clean::Yes)?);
+    let second = [abc_at(ABC, 119)];
+    assert!(rt; scans(alloc, OTHER_BYTES, &second, Clean::No { at: 0 })?);
     Ok(())
 }
 
