@@ -6,13 +6,13 @@ What a permanode has once all blobs came is written down beside them, and the re
 """
 
 import itertools
-from typing import NamedTuple
+from typing import Callable, NamedTuple
 
 import reference
 import writing
 from harness import compare, compare_ending, main
 from inputs import CLAIM, DELETE, KEY, NODE, OTHER_SECRET, changed, day
-from reference import ref_of
+from reference import older_ref_of, ref_of
 from writing import claim, delete, key_blob, keyring_line, pack, permanode, permanode_payload, signed
 
 KEYRING = keyring_line() + keyring_line("other", OTHER_SECRET)
@@ -26,12 +26,14 @@ WAYS = ("one by one", "all at once")
 
 
 class Row(NamedTuple):
-    """Blobs that come in every order, a permanode among them, and the tags that it then has at some moments."""
+    """Blobs that come in every order, a permanode among them, the tags that it then has at some moments, and by what the
+    blobs are named."""
 
     what: str
     node: bytes
     blobs: tuple
     tags: dict
+    name_of: Callable = ref_of
 
 
 # Blobs
@@ -102,21 +104,50 @@ def permanodes():
     ]
 
 
+# What is claimed under older names. OTHER_NODE names the permanode by its other name, and OTHER_SIGNER its key.
+OLDER_KEY = older_ref_of(KEY)
+OLDER_NODE = permanode(signer=OLDER_KEY)
+OLDER_CLAIM = claim("set", older_ref_of(OLDER_NODE), "tag", "a", day(1), OLDER_KEY)
+OLDER_DELETE = delete(older_ref_of(OLDER_CLAIM), day(2), OLDER_KEY)
+OLDER_UNDELETE = delete(older_ref_of(OLDER_DELETE), day(3), OLDER_KEY)
+OTHER_NODE = claim("add", ref_of(OLDER_NODE), "tag", "x", day(1), OLDER_KEY)
+OTHER_SIGNER = claim("add", older_ref_of(OLDER_NODE), "tag", "y", day(1))
+# The permanode and the claim have their older names, the key and the deletion don't.
+MIXED_CLAIM = claim("set", older_ref_of(NODE), "tag", "a", day(1))
+MIXED_DELETE = delete(older_ref_of(MIXED_CLAIM), day(2))
+
+
+def mixed_names(blob):
+    return older_ref_of(blob) if blob in (NODE, MIXED_CLAIM) else ref_of(blob)
+
+
+def older_names():
+    """Blobs under the refs of older stores."""
+    front = (KEY, OLDER_NODE, OLDER_CLAIM)
+    tags = {MOMENTS[0]: "", day(1, NOON): "a", day(2, NOON): "", day(3, NOON): "a", ALWAYS: "a"}
+    gone, held = {day(1, NOON): "a", day(2, NOON): "", ALWAYS: ""}, {MOMENTS[0]: "", ALWAYS: "a"}
+    return [
+        Row("older names", OLDER_NODE, (*front, OLDER_DELETE, OLDER_UNDELETE), tags, older_ref_of),
+        Row("both names", NODE, (KEY, NODE, MIXED_CLAIM, MIXED_DELETE), gone, mixed_names),
+        Row("claims by other names", OLDER_NODE, (*front, OTHER_NODE, OTHER_SIGNER), held, older_ref_of),
+    ]
+
+
 # What has to be told
 
-def archive_of(blobs):
-    return reference.Archive({ref_of(blob): blob for blob in blobs}, reference.read_keyring(KEYRING))
+def archive_of(blobs, name_of):
+    return reference.Archive({name_of(blob): blob for blob in blobs}, reference.read_keyring(KEYRING))
 
 
 def moment_of(text):
     return reference.ALWAYS if text == ALWAYS else reference.moment_of(text)
 
 
-def told(blobs, came, moment, tag):
+def told(row, came, moment, tag):
     """What an index tells once some of the blobs came: its first permanode; for each one, in the order of the pack, the
     tags at a moment; and who holds a tag by claims of every date."""
-    archive = archive_of(came)
-    refs = [ref for ref in map(ref_of, blobs) if archive.is_permanode(ref)]
+    archive = archive_of(came, row.name_of)
+    refs = [ref for ref in map(row.name_of, row.blobs) if archive.is_permanode(ref)]
     words = [("first", ref) for ref in sorted(refs)[:1]]
     for ref in refs:
         words += [("permanode", ref), *(("value", value) for value in archive.values(ref, "tag", moment_of(moment)))]
@@ -126,7 +157,7 @@ def told(blobs, came, moment, tag):
 
 def is_written(row):
     """The reference tells what is written down in a row."""
-    archive, ref = archive_of(row.blobs), ref_of(row.node)
+    archive, ref = archive_of(row.blobs, row.name_of), row.name_of(row.node)
     for when, tags in row.tags.items():
         values = archive.values(ref, "tag", moment_of(when))
         compare(f"{row.what}, at {when}", "tags by the reference", list(tags), values)
@@ -146,7 +177,7 @@ def parts_of(blobs):
 
 
 def is_there(came, is_permanode, is_held):
-    archive, ref = archive_of(came), ref_of(NODE)
+    archive, ref = archive_of(came, ref_of), ref_of(NODE)
     compare(f"{len(came)} blobs of three", "whether the permanode is there", is_permanode, archive.is_permanode(ref))
     compare(f"{len(came)} blobs of three", "who holds the tag", [ref] * is_held, archive.holders("tag", "a"))
 
@@ -162,13 +193,13 @@ def orders_of(blobs):
 def comes_in_any_order(program, row, moment, tag):
     what, orders = f"{row.what}, at {moment}, the tag {tag}", orders_of(row.blobs)
     words = ["orders", KEYRING, "tag", tag, moment, *orders]
-    status, out, err = program.run(what, words, pack(*row.blobs))
+    status, out, err = program.run(what, words, pack(*row.blobs, name_of=row.name_of))
     compare_ending(what, 0, status, err)
     blob_of = dict(zip(LETTERS, row.blobs))
     expected = {}
     for part in map(frozenset, orders):
         if part not in expected:
-            expected[part] = told(row.blobs, [blob_of[letter] for letter in part], moment, tag)
+            expected[part] = told(row, [blob_of[letter] for letter in part], moment, tag)
     lines = out.decode().splitlines()
     compare(what, "how many lines are told", len(WAYS) * len(orders), len(lines))
     for (order, way), line in zip(itertools.product(orders, WAYS), lines):
@@ -187,4 +218,4 @@ def checks_of(program, group):
 
 
 if __name__ == "__main__":
-    main("arrivals.sh", [parts, deletions, changes, permanodes], checks_of=checks_of)
+    main("arrivals.sh", [parts, deletions, changes, permanodes, older_names], checks_of=checks_of)

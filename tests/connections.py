@@ -14,7 +14,7 @@ from typing import NamedTuple, Optional
 
 import queries
 import reference
-from reference import is_ref, ref_of
+from reference import is_ref, ref_like
 
 # docs/http.md, "Heads of replies"
 PHRASES = {
@@ -559,8 +559,8 @@ class Connection:
             raise fault
 
     def put(self, ref, content):
-        if ref != ref_of(content):
-            raise bad("digest", said=ref, **{"is": ref_of(content)})
+        if ref != ref_like(ref, content):
+            raise bad("digest", said=ref, **{"is": ref_like(ref, content)})
         if ref not in self.blobs:
             self.blobs[ref] = content
             self.archive = None

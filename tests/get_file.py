@@ -11,11 +11,12 @@ import harness
 import inputs
 import reference
 from harness import chance, check, compare, compare_ending, finish, limited_to, with_streams
-from reference import ref_of
+from older import OLDER_ABC
+from reference import older_ref_of, ref_of
 from refused_alike import bad_folders, bad_keyrings, bad_packs, ends_first, leaves, locked, refused_lines
 from stores import ABC, EMPTY, NOWHERE, Store, look
 from store_refusals import BAD_REFS
-from writing import bytes_blob, directory, file_blob, pack, part, permanode, static_set
+from writing import Names, bytes_blob, directory, file_blob, pack, part, permanode, static_set
 
 DIGITS = b"0123456789"
 DIGITS_REF = ref_of(DIGITS)
@@ -31,14 +32,15 @@ def lines_of(folder):
 class Made:
     """Blobs of a file, the ref of the file, the bytes that come out of it, and the exit status."""
 
-    def __init__(self, what, blobs, out, status=0, ref=None):
+    def __init__(self, what, blobs, out, status=0, ref=None, name_of=ref_of):
         self.what, self.blobs, self.out, self.status = what, list(blobs), out, status
-        self.ref = ref or ref_of(self.blobs[-1])
+        self.ref, self.name_of = ref or name_of(self.blobs[-1]), name_of
 
     def check(self, program):
         """The file's blobs stand one by one in three packs, the file's own in the first."""
-        packs = {0: pack(*self.blobs[::-1][::3]), 1: pack(*self.blobs[1::3]) + b"[torn", 4: pack(*self.blobs)}
-        store = Store(program, packs)
+        parts = self.blobs[::-1][::3], self.blobs[1::3], self.blobs
+        first, second, last = (pack(*some, name_of=self.name_of) for some in parts)
+        store = Store(program, {0: first, 1: second + b"[torn", 4: last})
         compare(self.what, "the reference", (self.out, self.status), reference.read_file(store.blobs(), self.ref))
         store.reads(self.what, "get-file", self.ref, out=self.out, status=self.status)
 
@@ -161,6 +163,27 @@ def nested(levels, inner, size=3, kind=bytes_blob):
 
 
 @group
+def older():
+    """Files whose blobs have their older names, of which some parts name them by the other one."""
+    abc, tree = part(3, OLDER_ABC), bytes_blob([part(2, older_ref_of(DIGITS), offset=4)])
+    of_tree = part(2, older_ref_of(tree), "bytesRef")
+    for what, its_parts, out, status in [
+        ("a blob", [abc], b"abc", 0),
+        ("a tree", [abc, of_tree, part(1)], b"abc45\0", 0),
+        ("a blob by its other name", [abc, part(3, ABC)], b"abc", 3),
+        ("a tree by its other name", [abc, part(2, ref_of(tree), "bytesRef")], b"abc", 3),
+        ("no bytes of a blob by its other name", [abc, part(0, ABC), of_tree], b"abc45", 0),
+        ("more bytes than there are", [abc, part(4, OLDER_ABC)], b"abc", 4),
+        ("a blob as a tree", [abc, part(3, OLDER_ABC, "bytesRef")], b"abc", 4),
+    ]:
+        blobs = [DIGITS, b"abc", tree, file_blob("n", its_parts)]
+        yield Made(f"an older file of {what}", blobs, out, status, name_of=older_ref_of)
+    top = file_blob("n", [abc])
+    yield Made("an older file by its other name", [b"abc", top], b"", 3, ref_of(top), older_ref_of)
+    yield Made("a file of an older blob by its other name", [b"abc", top], b"", 3)
+
+
+@group
 def depth():
     """Trees that nest as deep as they may, and one more."""
     abc = part(3, ABC)
@@ -272,24 +295,27 @@ FILES = 120
 
 @group
 def random_files():
-    """Files of random trees, in which some parts can't be read."""
+    """Files of random trees, half of whose blobs have their older names, and in which some parts can't be read."""
     for number in range(FILES):
         random = chance("files", number)
-        blobs = {ref_of(blob): blob for blob in (DIGITS, b"abc", b"", random.randbytes(70_000))}
+        names = Names(random)
+        blobs = {names(blob): blob for blob in (DIGITS, b"abc", b"", random.randbytes(70_000))}
         leaves, known = list(blobs), []
         bad = random.choice((0, 0, 0.05))
         for _ in range(random.randrange(1, 12)):
             kind = random.choice((bytes_blob, bytes_blob, lambda its_parts: file_blob("t", its_parts)))
             blob = random_tree(random, blobs, leaves, known, bad, kind)
-            blobs[ref_of(blob)] = blob
-            known.append((ref_of(blob), reference.size_of(reference.fact_of(blob).parts)))
+            blobs[names(blob)] = blob
+            known.append((names(blob), reference.size_of(reference.fact_of(blob).parts)))
         top = random_tree(random, blobs, leaves, known, bad, lambda its_parts: file_blob("n", its_parts))
-        blobs[ref_of(top)] = top
-        out, status = reference.read_file(blobs, ref_of(top))
-        yield Made(f"random file {number}", [*blobs.values()], out, status, ref_of(top))
+        blobs[names(top)] = top
+        out, status = reference.read_file(blobs, names(top))
+        yield Made(f"random file {number}", [*blobs.values()], out, status, names(top), names)
 
 
+# Whatever the names of a file's blobs are, one of each pair is of what isn't there.
 BAD_PARTS = [part(3, NOWHERE), part(2, NOWHERE, "bytesRef"), digits(3, 8), part(1, ABC, "bytesRef")]
+BAD_PARTS += [part(3, older_ref_of(DIGITS), offset=8), part(1, OLDER_ABC, "bytesRef")]
 
 
 def random_tree(random, blobs, leaves, known, bad, kind):
@@ -489,7 +515,8 @@ def reads_no_source(program):
     check("standard input is closed: other bytes", out.read_bytes() == DIGITS)
 
 
-GROUPS = [parts, forms, trees, depth, absent, unasked, short, no_files, random_files, words, texts, keyrings, folders]
+GROUPS = [parts, forms, trees, older, depth, absent, unasked, short, no_files, random_files, words, texts, keyrings]
+GROUPS += [folders]
 
 if __name__ == "__main__":
     harness.main("get_file.sh", GROUPS, [long_files, streams])

@@ -9,20 +9,25 @@ from typing import Callable, NamedTuple, Optional
 
 import connections
 import inputs
+import older
 import reference
 import writing
 from connections import LISTING, LONGEST_BODY, LONGEST_HEAD, QUERY, STAT, UPLOAD
 from inputs import ABSENT, CLAIM, KEY, NODE
 from query_inputs import spell
-from reference import ref_of
+from reference import older_ref_of, ref_of
 from writing import octets, pack
 
 ABC, EMPTY = ref_of(b"abc"), ref_of(b"")
-# Stores by their names, as packs under the keyring of query_inputs.py.
+OLDER_ABC, OLDER_EMPTY = older_ref_of(b"abc"), older_ref_of(b"")
+# Every other one stands under its older name.
 MANY = [b"%d" % number for number in range(1_003)]
+MANY_REFS = sorted((older_ref_of if number % 2 else ref_of)(blob) for number, blob in enumerate(MANY))
+# Stores by their names, as packs under the keyring of query_inputs.py.
 STORES = {
     "small": pack(*inputs.EXAMPLE_BLOBS, b"abc", b"", b"\r\n\r\nGET / HTTP/1.1\r\n\r\n"),
-    "many": pack(*MANY),
+    "many": pack(*MANY[::2]) + pack(*MANY[1::2], name_of=older_ref_of),
+    "older": older.PACK + pack(b"", name_of=older_ref_of) + pack(b"abc"),
     "empty": b"",
 }
 
@@ -104,16 +109,16 @@ def part(name, content, *headers, blanks=b"", end=b"\r\n", boundary=b"b"):
     return b"--" + boundary + blanks + b"\r\n" + b"".join(octets(line) + end for line in lines) + content + b"\r\n"
 
 
-def blob_part(content, *headers, **others):
-    return part(ref_of(content), content, *headers, **others)
+def blob_part(content, *headers, name_of=ref_of, **others):
+    return part(name_of(content), content, *headers, **others)
 
 
 def form(*parts):
     return b"".join(parts) + b"--b--"
 
 
-def upload(*blobs):
-    return post(UPLOAD, form(*map(blob_part, blobs)), FORM)
+def upload(*blobs, name_of=ref_of):
+    return post(UPLOAD, form(*(blob_part(blob, name_of=name_of) for blob in blobs)), FORM)
 
 
 # Heads
@@ -171,13 +176,16 @@ FIRST_LINES = [
     b"GET PATH?\x1f HTTP/1.1",
     b"GET PATH?!\"<>[]\\^`{|} HTTP/1.1",
 ]
-PATHS = [LISTING, b"/camli/" + octets(ABC)]
+PATHS = [LISTING, b"/camli/" + octets(ABC), b"/camli/" + octets(OLDER_ABC)]
 TARGETS = [b"*", b"/", b"?", b"/?/camli/stat", b"/camli", b"/camli/", b"/camli/stat/", b"/Camli/stat", b"/camli/STAT"]
 TARGETS += [b"/camli//stat", b"/camli/./stat", b"/camli/%73tat", b"/%63amli/stat", b"/camli/stat%3F", b"camli/stat"]
 TARGETS += [b"//camli/stat", b"http://host/camli/stat", b"host:80", b"/camli/search", b"/camli/search/query/"]
 TARGETS += [b"/camli/enumerate-blobs&limit=1", b"/camli/enumerate-blobs?limit=1", b"/camli/sha224-"]
 TARGETS += [blob_target(ref) for ref in (ABC, EMPTY, ABSENT, ABC.upper(), ABC[:-1], ABC + "0", ABC + "/", "/" + ABC)]
-TARGETS += [blob_target(ref) for ref in (ABC.replace("a", "%61"), ABC + "?x", ABC + "%00", "sha1-" + "0" * 40)]
+TARGETS += [blob_target(ref) for ref in (ABC.replace("a", "%61"), ABC + "?x", ABC + "%00")]
+TARGETS += [blob_target("sha1-" + digits) for digits in ("0" * 40, "0" * 39, "0" * 41, "0" * 56, "A" * 40, "g" * 40)]
+TARGETS += [blob_target(ref) for ref in (OLDER_ABC, OLDER_ABC + "/", OLDER_ABC.upper(), OLDER_ABC[5:], "sha224-" + "0" * 40)]
+TARGETS += [b"/camli/sha1-", b"/camli/sha1", b"/camli/%73ha1-" + b"0" * 40, b"/camli/sha256-" + b"0" * 64]
 TARGETS += [blob_target(ref) for ref in ("SHA224-" + ABC[7:], ABC[7:], ABC[:7] + "g" * 56)] + [STAT, UPLOAD, QUERY]
 METHODS = [b"GET", b"POST", b"HEAD", b"PUT", b"DELETE"]
 HEADER_LINES = [b"A: b", b"A:b", b"A:", b"A: ", b"A:\t", b"A:: b", b"A:b:c", b"A: b c\t", b"A: \xff\x80"]
@@ -384,6 +392,8 @@ BOUNDARIES += ["----WebKitFormBoundary7MA4YWx"]
 NAMES = [f'"{ABC}"', ABC, f'"{ABC} "', f'" {ABC}"', f'"{ABC.upper()}"', '""', '"x"', f'"{ABC[:-1]}"', f"'{ABC}'"]
 NAMES += [f'"{ABC}0"', f"{ABC}; name=x", f'x; name="{ABC}"', f'"{ABC}"; filename="a;\tb"', f'"{ABC}', f'{ABC}"']
 NAMES += [f'"{ABC}";', "", f'"{ABC}\\"']
+NAMES += [f'"{OLDER_ABC}"', OLDER_ABC, f'"{OLDER_ABC.upper()}"', f'"{OLDER_ABC[:-1]}"', f'"{OLDER_ABC}0"']
+NAMES += [f'"sha224-{OLDER_ABC[5:]}"', f'"sha1-{ABC[7:]}"', f'"{OLDER_EMPTY}"']
 DISPOSITIONS = ["form-data; name={}", "Form-DATA;NAME={}", "form-data \t; filename=\"x\";\tname={} "]
 DISPOSITIONS += ["attachment; name={}", "form-data", "form-data;", "form-data name={}", "form-data; name={};"]
 DISPOSITIONS += ["form-data; filename={}", "name={}", "form-datax; name={}", "form-data; name={}; name=x"]
@@ -503,6 +513,15 @@ def puts():
     yield "a wrong part and no close", wrong + b"--b"
     yield "a wrong part and no mark", wrong[:-2]
     yield "a part of a ref that stands", form(part(ABC, b"abcd"))
+    abc = blob_part(b"abc", name_of=older_ref_of)
+    yield "a part of an older name", form(abc)
+    yield "an older name, twice, and the other one", form(abc, abc, blob_part(b"abc"))
+    yield "both names of new parts", form(one, blob_part(b"one", name_of=older_ref_of), blob_part(b"two"))
+    yield "another part of an older name", form(part(OLDER_ABC, b""))
+    yield "another part of an older name, behind it", form(abc, part(OLDER_ABC, b"abd"), one)
+    yield "two parts of one older name", form(*(part(older.COLLIDING_REF, blob) for blob in older.COLLIDING), one)
+    yield "an older name, without content or close", part(OLDER_ABC, b"")[:-2]
+    yield "the digits of the one name under the other", form(one, part("sha1-" + ABC[7:], b"abc"))
     yield "a name that is no ref", form(one, part("file", b"x"), one)
     yield "a name that is no ref, and a wrong part", form(part("file", b"x"), wrong)
     yield "a wrong part, and a name that is no ref", form(wrong, part("file", b"x"))
@@ -567,14 +586,17 @@ STAT_TEXTS += [b"camliversion=1;blob1=x", b"camliversion%3d1", b"camliversion==1
 STAT_TEXTS += [b"camliversion=1&blob1", b"camliversion=1&blob1=", b"camliversion=1&=x&blob2=x"]
 STAT_TEXTS += [b"camliversion=1&blob1=x", b"camliversion=2&blob1=x", b"camliversion=1&blob1=%zz&%=%&%4"]
 STAT_TEXTS += [b"camliversion=1&blob0=x"]
-# `A` stands for the ref of a blob, and `X` for that of none.
+# `A` stands for the ref of a blob, `O` for its older one, and `X` for that of none.
 BLOB_TEXTS = [b"blob1=A", b"blob1=A&blob2=X", b"blob1=X&blob2=A", b"blob2=A&blob1=X", b"blob2=A", b"blob01=A"]
 BLOB_TEXTS += [b"blob0=A", b"blob1=A&blob1=x", b"blob1=A&blob2=A&blob3=x", b"blob1=A&blob3=x", b"bl%6Fb1=A"]
 BLOB_TEXTS += [b"blob1=A%00", b"blob1=+A", b"blob1=%2BA", b"blob1=A&blob2=A&blob3=X&blob4=A", b"blob1=A%26&blob2=A"]
 BLOB_TEXTS += [b"blob1=\xc3\xa4&blob2=A", b"blob%31=A&%ff=%c3", b"blob+1=A&blob1=A", b"blob1=A?x", b"blob1=a"]
 BLOB_TEXTS += [b"blob1=A&blob2=AA", b"blob1%00=A"]
+BLOB_TEXTS += [b"blob1=O", b"blob1=O&blob2=A&blob3=O", b"blob1=A&blob2=O", b"blob1=O0", b"blob1=%73ha1-" + b"0" * 40]
+BLOB_TEXTS += [b"blob1=sha1-&blob2=A", b"blob1=sha224-" + b"0" * 40, b"blob1=sha1-" + b"0" * 56]
 STAT_TEXTS += [b"camliversion=1&" + text for text in BLOB_TEXTS] + [b"blob1=A&camliversion=1"]
-# In texts of pages `A`, `Z` and `M` are the least, the greatest and a middle ref of the many, and `X` stands for none.
+# In texts of pages `A`, `Z` and `M` are the least, the greatest and a middle ref of the many, and `X` stands for none;
+# `G` and `H` are the ends of the older refs, and `0` and `F` those of the others.
 PAGES = [b"", b"limit=1", b"limit=2&after=", b"limit=1000", b"limit=1001", b"limit=999", b"limit=999999999", b"limit=0"]
 PAGES += [b"limit=1000000000", b"limit=", b"limit", b"limit=-1", b"limit=+1", b"limit=%2B1", b"limit=1.0", b"limit=0x1"]
 PAGES += [b"limit=a", b"limit=000000001", b"limit=0000000001", b"limit=000000000", b"limit=1&limit=0"]
@@ -582,6 +604,7 @@ PAGES += [b"limit=0&limit=1", b"limit=1+", b"after=A", b"after=Z", b"after=M&lim
 PAGES += [b"limit=3&after=M", b"after=x", b"after=x&limit=0", b"limit=0&after=x", b"after=A&after=x", b"after=+"]
 PAGES += [b"after", b"after=M%00", b"after=%73ha224-", b"After=x", b"LIMIT=0", b"after=A&limit=1001"]
 PAGES += [b"after=A&limit=1000", b"after=L&limit=5", b"after=L", b"limit=1003", b"limit=1002", b"a=b&limit=4"]
+PAGES += [b"after=G", b"after=H", b"after=H&limit=1", b"after=sha1-", b"after=sha1", b"after=Z&limit=1"]
 PAGES += [b"after=0", b"after=F", b"after=0&limit=1", b"limit=%31", b"l%69mit=1", b"limit=\xd9\xa1", b"limit=%D9%A1"]
 PAGES += [b"limit=1%"]
 BAD_QUERIES = [b"", b" ", b"{", b"[]", b"{}", b"null", b"\xff", b'{"limit":5}', b'{"":1}', b'{"b":1,"a":1,"limit":0}']
@@ -596,11 +619,12 @@ BAD_QUERIES += [rb'{"\u0000":1}']
 
 def stats():
     for text in STAT_TEXTS:
-        text = text.replace(b"A", octets(ABC)).replace(b"X", octets(ABSENT))
+        text = text.replace(b"A", octets(ABC)).replace(b"X", octets(ABSENT)).replace(b"O", octets(OLDER_ABC))
         yield Case(f"GET {text}", get(STAT + b"?" + text))
+        yield Case(f"GET {text} of the older", get(STAT + b"?" + text), "older")
         yield Case(f"POST {text}", post(STAT, text))
         yield Case(f"POST {text} behind another", post(STAT + b"?" + stat_pairs("x"), text, "Content-Type: text/plain"))
-    refs = sorted(map(ref_of, MANY))
+    refs = MANY_REFS
     for count in (1, 2, 200, 999, 1_000, 1_001):
         for more in ([], ["x"], [refs[0]], ["", refs[1]]):
             pairs = stat_pairs(*refs[:count], *more)
@@ -615,9 +639,9 @@ def stats():
 
 
 def listings():
-    refs = sorted(map(ref_of, MANY))
+    refs = MANY_REFS
     names = {b"A": refs[0], b"Z": refs[-1], b"M": refs[501], b"L": refs[-6], b"X": ABSENT}
-    names |= {b"0": "sha224-" + "0" * 56, b"F": "sha224-" + "f" * 56}
+    names |= {b"0": "sha224-" + "0" * 56, b"F": "sha224-" + "f" * 56, b"G": "sha1-" + "0" * 40, b"H": "sha1-" + "f" * 40}
     for text in PAGES:
         for name, ref in names.items():
             text = text.replace(b"after=" + name, b"after=" + octets(ref))
@@ -635,6 +659,9 @@ def queries():
         yield Case(f"the query {text} in chunks", post_pieces(QUERY, [text[:1], text[1:]]))
     for store in STORES:
         yield Case(f"a query of the store {store}", post(QUERY, GOOD_QUERY), store)
+        for prefix in ("sha", "sha1-", "sha224-", older.NODE):
+            query = {"constraint": {"blobRefPrefix": prefix}}
+            yield Case(f"the refs {prefix} of the store {store}", post(QUERY, octets(spell(query))), store)
     for text in [b'{"constraint":{"anything":true}}', b"[" * 128 + b"]" * 128, b"[" * 127 + b"]" * 127]:
         yield Case(f"the query {text}", post(QUERY, text, "Content-Type: text/plain"))
     for depth in (32, 33):
@@ -663,6 +690,27 @@ def sessions():
     yield Case("expects 100", post(UPLOAD, form(blob_part(b"new")), FORM, "Expect: 100-continue") + stored)
     yield Case("200 requests", PROBE * 200)
     yield Case("nothing", b"")
+    yield from older_sessions(search)
+
+
+def older_sessions(search):
+    """The same under older names; and blobs that share one."""
+    key = older_ref_of(KEY)
+    node = writing.permanode(signer=key)
+    claim = writing.claim("set", older_ref_of(node), "tag", "a", inputs.DATE, signer=key)
+    send = functools.partial(upload, name_of=older_ref_of)
+    for order in itertools.permutations((KEY, node, claim)):
+        what = f"the older blobs {[(KEY, node, claim).index(one) for one in order]}"
+        yield Case(f"{what}, asked behind each", b"".join(send(blob) + search for blob in order), "empty")
+        yield Case(f"{what} at once", send(*order) + search + get(LISTING), "empty")
+    yield Case("the key under its other name", upload(KEY) + send(node, claim) + search + send(KEY) + search, "empty")
+    yield Case("both names of each", upload(KEY, node, claim) + search + send(claim, node, KEY) + search, "empty")
+    gone = writing.delete(older_ref_of(claim), inputs.day(2))
+    yield Case("a deletion of an older claim", send(KEY, node, claim, KEY) + upload(KEY, gone) + search, "empty")
+    for first, second in itertools.permutations(older.COLLIDING):
+        asked = get(blob_target(older.COLLIDING_REF)) + stat(older.COLLIDING_REF, ref_of(first), ref_of(second))
+        stream = send(first) + asked + send(second) + asked + upload(second) + asked + get(LISTING)
+        yield Case(f"two blobs of one older name, {ref_of(first)} first", stream, "empty")
 
 
 # Replies that are written down

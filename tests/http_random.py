@@ -4,10 +4,9 @@ uploads and searches over few blobs, where most uploads change what is found."""
 from connections import LISTING, QUERY, STAT, UPLOAD
 from harness import chance
 from http_inputs import BAD_QUERIES, METHODS, TARGETS, blob_target, chunk, head, part, stat_pairs
-from inputs import ABSENT, KEY, NODE, day
+from inputs import ABSENT, KEY, OTHER_NAMES, day
 from query_inputs import RandomQuery, RandomStore, node, spell, spell_otherwise
-from reference import ref_of
-from writing import claim, delete, octets, pack, permanode
+from writing import Names, claim, delete, octets, pack, permanode
 
 # So many stores, and streams to each; and so many of sessions.
 STORES, STREAMS = 40, 55
@@ -29,8 +28,11 @@ class RandomConnection:
         random = chance("connection store", number)
         self.store = RandomStore(random)
         most = len(self.store.blobs)
-        self.pack = pack(*random.sample(self.store.blobs, max(random.randint(0, most), random.randint(0, most))))
+        self.pack = self.pack_of(random.sample(self.store.blobs, max(random.randint(0, most), random.randint(0, most))))
         self.others = [octets(f"blob {place}\r\n--b\r\n") for place in range(3)]
+
+    def pack_of(self, blobs):
+        return pack(*blobs, name_of=self.store.name_of)
 
     def stream(self, random):
         """Good requests one behind the other; of two such streams one is cut or changed."""
@@ -58,8 +60,12 @@ class RandomConnection:
 
     def ref(self, random):
         if random.random() < 0.2:
-            return ref_of(random.choice(self.store.blobs + self.others))
+            return self.name(random, random.choice(self.store.blobs + self.others))
         return self.store.any_ref(random) if random.random() < 0.9 else self.store.odd_ref(random)
+
+    def name(self, random, blob):
+        """The ref of a blob, now and then its other one."""
+        return (self.store.name_of.other if random.random() < OTHER_NAMES else self.store.name_of)(blob)
 
     def blob(self, random):
         return b"GET", blob_target(self.ref(random)), [], b""
@@ -77,7 +83,9 @@ class RandomConnection:
     def page(self, random):
         pairs = []
         if random.random() < 0.6:
-            after = self.ref(random) if random.random() < 0.5 else "sha224-" + random.choice("0123456789abcdef") * 56
+            digit = random.choice("0123456789abcdef")
+            ends = random.choice(("sha224-" + digit * 56, "sha1-" + digit * 40))
+            after = self.ref(random) if random.random() < 0.5 else ends
             pairs.append(b"after=" + octets(after))
         if random.random() < 0.6:
             pairs.append(b"limit=%d" % random.choice((0, 1, 2, 5, 10, 10, 100, 1_000, 10**9)))
@@ -103,7 +111,7 @@ class RandomConnection:
 
     def part(self, random, blob, boundary):
         kind = random.random()
-        name = self.ref(random) if kind < 0.02 else "file" if kind < 0.03 else ref_of(blob)
+        name = self.ref(random) if kind < 0.02 else "file" if kind < 0.03 else self.name(random, blob)
         lines = ["Content-Type: text/plain"] if random.random() < 0.3 else []
         blanks, end = b" \t"[: random.choice((0, 0, 1, 2))], random.choice((b"\r\n", b"\r\n", b"\n"))
         return part(name, blob, *lines, blanks=blanks, end=end, boundary=boundary)
@@ -114,26 +122,28 @@ class RandomConnection:
 
 
 class FewBlobs:
-    """A key, one or two permanodes, and claims on them and on one another."""
+    """A key, one or two permanodes, and claims on them and on one another; half of them have their older names."""
 
     def __init__(self, random):
-        self.nodes = [NODE, permanode("0" * 32)][: random.choice((1, 2))]
-        self.claims = [claim("add", ref_of(NODE), "tag", TAGS[0], DAYS[0])]
+        self.name_of = Names(random)
+        self.key = self.name_of(KEY)
+        self.nodes = [permanode(signer=self.key), permanode("0" * 32, self.key)][: random.choice((1, 2))]
+        self.claims = [claim("add", self.name_of(self.nodes[0]), "tag", TAGS[0], DAYS[0], self.key)]
         for _ in range(random.randrange(1, 6)):
             self.claims.append(random.choice((self.change, self.change, self.deletion))(random))
         # Nothing is found without a key and a permanode, so these come more often.
         self.blobs = [KEY, *self.nodes] * 3 + self.claims
 
     def change(self, random):
-        kind, on = random.choice(("set", "add", "add", "del")), ref_of(random.choice(self.nodes))
-        return claim(kind, on, "tag", random.choice(TAGS), random.choice(DAYS))
+        kind, on = random.choice(("set", "add", "add", "del")), self.name_of(random.choice(self.nodes))
+        return claim(kind, on, "tag", random.choice(TAGS), random.choice(DAYS), self.key)
 
     def deletion(self, random):
         target = random.choice(self.claims if random.random() < 0.8 else self.nodes)
-        return delete(ref_of(target), random.choice(DAYS))
+        return delete(self.name_of(target), random.choice(DAYS), self.key)
 
     def any_ref(self, random):
-        return ref_of(random.choice(self.blobs)) if random.random() < 0.9 else ABSENT
+        return self.name_of(random.choice(self.blobs)) if random.random() < 0.9 else ABSENT
 
     def odd_ref(self, random):
         return self.any_ref(random).upper()
@@ -148,7 +158,7 @@ class RandomSession(RandomConnection):
     def __init__(self, number):
         random = chance("session store", number)
         self.store, self.others = FewBlobs(random), []
-        self.pack = pack(*random.choices(self.store.blobs, k=random.choice((0, 0, 2, 4, 8))))
+        self.pack = self.pack_of(random.choices(self.store.blobs, k=random.choice((0, 0, 2, 4, 8))))
 
     def stream(self, random):
         """Good requests one behind the other."""

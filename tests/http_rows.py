@@ -5,9 +5,10 @@ open.
 """
 
 from connections import LISTING, QUERY, STAT, UPLOAD
-from http_inputs import A, A_ENTRY, A_PART, A_STANDS, BAD, CLOSE, KEY, LONG, MANY, NO_ROUTE, NOTHING, OK
-from http_inputs import Case, chunk, get, head, post, post_chunks, stat_pairs, told, upload
-from reference import ref_of
+from http_inputs import A, A_ENTRY, A_PART, A_STANDS, BAD, CLOSE, KEY, LONG, MANY, MANY_REFS, NO_ROUTE, NOTHING, OK
+from http_inputs import FORM, Case, chunk, form, get, head, part, post, post_chunks, stat_pairs, told, upload
+from older import COLLIDING, COLLIDING_REF, OLDER_ABC, OLDER_EMPTY
+from reference import older_ref_of, ref_of
 from writing import octets, permanode
 
 E = "sha224-d14a028c2a3a2bc9476102bb288234c415a2b01f828ea62ac5b3e42f"
@@ -46,6 +47,8 @@ def request_rows():
             yield Case(f"{rows.__name__} {place}", stream, "small", replies)
     for place, (stream, replies) in enumerate(pages_asked()):
         yield Case(f"pages_asked {place}", stream, "many", replies)
+    for place, (stream, replies) in enumerate(older_asked()):
+        yield Case(f"older_asked {place}", stream, "empty", replies)
     yield Case("a search of at most three", *limited_search())
 
 
@@ -138,8 +141,8 @@ def refs_asked():
 
 
 def pages_asked():
-    sizes = {ref_of(blob): len(blob) for blob in MANY}
-    refs = sorted(sizes)
+    sizes = {name_of(blob): len(blob) for blob in MANY for name_of in (ref_of, older_ref_of)}
+    refs = MANY_REFS
 
     def page(some):
         entries = ",".join(f'{{"blobRef":"{ref}","size":{sizes[ref]}}}' for ref in some)
@@ -151,6 +154,40 @@ def pages_asked():
     yield get(LISTING + b"?after=x&limit=0"), refused("bad ref")
     for limit in (b"0", b"", b"+7", b"1000000000"):
         yield get(LISTING + b"?limit=" + limit), refused("bad number")
+
+
+def older_asked():
+    """Blobs under the refs that they have in older stores."""
+    entry = '{"blobRef":"' + OLDER_ABC + '","size":3}'
+    absent = told("404 Not Found", '{"error":"absent","blobRef":"' + OLDER_ABC + '"}')
+    yield get(f"/camli/{OLDER_ABC}"), absent
+    for path in (OLDER_ABC.upper(), OLDER_ABC[:-1], OLDER_ABC + "0", "sha224-" + OLDER_ABC[5:], "sha1-" + A[7:]):
+        yield get(f"/camli/{path}"), NO_ROUTE
+    kept = upload(b"abc", name_of=older_ref_of)
+    stands = stat_reply(entry)
+    asked = get(f"/camli/stat?camliversion=1&blob1={OLDER_ABC}&blob2={A}")
+    yield kept + get(f"/camli/{OLDER_ABC}") + asked, upload_reply(entry) + content_reply(b"abc") + stands
+    one_page = told(OK, '{"blobs":[' + entry + '],"continueAfter":"' + OLDER_ABC + '"}')
+    both = told(OK, '{"blobs":[' + entry + "," + A_ENTRY + "]}")
+    behind = told(OK, '{"blobs":[' + A_ENTRY + "]}")
+    pages = get(LISTING) + get(LISTING + b"?limit=1") + get(LISTING + octets(f"?after={OLDER_ABC}"))
+    replies = upload_reply(A_ENTRY) + upload_reply(entry, entry) + both + one_page + behind
+    yield upload(b"abc") + upload(b"abc", b"abc", name_of=older_ref_of) + pages, replies
+    other = post(UPLOAD, form(part(OLDER_ABC, b"")), FORM)
+    wrong = '{"received":[],"error":"bad digest","said":"' + OLDER_ABC + '","is":"' + OLDER_EMPTY + '"}'
+    yield other, told(BAD, wrong, CLOSE)
+    said = "sha1-" + A[7:]
+    yield post(UPLOAD, form(part(said, b"abc")), FORM), told(BAD, '{"received":[],"error":"bad ref"}', CLOSE)
+    said = '{"blobRef":"' + COLLIDING_REF + '","size":320}'
+    one, two = (upload(blob, name_of=older_ref_of) for blob in COLLIDING)
+    asked = get(f"/camli/{COLLIDING_REF}")
+    found = content_reply(COLLIDING[0])
+    yield one + asked + two + asked, upload_reply(said) + found + upload_reply(said) + found
+
+
+def content_reply(content):
+    head = f"HTTP/1.1 200 OK\r\nContent-Type: application/octet-stream\r\nContent-Length: {len(content)}\r\n\r\n"
+    return octets(head) + content
 
 
 def queries_asked():

@@ -19,7 +19,7 @@ BOTH_ORDERS = ("insert", "insert-backwards")
 
 def members():
     """A permanode with many members, filled in at once."""
-    refs = [f"sha224-{number:056x}" for number in range(MEMBERS)]
+    refs = [(f"sha224-{number:056x}", f"sha1-{number:040x}")[number % 2] for number in range(MEMBERS)]
     claims = [writing.claim("add", ref_of(NODE), "camliMember", ref, DATE) for ref in refs]
     return checks("members", [KEY, NODE, *claims], ("fill",), "camliMember", refs[MEMBERS // 2], 1)
 

@@ -6,13 +6,14 @@ permanode, is read.
 """
 
 import hashlib
+import itertools
 
 import harness
 import reference
 import writing
-from reference import MARKER, ref_of
-from writing import attribute_payload, claim, delete, delete_payload, deleted_record, header, key_blob, keyring_line
-from writing import pack, permanode, permanode_payload, record, signed
+from reference import MARKER, older_ref_of, ref_of
+from writing import Names, attribute_payload, claim, delete, delete_payload, deleted_record, header, key_blob
+from writing import keyring_line, pack, permanode, permanode_payload, record, signed
 
 SECRET = writing.SECRET
 OTHER_SECRET = b"another secret"
@@ -33,7 +34,7 @@ EXAMPLE_BLOBS = (KEY, NODE, CLAIM)
 EXAMPLE = pack(*EXAMPLE_BLOBS)
 FOUND = [ref_of(NODE)]
 BEFORE_CLAIM = pack(KEY, NODE)
-ABSENT = ref_of(b"a blob that is nowhere")
+ABSENT, OLDER_ABSENT = ref_of(b"a blob that is nowhere"), older_ref_of(b"a blob that is nowhere")
 
 
 def with_claim(*blobs):
@@ -64,7 +65,11 @@ def page_examples():
     abc = "sha224-23097d223405d8228642a477bda255b32aadbce4bda0b3f7e36c9da7"
     yield "the ref of the empty blob", ref_of(b""), empty
     yield "the ref of abc", ref_of(b"abc"), abc
+    older_empty, older_abc = "sha1-da39a3ee5e6b4b0d3255bfef95601890afd80709", "sha1-a9993e364706816aba3e25717850c26c9cd0d89d"
+    yield "the older refs", (older_ref_of(b""), older_ref_of(b"abc")), (older_empty, older_abc)
+    yield "the order of refs", sorted([empty, abc, older_empty, older_abc]), [older_abc, older_empty, abc, empty]
     yield "the record of abc", record(b"abc"), f"[{abc} 3]abc".encode()
+    yield "its older record", record(b"abc", older_ref_of), f"[{older_abc} 3]abc".encode()
     two = record(b"abc") + record(b"")
     for what, whole, found, broken in [
         ("two records", two, [(abc, 67), (empty, 137)], None),
@@ -72,6 +77,8 @@ def page_examples():
         ("the first one torn", two[:69], [], 0),
         ("a deleted record between them", record(b"abc") + b"[x-0 2]zz" + record(b""), [(abc, 67), (empty, 146)], None),
         ("a leading zero", f"[{abc} 03]abc".encode(), [], 0),
+        ("both names", f"[{older_abc} 3]abc[{abc} 3]abc".encode(), [(older_abc, 49), (abc, 119)], None),
+        ("another byte", f"[{older_abc} 3]abd[{abc} 3]abc".encode(), [(abc, 119)], 0),
     ]:
         blobs, first_broken = reference.salvage(whole)
         yield what, ([(one.ref, one.at) for one in blobs], first_broken), (found, broken)
@@ -116,6 +123,7 @@ def damaged_packs():
     yield from junk_packs()
     yield from deleted_record_packs()
     yield from header_packs()
+    yield from older_packs()
     yield from nested_packs()
 
 
@@ -211,6 +219,53 @@ def header_packs():
     ]:
         yield f"the header {bad}", BEFORE_CLAIM + bad.encode() + CLAIM, False
         yield f"the header {bad} in front of a record", BEFORE_CLAIM + bad.encode() + record(CLAIM), True
+
+
+def older_packs():
+    """Blobs under the names that older stores give them."""
+    older = record(CLAIM, older_ref_of)
+    yield "the claim under its older name", BEFORE_CLAIM + older, True
+    yield "the claim under both names", BEFORE_CLAIM + older + record(CLAIM), True
+    yield "the claim under both names, the newer one torn", BEFORE_CLAIM + older + record(CLAIM)[:-1], True
+    yield "the claim under both names, the older one torn", BEFORE_CLAIM + older[:-1] + record(CLAIM), True
+    yield "the claim under its older name, torn", BEFORE_CLAIM + older[:-1], False
+    yield "another blob under the claim's older name", BEFORE_CLAIM + older[:-1] + b" ", False
+    yield "the claim's record under its older name", BEFORE_CLAIM + record(record(CLAIM), older_ref_of), False
+    yield "the claim's older record", BEFORE_CLAIM + record(older), False
+    yield "the key and the permanode under their older names", pack(KEY, NODE, name_of=older_ref_of) + record(CLAIM), False
+    yield "the older names behind the others", EXAMPLE + pack(*EXAMPLE_BLOBS, name_of=older_ref_of), True
+    yield "the older names before the others", pack(*EXAMPLE_BLOBS, name_of=older_ref_of) + EXAMPLE, True
+    yield "a deleted older record", BEFORE_CLAIM + deleted_record(older, 4, 40), False
+    yield from older_header_packs(older)
+
+
+def older_header_packs(older):
+    """The claim behind an older header that isn't its own."""
+    ref, size = older_ref_of(CLAIM), len(CLAIM)
+    digits = ref.removeprefix("sha1-")
+    for bad in [
+        f"[{ref.upper()} {size}]",
+        f"[sha1-{digits.upper()} {size}]",
+        f"[sha1-{digits[:-1]} {size}]",
+        f"[sha1-{digits}0 {size}]",
+        f"[sha1-{digits}{'0' * 16} {size}]",
+        f"[sha1_{digits} {size}]",
+        f"[sha1{digits} {size}]",
+        f"[sha-{digits} {size}]",
+        f"[sha2-{digits} {size}]",
+        f"[sha224-{digits} {size}]",
+        f"[sha1-{ref_of(CLAIM)[7:47]} {size}]",
+        f"[{ref} 0{size}]",
+        f"[{ref}  {size}]",
+        f"[{ref}{size}]",
+        f"[{ref} {size}",
+        f"[{ref} {size - 1}]",
+        f"[{ref} {size + 1}]",
+        f"[{ref} 16777217]",
+        f"[{older_ref_of(NODE)} {size}]",
+    ]:
+        yield f"the older header {bad}", BEFORE_CLAIM + bad.encode() + CLAIM, False
+        yield f"the older header {bad} in front of a record", BEFORE_CLAIM + bad.encode() + older, True
 
 
 def nested_packs():
@@ -984,6 +1039,20 @@ def several_permanodes():
     yield "several permanodes, backwards", [*reversed(claims), *reversed(nodes), KEY], expected
 
 
+def older_signers():
+    """By which names a claim and its permanode say their key and their permanode, and under which of them these and the
+    claim stand; the pack, and what is found in it."""
+    names = {ref_of: "new", older_ref_of: "older"}
+    for said_key, said_node, key, node, tag in itertools.product(names, repeat=5):
+        said, stand = [[names[one] for one in some] for some in ((said_key, said_node), (key, node, tag))]
+        blob = permanode(signer=said_key(KEY))
+        last = record(claim("set", said_node(blob), "tag", "a", DATE, signer=said_key(KEY)), tag)
+        found = [said_node(blob)] if (said_key, said_node) == (key, node) else []
+        yield f"{said} is said of what stands as {stand}", record(KEY, key) + record(blob, node) + last, found
+        both = [record(one, name) for one in (blob, KEY) for name in names]
+        yield f"{said} is said of what stands as both, as {stand[-1]}", last + b"".join(both), [said_node(blob)]
+
+
 def order_packs():
     """Blobs that come in every order, and whether the tag is found."""
     undone = delete(ref_of(DELETE), day(3))
@@ -1158,7 +1227,7 @@ RANDOM_QUERIES = [(attribute, value) for attribute in RANDOM_ATTRIBUTES for valu
 def random_packs():
     for number, count, junk in [(1, 2_000, False), (2, 2_000, True), (3, 300, False), (4, 300, True)]:
         chance = harness.chance("random packs", number)
-        records = list(map(record, random_blobs(chance, count)))
+        records = records_of(chance, *random_blobs(chance, count))
         chance.shuffle(records)
         pieces = with_junk(chance, records) if junk else records
         yield f"random pack {number}", b"".join(pieces), KEYRING
@@ -1173,10 +1242,11 @@ def random_stores():
     for number in range(STORES):
         chance = harness.chance("random stores", number)
         what, order = STORE_ORDERS[number % len(STORE_ORDERS)]
-        blobs = random_blobs(chance, BLOBS_OF_A_STORE)
-        listed = order(chance, blobs)
-        cut = chance.randrange(len(listed))
-        yield f"store {number}, {what}", {0: pack(*listed[:cut]), 1: pack(*listed[cut:])}, dates_about(chance, blobs)
+        blobs, names = random_blobs(chance, BLOBS_OF_A_STORE)
+        records = records_of(chance, order(chance, blobs), names)
+        cut = chance.randrange(len(records))
+        packs = {0: b"".join(records[:cut]), 1: b"".join(records[cut:])}
+        yield f"store {number}, {what}", packs, dates_about(chance, blobs)
 
 
 def shuffled(chance, blobs):
@@ -1212,35 +1282,54 @@ def dates_about(chance, blobs):
     return [chance.choice(dates) + chance.choice((-1, 0, 0, 0, 1)) for _ in range(DATES_OF_A_STORE)]
 
 
+def records_of(chance, blobs, names):
+    """The records of blobs; some blobs have a second one, under their other name."""
+    records = []
+    for blob in blobs:
+        records.append(record(blob, names))
+        if chance.random() < OTHER_NAMES:
+            records.append(record(blob, names.other))
+    return records
+
+
+# How often a blob is named, or stands, by the name that isn't its usual one.
+OTHER_NAMES = 0.04
+
+
 def random_blobs(chance, count):
-    """Blobs that speak of one another; the key `lost` is in no keyring, and `late` is in no pack."""
+    """Blobs that speak of one another, and their names; the key `lost` is in no keyring, and `late` is in no pack."""
     held = {"jefe": SECRET, "other": OTHER_SECRET}
-    names = ["jefe"] * 20 + ["other"] * 6 + ["lost", "late"]
-    blobs = [key_blob(name) for name in ("jefe", "other", "lost")]
-    nodes, claims, others = [], [], [ref_of(blobs[0]), ABSENT]
+    keys = ["jefe"] * 20 + ["other"] * 6 + ["lost", "late"]
+    blobs = [key_blob(key) for key in ("jefe", "other", "lost")]
+    names = Names(chance)
+    nodes, claims, others = [], [], [names(blobs[0]), ABSENT, OLDER_ABSENT]
+
+    def said(blob):
+        return names.other(blob) if chance.random() < OTHER_NAMES else names(blob)
+
     while len(blobs) < count:
-        name = chance.choice(names)
-        secret = held.get(name, SECRET) if chance.random() < 0.95 else b"false"
+        key = chance.choice(keys)
+        secret = held.get(key, SECRET) if chance.random() < 0.95 else b"false"
         kind = chance.choices(("node", "attribute", "delete", "plain"), (12, 60, 22, 6))[0]
         if kind == "plain" or not (nodes and claims) and len(blobs) > 20:
             blob = random_plain(chance, nodes)
-            others.append(ref_of(blob))
+            others.append(said(blob))
         elif kind == "node" or not nodes:
-            blob = permanode(f"{chance.getrandbits(128):032x}", ref_of(key_blob(name)), secret)
-            nodes.append(ref_of(blob))
+            blob = permanode(f"{chance.getrandbits(128):032x}", said(key_blob(key)), secret)
+            nodes.append(said(blob))
         elif kind == "attribute" or not claims:
             on = chance.choice(nodes) if chance.random() < 0.97 else chance.choice(claims + others)
             what = chance.choices(("set", "add", "del"), (3, 5, 2))[0]
             value = chance.choice(RANDOM_VALUES)
             attribute = chance.choice(RANDOM_ATTRIBUTES)
-            blob = claim(what, on, attribute, value, random_date(chance), ref_of(key_blob(name)), secret)
-            claims.append(ref_of(blob))
+            blob = claim(what, on, attribute, value, random_date(chance), said(key_blob(key)), secret)
+            claims.append(said(blob))
         else:
             target = chance.choice(chance.choices((claims, nodes, others, claims[-20:]), (6, 1, 1, 6))[0])
-            blob = delete(target, random_date(chance), ref_of(key_blob(name)), secret)
-            claims.append(ref_of(blob))
+            blob = delete(target, random_date(chance), said(key_blob(key)), secret)
+            claims.append(said(blob))
         blobs.append(blob)
-    return blobs
+    return blobs, names
 
 
 def random_plain(chance, nodes):

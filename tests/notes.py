@@ -19,7 +19,7 @@ import reference
 import writing
 from faults import ends_with_fault, faults_of, is_durable_when_printed, own_calls
 from harness import LeftOut, chance, check, compare, compare_ending, with_streams
-from reference import ref_of
+from reference import older_ref_of, ref_of
 from refused_alike import bad_keyrings, bad_packs, ends_first, leaves, refused_lines, waits_too_long
 from store_packs import write_deleted_records
 from store_refusals import BAD_REFS
@@ -179,7 +179,8 @@ def lines_of(folder):
 # What is put
 
 def rows(program):
-    return [lambda row=row: row(program) for row in (first_note, stands_already, on_anything, side_by_side)]
+    checks = (first_note, stands_already, on_older, on_anything, side_by_side)
+    return [lambda row=row: row(program) for row in checks]
 
 
 def first_note(program):
@@ -206,10 +207,31 @@ def stands_already(program):
         store.lists(what)
 
 
+def on_older(program):
+    """Notes on a permanode under its older name, whose own signer stands under both names: the refs are said as they
+    are, and the key of a new note is the one that the program names."""
+    node, what = writing.permanode(signer=older_ref_of(inputs.KEY)), "notes on an older permanode"
+    ref = older_ref_of(node)
+    store = Notes(program, {0: pack(inputs.KEY, node, name_of=older_ref_of)})
+    claim = store.claim(what, "set", ref, "tag", "a")
+    signers = [reference.fact_of(store.blobs()[one]).signed.signer for one in (ref, claim)]
+    compare(what, "signers", [older_ref_of(inputs.KEY), ref_of(inputs.KEY)], signers)
+    store.claim(what, "add", ref_of(node), "tag", "b")
+    store.finds(what, [ref], "tag", "a")
+    store.finds(what, [], "tag", "b")
+    gone = store.delete(what, ref)
+    store.finds(what, [], "tag", "a")
+    store.delete(what, gone)
+    store.finds(what, [ref], "tag", "a")
+    store.lists(what)
+
+
 def on_anything(program):
     """What a claim is on need not stand, nor be a permanode."""
     store = Notes(program, {0: pack(b"abc")})
-    for ref in (NOWHERE, ABC, "sha224-" + "0" * 56, "sha224-" + "f" * 56, ref_of(inputs.KEY)):
+    refs = [NOWHERE, ABC, "sha224-" + "0" * 56, "sha224-" + "f" * 56, ref_of(inputs.KEY)]
+    refs += [inputs.OLDER_ABSENT, older_ref_of(b"abc"), "sha1-" + "0" * 40, "sha1-" + "f" * 40, older_ref_of(inputs.KEY)]
+    for ref in refs:
         for kind in ("set", "add", "del"):
             store.claim(f"{kind} on {ref}", kind, ref, "tag", "a")
         store.delete(f"delete of {ref}", ref)
@@ -402,10 +424,13 @@ def has_values(store, what, node, other, values, at=None):
 
 
 def random_changes(program, number):
-    """Random claims of several keys on a few permanodes, searched at random moments."""
-    random, store = chance("changes", number), Notes(program)
-    names = list(SECRETS)[:3]
-    nodes = [store.permanode("a permanode", random.choice(names)) for _ in range(3)]
+    """Random claims of several keys on a few permanodes, half of which were there before under their older names, searched
+    at random moments."""
+    random, names = chance("changes", number), list(SECRETS)[:3]
+    keys = [(older_ref_of(writing.key_blob(name)), SECRETS[name]) for name in names]
+    older = [writing.permanode(f"{place:032x}", *random.choice(keys)) for place in range(3)]
+    store = Notes(program, {0: pack(*map(writing.key_blob, names), *older, name_of=older_ref_of)})
+    nodes = [*map(older_ref_of, older)] + [store.permanode("a permanode", random.choice(names)) for _ in range(3)]
     refs = []
     for place in range(40):
         what, key = f"change {place}", random.choice(names)

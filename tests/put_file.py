@@ -17,7 +17,7 @@ import writing
 from faults import ends_with_fault, faults_of, is_durable_when_printed, own_calls
 from harness import chance, check, compare, compare_ending, finish, limited_to
 from harness import with_broken_source, with_streams
-from reference import ref_of
+from reference import older_ref_of, ref_of
 from refused_alike import bad_folders, bad_keyrings, bad_packs, ends_first, leaves, refused_lines, waits_too_long
 from store_packs import write_deleted_records
 from stores import ABC, CLEAN, TORN, Store
@@ -132,6 +132,11 @@ def already(program):
     for number, order in enumerate(itertools.permutations(blobs, 2)):
         store = Files(program, {0: pack(*order)})
         store.put_file(f"blobs that stand, {number}", content)
+    # Under their older names they are other blobs.
+    store = Files(program, {0: pack(*blobs, name_of=older_ref_of)})
+    store.put_file("blobs that stand under their older names", content)
+    store.lists("blobs that stand under their older names")
+    compare("blobs that stand under their older names", "how many stand then", 2 * len(blobs), len(store.blobs()))
     for blob in (inputs.KEY, inputs.CLAIM, blobs[-1], record(b"abc"), b"[x-0 9]"):
         store = Files(program, {0: pack(b"abc")})
         store.put_file(f"the file {blob[:20]}", blob)

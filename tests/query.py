@@ -174,8 +174,8 @@ def example_store():
 # Worked stores
 
 def meanings(program):
-    blobs, holders = query_inputs.content_store()
-    contents, lives = Shelf(program, {0: pack(*blobs)}), Shelf(program, {0: pack(*query_inputs.lives())})
+    source, holders = query_inputs.content_store()
+    contents, lives = Shelf(program, {0: source}), Shelf(program, {0: pack(*query_inputs.lives())})
     checks = []
     for constraint, names in query_inputs.MEANINGS:
         found = sorted(holders[name] for name in names)

@@ -7,15 +7,15 @@ import inputs
 import queries
 import reference
 import writing
-from inputs import ABSENT, OTHER_SECRET, SECRET, day
-from reference import ref_of
-from writing import bytes_blob, claim, delete, directory, file_blob, key_blob, keyring_line, pack, part, permanode
+from inputs import ABSENT, OLDER_ABSENT, OTHER_NAMES, OTHER_SECRET, SECRET, day, records_of
+from reference import older_ref_of, ref_of
+from writing import Names, bytes_blob, claim, delete, directory, file_blob, key_blob, keyring_line, pack, part, permanode
 from writing import static_set
 
 LATE_SECRET = b"a late secret"
 KEYRING = inputs.KEYRING + keyring_line("late", LATE_SECRET)
 KEY = key_blob()
-ABC = ref_of(b"abc")
+ABC, OLDER_ABC = ref_of(b"abc"), older_ref_of(b"abc")
 
 
 # Spelling
@@ -135,10 +135,12 @@ def trees_of_all_kinds():
 
 
 SOUND = {"text", "no bytes", "no name", "scan", "small scan", "greatest", "tree", "file in a file", "tree as a blob"}
-SOUND |= {"edge"}
+SOUND |= {"edge", "older text"}
 UNSOUND = {"behind", "behind a tree", "short", "short by its offset", "short tree", "unsound within", "blob as a tree"}
 WAITING = {"waiting file", "waiting node", "waiting claim"}
-READY = set(blobs_of_all_kinds()) - WAITING
+# Blobs under their older names.
+OLDER = {"older": b"abc", "older text": file_blob("older", [part(2, OLDER_ABC, offset=1)])}
+READY = {*blobs_of_all_kinds(), *OLDER} - WAITING
 
 
 def named(test):
@@ -178,18 +180,23 @@ MEANINGS = [
     ({"camliType": "plain"}, set()),
     (negated({"camliType": "file"}), READY - SOUND - UNSOUND - {"unread file"}),
     ({"blobRefPrefix": ""}, READY),
-    ({"blobRefPrefix": "sha224-"}, READY),
+    ({"blobRefPrefix": "sha"}, READY),
+    ({"blobRefPrefix": "sha224-"}, READY - {*OLDER}),
+    ({"blobRefPrefix": "sha1-"}, {*OLDER}),
+    ({"blobRefPrefix": OLDER_ABC}, {"older"}),
+    ({"blobRefPrefix": OLDER_ABC + "0"}, set()),
+    ({"blobRefPrefix": "SHA1-"}, set()),
+    ({"blobRefPrefix": OLDER_ABC[5:]}, set()),
     ({"blobRefPrefix": "sha224-2309"}, {"plain"}),
     ({"blobRefPrefix": ABC}, {"plain"}),
     ({"blobRefPrefix": ABC + "0"}, set()),
     ({"blobRefPrefix": ABC[1:]}, set()),
     ({"blobRefPrefix": "SHA224-"}, set()),
-    ({"blobRefPrefix": "sha1-"}, set()),
     ({"blobRefPrefix": ABC.replace("f", "F")}, set()),
     ({"blobRefPrefix": ref_of(KEY)[:30]}, {"key"}),
     ({"blobRefPrefix": "\u00e4"}, set()),
-    ({"blobSize": {"min": 3, "max": 3}}, {"plain"}),
-    ({"blobSize": {"max": 3}}, {"plain", "empty"}),
+    ({"blobSize": {"min": 3, "max": 3}}, {"plain", "older"}),
+    ({"blobSize": {"max": 3}}, {"plain", "older", "empty"}),
     ({"blobSize": {"max": 2}}, {"empty"}),
     ({"blobSize": {"max": 0}}, {"empty"}),
     ({"blobSize": {"min": 0}}, READY),
@@ -260,11 +267,13 @@ MEANINGS = [
 
 
 def content_store():
-    """The blobs of the store, and for each name the permanode whose content the blob is."""
+    """The pack of the store, and for each name the permanode whose content the blob is."""
     blobs = blobs_of_all_kinds()
     contents = {name: ref_of(blob) for name, blob in blobs.items()} | {"absent": ABSENT, "no ref": ABC.upper()}
+    contents |= {name: older_ref_of(blob) for name, blob in OLDER.items()}
+    contents |= {"older absent": older_ref_of(b""), "newer absent": ref_of(OLDER["older text"])}
     others, holders = holding(contents)
-    return [*blobs.values(), *others], holders
+    return pack(*blobs.values(), *others) + pack(*OLDER.values(), name_of=older_ref_of), holders
 
 
 def holding(contents):
@@ -608,15 +617,16 @@ ODD_BLOBS = [
 
 
 class RandomStore:
-    """Blobs that speak of one another: keys of which one is in no keyring and one is often in no store, permanodes,
-    plain blobs, trees and files of which some aren't sound, and claims on all of them, deletions of deletions too."""
+    """Blobs that speak of one another, half of them by their older names: keys of which one is in no keyring and one is
+    often in no store, permanodes, plain blobs, trees and files of which some aren't sound, and claims on all of them,
+    deletions of deletions too."""
 
     def __init__(self, random):
-        self.random = random
-        names = ["jefe", "other", "lost"] + (["late"] if random.random() < 0.3 else [])
+        self.random, self.name_of = random, Names(random)
+        keys = ["jefe", "other", "lost"] + (["late"] if random.random() < 0.3 else [])
         self.nodes, self.claims, self.plains, self.trees, self.files = [], [], [], [], []
-        self.blobs = [key_blob(name) for name in names]
-        self.sizes = {}
+        self.blobs = [key_blob(key) for key in keys]
+        self.sizes, self.others = {}, {}
         self.texts, self.names = random.sample(TEXTS, 4), random.sample(FILE_NAMES, 4)
         for _ in range(random.randrange(4, 10)):
             self.add(self.nodes, permanode(f"{random.getrandbits(128):032x}", *self.signer()))
@@ -638,13 +648,21 @@ class RandomStore:
 
     def add(self, refs, blob):
         self.blobs.append(blob)
-        refs.append(ref_of(blob))
-        self.sizes.setdefault(ref_of(blob), len(blob))
+        ref = self.name_of(blob)
+        refs.append(ref)
+        self.sizes.setdefault(ref, len(blob))
+        self.others[ref] = self.name_of.other(blob)
+
+    def said(self, ref):
+        """The ref, or now and then the other one of its blob."""
+        return self.others.get(ref, OLDER_ABSENT) if self.random.random() < OTHER_NAMES else ref
 
     def signer(self):
         """A signer, and what it signs with, now and then falsely."""
         name = self.random.choices(("jefe", "other", "late", "lost"), (75, 15, 7, 3))[0]
-        return ref_of(key_blob(name)), SECRETS[name] if self.random.random() < 0.97 else b"false"
+        key, is_other = key_blob(name), self.random.random() < OTHER_NAMES
+        ref = self.name_of.other(key) if is_other else self.name_of(key)
+        return ref, SECRETS[name] if self.random.random() < 0.97 else b"false"
 
     def add_tree(self, refs, blob_of):
         parts, size = [], 0
@@ -673,24 +691,27 @@ class RandomStore:
         if random.random() < 0.08:
             offset, size = (offset, length - offset + 1) if random.random() < 0.6 else (length + 1, 0)
         is_tree = of_tree if random.random() < 0.97 else not of_tree
-        return part(size, ref, "bytesRef" if is_tree else "blobRef", offset), size
+        return part(size, self.said(ref), "bytesRef" if is_tree else "blobRef", offset), size
 
     def any_ref(self, random):
-        pools = (self.nodes, self.files, self.trees, self.plains, self.claims or self.nodes, [ABSENT])
-        return random.choice(random.choices(pools, (70, 10, 4, 8, 5, 3))[0])
+        pools = (self.nodes, self.files, self.trees, self.plains, self.claims or self.nodes, [ABSENT, OLDER_ABSENT])
+        ref = random.choice(random.choices(pools, (70, 10, 4, 8, 5, 3))[0])
+        return self.others[ref] if ref in self.others and random.random() < OTHER_NAMES else ref
 
     def odd_ref(self, random):
         """A text that is almost a ref."""
         ref = self.any_ref(random)
-        return random.choice((ref.upper(), ref[:-1], ref + " ", ref[7:]))
+        name, _, digits = ref.partition("-")
+        renamed = {"sha1": "sha224-", "sha224": "sha1-"}[name] + digits
+        return random.choice((ref.upper(), ref[:-1], ref + " ", digits, renamed, "sha1-" + digits[:39]))
 
     def change(self):
         random = self.random
-        on = random.choice(self.nodes) if random.random() < 0.94 else self.any_ref(random)
+        on = self.said(random.choice(self.nodes)) if random.random() < 0.94 else self.any_ref(random)
         kind = random.choices(("set", "add", "del"), (3, 6, 2))[0]
         attribute = random.choices(ATTRIBUTES, (40, 14, 22, 18, 6))[0]
         if attribute == "camliContent":
-            value = random.choice(self.files) if random.random() < 0.6 else self.any_ref(random)
+            value = self.said(random.choice(self.files)) if random.random() < 0.6 else self.any_ref(random)
         elif attribute == "camliMember":
             value = self.any_ref(random) if random.random() < 0.94 else self.odd_ref(random)
         else:
@@ -703,14 +724,17 @@ class RandomStore:
         random = self.random
         pools = (self.claims, self.claims[-4:], self.nodes, self.plains + self.files)
         target = random.choice(random.choices(pools, (48, 33, 14, 5))[0])
-        return delete(target, random.choice(DATES), *self.signer())
+        return delete(self.said(target), random.choice(DATES), *self.signer())
 
     def packs(self):
-        """The blobs in one pack or two, some of them in both."""
+        """The blobs in one pack or two, some of them in both, or under both names."""
         if self.random.random() < 0.7:
-            return {0: pack(*self.blobs)}
+            return {0: self.pack_of(self.blobs)}
         half = len(self.blobs) // 2
-        return {0: pack(*self.blobs[: half + 3]), self.random.randrange(1, 9): pack(*self.blobs[half:])}
+        return {0: self.pack_of(self.blobs[: half + 3]), self.random.randrange(1, 9): self.pack_of(self.blobs[half:])}
+
+    def pack_of(self, blobs):
+        return b"".join(records_of(self.random, blobs, self.name_of))
 
 
 # Random queries
@@ -801,7 +825,9 @@ class RandomQuery:
 
     def prefix(self):
         ref = self.store.any_ref(self.random)
-        return self.random.choice((ref, ref[:8], ref[:8], ref[:9], ref[:7], "", ref[1:], ref[:8].upper(), ref + "0"))
+        at = ref.index("-") + 1
+        fronts = [ref[: at + more] for more in (1, 1, 2, 0)]
+        return self.random.choice((ref, *fronts, ref[:4], "", ref[1:], ref[: at + 1].upper(), ref + "0"))
 
     def permanode(self, depth):
         random, test = self.random, {}

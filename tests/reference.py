@@ -21,12 +21,21 @@ ALWAYS = None
 
 # Blobrefs
 
-# docs/formats/blobrefs.md
-REF = re.compile(r"sha224-[0-9a-f]{56}")
+# docs/formats/blobrefs.md; "Two names": `ref_like`
+REF = re.compile(r"sha224-[0-9a-f]{56}|sha1-[0-9a-f]{40}")
 
 
 def ref_of(blob):
     return "sha224-" + hashlib.sha224(blob).hexdigest()
+
+
+def older_ref_of(blob):
+    return "sha1-" + hashlib.sha1(blob).hexdigest()
+
+
+def ref_like(ref, blob):
+    """The ref of a blob under the digest that a ref names."""
+    return older_ref_of(blob) if ref.startswith("sha1-") else ref_of(blob)
 
 
 def is_ref(value):
@@ -37,7 +46,7 @@ def is_ref(value):
 
 # docs/formats/packs.md, "Records"
 LARGEST_BLOB = 16_777_216
-BLOB_HEADER = re.compile(rb"\[(sha224-[0-9a-f]{56}) (0|[1-9][0-9]{0,7})\]")
+BLOB_HEADER = re.compile(rb"\[(sha224-[0-9a-f]{56}|sha1-[0-9a-f]{40}) (0|[1-9][0-9]{0,7})\]")
 # docs/formats/packs.md, "Deleted records"
 DELETED_HEADER = re.compile(rb"\[x{1,16}-0{1,128} (0|[1-9][0-9]{0,7})\]")
 
@@ -79,8 +88,8 @@ def record_at(pack, at):
     if end is None:
         return None
     blob = pack[header.end() : end]
-    ref = ref_of(blob)
-    return Found(ref, header.end(), blob) if ref.encode() == header[1] else None
+    ref = header[1].decode()
+    return Found(ref, header.end(), blob) if ref_like(ref, blob) == ref else None
 
 
 def behind_deleted(pack, at):
@@ -152,9 +161,9 @@ def pack_for_the_next_record(packs):
     return greatest + 1
 
 
-def put(packs, blob):
-    """The packs of a store once a blob has been put into it."""
-    ref = ref_of(blob)
+def put(packs, blob, ref=None):
+    """The packs of a store once a blob has been put into it, under its usual ref or another one of its own."""
+    ref = ref or ref_of(blob)
     if ref in arrivals(packs):
         return packs
     number = pack_for_the_next_record(packs)

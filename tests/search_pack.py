@@ -14,10 +14,11 @@ from typing import NamedTuple, Optional
 
 import harness
 import inputs
+import older as older_store
 import reference
 import writing
 from harness import Difference, check, compare, compare_ending, finish, limited_to
-from reference import ref_of
+from reference import older_ref_of, ref_of
 from stores import Store, check_search
 from writing import keyring_line, pack, record
 
@@ -130,6 +131,16 @@ def claims():
             yield answer(f"{what}: {value!r}", pack(*blobs), found, value=value)
 
 
+def older():
+    """Blobs under the refs of older stores, by which others name them or don't."""
+    for what, source, found in inputs.older_signers():
+        yield answer(what, source, found)
+    for attribute, value, at, is_found in older_store.TAGS:
+        if at is None:
+            found = [older_store.NODE] if is_found else []
+            yield answer(f"an older store: {attribute} {value}", older_store.PACK, found, attribute, value)
+
+
 def orders():
     """What a pack answers doesn't depend on the order of its blobs."""
     for what, blobs, found in inputs.order_packs():
@@ -192,7 +203,7 @@ def random_stores():
     """Stores of random blobs, each searched at dates of its claims and beside them."""
     stores = list(inputs.random_stores())
     archives = [reference.archive_of_store(packs, inputs.KEYRING) for _, packs, _ in stores]
-    check_variety(archives)
+    check_variety(archives, [reference.arrivals(packs) for _, packs, _ in stores])
     return [one for store, archive in zip(stores, archives) for one in searches_of(*store, archive)]
 
 
@@ -209,21 +220,29 @@ def searches_of(what, packs, dates, archive):
     return [functools.partial(search, attribute=attribute, value=value, at=at) for (attribute, value), at in queries]
 
 
-def check_variety(archives):
+def check_variety(archives, stores):
     """Most stores have to have each of the things that make an answer hard."""
-    kinds = list(map(kinds_in, archives))
+    kinds = list(map(kinds_in, archives, stores))
     for kind in kinds[0]:
         check(f"most random stores lack {kind}", sum(bool(each[kind]) for each in kinds) > len(kinds) / 2)
 
 
-def kinds_in(archive):
+def kinds_in(archive, blobs):
     """Which of these things a store has."""
     facts = archive.facts
+    older = {ref for ref in blobs if ref.startswith("sha1-")}
+    names = {name_of(blob) for blob in blobs.values() for name_of in (ref_of, older_ref_of)}
+    needs = {ref for fact in facts.values() for ref in fact.needs}
     signed = {ref for ref, fact in facts.items() if fact.signed is not None}
     claims = {ref for ref in archive.genuine if facts[ref].kind == "Claim"}
     targets = [facts[facts[ref].target] for ref in claims if facts[ref].claim == "delete"]
     dates = [facts[ref].date for ref in claims]
     return {
+        "older refs for about a half": len(blobs) / 3 < len(older) < len(blobs) * 2 / 3,
+        "an older permanode that counts": any(facts[ref].kind == "Permanode" for ref in older & archive.genuine),
+        "an older target of a deletion": any(facts[ref].target in older for ref in claims if facts[ref].claim == "delete"),
+        "a blob under both names": len({blobs[ref] for ref in older} & {blobs[ref] for ref in blobs if ref not in older}),
+        "a ref whose blob is there under its other name alone": needs & names - set(blobs),
         "a blob that waits": signed - archive.ready,
         "a false signature": (signed & archive.ready) - archive.genuine,
         "two signers": len({facts[ref].signed.signer for ref in claims}) > 1,
@@ -320,7 +339,7 @@ def shapes():
     tag = writing.claim("set", ref_of(node), "tag", "a", date)
 
     def members(program):
-        refs = [f"sha224-{number:056x}" for number in range(MEMBERS)]
+        refs = [(f"sha224-{number:056x}", f"sha1-{number:040x}")[number % 2] for number in range(MEMBERS)]
         claims = [writing.claim("add", ref_of(node), "camliMember", ref, date) for ref in refs]
         blobs = [inputs.KEY, node, *claims]
         ends_soon(program, "members", blobs, "camliMember", refs[MEMBERS // 2], [node])
@@ -377,7 +396,8 @@ def poured(program, what, length, status, **streams):
     return taken
 
 
-GROUPS = [example, salvage, torn, flipped, json, facts, dates, keys, claims, orders, words, keyrings, random_packs]
+GROUPS = [example, salvage, torn, flipped, json, facts, dates, keys, claims, older, orders, words, keyrings]
+GROUPS += [random_packs]
 GROUPS_OF_CHECKS = [pages, random_stores, edges, limits, shapes]
 
 

@@ -27,8 +27,8 @@ import serve_stays
 import serve_streams
 from connections import UPLOAD, Reply, entry, json_text
 from harness import check, compare, compare_ending, without
-from http_inputs import ABC, FORM, PROBE, blob_part, blob_target, form, get, post, stat, upload
-from reference import ref_of
+from http_inputs import ABC, FORM, OLDER_ABC, PROBE, blob_part, blob_target, form, get, post, stat, upload
+from reference import older_ref_of, ref_of
 from serving import ABC_REPLY, HOST, PORTS, SECONDS_OF_WAITING, SOON, TAKEN, Exchange, Server, Talk
 from serving import blob_reply, compare_texts, is_listened_to, store_of, stored
 from stores import CLEAN, TORN, Store, look
@@ -106,7 +106,7 @@ def starts(program):
     """Ports that are taken, folders that can't be served, and how many connections a server serves."""
     checks = (three_connections, three_at_once, a_held_connection, one_worker, taken_ports, this_address_alone)
     checks += (makes_its_folder, goes_on_behind_a_torn_pack, no_folder, keyrings, readers_beside, closed_streams)
-    checks += (waits_for_the_lock, ends_before_it_ends)
+    checks += (waits_for_the_lock, ends_before_it_ends, keeps_older_refs)
     return [lambda check=check: check(program) for check in checks]
 
 
@@ -237,6 +237,21 @@ def goes_on_behind_a_torn_pack(program):
     store.check_files("a torn pack")
 
 
+def keeps_older_refs(program):
+    """What is uploaded under refs of older stores is written under them, byte by byte, and read by commands behind it."""
+    store = Store(program, {0: pack(b"abc")}, {"keyring": inputs.KEYRING})
+    with Server(program, store.path, "--connections=1") as server:
+        with Talk(server.port) as talk:
+            for blob in (b"abc", b"", b"abc"):
+                talk.ask("an older upload", upload(blob, name_of=older_ref_of), stored(blob, name_of=older_ref_of))
+                store.packs = reference.put(store.packs, blob, older_ref_of(blob))
+        server.ends("older uploads")
+    compare("older uploads", "packs", {0: pack(b"abc") + pack(b"abc", b"", name_of=older_ref_of)}, store.packs)
+    store.check_files("older uploads")
+    store.lists("older uploads")
+    store.gets("older uploads", [OLDER_ABC, ABC, older_ref_of(b""), ref_of(b"")])
+
+
 def no_folder(program):
     """A folder that can't be one fails as the disk's fault, once the port is taken."""
     file = program.new_path()
@@ -304,7 +319,8 @@ def closed_streams(program):
 
 def wrong(program):
     """A store that is full, and bytes that change under a server: others are served all the same."""
-    return [lambda check=check: check(program) for check in (full, damaged, cut_short)]
+    checks = (full, damaged, older_damaged, cut_short)
+    return [lambda check=check: check(program) for check in checks]
 
 
 def full(program):
@@ -336,6 +352,18 @@ def damaged(program):
         talk.ask("its stat", stat(ABC), Reply(200, json_text({"stat": [entry(ABC, 3)]})))
         path.write_bytes(path.read_bytes().replace(b"xbc", b"abc"))
         talk.ask("behind its repair", get(blob_target(ABC)), ABC_REPLY)
+
+
+def older_damaged(program):
+    """The same of a blob under its older ref: it is told by refs of that kind, and its bytes under the other one stay."""
+    store = Store(program, {0: pack(b"abc", name_of=older_ref_of) + pack(b"abc")}, {"keyring": inputs.KEYRING})
+    with Server(program, store.path) as server, Talk(server.port) as talk:
+        talk.ask("before the damage", get(blob_target(OLDER_ABC)), ABC_REPLY)
+        path = store.path / reference.pack_name(0)
+        path.write_bytes(path.read_bytes().replace(b"abc", b"xbc", 1))
+        told = json_text({"error": "damaged", "want": OLDER_ABC, "is": older_ref_of(b"xbc")})
+        talk.ask("a damaged older blob", get(blob_target(OLDER_ABC)), Reply(500, told))
+        talk.ask("the other one", get(blob_target(ABC)), ABC_REPLY)
 
 
 def cut_short(program):

@@ -15,8 +15,8 @@ import http_inputs
 from connections import LISTING, QUERY, STAT, UPLOAD
 from forwarding import Forwarder
 from harness import LeftOut, SECONDS, check, compare
-from http_inputs import ABC, ABSENT, FORM, GOOD_QUERY, blob_part, blob_target, form, get, head, post, post_pieces, stat
-from http_inputs import stat_pairs, upload
+from http_inputs import ABC, ABSENT, FORM, GOOD_QUERY, OLDER_ABC, blob_part, blob_target, form, get, head, post
+from http_inputs import post_pieces, stat, stat_pairs, upload
 from reference import LARGEST_BLOB, ref_of
 from serving import HOST, compare_texts
 from serve_streams import shelf
@@ -107,6 +107,20 @@ def curl_forms(by):
     by.gets("1,001 parts", words, upload(*NUMBERED, b"abc"), target=UPLOAD)
 
 
+def curl_older(by):
+    """Blobs under the refs that they have in older stores."""
+    path = by.file(b"abc")
+    for ref in (OLDER_ABC, ABC, OLDER_ABC):
+        words = ["--form", f"{ref}=@{path}"]
+        by.gets(f"the file under {ref}", words, post(UPLOAD, form(http_inputs.part(ref, b"abc")), FORM), target=UPLOAD)
+        by.gets(f"what {ref} names", [], get(blob_target(ref)), target=blob_target(ref))
+    words = ["--form-string", f"{OLDER_ABC}=abd"]
+    refused = post(UPLOAD, form(http_inputs.part(OLDER_ABC, b"abd")), FORM)
+    by.gets("other bytes under an older ref", words, refused, target=UPLOAD)
+    target = LISTING + b"?limit=1"
+    by.gets("the first of all", [], get(target), target=target)
+
+
 def curl_chunks(by):
     """A body in chunks, which curl sends by itself where it doesn't know the length."""
     body = form(*map(blob_part, (b"in", b"chunks")))
@@ -139,7 +153,7 @@ def curl_keeps(by):
 
 
 def curl_pages(by):
-    refs = sorted(map(ref_of, http_inputs.MANY))
+    refs = http_inputs.MANY_REFS
     by.gets("the first page", [], get(LISTING), target=LISTING)
     for after, limit in (("", 1), (refs[7], 5), (refs[2], 1_000), (refs[-1], 3), (ABSENT, 1_001)):
         pairs = f"after={after}&limit={limit}"
@@ -147,7 +161,7 @@ def curl_pages(by):
         by.gets(pairs, words, get(LISTING + b"?" + pairs.encode()), target=LISTING)
 
 
-CURL = [curl_blobs, curl_stats, curl_searches, curl_forms, curl_chunks, curl_greatest, curl_keeps]
+CURL = [curl_blobs, curl_stats, curl_searches, curl_forms, curl_older, curl_chunks, curl_greatest, curl_keeps]
 
 
 # Python's requests
@@ -214,7 +228,7 @@ def requests_pages(by):
         got = by.gets(f"after {after}", request, "GET", LISTING, params={"limit": 300, "after": after}).json()
         refs += [blob["blobRef"] for blob in got["blobs"]]
         after = got.get("continueAfter")
-    compare("all pages", "refs", sorted(map(ref_of, http_inputs.MANY)), refs)
+    compare("all pages", "refs", http_inputs.MANY_REFS, refs)
 
 
 def requests_searches(by):

@@ -133,7 +133,17 @@ def leaves_nothing(program, disk):
 
 
 def open_files(server):
-    return len(os.listdir(f"/proc/{server.process.pid}/fd"))
+    """How many files the server has open. Sockets aren't counted: it listens on for a moment to a connection that it has ended."""
+    links = (link_of(entry) for entry in pathlib.Path(f"/proc/{server.process.pid}/fd").iterdir())
+    return sum(not link.startswith("socket:") for link in links)
+
+
+def link_of(entry):
+    """What a descriptor leads to; a socket's words where it was closed meanwhile."""
+    try:
+        return os.readlink(entry)
+    except FileNotFoundError:
+        return "socket: closed"
 
 
 def counts_on(program, disk):

@@ -33,6 +33,8 @@ LONGEST_LIFE = 0.25
 # at the end so many by commands.
 OLD, BY_COMMANDS = 30, 5
 LIMIT = 1_000_000
+# Half of what is sent has its older name.
+NAMES = writing.Names(chance("names of what is sent"))
 QUESTION = post(QUERY, GOOD_QUERY.replace(b'{"constraint"', b'{"limit":%d,"constraint"' % LIMIT))
 
 
@@ -40,8 +42,8 @@ class Request:
     """The blobs of an upload, in their order, and whether it was answered."""
 
     def __init__(self, random):
-        self.node = writing.permanode(random.randbytes(16).hex())
-        self.claim = writing.claim("set", ref_of(self.node), "tag", "a", writing.date_text(random.randrange(10**18)))
+        self.node, date = writing.permanode(random.randbytes(16).hex()), writing.date_text(random.randrange(10**18))
+        self.claim = writing.claim("set", NAMES(self.node), "tag", "a", date)
         self.blobs = [self.node, self.claim]
         for _ in range(random.choice((0, 1, 4))):
             most = LARGE if random.random() < 0.06 else SMALL
@@ -50,7 +52,7 @@ class Request:
         self.is_answered = False
 
     def refs(self):
-        return list(map(ref_of, self.blobs))
+        return list(map(NAMES, self.blobs))
 
 
 def uploads(what, port, random, is_killed):
@@ -60,7 +62,8 @@ def uploads(what, port, random, is_killed):
         with Talk(port) as talk:
             while True:
                 requests.append(Request(random))
-                talk.ask(what, upload(*requests[-1].blobs), stored(*requests[-1].blobs))
+                blobs = requests[-1].blobs
+                talk.ask(what, upload(*blobs, name_of=NAMES), stored(*blobs, name_of=NAMES))
                 requests[-1].is_answered = True
     except (Ended, OSError):
         if not is_killed.is_set():
@@ -119,13 +122,13 @@ class Killed:
         stand = self.store.blobs()
         for one in requests:
             self.sent.update(one.refs())
-            self.nodes[ref_of(one.node)] = ref_of(one.claim)
+            self.nodes[NAMES(one.node)] = NAMES(one.claim)
             stands = [ref in stand for ref in one.refs()]
             compare(what, "whether the parts of a request stand", sorted(stands, reverse=True), stands)
             check(f"{what}: a request that was answered isn't there: {one.refs()}", all(stands) or not one.is_answered)
         compare(what, "refs that nobody sent", set(), set(stand) - self.sent)
         self.last = [ref for one in requests if one.is_answered for ref in one.refs()]
-        self.acknowledged.update((ref_of(blob), blob) for one in requests if one.is_answered for blob in one.blobs)
+        self.acknowledged.update((NAMES(blob), blob) for one in requests if one.is_answered for blob in one.blobs)
         self.endings["answered"] += sum(one.is_answered for one in requests)
 
     def keeps(self, what, before):

@@ -21,7 +21,7 @@ from harness import chance, check, compare
 from http_inputs import blob_target, get, post, stat_pairs, upload
 from inputs import KEYRING
 from query_inputs import spell
-from reference import ref_of, search_text
+from reference import search_text
 from serving import Server, Talk, blob_reply, stored
 from stores import Store
 from writers import at_once
@@ -30,8 +30,11 @@ CLIENTS = 8
 SECONDS = float(os.environ.get("LOAD_SECONDS") or 60)
 OWN, COMMON, COMMON_VALUE = "tag", "common", "all"
 LIMIT = 1_000_000
+# Half of what is sent has its older name.
+NAMES = writing.Names(chance("names of what is sent"))
 # No ref is greater.
 BEHIND_ALL = "sha224-g"
+SIGNER = NAMES(writing.key_blob())
 # So many blobs are asked for by the commands, once the server has ended.
 ASKED = 12
 
@@ -53,13 +56,13 @@ class Known:
 
     def send(self, blobs, common):
         with self.lock:
-            self.sent.update((ref_of(blob), blob) for blob in blobs)
+            self.sent.update((NAMES(blob), blob) for blob in blobs)
             self.common_sent.update(common)
 
     def acknowledge(self, blobs, common):
         with self.lock:
-            self.refs += [ref for ref in map(ref_of, blobs) if ref not in self.acknowledged]
-            self.acknowledged.update((ref_of(blob), blob) for blob in blobs)
+            self.refs += [ref for ref in map(NAMES, blobs) if ref not in self.acknowledged]
+            self.acknowledged.update((NAMES(blob), blob) for blob in blobs)
             self.common.update(common)
 
     def now(self):
@@ -115,7 +118,7 @@ class Client:
         """Uploads blobs in any order, all of which have to be received."""
         blobs = self.random.sample(blobs, len(blobs))
         self.known.send(blobs, common)
-        self.ask(what, upload(*blobs), stored(*blobs))
+        self.ask(what, upload(*blobs, name_of=NAMES), stored(*blobs, name_of=NAMES))
         self.known.acknowledge(blobs, common)
 
     # Uploads
@@ -126,21 +129,21 @@ class Client:
 
     def node(self):
         """A new permanode, the claims on it, and whether these share the common value."""
-        node = writing.permanode(self.random.randbytes(16).hex())
-        claims = [writing.claim("set", ref_of(node), OWN, self.value, self.date())]
+        node = writing.permanode(self.random.randbytes(16).hex(), SIGNER)
+        claims = [writing.claim("set", NAMES(node), OWN, self.value, self.date(), SIGNER)]
         is_common = self.random.random() < 0.5
         if is_common:
-            claims.append(writing.claim("add", ref_of(node), COMMON, COMMON_VALUE, self.date()))
+            claims.append(writing.claim("add", NAMES(node), COMMON, COMMON_VALUE, self.date(), SIGNER))
         return node, claims, is_common
 
     def holds(self, node, is_common):
-        self.holders.add(ref_of(node))
+        self.holders.add(NAMES(node))
         self.may_go += [] if is_common else [node]
 
     def tag(self):
         """One or a few permanodes with their claims, in one request, and the search that finds them."""
         made = [self.node() for _ in range(self.random.choice((1, 1, 2, 5)))]
-        common = [ref_of(node) for node, _, is_common in made if is_common]
+        common = [NAMES(node) for node, _, is_common in made if is_common]
         self.upload("tagged", [blob for node, claims, _ in made for blob in (node, *claims)], common)
         for node, _, is_common in made:
             self.holds(node, is_common)
@@ -152,7 +155,7 @@ class Client:
         first, second = self.random.sample(([node], claims), 2)
         self.upload("the first of two", first)
         self.own()
-        self.upload("the second of two", second, [ref_of(node)] if is_common else [])
+        self.upload("the second of two", second, [NAMES(node)] if is_common else [])
         self.holds(node, is_common)
         self.own()
 
@@ -160,8 +163,8 @@ class Client:
         """A permanode that only this client has tagged goes."""
         if self.may_go:
             node = self.may_go.pop(self.random.randrange(len(self.may_go)))
-            self.upload("a deletion", [writing.delete(ref_of(node), self.date())])
-            self.holders.remove(ref_of(node))
+            self.upload("a deletion", [writing.delete(NAMES(node), self.date(), SIGNER)])
+            self.holders.remove(NAMES(node))
             self.own()
 
     def plain(self):
@@ -200,7 +203,8 @@ class Client:
     def page(self):
         """A page has all that was acknowledged between its ends, and nothing that nobody sent."""
         least, _ = self.known.now()
-        after, limit = f"sha224-{self.random.randbytes(28).hex()}", self.random.choice((1, 10, 100, 1_000))
+        after = NAMES(self.random.randbytes(20)) if self.random.random() < 0.9 else "sha1-" + "0" * 40
+        limit = self.random.choice((1, 10, 100, 1_000))
         page = self.answer("a page", get(LISTING + f"?after={after}&limit={limit}".encode()), spelled_page)
         refs = [blob["blobRef"] for blob in page["blobs"]]
         last = page.get("continueAfter", BEHIND_ALL)
@@ -232,7 +236,7 @@ def clients(program):
 
 def all_at_once(program):
     key = writing.key_blob()
-    store = Store(program, {0: writing.pack(key)}, {"keyring": KEYRING})
+    store = Store(program, {0: writing.pack(key, name_of=NAMES)}, {"keyring": KEYRING})
     known = Known()
     known.send([key], [])
     known.acknowledge([key], [])

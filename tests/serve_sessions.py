@@ -30,7 +30,7 @@ def sessions_of(program, number):
     for place in range(SERVERS):
         what, random = f"server {place} of store {number}", chance("sessions", number, place)
         found += one_server(what, store, made, random)
-        random.choice((leave, leave_record, leave_put))(what, store, random.choice(made.store.blobs))
+        random.choice((leave, leave_record, leave_put))(what, store, random.choice(made.store.blobs), made.store.name_of)
     print(f"store {number}: {found} searches found something")
 
 
@@ -61,16 +61,17 @@ def ask(what, one, talk, request):
 
 # What a stop leaves
 
-def leave(what, store, blob):
+def leave(what, store, blob, name_of):
     """What was acknowledged, and nothing else."""
 
 
-def leave_record(what, store, blob):
+def leave_record(what, store, blob, name_of):
     """A record behind the others, which may be of a blob that stands."""
     number = max(store.packs)
-    store.packs[number] += writing.record(blob)
+    store.packs[number] += writing.record(blob, name_of)
     (store.path / pack_name(number)).write_bytes(store.packs[number])
 
 
-def leave_put(what, store, blob):
+def leave_put(what, store, blob, name_of):
+    """A blob under the name that the program gives it."""
     store.put(f"a put behind {what}", blob)

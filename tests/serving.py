@@ -299,9 +299,9 @@ def blob_reply(blob):
     return Reply(200, blob, OCTETS)
 
 
-def stored(*blobs):
+def stored(*blobs, name_of=ref_of):
     """The reply to an upload of blobs."""
-    return Reply(200, json_text({"received": [entry(ref_of(blob), len(blob)) for blob in blobs]}))
+    return Reply(200, json_text({"received": [entry(name_of(blob), len(blob)) for blob in blobs]}))
 
 
 ABC_REPLY = blob_reply(b"abc")

@@ -1,8 +1,9 @@
 """Runs the commands over a store of packs in real folders, and compares outputs, exit statuses and all bytes on the
 disk.
 
-Here are the worked rows, puts of many blobs, listings and searches; store_refusals.py has what is refused, and
-store_packs.py what packs may look like. What is compared, and with what, is said in stores.py.
+Here are the worked rows, puts of many blobs, listings and searches; store_refusals.py has what is refused,
+store_packs.py what packs may look like, and older.py stores as older ones are. What is compared, and with what, is said
+in stores.py.
 """
 
 import itertools
@@ -12,11 +13,12 @@ import harness
 import inputs
 import reference
 from harness import Difference, chance, compare, compare_ending, finish
+from older import older
 from reference import ref_of
 from store_packs import damaged, file_limits, flipped, memory_limits, numbers, removed, torn
 from store_refusals import folders, keyrings, modes, rights, special_files, streams, texts, words
 from stores import ABC, EMPTY, NOWHERE, NOTHING_FOUND, READING, Store, check_search, ref_by_tool
-from writing import deleted_record, header, pack, record
+from writing import Names, deleted_record, header, pack, record
 
 
 # The worked rows
@@ -145,15 +147,18 @@ def puts(program):
 
 
 def many_puts(program, number):
-    """Puts blobs of all sizes, some of them again, into a store that isn't there at first, and reads some of them."""
+    """Puts blobs of all sizes, some of them again, into a store that isn't there at first, or that holds some of them
+    already, half of these under their older names; and reads some of them."""
     random, what = chance("puts", number), f"store {number}"
-    store = Store(program)
-    blobs = []
-    for place in range(PUTS):
+    blobs, names = [], Names(random)
+    for _ in range(PUTS):
         blobs.append(random_blob(random, blobs))
-        store.put(f"{what}, put {place} of {len(blobs[-1])} bytes", blobs[-1])
+    store = Store(program, None if number % 2 == 0 else {0: pack(*random.sample(blobs, PUTS // 3), name_of=names)})
+    for place, blob in enumerate(blobs):
+        store.put(f"{what}, put {place} of {len(blob)} bytes", blob)
     store.lists(what)
-    store.gets(what, [ref_of(blob) for blob in random.sample(blobs, 8)] + [NOWHERE])
+    some = random.sample(blobs, 8)
+    store.gets(what, [*map(ref_of, some), *map(names, some), *map(names.other, some), NOWHERE])
 
 
 def random_blob(random, earlier):
@@ -191,11 +196,13 @@ def put_large_blobs(program):
 def listings(program):
     few = [b"blob %d" % number for number in range(60)]
     many = [b"blob %d" % number for number in range(reference.ENTRIES_OF_A_LISTING + 3)]
-    store = Store(program, {0: pack(*few[:20]), 1: pack(*few[10:30]), 4: pack(*few[30:])})
-    large = Store(program, {0: pack(*many)})
+    names = Names(chance("listings"))
+    parts = [pack(*some, name_of=names) for some in (few[:20], few[10:30], few[30:])]
+    store = Store(program, dict(zip((0, 1, 4), parts)))
+    large = Store(program, {0: pack(*many, name_of=names)})
     pages = [lambda limit=limit: check_pages(store, limit) for limit in (1, 2, 7, 59, 60, 61, 1_000, 4_194_304)]
-    afters = [lambda after=after: check_pages(store, 25, after) for after in edge_refs(few)]
-    forms = [lambda words=words, out=out: store.keeps(f"{words}", words, out) for words, out in listing_words(store, few)]
+    afters = [lambda after=after: check_pages(store, 25, after) for after in edge_refs(store)]
+    forms = [lambda words=words, out=out: store.keeps(f"{words}", words, out) for words, out in listing_words(store)]
     whole = reference.listing(large.blobs())
     compare("a listing without a limit", "lines of the reference", 1_000, whole.count(b"\n"))
     return pages + afters + forms + [
@@ -205,9 +212,11 @@ def listings(program):
     ]
 
 
-def edge_refs(blobs):
-    refs = sorted(map(ref_of, blobs))
-    return ["sha224-" + "0" * 56, "sha224-" + "f" * 56, NOWHERE, refs[0], refs[-2], refs[-1]]
+def edge_refs(store):
+    refs = sorted(store.blobs())
+    last_older = max(ref for ref in refs if ref.startswith("sha1-"))
+    ends = ["sha1-" + "0" * 40, "sha1-" + "f" * 40, "sha224-" + "0" * 56, "sha224-" + "f" * 56]
+    return [*ends, NOWHERE, inputs.OLDER_ABSENT, refs[0], last_older, refs[-2], refs[-1]]
 
 
 def check_pages(store, limit, after=""):
@@ -226,10 +235,10 @@ def check_pages(store, limit, after=""):
     compare(what, "all pages", reference.listing(blobs, first, len(blobs)), joined)
 
 
-def listing_words(store, blobs):
+def listing_words(store):
     """Lines of `list` in all their forms, with the answers."""
-    folder, refs = str(store.path), sorted(map(ref_of, blobs))
-    blobs = store.blobs()
+    folder, blobs = str(store.path), store.blobs()
+    refs = sorted(blobs)
     three, behind = reference.listing(blobs, limit=3), reference.listing(blobs, refs[4], 3)
     return [
         (["list", "--limit=3", folder], three),
@@ -337,11 +346,12 @@ MOMENTS = (
 
 
 def random_searches(program, number):
-    """Schema blobs in random order, some of them put by the program."""
+    """Schema blobs in random order, some of them put by the program, under the names that it gives."""
     random = chance("searches", number)
-    blobs = inputs.random_blobs(random, 240)
+    blobs, names = inputs.random_blobs(random, 240)
     random.shuffle(blobs)
-    packs = {0: pack(*blobs[:90]), 1: pack(*blobs[80:150]) + b"[torn", 7: pack(*blobs[140:225])}
+    parts = [pack(*some, name_of=names) for some in (blobs[:90], blobs[80:150], blobs[140:225])]
+    packs = {0: parts[0], 1: parts[1] + b"[torn", 7: parts[2]}
     store = Store(program, packs, {"keyring": inputs.KEYRING})
     for blob in blobs[225:]:
         store.put(f"random blobs {number}", blob)
@@ -355,7 +365,8 @@ def random_searches(program, number):
 
 # Running
 
-GROUPS = [rows, words, texts, keyrings, folders, listings, torn, flipped, damaged, numbers, puts, large_blobs, searches]
+GROUPS = [rows, older, words, texts, keyrings, folders, listings, torn, flipped, damaged, numbers, puts, large_blobs]
+GROUPS += [searches]
 # These run code between fork and exec, stop the program, or look at the clock, so nothing else runs beside them.
 ONE_AT_A_TIME = [streams, file_limits, memory_limits, removed, rights, special_files, modes]
 

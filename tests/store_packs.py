@@ -14,7 +14,7 @@ import time
 import inputs
 import reference
 from harness import chance, compare, compare_ending, finish, limited_to
-from reference import pack_name, ref_of
+from reference import older_ref_of, pack_name, ref_of
 from stores import ABC, CLEAN, TORN, Store, check_search, lines_of, look
 from writing import deleted_record, header, pack, record
 
@@ -231,7 +231,9 @@ def torn(program):
     """A pack cut behind each byte, and stores of schema blobs cut here and there."""
     whole = pack(b"abc", b"")
     mixed = pack(b"one") + deleted_record(9) + pack(b"two")
+    older = pack(b"abc", b"", name_of=older_ref_of)
     cases = [({0: whole[:cut]}, (b"abc", b""), cut) for cut in range(len(whole) + 1)]
+    cases += [({0: older[:cut]}, (b"abc", b""), cut) for cut in range(len(older) + 1)]
     cases += [({0: CLEAN, 4: mixed[:cut]}, (b"one", b"two"), cut) for cut in range(len(pack(b"one")), len(mixed), 3)]
     checks = [lambda case=case: survives(program, f"cut at {case[2]}", *case) for case in cases]
     schema = inputs.EXAMPLE + record(inputs.DELETE)
@@ -243,7 +245,7 @@ def survives(program, what, packs, blobs, seed):
     """All that salvage finds is answered, the next put goes where it must, and a torn pack stays as it is."""
     store = Store(program, packs)
     store.lists(what)
-    store.gets(what, map(ref_of, blobs))
+    store.gets(what, [name_of(blob) for blob in blobs for name_of in (ref_of, older_ref_of)])
     store.put(f"{what}, then a put", blobs[-1] if seed % 3 else b"new")
     if seed % 4 == 0:
         store.put(f"{what}, then another", b"newer")
@@ -262,13 +264,14 @@ def searched_when_torn(program, schema, cut):
 
 def flipped(program):
     """One bit of a pack turned over, in each of its bytes."""
-    whole = pack(b"abc", b"")
     checks = []
-    for at in range(len(whole)):
-        damaged = bytearray(whole)
-        damaged[at] ^= 1 << at % 8
-        case = {0: bytes(damaged)}, (b"abc", b""), at
-        checks.append(lambda case=case: survives(program, f"a flipped bit at {case[2]}", *case))
+    for name_of in (ref_of, older_ref_of):
+        whole = pack(b"abc", b"", name_of=name_of)
+        for at in range(len(whole)):
+            damaged = bytearray(whole)
+            damaged[at] ^= 1 << at % 8
+            what, case = f"a flipped bit of {name_of(b'abc')} at {at}", ({0: bytes(damaged)}, (b"abc", b""), at)
+            checks.append(lambda what=what, case=case: survives(program, what, *case))
     return checks
 
 

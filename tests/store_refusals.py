@@ -13,6 +13,7 @@ import subprocess
 import inputs
 import reference
 from harness import LeftOut, Program, compare, compare_ending, with_broken_source, with_streams, without
+from older import OLDER_ABC
 from reference import pack_name, ref_of
 from stores import ABC, NOTHING_FOUND, READING, Store, lines_of, look
 from writing import pack, record
@@ -124,6 +125,8 @@ def good_lines(program):
 
 BAD_REFS = ["", "sha224-", "x" * 63, ABC[:-1], ABC + "0", ABC.upper(), ABC[:-1] + "G", ABC[:-1] + "A"]
 BAD_REFS += [" " + ABC, ABC + " ", ABC + "\n", "sha1" + ABC[6:], "sha256" + ABC[6:]]
+BAD_REFS += ["sha1-", "x" * 45, OLDER_ABC[:-1], OLDER_ABC + "0", OLDER_ABC.upper(), "sha1-" + OLDER_ABC[5:].upper()]
+BAD_REFS += ["sha224-" + OLDER_ABC[5:], "sha1-" + ABC[7:47] + "A", "sha1_" + OLDER_ABC[5:], OLDER_ABC[5:], OLDER_ABC + "\n"]
 BAD_NUMBERS = ["", "0", "0" * 30, "4194305", "04194305", "4294967297", "18446744073709551617", "9" * 40]
 BAD_NUMBERS += ["-1", "+1", "1 ", " 1", "1x", "0x1", "1.0", "1e3", "1_000", "\u0661"]
 

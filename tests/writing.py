@@ -4,8 +4,9 @@ The tests and the benches make their inputs with it.
 """
 
 import functools
+import hashlib
 
-from reference import MARKER, date_text, moment_of, ref_of, signature, word
+from reference import MARKER, date_text, moment_of, older_ref_of, ref_of, signature, word
 
 NAME = "jefe"
 SECRET = b"Jefe"
@@ -161,16 +162,35 @@ def file_blobs(name, chunks):
 
 # Packs
 
-def header(blob):
-    return f"[{ref_of(blob)} {len(blob)}]".encode()
+class Names:
+    """Under which of its two refs each blob of a random store stands: half of them have the older one."""
+
+    def __init__(self, random):
+        self.salt = random.randbytes(8)
+
+    def __call__(self, blob):
+        return older_ref_of(blob) if self.is_older(blob) else ref_of(blob)
+
+    def other(self, blob):
+        """The ref that a blob has beside the one under which it stands."""
+        return ref_of(blob) if self.is_older(blob) else older_ref_of(blob)
+
+    def is_older(self, blob):
+        return hashlib.sha256(self.salt + blob).digest()[0] % 2 == 1
 
 
-def record(blob):
-    return header(blob) + blob
+# In these a blob stands under the ref that `name_of` gives it.
+
+def header(blob, name_of=ref_of):
+    return f"[{name_of(blob)} {len(blob)}]".encode()
 
 
-def pack(*blobs):
-    return b"".join(map(record, blobs))
+def record(blob, name_of=ref_of):
+    return header(blob, name_of) + blob
+
+
+def pack(*blobs, name_of=ref_of):
+    return b"".join(record(blob, name_of) for blob in blobs)
 
 
 def deleted_record(size_or_bytes, letters=6, zeros=56):
