@@ -1,3 +1,4 @@
 pub mod Listings
+pub mod Reading
 pub mod Refusals
 pub mod Search

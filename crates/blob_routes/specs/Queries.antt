@@ -1,7 +1,7 @@
 -- Which query is asked.
 use Rattle.std.specs.Prelude.{◌≡◌, ◌≢◌, ⊤, ℕ, List, [], Option, Some, None, Result, Ok, Err}
 use Rattle.serde_json.specs.Data.{Data}
-use Rattle.schema_json.specs.Fields.{json_in}
+use Rattle.json_laws.specs.Json.{json_in}
 use Rattle.search_query.specs.View.{Question}
 use Rattle.query_read.specs.declared.fault.QueryFault.{QueryFault}
 use Rattle.query_read.specs.declared.fault.QueryFault.TheVariants as fault

@@ -5,7 +5,7 @@ use Rattle.std.proofs.Math.Nat.{max-le}
 use Rattle.std.proofs.lemmas.Bool.{false≢true, leb-true}
 use Rattle.serde_json.specs.Data.{Data}
 use Rattle.serde_json.specs.Find.{get, as_bool, as_str}
-use Rattle.schema_json.specs.Fields.{whole_in}
+use Rattle.json_laws.specs.Json.{whole_in}
 use Rattle.search_query.specs.declared.query.Op.{Op}
 use Rattle.search_query.specs.declared.query.Op.TheVariants.{And, Or, Xor, Not}
 use Rattle.search_query.specs.Mirror.{Asked}

@@ -4,7 +4,7 @@ use Rattle.std.specs.Ordering.{nat_cmp, is_lt}
 use Rattle.std.specs.Cmp.Lexicographic.{slice_cmp}
 use Rattle.serde_json.specs.Data.{Data}
 use Rattle.serde_json.specs.Find.{get, as_bool, as_str}
-use Rattle.schema_json.specs.Fields.{whole_in}
+use Rattle.json_laws.specs.Json.{whole_in}
 use Rattle.search_query.specs.declared.query.Op.{Op}
 use Rattle.search_query.specs.declared.query.Op.TheVariants.{And, Or, Xor, Not}
 use Rattle.search_query.specs.Valid.{one_of}

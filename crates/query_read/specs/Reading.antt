@@ -1,7 +1,7 @@
 -- Reading a query (docs/formats/queries.md): the first fault of a text, and what it asks.
 use Rattle.std.specs.Prelude.{ℕ, List, [], Option, Some, None, option_map}
 use Rattle.serde_json.specs.Data.{Data}
-use Rattle.schema_json.specs.Fields.{json_in}
+use Rattle.json_laws.specs.Json.{json_in}
 use Rattle.query_read.specs.declared.fault.QueryFault.{QueryFault}
 use Rattle.query_read.specs.declared.fault.QueryFault.TheVariants.{NotJson}
 use Rattle.query_read.specs.Grammar.{query_fault}

@@ -2,7 +2,7 @@
 ghost use Rattle.std.specs.Prelude.{◌≡◌, ◌≢◌, IfOk, IfErr, Some, None, option_copied};
 ghost use Rattle.serde_json.specs.View.{view};
 ghost use Rattle.serde_json.specs.Find.{get, as_str, as_bool};
-ghost use Rattle.schema_json.specs.Fields.{whole_in};
+ghost use Rattle.json_laws.specs.Json.{whole_in};
 ghost use Rattle.query_read.specs.Faults.{Tells, below};
 ghost use Rattle.query_read.specs.Grammar.{leaf, limit_fault};
 ghost use Rattle.query_read.specs.Values.{under, true_in, name_in, date_of, op_named, op_in, kin_named, kin_in, sort_named, sort_in, limit_in};

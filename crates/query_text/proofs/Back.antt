@@ -8,7 +8,7 @@ use Rattle.schema_date.specs.Dates.{date_in}
 use Rattle.schema_date.specs.declared.date.When.{When}
 use Rattle.schema_date.specs.declared.date.When.TheVariants.{Always, At}
 use Rattle.json_laws.specs.Written.{Item}
-use Rattle.schema_json.specs.Fields.{whole_in}
+use Rattle.json_laws.specs.Json.{whole_in}
 use Rattle.search_query.specs.declared.query.IntTest.{IntTest}
 use Rattle.search_query.specs.declared.query.TextTest.{TextTest}
 use Rattle.search_query.specs.declared.query.FileTest.{FileTest}

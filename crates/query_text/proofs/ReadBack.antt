@@ -4,7 +4,7 @@ use Rattle.std.specs.Str.{is_utf8}
 use Rattle.std.proofs.lemmas.Str.{is_utf8-from_IsUtf8}
 use Rattle.serde_json.specs.Read.{read}
 use Rattle.json_laws.proofs.Object.{object_read}
-use Rattle.schema_json.specs.Fields.{json_in}
+use Rattle.json_laws.specs.Json.{json_in}
 use Rattle.search_query.specs.View.{Question}
 use Rattle.query_read.specs.Values.{question_of}
 use Rattle.query_read.specs.Reading.{asks_for, data_fault, first_fault}
