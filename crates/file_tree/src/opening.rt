@@ -2,7 +2,7 @@
 ghost use Rattle.std.specs.Prelude.{◌≡◌, ◌≤◌, ◌<◌, ℕ, length, IfOk, IfSome, Ok, Err};
 ghost use Rattle.std.specs.Option.{ForSome, ok_or};
 ghost use Rattle.std.specs.FinMap.{get};
-ghost use Rattle.schema_fact.specs.Validity.{HasValidParts};
+ghost use Rattle.schema_fact.specs.Validity.{IsValidKind};
 ghost use Rattle.schema_fact.specs.Limits.{total_size, MeetsLimits};
 ghost use Rattle.claim_model.specs.Trees.{tree_parts};
 ghost use Rattle.file_tree.specs.declared.fault.FileFault.TheVariants.{Absent};
@@ -97,7 +97,7 @@ fn fetched<B: Shelf>(shelf: &mut B, r: &Ref) -> Result<Octets, FileFault>
 }
 
 fn tree_parts(kind: Kind) -> Option<PartList>
-    requires { HasValidParts kind }
+    requires { IsValidKind kind }
     ensures value { result ≡ tree_parts kind }
     ensures valid { IfSome result (λ parts. MeetsLimits parts) }
 {
@@ -109,7 +109,7 @@ fn tree_parts(kind: Kind) -> Option<PartList>
 }
 
 fn file_parts(kind: Kind) -> Option<PartList>
-    requires { HasValidParts kind }
+    requires { IsValidKind kind }
     ensures value { result ≡ file_parts kind }
     ensures valid { IfSome result (λ parts. MeetsLimits parts) }
 {

@@ -15,7 +15,8 @@ use Rattle.serde_json.specs.Data.{Num, Items, Data}
 use Rattle.serde_json.specs.Data as shown
 use Rattle.serde_json.specs.Find.{get}
 use Rattle.serde_json.specs.Read.{read, of_json, of_items, number_of, max_depth}
-use Rattle.schema_json.specs.Fields.{begins_object, json_in, text_at, whole_in}
+use Rattle.json_laws.specs.Json.{json_in, whole_in}
+use Rattle.schema_json.specs.Fields.{begins_object, text_at}
 use Rattle.schema_json.specs.Facts.{object_kind, schema_kind, known_kind}
 use Rattle.schema_fact.specs.declared.kinds.Kind.TheVariants.{Plain, Unread}
 

@@ -4,6 +4,5 @@ pub mod Fronts
 pub mod Joined
 pub mod Signed
 pub mod Changes
-pub mod Json
 pub mod KeyBlobs
 pub mod ValidFacts

@@ -24,12 +24,13 @@ use Rattle.schema_fact.specs.declared.parts.Part.{Part}
 use Rattle.schema_fact.specs.Limits.{is_length, total_size}
 use Rattle.schema_fact.specs.declared.kinds.Kind.{Kind}
 use Rattle.schema_fact.specs.declared.kinds.Kind.TheVariants.{Plain, File, Bytes, Directory, StaticSet, Permanode, Claim, Unread}
-use Rattle.schema_json.specs.Fields.{json_in, whole_in, text_or_empty, ref_in, ref_at, refs_of, type_of, has_type}
+use Rattle.json_laws.specs.Json.{json_in, whole_in}
+use Rattle.schema_json.specs.Fields.{text_or_empty, ref_in, ref_at, refs_of, type_of, has_type}
 use Rattle.schema_json.specs.Parts.{parts_of}
 use Rattle.schema_json.specs.Signing.{signature_of, signature_after, signature_in, object_of, signed_at, signed_in}
 use Rattle.schema_json.specs.Facts.{permanode_of, permanode_kind, date_of, what_of, claim_of, claim_kind, signed_kind, known_kind, object_kind, schema_kind, file_kind, bytes_kind, directory_kind, set_kind}
 use Rattle.schema_json.specs.Reading.{signed_of, payload_kind, signed_first, unsigned_kind, unsigned_object, unsigned_in}
-use Rattle.schema_json.proofs.Json.{json_in-text}
+use Rattle.json_laws.proofs.Json.{json_in-text}
 use Rattle.schema_json.proofs.Joined.{Joined, joined_read}
 
 none : {A P : Type 0} (a : A) → None ≡ Some a → P
@@ -215,7 +216,7 @@ abbrev type_by : Option Data → Option Data → Option (List ℕ)
 type_by version type = option_and_then (λ v. if v == 1 then option_and_then as_str type else None) (option_and_then whole_in version)
 
 -- and so of its type
-whole_type : (b : List ℕ) (d : Data) (signed : Signed) (name : List ℕ) → signed_in b ≡ Some (d, signed) → type_of d ≡ Some name → (w : Data) × (json_in b ≡ Some w) × (type_of w ≡ Some name)
+pub whole_type : (b : List ℕ) (d : Data) (signed : Signed) (name : List ℕ) → signed_in b ≡ Some (d, signed) → type_of d ≡ Some name → (w : Data) × (json_in b ≡ Some w) × (type_of w ≡ Some name)
 whole_type b d signed name e typed =
     let w = whole b d signed e in
     let same : type_of (object w.2.out) ≡ type_of (object w.0) = λ i. type_by (w.2.same (codes "camliVersion") (λ v. refl) i) (w.2.same (codes "camliType") (λ v. refl) i) in
@@ -223,7 +224,7 @@ whole_type b d signed name e typed =
 
 -- ---- kinds
 
-typed_by : (d : Data) (name : List ℕ) → has_type name d ≡ true → type_of d ≡ Some name
+pub typed_by : (d : Data) (name : List ℕ) → has_type name d ≡ true → type_of d ≡ Some name
 typed_by d name h = by (type_of d) h
   where
     by : (o : Option (List ℕ)) → unwrap_or (option_map (λ type. bytes_eq type name) o) false ≡ true → o ≡ Some name

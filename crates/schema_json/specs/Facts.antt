@@ -1,17 +1,21 @@
 -- What a blob says: the first kind whose conditions it meets.
-use Rattle.std.specs.Prelude.{ℕ, ℤ, ◌-◌, List, ◌++◌, codes, length, take, drop, Option, Some, None, is_none, nat_lt, option_and_then, option_map, unwrap_or, if◌then◌else◌}
+use Rattle.std.specs.Prelude.{ℕ, ℤ, ◌-◌, List, [], ◌∷◌, ◌++◌, codes, length, take, drop, Option, Some, None, is_none, nat_lt, option_and_then, option_map, unwrap_or, if◌then◌else◌}
 use Rattle.std.specs.Str.{bytes_eq}
-use Rattle.serde_json.specs.Data.{Data}
-use Rattle.serde_json.specs.Find.{get}
+use Rattle.serde_json.specs.Data.{Data, Items, no_items, item}
+use Rattle.serde_json.specs.Find.{get, as_array}
 use Rattle.claim_verify.specs.KeyName.{key_name_in}
 use Rattle.schema_date.specs.Dates.{date_in}
-use Rattle.schema_json.specs.Fields.{json_in, text_at, text_or_empty, ref_at, refs_at, type_of, has_type}
+use Rattle.json_laws.specs.Json.{json_in}
+use Rattle.schema_json.specs.Fields.{text_at, text_or_empty, ref_at, refs_at, type_of, has_type}
 use Rattle.schema_json.specs.Parts.{part_list_of}
 use Rattle.schema_json.specs.Signing.{signed_in}
-use Rattle.schema_json.specs.declared.claims.Change.{Change}
+use Rattle.schema_fact.specs.Limits.{is_change_count}
+use Rattle.schema_fact.specs.declared.changes.Act.{Act}
+use Rattle.schema_fact.specs.declared.changes.Act.TheVariants as act
+use Rattle.schema_fact.specs.declared.changes.Change.{Change}
 use Rattle.schema_fact.specs.declared.kinds.Signed.{Signed}
 use Rattle.schema_fact.specs.declared.kinds.What.{What}
-use Rattle.schema_fact.specs.declared.kinds.What.TheVariants.{Set, Add, Del, Delete}
+use Rattle.schema_fact.specs.declared.kinds.What.TheVariants.{Set, Add, Del, Delete, Multi}
 use Rattle.schema_fact.specs.declared.kinds.Kind.{Kind}
 use Rattle.schema_fact.specs.declared.kinds.Kind.TheVariants.{Plain, Key, File, Bytes, Directory, StaticSet, Permanode, Claim, Unread}
 use Rattle.schema_fact.specs.declared.kinds.Fact.{Fact}
@@ -61,24 +65,59 @@ permanode_kind bytes = option_and_then (λ found. permanode_of found.0 found.1) 
 abbrev pub attribute_of : Data → Option (List ℕ)
 attribute_of d = option_and_then (λ name. if nat_lt 0 (length name) then Some name else None) (text_at (codes "attribute") d)
 
--- an attribute claim with this value: `permaNode` a ref, `attribute`, and the value
-abbrev pub change_of : Option (List ℕ) → Data → Option Change
-change_of value d =
+-- a change that does this with this value: `permaNode` a ref, `attribute`, and the value
+abbrev pub change_by : Act → Option (List ℕ) → Data → Option Change
+change_by act value d =
     option_and_then (λ on.
     option_and_then (λ attr.
-    option_map (λ text. record { on = on; attr = attr; value = text }) value)
+    option_map (λ text. record { on = on; act = act; attr = attr; value = text }) value)
     (attribute_of d))
     (ref_at (codes "permaNode") d)
 
-abbrev pub set_of : Data → Option What
-set_of d = option_map (λ change. Set change.on change.attr change.value) (change_of (text_at (codes "value") d) d)
+abbrev pub set_change : Data → Option Change
+set_change d = change_by act.Set (text_at (codes "value") d) d
 
-abbrev pub add_of : Data → Option What
-add_of d = option_map (λ change. Add change.on change.attr change.value) (change_of (text_at (codes "value") d) d)
+abbrev pub add_change : Data → Option Change
+add_change d = change_by act.Add (text_at (codes "value") d) d
 
 -- a missing `value` is the empty one
+abbrev pub del_change : Data → Option Change
+del_change d = change_by act.Del (text_or_empty (get (codes "value") d)) d
+
+abbrev pub set_of : Data → Option What
+set_of d = option_map (λ change. Set change.on change.attr change.value) (set_change d)
+
+abbrev pub add_of : Data → Option What
+add_of d = option_map (λ change. Add change.on change.attr change.value) (add_change d)
+
 abbrev pub del_of : Data → Option What
-del_of d = option_map (λ change. Del change.on change.attr change.value) (change_of (text_or_empty (get (codes "value") d)) d)
+del_of d = option_map (λ change. Del change.on change.attr change.value) (del_change d)
+
+-- a change of this `changeType`
+abbrev pub change_typed : List ℕ → Data → Option Change
+change_typed type d =
+    if bytes_eq type (codes "set-attribute") then set_change d
+    else if bytes_eq type (codes "add-attribute") then add_change d
+    else if bytes_eq type (codes "del-attribute") then del_change d
+    else None
+
+abbrev pub change_in : Data → Option Change
+change_in d = option_and_then (λ type. change_typed type d) (text_at (codes "changeType") d)
+
+-- each item a change
+abbrev pub changes_in : Items → Option (List Change)
+changes_in no_items = Some []
+changes_in (item d ds) =
+    option_and_then (λ change. option_map (λ changes. change ∷ changes) (changes_in ds)) (change_in d)
+
+-- a list of changes, within the limits
+abbrev pub change_list_of : Items → Option (List Change)
+change_list_of items =
+    option_and_then (λ changes. if is_change_count (length changes) then Some changes else None) (changes_in items)
+
+-- a claim of the changes under `changes`
+abbrev pub multi_of : Data → Option What
+multi_of d = option_map Multi (option_and_then change_list_of (option_and_then as_array (get (codes "changes") d)))
 
 abbrev pub delete_of : Data → Option What
 delete_of d = option_map Delete (ref_at (codes "target") d)
@@ -90,6 +129,7 @@ what_by type d =
     else if bytes_eq type (codes "add-attribute") then add_of d
     else if bytes_eq type (codes "del-attribute") then del_of d
     else if bytes_eq type (codes "delete") then delete_of d
+    else if bytes_eq type (codes "multi") then multi_of d
     else None
 
 abbrev pub what_of : Data → Option What
@@ -107,6 +147,10 @@ claim_of d signed =
 
 abbrev pub claim_kind : List ℕ → Option Kind
 claim_kind bytes = option_and_then (λ found. claim_of found.0 found.1) (signed_in bytes)
+
+-- the list of changes that a text is
+abbrev pub change_list_in : List ℕ → Option (List Change)
+change_list_in bytes = option_and_then change_list_of (option_and_then as_array (json_in bytes))
 
 -- All kinds
 

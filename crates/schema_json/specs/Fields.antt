@@ -1,16 +1,12 @@
 -- The fields of JSON objects that facts are made of, over what serde_json reads.
 use Rattle.std.specs.Prelude.{ℕ, ◌==◌, List, [], ◌∷◌, Bool, false, not, Option, Some, None, codes, option_and_then, option_map, unwrap_or, if◌then◌else◌}
 use Rattle.std.specs.List.{find}
-use Rattle.std.specs.Str.{bytes_eq, is_utf8}
+use Rattle.std.specs.Str.{bytes_eq}
 use Rattle.json.specs.Word.{is_space}
 use Rattle.serde_json.specs.Data.{Data, Items, no_items, item}
-use Rattle.serde_json.specs.Find.{get, as_str, as_number, as_u64, as_array}
-use Rattle.serde_json.specs.Read.{read}
+use Rattle.serde_json.specs.Find.{get, as_str, as_array}
+use Rattle.json_laws.specs.Json.{whole_in}
 use Rattle.blobref.specs.Blobref.{blobref_in}
-
--- the one JSON value that the bytes are; bytes that are not UTF-8 are none
-abbrev pub json_in : List ℕ → Option Data
-json_in bytes = if is_utf8 bytes then read bytes else None
 
 -- the first byte that is no white space is a brace, as in the text of an object
 abbrev pub begins_object : List ℕ → Bool
@@ -24,10 +20,6 @@ text_at key d = option_and_then as_str (get key d)
 abbrev pub text_or_empty : Option Data → Option (List ℕ)
 text_or_empty None = Some []
 text_or_empty (Some d) = as_str d
-
--- a whole number: one without a sign, a point or an exponent, that 64 bits hold
-abbrev pub whole_in : Data → Option ℕ
-whole_in d = option_and_then as_u64 (as_number d)
 
 -- the whole number under a key
 abbrev pub whole_at : List ℕ → Data → Option ℕ

@@ -6,7 +6,8 @@ use Rattle.serde_json.specs.Data.{Data}
 use Rattle.schema_fact.specs.declared.kinds.Signed.{Signed}
 use Rattle.schema_fact.specs.declared.kinds.Kind.{Kind}
 use Rattle.schema_fact.specs.declared.kinds.Kind.TheVariants.{Plain, Unread}
-use Rattle.schema_json.specs.Fields.{json_in, type_of}
+use Rattle.json_laws.specs.Json.{json_in}
+use Rattle.schema_json.specs.Fields.{type_of}
 use Rattle.schema_json.specs.Signing.{signed_in}
 use Rattle.schema_json.specs.Facts.{permanode_of, claim_of, file_kind, bytes_kind, directory_kind, set_kind}
 

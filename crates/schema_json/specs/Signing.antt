@@ -8,7 +8,8 @@ use Rattle.serde_json.specs.Find.{as_object}
 use Rattle.hex.specs.Hex.{decode_sized}
 use Rattle.blobref.specs.Blobref.{is_lower_digit}
 use Rattle.claim_verify.specs.Split.{split_of}
-use Rattle.schema_json.specs.Fields.{json_in, ref_at, text_at}
+use Rattle.json_laws.specs.Json.{json_in}
+use Rattle.schema_json.specs.Fields.{ref_at, text_at}
 use Rattle.schema_fact.specs.declared.kinds.Signed.{Signed}
 
 -- 64 lower-case hexadecimal digits

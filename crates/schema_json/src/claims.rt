@@ -1,22 +1,15 @@
 //! What claims say.
 ghost use Rattle.std.specs.Prelude.{◌≡◌, IfOk, option_copied};
 ghost use Rattle.serde_json.specs.View.{view};
-ghost use Rattle.schema_json.specs.Facts.{attribute_of, change_of, set_of, add_of, del_of, delete_of, what_by, what_of, claim_of, date_of};
+ghost use Rattle.schema_json.specs.Facts.{attribute_of, change_by, set_change, add_change, del_change, set_of, add_of, del_of, delete_of, multi_of, what_by, what_of, claim_of, date_of};
 
+use crate::change_items::change_list_of;
 use crate::fields::{has_type, ref_at, text_at, text_or_empty};
-use blobref::{NoMemory, Ref, Text};
+use blobref::{NoMemory, Text};
 use schema_date::Date;
-use schema_fact::{Kind, Signed, What};
+use schema_fact::{Act, Change, Kind, Signed, What};
 use serde_json::Value;
 use std::alloc::Global;
-
-// What an attribute claim is about.
-#[derive(Drop)]
-struct Change {
-    on: Ref,
-    attr: Text,
-    value: Text,
-}
 
 // A claim: the payload of a signed blob has the type, a date and what it says.
 pub(crate) fn claim_of(
@@ -38,7 +31,8 @@ pub(crate) fn claim_of(
     }
 }
 
-fn date_of(object: &Value) -> Option<Date>
+/// The date of a claim.
+pub fn date_of(object: &Value) -> Option<Date>
     ensures { result ≡ date_of (view object.now) }
 {
     Date::read(text_at(object, "claimDate")?.as_bytes())
@@ -62,6 +56,7 @@ fn what_by(alloc: Global, type_name: &str, object: &Value) -> Result<Option<What
         "add-attribute" => add_of(alloc, object),
         "del-attribute" => del_of(alloc, object),
         "delete" => Ok(delete_of(object)),
+        "multi" => multi_of(alloc, object),
         _ => Ok(None),
     }
 }
@@ -69,7 +64,7 @@ fn what_by(alloc: Global, type_name: &str, object: &Value) -> Result<Option<What
 fn set_of(alloc: Global, object: &Value) -> Result<Option<What>, NoMemory>
     ensures { IfOk result (λ what. what ≡ set_of (view object.now)) }
 {
-    match change_of(alloc, text_at(object, "value"), object)? {
+    match set_change(alloc, object)? {
         Some(change) => Ok(Some(What::Set {
             on: change.on,
             attr: change.attr,
@@ -82,7 +77,7 @@ fn set_of(alloc: Global, object: &Value) -> Result<Option<What>, NoMemory>
 fn add_of(alloc: Global, object: &Value) -> Result<Option<What>, NoMemory>
     ensures { IfOk result (λ what. what ≡ add_of (view object.now)) }
 {
-    match change_of(alloc, text_at(object, "value"), object)? {
+    match add_change(alloc, object)? {
         Some(change) => Ok(Some(What::Add {
             on: change.on,
             attr: change.attr,
@@ -92,11 +87,10 @@ fn add_of(alloc: Global, object: &Value) -> Result<Option<What>, NoMemory>
     }
 }
 
-// A missing value is the empty one.
 fn del_of(alloc: Global, object: &Value) -> Result<Option<What>, NoMemory>
     ensures { IfOk result (λ what. what ≡ del_of (view object.now)) }
 {
-    match change_of(alloc, text_or_empty(object, "value"), object)? {
+    match del_change(alloc, object)? {
         Some(change) => Ok(Some(What::Del {
             on: change.on,
             attr: change.attr,
@@ -113,9 +107,43 @@ fn delete_of(object: &Value) -> Option<What>
     Some(What::Delete { target })
 }
 
-// The permanode and the attribute of an attribute claim, with this value.
-fn change_of(alloc: Global, value: Option<&str>, object: &Value) -> Result<Option<Change>, NoMemory>
-    ensures { IfOk result (λ change. change ≡ change_of (option_copied value.entry) (view object.now)) }
+// A claim of the changes under `changes`.
+fn multi_of(alloc: Global, object: &Value) -> Result<Option<What>, NoMemory>
+    ensures { IfOk result (λ what. what ≡ multi_of (view object.now)) }
+{
+    match object.get("changes").and_then(Value::as_array) {
+        Some(items) => Ok(change_list_of(alloc, items)?.map(What::Multi)),
+        None => Ok(None),
+    }
+}
+
+pub(crate) fn set_change(alloc: Global, object: &Value) -> Result<Option<Change>, NoMemory>
+    ensures { IfOk result (λ change. change ≡ set_change (view object.now)) }
+{
+    change_by(alloc, Act::Set, text_at(object, "value"), object)
+}
+
+pub(crate) fn add_change(alloc: Global, object: &Value) -> Result<Option<Change>, NoMemory>
+    ensures { IfOk result (λ change. change ≡ add_change (view object.now)) }
+{
+    change_by(alloc, Act::Add, text_at(object, "value"), object)
+}
+
+// A missing value is the empty one.
+pub(crate) fn del_change(alloc: Global, object: &Value) -> Result<Option<Change>, NoMemory>
+    ensures { IfOk result (λ change. change ≡ del_change (view object.now)) }
+{
+    change_by(alloc, Act::Del, text_or_empty(object, "value"), object)
+}
+
+// A change that does this with this value, of the permanode and the attribute that the object names.
+fn change_by(
+    alloc: Global,
+    act: Act,
+    value: Option<&str>,
+    object: &Value,
+) -> Result<Option<Change>, NoMemory>
+    ensures { IfOk result (λ change. change ≡ change_by act (option_copied value.entry) (view object.now)) }
 {
     let Some(on) = ref_at(object, "permaNode") else {
         return Ok(None);
@@ -128,7 +156,12 @@ fn change_of(alloc: Global, value: Option<&str>, object: &Value) -> Result<Optio
     };
     let attr = Text::copy(alloc, attr)?;
     let value = Text::copy(alloc, value)?;
-    Ok(Some(Change { on, attr, value }))
+    Ok(Some(Change {
+        on,
+        act,
+        attr,
+        value,
+    }))
 }
 
 // The attribute, which is not empty.

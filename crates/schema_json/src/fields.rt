@@ -3,28 +3,11 @@ ghost use Rattle.std.specs.Prelude.{◌≡◌, IfOk, Some, None, option_map, opt
 ghost use Rattle.json.specs.Word.{is_space};
 ghost use Rattle.serde_json.specs.View.{view, items_view};
 ghost use Rattle.serde_json.specs.Find.{get};
-ghost use Rattle.schema_json.specs.Fields.{begins_object, json_in, text_at, text_or_empty, whole_at, whole_or_zero, ref_in, ref_at, refs_at, refs_of, type_of, has_type};
+ghost use Rattle.schema_json.specs.Fields.{begins_object, text_at, text_or_empty, whole_at, whole_or_zero, ref_in, ref_at, refs_at, refs_of, type_of, has_type};
 
 use blobref::{NoMemory, Ref, RefList};
 use serde_json::Value;
 use std::alloc::Global;
-
-/// The one JSON value that the bytes are, as `serde_json` reads it (`docs/formats/schema.md`): None for bytes that aren't
-/// UTF-8, or that aren't one JSON text.
-pub fn json_in(alloc: Global, bytes: &[u8]) -> Result<Option<Value>, NoMemory>
-    ensures { IfOk result (λ value. option_map view value ≡ json_in bytes.now) }
-{
-    match Value::from_slice(alloc, bytes) {
-        Ok(value) => Ok(Some(value)),
-        Err(error) => {
-            if error.is_memory() {
-                Err(NoMemory)
-            } else {
-                Ok(None)
-            }
-        }
-    }
-}
 
 // Whether the first byte that is no white space is a brace, as in the text of an object.
 pub(crate) fn begins_object(bytes: &[u8]) -> bool
@@ -39,8 +22,8 @@ fn is_space(byte: u8) -> bool
     matches!(byte, b' ' | b'\t' | b'\n' | b'\r')
 }
 
-// The text under a key.
-pub(crate) fn text_at<'v>(object: &'v Value, key: &str) -> Option<&'v str>
+/// The text under a key.
+pub fn text_at<'v>(object: &'v Value, key: &str) -> Option<&'v str>
     ensures { option_copied result ≡ text_at key.now (view object.now) }
 {
     object.get(key).and_then(Value::as_str)
@@ -80,8 +63,8 @@ pub(crate) fn ref_in(value: &Value) -> Option<Ref>
     Ref::read(value.as_str()?.as_bytes())
 }
 
-// The ref under a key.
-pub(crate) fn ref_at(object: &Value, key: &str) -> Option<Ref>
+/// The ref under a key.
+pub fn ref_at(object: &Value, key: &str) -> Option<Ref>
     ensures { result ≡ ref_at key.now (view object.now) }
 {
     ref_in(object.get(key)?)
@@ -120,8 +103,8 @@ pub(crate) fn type_of(object: &Value) -> Option<&str>
     text_at(object, "camliType")
 }
 
-// Whether it is a schema object of this type.
-pub(crate) fn has_type(object: &Value, name: &str) -> bool
+/// Whether it is a schema object of this type.
+pub fn has_type(object: &Value, name: &str) -> bool
     ensures { result ≡ has_type name.now (view object.now) }
 {
     type_of(object) == Some(name)

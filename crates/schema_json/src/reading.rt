@@ -6,11 +6,12 @@ ghost use Rattle.schema_json.specs.Reading.{signed_of, payload_kind, signed_firs
 ghost use Rattle.schema_fact.specs.Validity.{IsValid};
 
 use crate::claims::claim_of;
-use crate::fields::{begins_object, has_type, json_in, ref_at, refs_at, text_or_empty, type_of};
+use crate::fields::{begins_object, has_type, ref_at, refs_at, text_or_empty, type_of};
 use crate::part_list::part_list_of;
 use crate::signing::signed_in;
 use blobref::{NoMemory, Text};
 use claim_verify::KeyName;
+use json_laws::json_in;
 use schema_fact::{Fact, Kind, Signed};
 use serde_json::Value;
 use std::alloc::Global;

@@ -5,15 +5,16 @@ ghost use Rattle.schema_json.specs.Signing.{is_signature, signature_in, has_one_
 ghost use Rattle.std.specs.List.{list_all};
 ghost use Rattle.blobref.specs.Blobref.{is_lower_digit};
 
-use crate::fields::{json_in, ref_at, text_at};
+use crate::fields::{ref_at, text_at};
 use blobref::{NoMemory, Octets};
 use claim_verify::split_signed;
+use json_laws::json_in;
 use schema_fact::Signed;
 use serde_json::Value;
 use std::alloc::Global;
 
-// The payload's object, with what is signed.
-pub(crate) fn signed_in(alloc: Global, blob: &[u8]) -> Result<Option<(Value, Signed)>, NoMemory>
+/// The payload's object of a signed blob, with what is signed (`docs/formats/schema.md`).
+pub fn signed_in(alloc: Global, blob: &[u8]) -> Result<Option<(Value, Signed)>, NoMemory>
     ensures { IfOk result (λ found. option_map (λ pair. (view pair.0, pair.1)) found ≡ signed_in blob.now) }
 {
     match split_signed(blob) {

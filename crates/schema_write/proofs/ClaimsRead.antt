@@ -1,8 +1,7 @@
 -- Written permanodes and claims are read.
-use Rattle.std.proofs.Common.{◌≡◌, ◌≤◌, ◌<◌, ◌+◌, ◌*◌, ℕ, ℤ, Bool, true, false, List, [], ◌∷◌, ◌++◌, codes, length, drop, replicate, cond, nat_lt, Option, None, Some, option_and_then, option_map, refl, ap, ◌∙◌, arith, length-append}
+use Rattle.std.proofs.Common.{◌≡◌, ◌≤◌, ◌+◌, ◌*◌, ℕ, ℤ, Bool, true, false, List, [], ◌∷◌, ◌++◌, codes, length, drop, replicate, Option, None, Some, option_and_then, option_map, refl, ap, ◌∙◌, arith, length-append}
 use Rattle.std.specs.Prelude.{unwrap_or, if◌then◌else◌}
 use Rattle.std.specs.Str.{IsUtf8, bytes_eq}
-use Rattle.std.proofs.lemmas.Bool.{lt-ltb}
 use Rattle.std.specs.Fmt.{digits}
 use Rattle.std.specs.Option.{option_or}
 use Rattle.json.specs.Print.{quoted, escape_byte}
@@ -10,7 +9,6 @@ use Rattle.json.proofs.Printed.Utf8.{IsUtf8-are_ascii}
 use Rattle.hex.specs.Hex.{encode_lower, lower_digits}
 use Rattle.hex.proofs.HexLemmas.{length-encode_with}
 use Rattle.serde_json.specs.Data.{Data, string, object}
-use Rattle.serde_json.specs.Find.{as_str}
 use Rattle.blobref.specs.Blobref.{is_blobref}
 use Rattle.blobref.proofs.Spelled.{blobref_short}
 use Rattle.schema_date.specs.Dates.{date_in}
@@ -20,26 +18,21 @@ use Rattle.schema_date.proofs.WrittenDates.{written_date_is_read}
 use Rattle.schema_fact.specs.declared.kinds.Kind.TheVariants.{Permanode, Claim}
 use Rattle.schema_fact.specs.declared.kinds.Signed.{Signed}
 use Rattle.schema_fact.specs.declared.kinds.What.{What}
-use Rattle.schema_fact.specs.declared.kinds.What.TheVariants.{Set, Add, Del, Delete}
-use Rattle.schema_json.specs.Fields.{ref_in, ref_at, text_at, text_or_empty, type_of}
-use Rattle.schema_json.specs.Facts.{permanode_of, claim_of, attribute_of, what_by, what_of, date_of}
+use Rattle.schema_fact.specs.declared.kinds.What.TheVariants.{Set, Add, Del, Delete, Multi}
+use Rattle.schema_json.specs.Fields.{text_or_empty, type_of}
+use Rattle.schema_json.specs.Facts.{permanode_of, claim_of, what_by, what_of, date_of}
 use Rattle.schema_json.proofs.Changes.{set_is, add_is, del_is}
 use Rattle.json_laws.specs.Written.{Pair, payload_text, members_of, last_value, ValuesReadWithin, PairsAreUtf8}
 use Rattle.json_laws.specs.Signing.{signature_pair}
 use Rattle.json_laws.proofs.Found.{member_found}
 use Rattle.json_laws.proofs.Leaves.{read_quoted}
-use Rattle.json_laws.proofs.Utf8.{text_utf8}
 use Rattle.schema_write.specs.Blobs.{text_pair, number_pair, schema_pairs, permanode_pairs, permanode_payload, claim_type, what_pairs, claim_pairs, claim_payload, signed}
 use Rattle.blobref.proofs.Spelled.{IsBytes-from_test}
 use Rattle.schema_write.specs.Laws.{AreBytes, Says, IsChange, MayBeSaid, PermanodesAreRead, ClaimsAreRead, longest_schema, signature_length}
 use Rattle.schema_write.proofs.Texts.{blobref_utf8, hex_utf8, quoted_short}
+use Rattle.schema_write.proofs.ChangesRead.{text_pair_utf8, text_is, ref_is, named_is, changes_values, multi_is, changes_utf8}
 use Rattle.schema_write.proofs.Objects.{type_is, schema_values, schema_utf8}
 use Rattle.schema_write.proofs.SignedRead.{IsPayload, signed_long, signed_is, signed_says}
-
--- ---- pairs with texts
-
-text_pair_utf8 : (key text : List ℕ) (ps : List Pair) → IsUtf8 key → IsUtf8 text → PairsAreUtf8 ps → PairsAreUtf8 (text_pair key text ∷ ps)
-text_pair_utf8 key text ps k t h = (k, text_utf8 text t, h)
 
 -- whether a type is the one asked
 abbrev has_type_by : List ℕ → Option (List ℕ) → Bool
@@ -110,17 +103,6 @@ permanode_read signer random sig ref bytes h =
 
 -- ---- claims
 
-text_is : (ps : List Pair) (key text : List ℕ) → last_value key ps ≡ Some (string text) → text_at key (object (members_of ps)) ≡ Some text
-text_is ps key text h = ap (option_and_then as_str) (member_found ps key ∙ h)
-
-ref_is : (ps : List Pair) (key r : List ℕ) → is_blobref r ≡ true → last_value key ps ≡ Some (string r) → ref_at key (object (members_of ps)) ≡ Some r
-ref_is ps key r ref h = ap (option_and_then ref_in) (member_found ps key ∙ h) ∙ ap (λ (b : Bool). cond b (Some r) None) ref
-
-named_is : (ps : List Pair) (attr : List ℕ) → 0 < length attr → last_value (codes "attribute") ps ≡ Some (string attr) → attribute_of (object (members_of ps)) ≡ Some attr
-named_is ps attr more h =
-    ap (option_and_then (λ name. if nat_lt 0 (length name) then Some name else None)) (text_is ps (codes "attribute") attr h)
-    ∙ ap (λ (b : Bool). cond b (Some attr) None) (lt-ltb 0 (length attr) more)
-
 said : (ps : List Pair) (type : List ℕ) (what : What) → last_value (codes "claimType") ps ≡ Some (string type) → what_by type (object (members_of ps)) ≡ Some what → what_of (object (members_of ps)) ≡ Some what
 said ps type what typed is = ap (option_and_then (λ t. what_by t (object (members_of ps)))) (text_is ps (codes "claimType") type typed) ∙ is
 
@@ -144,6 +126,9 @@ what_is signer date (Del on attr (c ∷ cs)) may =
 what_is signer date (Delete target) may =
     let ps = claim_pairs signer date (Delete target) in
     said ps (codes "delete") (Delete target) refl (ap (option_map Delete) (ref_is ps (codes "target") target may refl))
+what_is signer date (Multi changes) may =
+    let ps = claim_pairs signer date (Multi changes) in
+    said ps (codes "multi") (Multi changes) refl (multi_is changes (object (members_of ps)) may.0 may.1 (member_found ps (codes "changes")))
 
 what_values : (what : What) → ValuesReadWithin 126 (what_pairs what)
 what_values (Set on attr value) = (read_quoted 126 on, (read_quoted 126 attr, (read_quoted 126 value, tt)))
@@ -151,6 +136,7 @@ what_values (Add on attr value) = (read_quoted 126 on, (read_quoted 126 attr, (r
 what_values (Del on attr []) = (read_quoted 126 on, (read_quoted 126 attr, tt))
 what_values (Del on attr (c ∷ cs)) = (read_quoted 126 on, (read_quoted 126 attr, (read_quoted 126 (c ∷ cs), tt)))
 what_values (Delete target) = (read_quoted 126 target, tt)
+what_values (Multi changes) = changes_values changes
 
 change_utf8 : (on attr value : List ℕ) (more : List Pair) → IsChange on attr value → PairsAreUtf8 more
     → PairsAreUtf8 (text_pair (codes "permaNode") on ∷ text_pair (codes "attribute") attr ∷ more)
@@ -167,12 +153,14 @@ what_utf8 (Add on attr value) may = change_utf8 on attr value (text_pair (codes 
 what_utf8 (Del on attr []) may = change_utf8 on attr [] [] may tt
 what_utf8 (Del on attr (c ∷ cs)) may = change_utf8 on attr (c ∷ cs) (text_pair (codes "value") (c ∷ cs) ∷ []) may (value_utf8 (c ∷ cs) may.value_utf8)
 what_utf8 (Delete target) may = text_pair_utf8 (codes "target") target [] (IsUtf8-are_ascii (codes "target") refl) (blobref_utf8 target may) tt
+what_utf8 (Multi changes) may = changes_utf8 changes may.1
 
 type_utf8 : (what : What) → IsUtf8 (claim_type what)
 type_utf8 (Set on attr value) = IsUtf8-are_ascii (codes "set-attribute") refl
 type_utf8 (Add on attr value) = IsUtf8-are_ascii (codes "add-attribute") refl
 type_utf8 (Del on attr value) = IsUtf8-are_ascii (codes "del-attribute") refl
 type_utf8 (Delete target) = IsUtf8-are_ascii (codes "delete") refl
+type_utf8 (Multi changes) = IsUtf8-are_ascii (codes "multi") refl
 
 -- the keys of all claims stand nowhere else
 abbrev Apart : List Pair → Type 0
@@ -186,6 +174,7 @@ apart (Add on attr value) = (refl, refl, refl, refl)
 apart (Del on attr []) = (refl, refl, refl, refl)
 apart (Del on attr (c ∷ cs)) = (refl, refl, refl, refl)
 apart (Delete target) = (refl, refl, refl, refl)
+apart (Multi changes) = (refl, refl, refl, refl)
 
 apart_signed : (what : What) (digits : List ℕ) → Apart (what_pairs what ++ signature_pair digits ∷ [])
 apart_signed (Set on attr value) digits = (refl, refl, refl, refl)
@@ -193,6 +182,7 @@ apart_signed (Add on attr value) digits = (refl, refl, refl, refl)
 apart_signed (Del on attr []) digits = (refl, refl, refl, refl)
 apart_signed (Del on attr (c ∷ cs)) digits = (refl, refl, refl, refl)
 apart_signed (Delete target) digits = (refl, refl, refl, refl)
+apart_signed (Multi changes) digits = (refl, refl, refl, refl)
 
 -- what stands between the type and what the claim says
 abbrev middle : List ℕ → List ℕ → What → List Pair → List Pair

@@ -4,8 +4,8 @@ use Rattle.std.proofs.lemmas.List.Concat.{flat_map-append}
 use Rattle.std.specs.List.{join_by}
 use Rattle.json_laws.specs.Written.{Pair, pair_text, payload_text}
 use Rattle.schema_fact.specs.declared.kinds.What.{What}
-use Rattle.schema_fact.specs.declared.kinds.What.TheVariants.{Set, Add, Del, Delete}
-use Rattle.schema_write.specs.Blobs.{text_pair, number_pair, value_pairs, start_pairs, claim_type, what_pairs, claim_payload}
+use Rattle.schema_fact.specs.declared.kinds.What.TheVariants.{Set, Add, Del, Delete, Multi}
+use Rattle.schema_write.specs.Blobs.{text_pair, number_pair, value_pairs, changes_pair, start_pairs, claim_type, what_pairs, claim_payload}
 
 pieces : (a b c d : List ℕ) → ((123 ∷ (a ++ b)) ++ 44 ∷ []) ++ (c ++ d) ≡ 123 ∷ (a ++ (b ++ (44 ∷ (c ++ d))))
 pieces a b c d = simp append_assoc
@@ -33,6 +33,7 @@ said_behind signer date (Add on attr value) =
 said_behind signer date (Del on attr value) =
     behind signer date (codes "del-attribute") (text_pair (codes "permaNode") on) (text_pair (codes "attribute") attr ∷ value_pairs value)
 said_behind signer date (Delete target) = behind signer date (codes "delete") (text_pair (codes "target") target) []
+said_behind signer date (Multi changes) = behind signer date (codes "multi") (changes_pair changes) []
 
 pub claimed : (signer date : List ℕ) (what said : What) (start all : List ℕ)
     → what ≡ said

@@ -1,6 +1,6 @@
 -- The written date of each blob of a generated store.
-use Rattle.std.proofs.Common.{◌≡◌, ◌≤◌, ◌<◌, ◌+◌, ◌*◌, ◌/◌, ◌%◌, ℕ, true, ℤ, pos, List, refl, ap, sym, ◌∙◌, arith}
-use Rattle.jiff_core.specs.Calendar.{days_from_civil, days_in_month, day_count}
+use Rattle.std.proofs.Common.{◌≡◌, ◌<◌, ◌+◌, ◌*◌, ◌/◌, ◌%◌, ℕ, true, pos, List, refl, ap, sym, ◌∙◌, arith}
+use Rattle.jiff_core.specs.Calendar.{days_from_civil, days_in_month}
 use Rattle.jiff_core.proofs.MarchLemmas.{day_count-early}
 use Rattle.jiff_core.specs.March.{march_days, march_months}
 use Rattle.jiff_core.proofs.CalendarLemmas.{days_from_civil-day_count}

@@ -2,8 +2,10 @@ pub mod Texts
 pub mod Objects
 pub mod PartsRead
 pub mod SignedRead
+pub mod ChangesRead
 pub mod ClaimsRead
 pub mod PartsWritten
+pub mod ItemsWritten
 pub mod ClaimsWritten
 pub mod Drafted
 pub mod Lengths

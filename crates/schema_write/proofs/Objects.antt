@@ -11,7 +11,8 @@ use Rattle.serde_json.specs.Find.{as_str}
 use Rattle.serde_json.specs.Read.{read}
 use Rattle.schema_fact.specs.declared.kinds.Kind.{Kind}
 use Rattle.schema_fact.specs.declared.kinds.Kind.TheVariants.{Plain, Key, Unread}
-use Rattle.schema_json.specs.Fields.{json_in, text_at, whole_in, whole_at, type_of}
+use Rattle.json_laws.specs.Json.{json_in, whole_in}
+use Rattle.schema_json.specs.Fields.{text_at, whole_at, type_of}
 use Rattle.schema_json.specs.Facts.{key_in, key_blob, object_kind, known_kind, schema_kind, kind_of, fact_of}
 use Rattle.schema_json.proofs.KeyBlobs.{key_in-other, key_in-key_blob}
 use Rattle.json_laws.specs.Written.{Pair, object_text, members_of, last_value, ValuesReadWithin, PairsAreUtf8}

@@ -13,7 +13,8 @@ use Rattle.schema_fact.specs.declared.kinds.Kind.TheVariants.{File, Bytes}
 use Rattle.schema_fact.specs.declared.parts.Part.{Part}
 use Rattle.schema_fact.specs.declared.parts.Origin.{Origin}
 use Rattle.schema_fact.specs.declared.parts.Origin.TheVariants.{Zeros, Blob, Tree}
-use Rattle.schema_json.specs.Fields.{whole_in, whole_at, whole_or_zero, text_or_empty}
+use Rattle.json_laws.specs.Json.{whole_in}
+use Rattle.schema_json.specs.Fields.{whole_at, whole_or_zero, text_or_empty}
 use Rattle.schema_json.specs.Facts.{file_name_of}
 use Rattle.schema_json.specs.Parts.{length_in, origin_of, origin_in, part_in, parts_of, part_list_of}
 use Rattle.json_laws.specs.Written.{Pair, pair_text, members_of, items_of, read_within, ValuesReadWithin, ItemsReadWithin, PairsAreUtf8, ItemsAreUtf8}

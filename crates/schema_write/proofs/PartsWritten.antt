@@ -35,7 +35,7 @@ joined_after was text now parts p ps i whole first ended invariant =
     ∙ ap (λ (t : List ℕ). was ++ (part_text p ++ t)) (with_commas ps)
     ∙ ap (λ (all : List Part). was ++ join_by (λ item. item.text) (codes ",") (map part_item all)) (sym whole)
 
-pub next_left : (ps : List Part) (i : ℕ) (d : Part) → i < length ps → drop i ps ≡ get_or ps i d ∷ drop (i + 1) ps
+pub next_left : {X : Type 0} (ps : List X) (i : ℕ) (d : X) → i < length ps → drop i ps ≡ get_or ps i d ∷ drop (i + 1) ps
 next_left ps i d h =
     let next : suc i ≡ i + 1 = omega arith in
     drop-cons ps i d h ∙ ap (λ k. get_or ps i d ∷ drop k ps) next

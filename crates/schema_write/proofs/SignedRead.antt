@@ -13,10 +13,11 @@ use Rattle.blobref.specs.Blobref.{is_blobref, is_lower_digit}
 use Rattle.blobref.proofs.Spelled.{list_all-encode_lower}
 use Rattle.schema_fact.specs.declared.kinds.Kind.{Kind}
 use Rattle.schema_fact.specs.declared.kinds.Signed.{Signed}
-use Rattle.schema_json.specs.Fields.{json_in, ref_in, ref_at, type_of}
+use Rattle.json_laws.specs.Json.{json_in}
+use Rattle.schema_json.specs.Fields.{ref_in, ref_at, type_of}
 use Rattle.schema_json.specs.Facts.{key_in, known_kind}
 use Rattle.schema_json.specs.Signing.{is_signature, signature_in, signature_of, signature_after, object_of, signed_at, signed_in}
-use Rattle.schema_json.proofs.Json.{json_in-text}
+use Rattle.json_laws.proofs.Json.{json_in-text}
 use Rattle.json_laws.specs.Written.{Pair, payload_text, object_text, members_of, last_value, read_within, ValuesReadWithin, PairsAreUtf8}
 use Rattle.json_laws.specs.Signing.{signature_text, signed_text, signature_pair}
 use Rattle.json_laws.proofs.Object.{object_read}

@@ -5,8 +5,11 @@ use Rattle.json.specs.Print.{quoted}
 use Rattle.serde_json.specs.Data.{string, number, unsigned, array, object}
 use Rattle.json_laws.specs.Written.{Pair, Item, object_text, payload_text, list_text, members_of, items_of}
 use Rattle.json_laws.specs.Signing.{signed_text}
+use Rattle.schema_fact.specs.declared.changes.Act.{Act}
+use Rattle.schema_fact.specs.declared.changes.Act.TheVariants as act
+use Rattle.schema_fact.specs.declared.changes.Change.{Change}
 use Rattle.schema_fact.specs.declared.kinds.What.{What}
-use Rattle.schema_fact.specs.declared.kinds.What.TheVariants.{Set, Add, Del, Delete}
+use Rattle.schema_fact.specs.declared.kinds.What.TheVariants.{Set, Add, Del, Delete, Multi}
 use Rattle.schema_fact.specs.declared.parts.Part.{Part}
 use Rattle.schema_fact.specs.declared.parts.Origin.{Origin}
 use Rattle.schema_fact.specs.declared.parts.Origin.TheVariants.{Zeros, Blob, Tree}
@@ -79,6 +82,7 @@ claim_type (Set on attr value) = codes "set-attribute"
 claim_type (Add on attr value) = codes "add-attribute"
 claim_type (Del on attr value) = codes "del-attribute"
 claim_type (Delete target) = codes "delete"
+claim_type (Multi changes) = codes "multi"
 
 -- an empty value of a del-attribute claim is left out
 abbrev pub value_pairs : List ℕ → List Pair
@@ -88,11 +92,39 @@ value_pairs (c ∷ cs) = text_pair (codes "value") (c ∷ cs) ∷ []
 abbrev pub change_pairs : List ℕ → List ℕ → List Pair → List Pair
 change_pairs on attr value = text_pair (codes "permaNode") on ∷ text_pair (codes "attribute") attr ∷ value
 
+abbrev pub act_type : Act → List ℕ
+act_type act.Set = codes "set-attribute"
+act_type act.Add = codes "add-attribute"
+act_type act.Del = codes "del-attribute"
+
+abbrev pub act_values : Act → List ℕ → List Pair
+act_values act.Set value = text_pair (codes "value") value ∷ []
+act_values act.Add value = text_pair (codes "value") value ∷ []
+act_values act.Del value = value_pairs value
+
+-- the object of a change
+abbrev pub change_object : Change → List Pair
+change_object change =
+    text_pair (codes "changeType") (act_type change.act)
+    ∷ change_pairs change.on change.attr (act_values change.act change.value)
+
+abbrev pub change_item : Change → Item
+change_item change =
+    record { text = object_text (change_object change); value = object (members_of (change_object change)) }
+
+abbrev pub changes_pair : List Change → Pair
+changes_pair changes = record {
+  key = codes "changes";
+  text = list_text (map change_item changes);
+  value = array (items_of (map change_item changes));
+}
+
 abbrev pub what_pairs : What → List Pair
 what_pairs (Set on attr value) = change_pairs on attr (text_pair (codes "value") value ∷ [])
 what_pairs (Add on attr value) = change_pairs on attr (text_pair (codes "value") value ∷ [])
 what_pairs (Del on attr value) = change_pairs on attr (value_pairs value)
 what_pairs (Delete target) = text_pair (codes "target") target ∷ []
+what_pairs (Multi changes) = changes_pair changes ∷ []
 
 -- the pairs that each claim begins with
 abbrev pub start_pairs : List ℕ → List ℕ → List ℕ → List Pair

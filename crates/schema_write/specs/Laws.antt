@@ -6,12 +6,13 @@ use Rattle.blobref.specs.Blobref.{is_blobref}
 use Rattle.claim_verify.specs.KeyName.{is_key_name}
 use Rattle.schema_date.specs.Dates.{IsInRange}
 use Rattle.schema_date.specs.DateTexts.{IsDateText}
-use Rattle.schema_fact.specs.Limits.{MeetsLimits}
+use Rattle.schema_fact.specs.Limits.{MeetsLimits, IsChangeCount}
+use Rattle.schema_fact.specs.declared.changes.Change.{Change}
 use Rattle.schema_fact.specs.declared.kinds.Kind.{Kind}
 use Rattle.schema_fact.specs.declared.kinds.Kind.TheVariants.{Key, File, Bytes, Permanode, Claim}
 use Rattle.schema_fact.specs.declared.kinds.Signed.{Signed}
 use Rattle.schema_fact.specs.declared.kinds.What.{What}
-use Rattle.schema_fact.specs.declared.kinds.What.TheVariants.{Set, Add, Del, Delete}
+use Rattle.schema_fact.specs.declared.kinds.What.TheVariants.{Set, Add, Del, Delete, Multi}
 use Rattle.schema_fact.specs.declared.parts.Part.{Part}
 use Rattle.schema_fact.specs.declared.parts.Origin.{Origin}
 use Rattle.schema_fact.specs.declared.parts.Origin.TheVariants.{Zeros, Blob, Tree}
@@ -47,12 +48,17 @@ pub record IsChange (on attr value : List ℕ) : Type 0 where
   pub attr_utf8 : IsUtf8 attr
   pub value_utf8 : IsUtf8 value
 
+abbrev pub AreChanges : List Change → Type 0
+AreChanges [] = Unit {0}
+AreChanges (change ∷ changes) = IsChange change.on change.attr change.value × AreChanges changes
+
 -- what a claim may say
 abbrev pub MayBeSaid : What → Type 0
 MayBeSaid (Set on attr value) = IsChange on attr value
 MayBeSaid (Add on attr value) = IsChange on attr value
 MayBeSaid (Del on attr value) = IsChange on attr value
 MayBeSaid (Delete target) = is_blobref target ≡ true
+MayBeSaid (Multi changes) = IsChangeCount (length changes) × AreChanges changes
 
 -- the blob of a key says its name
 abbrev pub KeysAreRead : Type 0
@@ -86,12 +92,18 @@ ClaimsAreRead = (signer : List ℕ) (z : ℤ) (date : List ℕ) (what : What) (s
 abbrev pub signature_length : ℕ
 signature_length = 80
 
--- an attribute claim names its attribute
+-- each change names its attribute
+abbrev pub HaveNames : List Change → Type 0
+HaveNames [] = Unit {0}
+HaveNames (change ∷ changes) = (0 < length change.attr) × HaveNames changes
+
+-- an attribute claim names its attribute, and one of several changes has as many as it may
 abbrev pub HasAttribute : What → Type 0
 HasAttribute (Set on attr value) = 0 < length attr
 HasAttribute (Add on attr value) = 0 < length attr
 HasAttribute (Del on attr value) = 0 < length attr
 HasAttribute (Delete target) = Unit {0}
+HasAttribute (Multi changes) = IsChangeCount (length changes) × HaveNames changes
 
 -- finished by any signature the payload says that it is of this kind
 abbrev pub SaysSigned : List ℕ → List ℕ → (Signed → Kind) → Type 0

@@ -1,6 +1,7 @@
 //! Schema blobs, written from what they are to say.
 #![tactic(auto)]
 
+mod changes;
 mod draft;
 mod files;
 mod generated;

@@ -7,6 +7,7 @@ ghost use Rattle.schema_write.specs.Blobs.{permanode_payload, claim_payload, sig
 ghost use Rattle.schema_write.specs.Drafts.{IsClaimFault, with_pairs};
 ghost use Rattle.schema_write.specs.Laws.{Says, SaysSigned, HasAttribute, MayBeSaid, IsClaimPayload, longest_schema, signature_length};
 
+use crate::changes::several;
 use crate::draft::{DraftFault, as_text, fitting, push_pairs, ref_text};
 use blobref::{NoMemory, Octets, Ref};
 use claim_verify::KeyName;
@@ -130,6 +131,10 @@ pub(crate) fn what_payload(
         What::Delete { target } => {
             let payload = claim_start(alloc, signer, date, "delete")?;
             deletion(alloc, payload, ref_text(&target.spell()))
+        }
+        What::Multi(changes) => {
+            let payload = claim_start(alloc, signer, date, "multi")?;
+            several(alloc, payload, changes.as_slice())
         }
     }
 }

@@ -1,4 +1,6 @@
-use Rattle.std.proofs.Common.{sym, ◌∙◌}
+use Rattle.std.proofs.Common.{sym, ap, ◌∙◌, ◌∷◌, []}
+use Rattle.schema_write.specs.Blobs.{changes_pair}
+use Rattle.schema_write.specs.Drafts.{with_pairs}
 use Rattle.std.proofs.lemmas.Result.{IfOk-weaker}
 use Rattle.schema_fact.specs.declared.kinds.What.TheVariants.{Set, Add, Del, Delete}
 use Rattle.schema_write.proofs.ClaimsWritten.{claimed}
@@ -33,3 +35,10 @@ returns-in_ok-payload-in-Delete-clause-text c =
     let target = sym (c.ref_text-in-Delete.ensures ∙ c.spell-in-Delete.ensures.text) in
     IfOk-weaker c.deletion.result _ _ (λ all is. claimed c.args.signer.now c.args.date.now c.args.what.now _ c.in_ok-payload-in-Delete.payload.items all.items
     (c.in-Delete.is ∙ (λ i. Delete (target i))) c.in_ok-payload-in-Delete.ensures is) c.deletion.ensures
+
+pub returns-in_ok-payload-in-Multi-clause-text : goal.returns-in_ok-payload-in-Multi-clause-text
+returns-in_ok-payload-in-Multi-clause-text c =
+    let payload = c.in_ok-payload-in-Multi.payload.items in
+    IfOk-weaker c.several.result _ _ (λ all is. claimed c.args.signer.now c.args.date.now c.args.what.now _ payload all.items
+    c.in-Multi.is c.in_ok-payload-in-Multi.ensures
+    (is ∙ ap (λ cs. with_pairs payload (changes_pair cs ∷ [])) c.as_slice.ensures)) c.several.ensures.text
