@@ -14,7 +14,10 @@ use Rattle.std.specs.Ordering.{is_eq, eq_by_cmp, ordering_then}
 use Rattle.std.specs.Cmp.{IsTotalOrder}
 use Rattle.std.specs.FinMap.{FinMap, get, insert, empty, contains_key, get-insert, get-empty}
 use Rattle.blobref.specs.Blobref.{ref_cmp}
-use Rattle.claim_model.specs.Changes.{Act, sets, adds, removes, Change, change_values, counting, gives, has_after, is_removal, left_by}
+use Rattle.schema_fact.specs.declared.changes.Act.{Act}
+use Rattle.schema_fact.specs.declared.changes.Change.{Change}
+use Rattle.schema_fact.specs.declared.changes.Act.TheVariants.{Set as sets, Add as adds, Del as removes}
+use Rattle.claim_model.specs.Changes.{change_values, counting, gives, has_after, is_removal, left_by}
 use Rattle.claim_model.proofs.Changes.{add_last, del_last}
 use Rattle.index_look.proofs.Order.{is_Equal}
 use Rattle.index_rows.specs.Holders.{HolderKey, holder_cmp, holder_total}

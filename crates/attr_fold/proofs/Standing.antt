@@ -1,16 +1,16 @@
 -- What counts tell of a permanode and of a claim.
-use Rattle.std.proofs.Common.{arith, ◌≡◌, ℕ, zero, suc, Bool, true, not, ◌&&◌, List, Option, Some, None, nat_eq, nat_lt, refl, sym, ap, ◌∙◌, option_and_then}
+use Rattle.std.proofs.Common.{arith, ◌≡◌, ℕ, zero, suc, Bool, true, not, ◌&&◌, List, Option, Some, None, nat_eq, nat_lt, refl, sym, ap, ◌∙◌}
 use Rattle.std.proofs.lemmas.Bool.{false≢true, cond-true, lt-ltb, ne_eqb}
 use Rattle.std.specs.FinMap.{get}
 use Rattle.schema_date.specs.declared.date.When.TheVariants.{Always}
 use Rattle.schema_fact.specs.declared.kinds.Fact.{Fact}
-use Rattle.schema_fact.specs.declared.kinds.What.{What}
+use Rattle.schema_fact.specs.declared.changes.Change.{Change}
 use Rattle.schema_fact.specs.declared.kinds.Kind.{Kind}
 use Rattle.schema_fact.specs.declared.kinds.Kind.TheVariants.{Plain, Key, File, Bytes, Directory, StaticSet, Permanode, Claim, Unread}
 use Rattle.claim_model.specs.Facts.{Facts, passes, is_permanode}
 use Rattle.claim_model.specs.Claims.{Moment}
 use Rattle.claim_model.specs.Deleted.{can_be_deleted}
-use Rattle.index_look.specs.Claims.{claim_says, said}
+use Rattle.index_look.specs.Claims.{change_said}
 use Rattle.index_rows.specs.declared.rows.StateRow.{StateRow}
 use Rattle.index_rows.specs.Counted.{is_deletable, has_deleters, IsCounted}
 use Rattle.index_rows.specs.Deletes.{Deletes, row_deleted}
@@ -19,7 +19,7 @@ use Rattle.index_rows.specs.States.{States}
 use Rattle.index_rows.specs.Values.{IsChange}
 use Rattle.index_rows.proofs.DeletionCounts.{counts_are_deletion}
 use Rattle.attr_fold.specs.declared.turns.Turns.{Turns}
-use Rattle.attr_fold.specs.Turns.{standing, what_noted, said_noted, moment_noted}
+use Rattle.attr_fold.specs.Turns.{standing, noted, change_noted, moment_noted}
 
 permanode_deletable : (kind : Kind) → is_permanode kind ≡ true → can_be_deleted kind ≡ true
 permanode_deletable Plain h = absurd (false≢true h)
@@ -59,12 +59,9 @@ module _ (facts : Facts) (state : States) (deletes : Deletes) (counted : IsCount
       says = λ i. sym permanode i && (ap (passes (λ (r : StateRow). r.genuine)) (sym found) ∙ genuine) i
 
   pub noted_is : (p : List ℕ) (turns : Turns) (k : Moment) (n : ℕ) → IsChange facts state p k
-      → (fact : Fact) (what : What) (has : Bool)
-      → Some fact ≡ get facts k.1 → Some what ≡ claim_says fact.kind → has ≡ has_deleters state k.1
-      → what_noted turns p what (not has) n ≡ moment_noted facts deletes p turns k n
-  noted_is p turns k n change fact what has found says is =
-      let one : said facts k.1 ≡ Some what = ap (option_and_then (λ (f : Fact). claim_says f.kind)) (sym found)
-      ∙ sym says in
+      → (c : Change) (has : Bool) → Some c ≡ change_said facts k.1 k.2 → has ≡ has_deleters state k.1
+      → noted turns c.act (not has) (c.attr, c.value, p) n ≡ moment_noted facts deletes p turns k n
+  noted_is p turns k n change c has found is =
       let can : is_deletable facts k.1 ≡ true = ap (passes (λ (f : Fact). can_be_deleted f.kind)) change.found
       ∙ ap can_be_deleted change.says in
-      (λ i. said_noted turns p (sym one i) (not ((is ∙ by_count k.1 can) i)) n)
+      (λ i. change_noted turns p (found i) (not ((is ∙ by_count k.1 can) i)) n)

@@ -1,5 +1,5 @@
 -- The turns behind the moments of a permanode tell what it holds.
-use Rattle.std.proofs.Common.{◌≡◌, ◌<◌, ◌+◌, ℕ, zero, suc, Bool, true, false, not, ◌&&◌, ◌||◌, cond, List, [], ◌∷◌, ◌++◌, map, filter, take, length, Option, Some, None, refl, sym, ap, subst, ◌∙◌, ◌⊎◌, inl, inr, is_some, slice_get, get_or, option_map, arith, add-one}
+use Rattle.std.proofs.Common.{◌≡◌, ◌<◌, ◌+◌, ℕ, zero, suc, Bool, true, false, not, ◌&&◌, ◌||◌, cond, List, [], ◌∷◌, ◌++◌, map, filter, take, length, Option, Some, None, refl, sym, ap, subst, ◌∙◌, ◌⊎◌, inl, inr, is_some, get_or, option_map, arith, add-one}
 use Rattle.std.proofs.lemmas.Bool.{false≢true, cond-true, cond-false, cases_Bool, and_parts}
 use Rattle.std.proofs.lemmas.List.Elements.{filter_map-append}
 use Rattle.std.proofs.lemmas.Option.{same_Some}
@@ -8,10 +8,9 @@ use Rattle.std.specs.List.{list_any, filter_map, cons_option, AllByRecursion}
 use Rattle.std.specs.Str.{bytes_eq}
 use Rattle.std.specs.FinMap.{contains_key}
 use Rattle.schema_date.specs.declared.date.When.TheVariants.{Always}
-use Rattle.schema_fact.specs.declared.kinds.What.{What}
-use Rattle.schema_fact.specs.declared.kinds.What.TheVariants.{Set, Add, Del, Delete}
 use Rattle.claim_model.specs.Facts.{Facts, passes}
-use Rattle.claim_model.specs.Changes.{sets, adds, removes, Change, changes_of, counting, gives, has_after, values_after}
+use Rattle.schema_fact.specs.declared.changes.Change.{Change}
+use Rattle.claim_model.specs.Changes.{counting, gives, has_after, values_after}
 use Rattle.claim_model.specs.Claims.{Moment}
 use Rattle.claim_model.proofs.Changes.{held_is_given}
 use Rattle.index_look.proofs.Texts.{take_one}
@@ -22,9 +21,9 @@ use Rattle.index_rows.specs.States.{States}
 use Rattle.index_rows.specs.Values.{change_at, moment_counts, row_values, IsChange, IsListed}
 use Rattle.attr_fold.specs.declared.turns.Turns.{Turns}
 use Rattle.attr_fold.specs.Refolded.{IsHeldSomehow}
-use Rattle.attr_fold.specs.Turns.{all_moments, is_there, moment_noted, noted, said_noted, standing, told, told_at, what_noted, Tells}
+use Rattle.attr_fold.specs.Turns.{all_moments, change_noted, is_there, moment_noted, standing, told, told_at, Tells}
 use Rattle.attr_fold.proofs.Noting.{tells_more}
-use Rattle.attr_fold.proofs.Walking.{Row, all_stand, change_is, one_place, said_is}
+use Rattle.attr_fold.proofs.Walking.{Row, all_stand, change_is}
 
 all_at : {A : Type 0} (P : A → Type 0) (xs : List A) → AllByRecursion P xs → (i : ℕ) (x : A) → i < length xs
     → x ≡ get_or xs i x → P x
@@ -48,31 +47,16 @@ module _ (facts : Facts) (state : States) (deletes : Deletes) (p : List ℕ) (cs
   alone : told facts deletes (k ∷ []) ≡ (is.change, counts) ∷ []
   alone = ap (λ o. cons_option (option_map (λ c. (c, counts)) o) []) (change_is facts state p k is)
 
-  one_noted : (what : What) → slice_get (changes_of what) k.2 ≡ Some is.change
-      → Tells p (cs ++ (is.change, counts) ∷ []) (what_noted turns p what counts n) (suc n)
-  one_noted (Set on attr value) place =
-      subst (λ (c : Change). Tells p (cs ++ (c, counts) ∷ []) (what_noted turns p (Set on attr value) counts n) (suc n))
-      (one_place _ is.change k.2 place)
-      (tells_more p cs turns n tells on attr value sets counts)
-  one_noted (Add on attr value) place =
-      subst (λ (c : Change). Tells p (cs ++ (c, counts) ∷ []) (what_noted turns p (Add on attr value) counts n) (suc n))
-      (one_place _ is.change k.2 place)
-      (tells_more p cs turns n tells on attr value adds counts)
-  one_noted (Del on attr value) place =
-      subst (λ (c : Change). Tells p (cs ++ (c, counts) ∷ []) (what_noted turns p (Del on attr value) counts n) (suc n))
-      (one_place _ is.change k.2 place)
-      (tells_more p cs turns n tells on attr value removes counts)
-  one_noted (Delete target) place = absurd (false≢true (ap is_some place))
-
   -- one moment more
   pub tells_on : (now : Turns) → now ≡ moment_noted facts deletes p turns k n
       → Tells p (cs ++ told facts deletes (k ∷ [])) now (suc n)
   tells_on now noted =
-      let new : now ≡ what_noted turns p is.what counts n = noted
-      ∙ ap (λ o. said_noted turns p o counts n) (said_is facts state p k is) in
+      let c = is.change in
+      let new : now ≡ change_noted turns p (Some c) counts n = noted
+      ∙ ap (λ o. change_noted turns p o counts n) (change_is facts state p k is) in
       subst (λ (t : Turns). Tells p (cs ++ told facts deletes (k ∷ [])) t (suc n)) (sym new)
-      (subst (λ ds. Tells p (cs ++ ds) (what_noted turns p is.what counts n) (suc n)) (sym alone)
-      (one_noted is.what is.place))
+      (subst (λ ds. Tells p (cs ++ ds) (change_noted turns p (Some c) counts n) (suc n)) (sym alone)
+      (tells_more p cs turns n tells c.on c.attr c.value c.act counts))
 
 pub tells_next : (facts : Facts) (state : States) (deletes : Deletes) (p : List ℕ) (ks : List Moment) (i : ℕ)
     (k : Moment) → i < length ks → k ≡ get_or ks i k

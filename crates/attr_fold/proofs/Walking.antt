@@ -1,33 +1,31 @@
 -- The walk over the changes of a permanode, and what it leaves.
-use Rattle.std.proofs.Common.{◌≡◌, ℕ, zero, suc, Bool, true, false, not, ◌&&◌, cond, List, [], ◌∷◌, map, filter, fold, Option, Some, None, refl, sym, ap, subst, ◌∙◌, ℤ, option_map, option_and_then, is_some, slice_get, int_lt, Ordering}
+use Rattle.std.proofs.lemmas.Slice.Eq.{bytes_eq-Decides}
+use Rattle.std.proofs.Common.{◌≡◌, ℕ, Bool, true, false, not, ◌&&◌, cond, List, [], ◌∷◌, map, filter, fold, Option, Some, None, refl, sym, ap, subst, ◌∙◌, ℤ, option_map, option_and_then, is_some, slice_get, int_lt, Ordering}
 use Rattle.std.proofs.lemmas.Bool.{cond-true, cond-false, false≢true, and_parts, not-false}
 use Rattle.std.proofs.lemmas.Cmp.{int_cmp_total, alike_right}
-use Rattle.std.proofs.lemmas.Option.{same_Some}
 use Rattle.std.specs.Ordering.{is_lt, is_gt, int_cmp, nat_cmp, ordering_then}
 use Rattle.std.specs.declared.cmp.Ordering.TheVariants.{Less, Equal, Greater}
 use Rattle.blobref.specs.Blobref.{ref_cmp}
-use Rattle.std.proofs.lemmas.Slice.Eq.{bytes_eq-Decides}
 use Rattle.std.specs.List.{filter_map, cons_option, last_or, AllByRecursion}
 use Rattle.std.specs.Str.{bytes_eq}
 use Rattle.std.specs.FinMap.{get, entries, contains_key}
 use Rattle.schema_date.specs.declared.date.When.{When}
 use Rattle.schema_date.specs.declared.date.When.TheVariants.{Always, At}
 use Rattle.schema_fact.specs.declared.kinds.Fact.{Fact}
-use Rattle.schema_fact.specs.declared.kinds.What.{What}
-use Rattle.schema_fact.specs.declared.kinds.What.TheVariants.{Set, Add, Del, Delete}
 use Rattle.claim_model.specs.Facts.{Facts}
-use Rattle.claim_model.specs.ByClaim.{apply}
-use Rattle.claim_model.specs.Changes.{Change, changes_of, change_values}
+use Rattle.schema_fact.specs.declared.changes.Change.{Change}
+use Rattle.schema_fact.specs.Changes.{changes_of}
+use Rattle.claim_model.specs.Changes.{change_values}
 use Rattle.claim_model.specs.Claims.{Moment, moment_cmp}
 use Rattle.claim_model.specs.Deleted.{counts_at}
-use Rattle.index_look.specs.Claims.{claim_says, said, apply_said}
+use Rattle.index_look.specs.Claims.{claim_says, said, values_with}
 use Rattle.index_look.proofs.Keys.{entries_held}
 use Rattle.index_rows.specs.Changes.{Changes, ChangeKey, changes_after, is_later}
 use Rattle.index_rows.specs.Deletes.{Deletes, row_deleted}
 use Rattle.index_rows.specs.States.{States}
 use Rattle.index_rows.specs.Values.{change_at, moment_counts, IsChange}
 use Rattle.index_rows.proofs.Orders.{change_total, change_same}
-use Rattle.attr_fold.specs.Moments.{moments_after, values_with, moment_values, last_with, claim_date}
+use Rattle.attr_fold.specs.Moments.{moments_after, moment_values, last_with, claim_date}
 
 abbrev pub Row : Type 0
 Row = ChangeKey × Unit {0}
@@ -155,11 +153,7 @@ module _ (changes : Changes) (when : When) (p : List ℕ) where
     pub moment_none : changes_after changes p after ≡ [] → moments_after changes when p after ≡ []
     moment_none h = ap moments h
 
--- ---- what a change makes of the values
-
-pub one_place : (c d : Change) (n : ℕ) → slice_get (c ∷ []) n ≡ Some d → c ≡ d
-one_place c d zero h = same_Some c d h
-one_place c d (suc n) h = absurd (let f : false ≡ true = ap is_some h in false≢true f)
+-- ---- the change of a moment
 
 module _ (facts : Facts) (state : States) (p : List ℕ) (k : Moment) (is : IsChange facts state p k) where
   pub said_is : said facts k.1 ≡ Some is.what
@@ -170,31 +164,6 @@ module _ (facts : Facts) (state : States) (p : List ℕ) (k : Moment) (is : IsCh
 
   pub date_is : option_and_then (λ (fact : Fact). claim_date fact.kind) (get facts k.1) ≡ Some k.0
   date_is = ap (option_and_then (λ (fact : Fact). claim_date fact.kind)) is.found ∙ ap claim_date is.says
-
-  -- the only change of a claim
-  alone : (name : List ℕ) (found : List (List ℕ)) (c : Change) (what : What) → changes_of what ≡ c ∷ []
-      → slice_get (changes_of what) k.2 ≡ Some is.change
-      → apply p name found what ≡ change_values name found is.change
-  alone name found c what one place =
-      let same : c ≡ is.change = one_place c is.change k.2 (ap (λ cs. slice_get cs k.2) (sym one) ∙ place) in
-      let own : bytes_eq p c.on ≡ true =
-      (bytes_eq-Decides p c.on).1 (sym is.on ∙ ap (λ (d : Change). d.on) (sym same)) in
-      ap (λ cs. fold (change_values name) found (filter (λ (d : Change). bytes_eq p d.on) cs)) one
-      ∙ ap (fold (change_values name) found) (cond-true (bytes_eq p c.on) (c ∷ []) [] own)
-      ∙ ap (change_values name found) same
-
-  applied : (name : List ℕ) (found : List (List ℕ)) (what : What) → slice_get (changes_of what) k.2 ≡ Some is.change
-      → apply p name found what ≡ change_values name found is.change
-  applied name found (Set on attr value) place = alone name found _ (Set on attr value) refl place
-  applied name found (Add on attr value) place = alone name found _ (Add on attr value) refl place
-  applied name found (Del on attr value) place = alone name found _ (Del on attr value) refl place
-  applied name found (Delete target) place = absurd (let f : false ≡ true = ap is_some place in false≢true f)
-
-  pub apply_is : (name : List ℕ) (found : List (List ℕ))
-      → apply_said p name found (said facts k.1) ≡ values_with name found (change_at facts k)
-  apply_is name found =
-      ap (apply_said p name found) said_is ∙ applied name found is.what is.place
-      ∙ sym (ap (values_with name found) change_is)
 
 -- ---- all of the walk
 

@@ -4,9 +4,9 @@ use Rattle.schema_date.specs.declared.date.When.{When}
 use Rattle.schema_fact.specs.declared.kinds.Kind.{Kind}
 use Rattle.schema_fact.specs.declared.kinds.Kind.TheVariants.{Plain, Key, File, Bytes, Directory, StaticSet, Permanode, Claim, Unread}
 use Rattle.claim_model.specs.Facts.{Facts}
-use Rattle.claim_model.specs.Changes.{Change, change_values}
 use Rattle.claim_model.specs.Claims.{Moment}
 use Rattle.claim_model.specs.Deleted.{counts_at}
+use Rattle.index_look.specs.Claims.{values_with}
 use Rattle.index_rows.specs.Changes.{Changes, changes_after}
 use Rattle.index_rows.specs.Deletes.{Deletes, row_deleted}
 use Rattle.index_rows.specs.Values.{change_at}
@@ -14,11 +14,6 @@ use Rattle.index_rows.specs.Values.{change_at}
 -- the moments of p behind one, or all, that are dated at or before that time
 abbrev pub moments_after : Changes → When → List ℕ → Option Moment → List Moment
 moments_after changes when p after = filter (λ k. counts_at when k.0) (map (λ e. e.0.1) (changes_after changes p after))
-
--- what a change leaves of the values, if there is one
-abbrev pub values_with : List ℕ → List (List ℕ) → Option Change → List (List ℕ)
-values_with name found None = found
-values_with name found (Some change) = change_values name found change
 
 -- what the change of a moment leaves of the values, unless its claim is deleted at that time
 abbrev pub moment_values : Facts → Deletes → When → List ℕ → List (List ℕ) → Moment → List (List ℕ)

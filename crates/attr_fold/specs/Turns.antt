@@ -3,13 +3,13 @@ use Rattle.std.specs.Prelude.{◌≡◌, ◌≤◌, ◌==◌, ℕ, suc, Bool, tr
 use Rattle.std.specs.List.{filter_map, list_any}
 use Rattle.std.specs.declared.cmp.Ordering.{Ordering}
 use Rattle.std.specs.FinMap.{FinMap, get, insert, remove, contains_key}
-use Rattle.schema_fact.specs.declared.kinds.What.{What}
-use Rattle.schema_fact.specs.declared.kinds.What.TheVariants.{Set, Add, Del, Delete}
 use Rattle.schema_date.specs.declared.date.When.TheVariants.{Always}
 use Rattle.claim_model.specs.Facts.{Facts}
 use Rattle.claim_model.specs.Claims.{Moment}
-use Rattle.claim_model.specs.Changes.{Act, sets, adds, removes, Change, counting, gives, has_after}
-use Rattle.index_look.specs.Claims.{said}
+use Rattle.schema_fact.specs.declared.changes.Act.{Act}
+use Rattle.schema_fact.specs.declared.changes.Change.{Change}
+use Rattle.schema_fact.specs.declared.changes.Act.TheVariants.{Set as sets, Add as adds, Del as removes}
+use Rattle.claim_model.specs.Changes.{counting, gives, has_after}
 use Rattle.index_rows.specs.Changes.{Changes, changes_after}
 use Rattle.index_rows.specs.Deletes.{Deletes, row_deleted}
 use Rattle.index_rows.specs.States.{States}
@@ -46,21 +46,15 @@ noted turns removes true k n =
     else record { given = insert turns.given k 0; emptied = turns.emptied }
 noted turns removes false k n = turns
 
--- the same of what a claim says of p
-abbrev pub what_noted : Turns → List ℕ → What → Bool → ℕ → Turns
-what_noted turns p (Set on attr value) counts n = noted turns sets counts (attr, value, p) n
-what_noted turns p (Add on attr value) counts n = noted turns adds counts (attr, value, p) n
-what_noted turns p (Del on attr value) counts n = noted turns removes counts (attr, value, p) n
-what_noted turns p (Delete target) counts n = turns
+-- the turns behind a change of p, if there is one
+abbrev pub change_noted : Turns → List ℕ → Option Change → Bool → ℕ → Turns
+change_noted turns p None counts n = turns
+change_noted turns p (Some c) counts n = noted turns c.act counts (c.attr, c.value, p) n
 
--- what the claim of a moment leaves of the turns: it counts unless it is deleted, by claims of every date
-abbrev pub said_noted : Turns → List ℕ → Option What → Bool → ℕ → Turns
-said_noted turns p None counts n = turns
-said_noted turns p (Some what) counts n = what_noted turns p what counts n
-
+-- what the change of a moment leaves of the turns: it counts unless its claim is deleted, by claims of every date
 abbrev pub moment_noted : Facts → Deletes → List ℕ → Turns → Moment → ℕ → Turns
 moment_noted facts deletes p turns k n =
-    said_noted turns p (said facts k.1) (not (row_deleted facts deletes Always k.1)) n
+    change_noted turns p (change_at facts k) (not (row_deleted facts deletes Always k.1)) n
 
 -- the changes of some moments, each with whether it counts
 abbrev pub told_at : Facts → Deletes → Moment → Option (Change × Bool)

@@ -12,7 +12,7 @@ use crate::attribute_turns::AttributeTurns;
 use crate::turns::Turns;
 use blobref::{NoMemory, Ref};
 use edge_base::Steps;
-use index_look::claim::{claim_says, is_permanode_at};
+use index_look::claim::{change_said, is_permanode_at};
 use index_rows::{ChangeRows, HolderKey, HolderRows, Moment, RefRows, Rows, StateRow};
 use std::alloc::Global;
 use std::sync::ledger::Ledger;
@@ -131,14 +131,11 @@ fn note_moment<L: Ledger>(
     ensures { OnOk result
         (turns.new ≡ moment_noted rows.now.facts rows.now.deletes p.now turns.old moment.now n) }
 {
-    let Some(fact) = rows.facts.row(&moment.1, steps) else {
-        return Ok(());
-    };
-    let Some(what) = claim_says(&fact.kind) else {
+    let Some(change) = change_said(&rows.facts, &moment.1, moment.2 as usize, steps) else {
         return Ok(());
     };
     let counts = !has_deleters(&rows.state, &moment.1, steps);
-    turns.note(alloc, p, what, counts, n)
+    turns.note(alloc, p, change, counts, n)
 }
 
 // Whether the row of a ref counts some delete claim.

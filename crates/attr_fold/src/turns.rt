@@ -1,14 +1,14 @@
 //! Which values are there after some changes.
 ghost use Rattle.std.specs.Prelude.{◌≡◌, ◌+◌, ◌<◌, ◌^◌, OnOk};
 ghost use Rattle.std.specs.FinMap as finite;
-ghost use Rattle.claim_model.specs.Changes.{sets, adds, removes};
-ghost use Rattle.attr_fold.specs.Turns.{noted, what_noted};
+ghost use Rattle.schema_fact.specs.declared.changes.Act.TheVariants.{Set as sets, Add as adds, Del as removes};
+ghost use Rattle.attr_fold.specs.Turns.{noted};
 
 use crate::attribute_turns::AttributeTurns;
 use crate::value_turns::ValueTurns;
 use blobref::{NoMemory, Ref};
 use index_rows::HolderKey;
-use schema_fact::What;
+use schema_fact::{Act, ChangeView};
 use std::alloc::Global;
 
 // The turn at which each value was last given, or 0, and the turn at which all values of an attribute were last
@@ -31,32 +31,24 @@ impl Turns {
         }
     }
 
-    // Takes up what a claim says of p as the change n, which counts or doesn't.
+    // Takes up a change of p as the change n, which counts or doesn't.
     pub(crate) fn note(
         &mut self,
         alloc: Global,
         p: &Ref,
-        what: &What,
+        change: ChangeView<'_>,
         counts: bool,
         n: usize,
     ) -> Result<(), NoMemory>
         requires { n + 1 < 2 ^ 64 }
-        ensures { OnOk result (self.new ≡ what_noted self.old p.now what.now counts n) }
+        ensures { OnOk result
+            (self.new ≡ noted self.old change.entry.act counts (change.entry.attr.now, change.entry.value.now, p.now) n) }
     {
-        match what {
-            What::Set { attr, value, .. } => {
-                let key = HolderKey::copy(alloc, attr.as_str(), value.as_str(), p)?;
-                self.note_set(alloc, key, counts, n)
-            }
-            What::Add { attr, value, .. } => {
-                let key = HolderKey::copy(alloc, attr.as_str(), value.as_str(), p)?;
-                self.note_add(key, counts, n)
-            }
-            What::Del { attr, value, .. } => {
-                let key = HolderKey::copy(alloc, attr.as_str(), value.as_str(), p)?;
-                self.note_del(alloc, key, counts, n)
-            }
-            What::Delete { .. } => Ok(()),
+        let key = HolderKey::copy(alloc, change.attr.as_str(), change.value.as_str(), p)?;
+        match change.act {
+            Act::Set => self.note_set(alloc, key, counts, n),
+            Act::Add => self.note_add(key, counts, n),
+            Act::Del => self.note_del(alloc, key, counts, n),
         }
     }
 

@@ -8,7 +8,7 @@ ghost use Rattle.attr_fold.specs.Moments.{claim_date, last_with, moment_values};
 use crate::moments::next_moment;
 use blobref::{NoMemory, Ref, Text, TextList};
 use edge_base::Steps;
-use index_look::values::{apply_said, copied};
+use index_look::values::{apply_place, copied};
 use index_rows::{Moment, Rows, deleted_at};
 use schema_date::{Date, When};
 use schema_fact::Kind;
@@ -59,7 +59,8 @@ fn apply_moment<'a, L: Ledger>(
     if deleted_at(rows, &moment.1, when, steps) {
         return Ok(());
     }
-    apply_said(&rows.facts, found, p, &moment.1, attr, steps)
+    let place = moment.2 as usize;
+    apply_place(&rows.facts, found, &moment.1, place, attr, steps)
 }
 
 /// The date of the last change of a permanode that counts at that time, as the rows of its changes tell it; `None`

@@ -15,7 +15,8 @@ use Rattle.schema_fact.specs.declared.kinds.Kind.{Kind}
 use Rattle.schema_fact.specs.declared.kinds.Kind.TheVariants.{Plain, Key, File, Bytes, Directory, StaticSet, Permanode, Claim, Unread}
 use Rattle.claim_model.specs.Facts.{Facts}
 use Rattle.claim_model.specs.Genuine.{is_genuine}
-use Rattle.claim_model.specs.Changes.{Change, changes_of}
+use Rattle.schema_fact.specs.declared.changes.Change.{Change}
+use Rattle.schema_fact.specs.Changes.{changes_of}
 use Rattle.index_rows.specs.declared.rows.Rows.{Rows}
 use Rattle.index_rows.specs.Once.{AreOnce}
 use Rattle.index_rows.specs.Pairs.{Pair, pair_cmp}

@@ -8,14 +8,14 @@ use Rattle.std.specs.Str.{bytes_eq}
 use Rattle.std.specs.FinMap.{get, contains_key}
 use Rattle.claim_verify.specs.Verifier.{Accepts}
 use Rattle.schema_fact.specs.declared.kinds.Fact.{Fact}
-use Rattle.schema_fact.specs.declared.kinds.What.TheVariants.{Set, Add, Del, Delete}
+use Rattle.schema_fact.specs.declared.kinds.What.TheVariants.{Set, Add, Del, Delete, Multi}
 use Rattle.schema_fact.specs.declared.kinds.Kind.{Kind}
 use Rattle.schema_fact.specs.declared.kinds.Kind.TheVariants.{Plain, Key, File, Bytes, Directory, StaticSet, Permanode, Claim, Unread}
 use Rattle.claim_model.specs.Facts.{Facts, passes}
 use Rattle.claim_model.specs.Ready.{is_ready}
 use Rattle.claim_model.specs.Genuine.{is_signed, is_genuine}
 use Rattle.claim_model.specs.Least.{IsWithin, passes_or_in, AreReached}
-use Rattle.claim_model.specs.Changes.{changes_of}
+use Rattle.schema_fact.specs.Changes.{changes_of}
 use Rattle.claim_model.proofs.Least.{has_all-implies}
 use Rattle.index_rows.specs.declared.rows.Rows.{Rows}
 use Rattle.index_rows.specs.declared.rows.StateRow.{StateRow}
@@ -81,6 +81,7 @@ not_delete t (Claim signed date (Set on attr value)) h = refl
 not_delete t (Claim signed date (Add on attr value)) h = refl
 not_delete t (Claim signed date (Del on attr value)) h = refl
 not_delete t (Claim signed date (Delete target)) h = absurd (h refl)
+not_delete t (Claim signed date (Multi changes)) h = refl
 not_delete t (Unread name) h = refl
 
 nothing_is_delete : judged.Nothing ≡ judged.Delete → ⊥
@@ -97,6 +98,7 @@ some_delete (Permanode signed) h = let e : judged.Permanode ≡ judged.Delete = 
 some_delete (Claim signed date (Set on attr value)) h = let e : judged.Changes ≡ judged.Delete = h in absurd (cc e)
 some_delete (Claim signed date (Add on attr value)) h = let e : judged.Changes ≡ judged.Delete = h in absurd (cc e)
 some_delete (Claim signed date (Del on attr value)) h = let e : judged.Changes ≡ judged.Delete = h in absurd (cc e)
+some_delete (Claim signed date (Multi changes)) h = let e : judged.Changes ≡ judged.Delete = h in absurd (cc e)
 some_delete (Claim signed date (Delete target)) h = (target, date, ap (λ b. cond b (Some date) None) (own target))
 some_delete (Unread name) h = absurd (nothing_is_delete h)
 
@@ -117,6 +119,8 @@ concerns_none x (Claim signed date (Add on attr value)) (inr h) = let e : judged
 concerns_none x (Claim signed date (Del on attr value)) (inl h) = let e : judged.Changes ≡ judged.Nothing = h in absurd (cc e)
 concerns_none x (Claim signed date (Del on attr value)) (inr h) = let e : judged.Changes ≡ judged.Delete = h in absurd (cc e)
 concerns_none x (Claim signed date (Delete target)) h = refl
+concerns_none x (Claim signed date (Multi changes)) (inl h) = let e : judged.Changes ≡ judged.Nothing = h in absurd (cc e)
+concerns_none x (Claim signed date (Multi changes)) (inr h) = let e : judged.Changes ≡ judged.Delete = h in absurd (cc e)
 concerns_none x (Unread name) h = refl
 
 -- whom it concerns is added, where its row says that it is genuine

@@ -1,17 +1,15 @@
 -- The rows that a judgment puts.
-use Rattle.std.proofs.Common.{◌≡◌, ℕ, zero, suc, Bool, true, false, ◌&&◌, ◌||◌, cond, List, [], ◌∷◌, Some, ℤ, option_map, refl, sym, ap, ◌∙◌, ◌⊎◌, inl, inr}
+use Rattle.std.proofs.Common.{◌≡◌, ℕ, zero, suc, Bool, true, false, ◌&&◌, ◌||◌, cond, List, [], ◌∷◌, Some, ℤ, option_map, nat_eq, take, arith, refl, sym, ap, ◌∙◌, ◌⊎◌, inl, inr}
 use Rattle.std.specs.Prelude.{slice_get}
-use Rattle.std.proofs.lemmas.Bool.{cases_Bool, false≢true, and_parts}
+use Rattle.std.proofs.lemmas.Bool.{cases_Bool, false≢true, and_parts, eqb-true, eq-eqb, ne_eqb}
 use Rattle.std.proofs.lemmas.Slice.Eq.{bytes_eq-Decides}
 use Rattle.std.proofs.lemmas.Cmp.{tied_itself, int_cmp_total}
 use Rattle.std.specs.Str.{bytes_eq}
 use Rattle.std.specs.Ordering.{is_eq, eq_by_cmp, int_cmp}
 use Rattle.std.specs.FinMap.{get, insert, contains_key, get-insert, int_cmp-IsAntisymmetric}
 use Rattle.blobref.specs.Blobref.{ref_cmp}
-use Rattle.schema_fact.specs.declared.kinds.What.{What}
-use Rattle.schema_fact.specs.declared.kinds.What.TheVariants.{Set, Add, Del}
 use Rattle.claim_model.specs.Facts.{passes}
-use Rattle.claim_model.specs.Changes.{Change, changes_of}
+use Rattle.schema_fact.specs.declared.changes.Change.{Change}
 use Rattle.claim_model.specs.Claims.{Moment}
 use Rattle.index_look.proofs.Order.{is_Equal}
 use Rattle.index_rows.specs.declared.rows.StateRow.{StateRow}
@@ -19,19 +17,8 @@ use Rattle.index_rows.specs.Changes.{Changes, ChangeKey, change_cmp}
 use Rattle.index_rows.specs.States.{States}
 use Rattle.index_rows.proofs.Orders.{ref_total, ref_same, change_total, change_same}
 use Rattle.index_rows.proofs.Counting.{contains-insert}
-use Rattle.claim_index.specs.Judging.{is_change_by, marked, with_marks}
+use Rattle.claim_index.specs.Judging.{marked, with_marks}
 use Rattle.claim_index.proofs.Marks.{alike}
-
--- the claim is of this kind, with some attribute and value
-abbrev Is : (List ℕ → List ℕ → List ℕ → What) → List ℕ → What → Type 0
-Is kind on what = (attr : List ℕ) × (value : List ℕ) × (what ≡ kind on attr value)
-
--- what a claim changes, where it is no delete claim
-pub one_change : (on : List ℕ) (what : What) → Is Set on what ⊎ (Is Add on what ⊎ Is Del on what)
-    → (change : Change) × (changes_of what ≡ change ∷ []) × (change.on ≡ on)
-one_change on what (inl h) = (_, ap changes_of h.2, refl)
-one_change on what (inr (inl h)) = (_, ap changes_of h.2, refl)
-one_change on what (inr (inr h)) = (_, ap changes_of h.2, refl)
 
 swap : (a b : Bool) → (a || b) ≡ (b || a)
 swap true true = refl
@@ -39,65 +26,116 @@ swap true false = refl
 swap false true = refl
 swap false false = refl
 
--- the row of a claim's only change
-module _ (on claim : List ℕ) (date : ℤ) (what : What) (change : Change) (only : changes_of what
-    ≡ change ∷ []) (on_is : change.on ≡ on) (p : List ℕ) (k : Moment) where
+-- the row of the change at a place of a claim
+module _ (on claim : List ℕ) (date : ℤ) (n : ℕ) (p : List ℕ) (k : Moment) where
   abbrev key : ChangeKey
-  key = (on, (date, claim, 0))
+  key = (on, (date, claim, n))
 
+  -- whether the key is that of this change
   abbrev own : Bool
-  own = bytes_eq k.1 claim && is_change_by p k date what
-
-  at_place : ℕ → Bool
-  at_place n = passes (λ (c : Change). bytes_eq p c.on) (slice_get (change ∷ []) n)
-
-  by_only : passes (λ (c : Change). bytes_eq p c.on) (slice_get (changes_of what) k.2) ≡ at_place k.2
-  unfolding at_place
-  by_only = ap (λ cs. passes (λ (c : Change). bytes_eq p c.on) (slice_get cs k.2)) only
-
-  first_place : (n : ℕ) → at_place n ≡ true → n ≡ 0
-  unfolding at_place
-  first_place zero h = refl
-  first_place (suc n) h = absurd (false≢true h)
+  own = bytes_eq k.1 claim && (is_eq (int_cmp k.0 date) && (bytes_eq p on && nat_eq k.2 n))
 
   there : eq_by_cmp change_cmp (p, k) key ≡ true → own ≡ true
-  unfolding at_place
   there h =
       let is : ◌≡◌ {A = ChangeKey} (p, k) key = change_same (p, k) key (is_Equal (change_cmp (p, k) key) h) in
-      let place : at_place k.2 ≡ true = ap (λ (q : ChangeKey). at_place q.1.2) is
-      ∙ ap (λ q. bytes_eq q change.on) (ap (λ (q : ChangeKey). q.0) is ∙ sym on_is)
-      ∙ (bytes_eq-Decides change.on change.on).1 refl in
       λ i. (ap (λ (q : ChangeKey). bytes_eq q.1.1 claim) is ∙ (bytes_eq-Decides claim claim).1 refl) i
       && ((ap (λ (q : ChangeKey). is_eq (int_cmp q.1.0 date)) is ∙ ap is_eq (tied_itself int_cmp_total date)) i
-      && (by_only ∙ place) i)
+      && ((ap (λ (q : ChangeKey). bytes_eq q.0 on) is ∙ (bytes_eq-Decides on on).1 refl) i
+      && (ap (λ (q : ChangeKey). nat_eq q.1.2 n) is ∙ eq-eqb n n refl) i))
 
   back : own ≡ true → eq_by_cmp change_cmp (p, k) key ≡ true
-  unfolding at_place
   back h =
-      let parts = and_parts (bytes_eq k.1 claim) (is_change_by p k date what) h in
-      let more = and_parts (is_eq (int_cmp k.0 date))
-      (passes (λ (c : Change). bytes_eq p c.on) (slice_get (changes_of what) k.2)) parts.1 in
-      let place : at_place k.2 ≡ true = sym by_only ∙ more.1 in
-      let zero_is : k.2 ≡ 0 = first_place k.2 place in
-      let on_p : p ≡ change.on = (bytes_eq-Decides p change.on).0 (ap at_place (sym zero_is) ∙ place) in
+      let one = and_parts (bytes_eq k.1 claim) (is_eq (int_cmp k.0 date) && (bytes_eq p on && nat_eq k.2 n)) h in
+      let two = and_parts (is_eq (int_cmp k.0 date)) (bytes_eq p on && nat_eq k.2 n) one.1 in
+      let three = and_parts (bytes_eq p on) (nat_eq k.2 n) two.1 in
       let is : ◌≡◌ {A = ChangeKey} (p, k) key = λ i. (
-        (on_p
-            ∙ on_is) i,
+        (bytes_eq-Decides p on).0 three.0 i,
         (
-          int_cmp-IsAntisymmetric k.0 date (is_Equal (int_cmp k.0 date) more.0) i,
-          (bytes_eq-Decides k.1 claim).0 parts.0 i,
-          zero_is i,
+          int_cmp-IsAntisymmetric k.0 date (is_Equal (int_cmp k.0 date) two.0) i,
+          (bytes_eq-Decides k.1 claim).0 one.0 i,
+          eqb-true k.2 n three.1 i,
         ),
       ) in
       ap (λ (q : ChangeKey). eq_by_cmp change_cmp q key) is ∙ ap is_eq (tied_itself change_total key)
 
-  pub listed : (changes : Changes)
-      → contains_key (insert changes key tt) (p, k)
-      ≡ (contains_key changes (p, k) || (bytes_eq k.1 claim && is_change_by p k date what))
+  pub listed : (changes : Changes) → contains_key (insert changes key tt) (p, k) ≡ (contains_key changes (p, k) || own)
   listed changes =
       contains-insert change_total change_same changes key tt (p, k)
       ∙ ap (λ b. b || contains_key changes (p, k)) (alike (eq_by_cmp change_cmp (p, k) key) own there back)
       ∙ swap own (contains_key changes (p, k))
+
+-- what isn't put has no row
+pub none_listed : (f a b c : Bool) → f ≡ (f || (a && (b && (false && c))))
+none_listed true a b c = refl
+none_listed false true true c = refl
+none_listed false true false c = refl
+none_listed false false b c = refl
+
+-- whether one of the first n changes of a list is on p and stands at this place
+abbrev pub on_among : List ℕ → ℕ → ℕ → List Change → Bool
+on_among p place n cs = passes (λ (c : Change). bytes_eq p c.on) (slice_get (take n cs) place)
+
+-- with one more
+abbrev on_more : List ℕ → ℕ → ℕ → List Change → Bool
+on_more p place n cs = on_among p place n cs || (passes (λ (c : Change). bytes_eq p c.on) (slice_get cs n) && nat_eq place n)
+
+and_true : (b : Bool) → b ≡ (b && true)
+and_true true = refl
+and_true false = refl
+
+and_false : (b : Bool) → false ≡ (b && false)
+and_false true = refl
+and_false false = refl
+
+or_none : (b c : Bool) → b ≡ (b || (c && false))
+or_none true c = refl
+or_none false c = and_false c
+
+both_suc : (a b : ℕ) → nat_eq a b ≡ nat_eq (suc a) (suc b)
+both_suc a b =
+    alike (nat_eq a b) (nat_eq (suc a) (suc b)) (λ h. eq-eqb (suc a) (suc b) (ap suc (eqb-true a b h)))
+    (λ h. let e : suc a ≡ suc b = eqb-true (suc a) (suc b) h in eq-eqb a b (omega (arith, e)))
+
+among_more : (p : List ℕ) (place n : ℕ) (cs : List Change) → on_among p place (suc n) cs ≡ on_more p place n cs
+among_more p place zero [] = refl
+among_more p place (suc n) [] = refl
+among_more p zero zero (d ∷ ds) = and_true (bytes_eq p d.on)
+among_more p (suc place) zero (d ∷ ds) =
+    let apart : nat_eq (suc place) 0 ≡ false = ne_eqb (suc place) 0 (λ e. absurd (omega (arith, e))) in
+    and_false (bytes_eq p d.on) ∙ sym (ap (λ b. bytes_eq p d.on && b) apart)
+among_more p zero (suc n) (d ∷ ds) =
+    let there : Bool = passes (λ (c : Change). bytes_eq p c.on) (slice_get ds n) in
+    let apart : nat_eq 0 (suc n) ≡ false = ne_eqb 0 (suc n) (λ e. absurd (omega (arith, e))) in
+    or_none (bytes_eq p d.on) there ∙ sym (ap (λ b. bytes_eq p d.on || (there && b)) apart)
+among_more p (suc place) (suc n) (d ∷ ds) =
+    among_more p place n ds
+    ∙ ap (λ b. on_among p place n ds || (passes (λ (c : Change). bytes_eq p c.on) (slice_get ds n) && b)) (both_suc place n)
+
+-- the rows that a claim has once one more of its changes was put
+pub listed_more : (claim : List ℕ) (date : ℤ) (n : ℕ) (cs : List Change) (first now more : Changes)
+    → ((p : List ℕ) (k : Moment) → contains_key more (p, k) ≡ (contains_key now (p, k)
+    || (bytes_eq k.1 claim && (is_eq (int_cmp k.0 date) && (passes (λ (c : Change). bytes_eq p c.on) (slice_get cs n) && nat_eq k.2 n)))))
+    → ((p : List ℕ) (k : Moment) → contains_key now (p, k) ≡ (contains_key first (p, k) || (bytes_eq k.1 claim && (is_eq (int_cmp k.0 date) && on_among p k.2 n cs))))
+    → (p : List ℕ) (k : Moment) → contains_key more (p, k) ≡ (contains_key first (p, k) || (bytes_eq k.1 claim && (is_eq (int_cmp k.0 date) && on_among p k.2 (suc n) cs)))
+listed_more claim date n cs first now more put so_far p k =
+    put p k ∙ ap (λ b. b || (mine && (dated && here))) (so_far p k)
+    ∙ joined (contains_key first (p, k)) mine dated (on_among p k.2 n cs) here
+    ∙ ap (λ b. contains_key first (p, k) || (mine && (dated && b))) (sym (among_more p k.2 n cs))
+  where
+    mine : Bool
+    mine = bytes_eq k.1 claim
+
+    dated : Bool
+    dated = is_eq (int_cmp k.0 date)
+
+    here : Bool
+    here = passes (λ (c : Change). bytes_eq p c.on) (slice_get cs n) && nat_eq k.2 n
+
+    joined : (f a b x y : Bool) → ((f || (a && (b && x))) || (a && (b && y))) ≡ (f || (a && (b && (x || y))))
+    joined true a b x y = refl
+    joined false true true x y = refl
+    joined false true false x y = refl
+    joined false false b x y = refl
 
 -- the row of x with what was found
 pub put_marked : (state : States) (x : List ℕ) (row : StateRow) (genuine sound : Bool) → get state x ≡ Some row

@@ -13,7 +13,8 @@ use Rattle.claim_model.specs.Facts.{Facts, Entry, passes, is_permanode}
 use Rattle.claim_model.specs.Ready.{ready_fact}
 use Rattle.claim_model.specs.Genuine.{is_genuine_permanode}
 use Rattle.claim_model.specs.Deleted.{is_deleted}
-use Rattle.claim_model.specs.Changes.{Change, values_after}
+use Rattle.schema_fact.specs.declared.changes.Change.{Change}
+use Rattle.claim_model.specs.Changes.{values_after}
 use Rattle.claim_model.specs.Claims.{Moment, moment_cmp, stands_at, changes_on, values, last_change, has_value, holders as holders_of, member_attribute, parents}
 use Rattle.claim_model.specs.Trees.{is_file, tree_size, file_size}
 use Rattle.index_look.specs.Look.{permanode_after}

@@ -7,7 +7,7 @@ use Rattle.std.specs.FinMap.{get, contains_key}
 use Rattle.claim_verify.specs.Verifier.{Accepts}
 use Rattle.schema_fact.specs.declared.kinds.Fact.{Fact}
 use Rattle.schema_fact.specs.declared.kinds.What.{What}
-use Rattle.schema_fact.specs.declared.kinds.What.TheVariants.{Set, Add, Del, Delete}
+use Rattle.schema_fact.specs.declared.kinds.What.TheVariants.{Set, Add, Del, Delete, Multi}
 use Rattle.schema_fact.specs.declared.kinds.Kind.{Kind}
 use Rattle.schema_fact.specs.declared.kinds.Kind.TheVariants.{Plain, Key, File, Bytes, Directory, StaticSet, Permanode, Claim, Unread}
 use Rattle.claim_model.specs.Facts.{Facts, passes}
@@ -15,7 +15,7 @@ use Rattle.claim_model.specs.Ready.{is_ready}
 use Rattle.claim_model.specs.Least.{IsWithin, has_all}
 use Rattle.claim_model.specs.Genuine.{is_signed}
 use Rattle.claim_model.specs.Trees.{parts_fit}
-use Rattle.claim_model.specs.Changes.{changes_of}
+use Rattle.schema_fact.specs.Changes.{changes_of}
 use Rattle.claim_model.specs.Claims.{Moment}
 use Rattle.index_rows.specs.declared.rows.StateRow.{StateRow}
 use Rattle.index_rows.specs.Changes.{Changes}
@@ -34,6 +34,7 @@ what_judged (Set on attr value) = judged.Changes
 what_judged (Add on attr value) = judged.Changes
 what_judged (Del on attr value) = judged.Changes
 what_judged (Delete target) = judged.Delete
+what_judged (Multi changes) = judged.Changes
 
 -- what a genuine blob of this kind is to an index
 abbrev pub kind_judged : Kind → Judged

@@ -1,8 +1,11 @@
 //! What is found out of a ref that became ready.
-ghost use Rattle.std.specs.Prelude.{◌≡◌, ◌&&◌, ◌||◌, ◌∷◌, ℕ, List, IfOk, OnOk};
+ghost use Rattle.std.specs.Prelude.{◌≡◌, ◌&&◌, ◌||◌, ◌∷◌, ℕ, List, IfOk, OnOk, nat_eq, option_map};
+ghost use Rattle.std.specs.Ordering.{is_eq, int_cmp};
+ghost use Rattle.schema_fact.specs.Changes.{change_seen};
 ghost use Rattle.std.specs.Str.{bytes_eq};
 ghost use Rattle.std.specs.FinMap.{get, contains_key};
-ghost use Rattle.claim_model.specs.Facts.{Facts};
+ghost use Rattle.schema_fact.specs.Validity.{HasValidChanges, IsValidKind};
+ghost use Rattle.claim_model.specs.Facts.{Facts, passes};
 ghost use Rattle.claim_model.specs.Claims.{Moment};
 ghost use Rattle.index_meaning.specs.Meaning.{is_change_on, IsJudged, IsChangesOf};
 ghost use Rattle.claim_index.specs.Judging.{is_change_by, judged_in, kind_judged, marked, what_judged, with_marks};
@@ -15,7 +18,7 @@ use claim_verify::Verifier;
 use edge_base::Steps;
 use index_rows::{ChangeRows, RefRows, Rows, StateRow};
 use schema_date::Date;
-use schema_fact::{Kind, What};
+use schema_fact::{ChangeView, Kind, What};
 use std::sync::ledger::Ledger;
 
 // What a ref that was judged is to an index.
@@ -133,6 +136,7 @@ fn list_changes<L: Ledger>(
     kind: &Kind,
     steps: &mut Steps<L>,
 ) -> Result<(), NoMemory>
+    requires { IsValidKind kind.now }
     ensures { OnOk result ((p : List ℕ) (k : Moment) → contains_key changes.new (p, k)
         ≡ (contains_key changes.old (p, k) || (bytes_eq k.1 x.now && is_change_on p k kind.now))) }
 {
@@ -150,14 +154,41 @@ fn put_changes<L: Ledger>(
     what: &What,
     steps: &mut Steps<L>,
 ) -> Result<(), NoMemory>
+    requires { HasValidChanges what.now }
     ensures { OnOk result ((p : List ℕ) (k : Moment) → contains_key changes.new (p, k)
         ≡ (contains_key changes.old (p, k) || (bytes_eq k.1 claim.now && is_change_by p k date.now what.now))) }
 {
-    match what {
-        What::Set { on, .. } | What::Add { on, .. } | What::Del { on, .. } => {
-            changes.put(on, date, claim, 0, steps)
+    for place in 0..what.change_count() {
+        put_change(
+            changes,
+            claim,
+            date,
+            what.change(place),
+            place as u32,
+            steps,
+        )?;
+    }
+    Ok(())
+}
+
+fn put_change<L: Ledger>(
+    changes: &mut ChangeRows,
+    claim: &Ref,
+    date: &Date,
+    change: Option<ChangeView<'_>>,
+    place: u32,
+    steps: &mut Steps<L>,
+) -> Result<(), NoMemory>
+    ensures { OnOk result ((p : List ℕ) (k : Moment) → contains_key changes.new (p, k)
+        ≡ (contains_key changes.old (p, k) || (bytes_eq k.1 claim.now && (is_eq (int_cmp k.0 date.now)
+        && (passes (λ c. bytes_eq p c.on) (option_map change_seen change.entry) && nat_eq k.2 place))))) }
+{
+    match change {
+        Some(change) => {
+            changes.put(change.on, date, claim, place, steps)?;
+            Ok(())
         }
-        What::Delete { .. } => Ok(()),
+        None => Ok(()),
     }
 }
 

@@ -1,25 +1,25 @@
 //! Whom the deletion of a ref touches.
-ghost use Rattle.std.specs.Prelude.{◌≡◌, ◌++◌, OnOk, OnErr};
+ghost use Rattle.std.specs.Prelude.{◌≡◌, ◌++◌, OnOk, map, option_map, option_to_list};
+ghost use Rattle.schema_fact.specs.Changes.{change_seen};
 ghost use Rattle.index_meaning.specs.Touching.{concerned_by, changes_concern};
 
 use crate::said::says_genuine;
 use blobref::{NoMemory, Ref, RefList};
 use edge_base::Steps;
 use index_rows::{RefRows, Rows, StateRow};
-use schema_fact::{Kind, What};
+use schema_fact::{ChangeView, Kind, What};
 use std::sync::ledger::Ledger;
 
 // Appends the permanodes whose rows of `holders` may change where the deletion of y changed, or where y is new: y
 // itself if it is a permanode, and those that it changes if it is an attribute claim that its row calls genuine. A
-// look-up or two. `NoMemory` comes only where no memory is left, and then the list is as it was.
+// look-up or two. `NoMemory` comes only where no memory is left.
 pub(crate) fn concern<L: Ledger>(
     rows: &Rows,
     y: &Ref,
     concerned: &mut RefList,
     steps: &mut Steps<L>,
 ) -> Result<(), NoMemory>
-    ensures ok { OnOk result (concerned.new ≡ concerned.old ++ concerned_by rows.now.facts rows.now.state y.now) }
-    ensures err { OnErr result (concerned.new ≡ concerned.old) }
+    ensures { OnOk result (concerned.new ≡ concerned.old ++ concerned_by rows.now.facts rows.now.state y.now) }
 {
     let Some(fact) = rows.facts.row(y, steps) else {
         return Ok(());
@@ -39,17 +39,23 @@ fn concern_changed<L: Ledger>(
     concerned: &mut RefList,
     steps: &mut Steps<L>,
 ) -> Result<(), NoMemory>
-    ensures ok { OnOk result (concerned.new ≡ concerned.old ++ changes_concern state.now y.now what.now) }
-    ensures err { OnErr result (concerned.new ≡ concerned.old) }
+    ensures { OnOk result (concerned.new ≡ concerned.old ++ changes_concern state.now y.now what.now) }
 {
-    match what {
-        What::Set { on, .. } | What::Add { on, .. } | What::Del { on, .. } => {
-            if says_genuine(state, y, steps) {
-                concerned.push(*on)
-            } else {
-                Ok(())
-            }
-        }
-        What::Delete { .. } => Ok(()),
+    if !says_genuine(state, y, steps) {
+        return Ok(());
     }
+    for place in 0..what.change_count() {
+        concern_on(what.change(place), concerned)?;
+    }
+    Ok(())
+}
+
+fn concern_on(change: Option<ChangeView<'_>>, concerned: &mut RefList) -> Result<(), NoMemory>
+    ensures { OnOk result (concerned.new ≡ concerned.old
+        ++ map (λ change. change.on) (option_to_list (option_map change_seen change.entry))) }
+{
+    if let Some(change) = change {
+        concerned.push(*change.on)?;
+    }
+    Ok(())
 }

@@ -6,7 +6,7 @@ use Rattle.std.specs.FinMap.{get, insert, contains_key}
 use Rattle.schema_date.specs.declared.date.When.TheVariants.{Always}
 use Rattle.schema_fact.specs.declared.kinds.Fact.{Fact}
 use Rattle.schema_fact.specs.declared.kinds.What.{What}
-use Rattle.schema_fact.specs.declared.kinds.What.TheVariants.{Set, Add, Del, Delete}
+use Rattle.schema_fact.specs.declared.kinds.What.TheVariants.{Set, Add, Del, Delete, Multi}
 use Rattle.schema_fact.specs.declared.kinds.Kind.{Kind}
 use Rattle.schema_fact.specs.declared.kinds.Kind.TheVariants.{Plain, Key, File, Bytes, Directory, StaticSet, Permanode, Claim, Unread}
 use Rattle.claim_model.specs.Facts.{Facts}
@@ -21,6 +21,7 @@ what_delete date (Set on attr value) = None
 what_delete date (Add on attr value) = None
 what_delete date (Del on attr value) = None
 what_delete date (Delete target) = Some (target, date)
+what_delete date (Multi changes) = None
 
 abbrev pub kind_delete : Kind → Option (List ℕ × ℤ)
 kind_delete Plain = None

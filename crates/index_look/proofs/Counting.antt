@@ -1,7 +1,8 @@
 -- The counted claims on a permanode, by the claims about it alone, and what they leave of the values.
 use Rattle.std.proofs.Common.{◌≡◌, ℕ, ℤ, ◌&&◌, Bool, true, false, not, cond, List, [], ◌∷◌, filter, fold, map, Option, Some, None, refl, sym, ap, ◌∙◌, Ordering, subst, option_map, option_and_then, ◌||◌}
 use Rattle.std.specs.declared.cmp.Ordering.TheVariants.{Less, Equal, Greater}
-use Rattle.std.specs.List.{filter_map, cons_option, AllByRecursion, IsDistinct}
+use Rattle.std.specs.List.{filter_map, cons_option, list_any, AllByRecursion, IsDistinct}
+use Rattle.std.proofs.lemmas.List.Folds.{list_any-append}
 use Rattle.std.specs.List.Sorted.{IsStrictlySortedBy, IsPermutation, IsSorted}
 use Rattle.std.specs.Ordering.{is_eq, eq_by_cmp, int_cmp, ordering_then}
 use Rattle.std.specs.Str.{bytes_eq}
@@ -12,18 +13,21 @@ use Rattle.std.proofs.lemmas.Option.{same_Some}
 use Rattle.blobref.specs.Blobref.{ref_cmp}
 use Rattle.claim_verify.specs.Verifier.{Accepts}
 use Rattle.schema_date.specs.declared.date.When.{When}
+use Rattle.schema_fact.specs.Changes.{changes_of}
+use Rattle.schema_fact.specs.Dependencies.{target_of}
+use Rattle.schema_fact.specs.declared.changes.Change.{Change}
 use Rattle.schema_fact.specs.declared.kinds.What.{What}
-use Rattle.schema_fact.specs.declared.kinds.What.TheVariants.{Set, Add, Del, Delete}
 use Rattle.schema_fact.specs.declared.kinds.Kind.{Kind}
 use Rattle.schema_fact.specs.declared.kinds.Kind.TheVariants.{Plain, Key, File, Bytes, Directory, StaticSet, Permanode, Claim, Unread}
-use Rattle.claim_model.specs.Facts.{Facts, Entry, passes}
+use Rattle.claim_model.specs.Facts.{Facts, Entry}
 use Rattle.claim_model.specs.Genuine.{is_genuine, is_genuine_permanode}
 use Rattle.claim_model.specs.Deleted.{is_deleted, counts_at}
 use Rattle.claim_model.specs.Claims.{stands_at, values}
 use Rattle.claim_model.specs.ByClaim.{claim_moment_cmp, claim_on, is_attribute_claim_on, counted_claims, apply}
 use Rattle.claim_model.proofs.ByClaim.{claim_moment_total, same_claim_moment, values_by_claim}
-use Rattle.index_look.specs.Claims.{subject, claim_under, claims_about, counted_claim, claim_says, said, apply_said}
+use Rattle.index_look.specs.Claims.{what_subjects, is_about, about, claims_about, counted_claim, claim_says, said, apply_said}
 use Rattle.index_look.proofs.Entries.{entries_had, keys_ascend}
+use Rattle.index_look.proofs.Stepping.{about-cons}
 use Rattle.index_look.proofs.Keys.{keys_sorted, keys-empty, entries_told}
 
 abbrev pub Pair : Type 0
@@ -34,15 +38,15 @@ Moment = ℤ × List ℕ
 
 -- ---- an attribute claim is on what it is about
 
-outside : (b c : Bool) {X : Type 0} (x : X) → cond ((b || false) && c) (Some x) None ≡ cond b (cond ((b || false) && c) (Some x) None) None
-outside true c x = refl
-outside false c x = refl
+any_on : (p : List ℕ) (cs : List Change) → list_any (bytes_eq p) (map (λ (c : Change). c.on) cs) ≡ list_any (λ (c : Change). bytes_eq p c.on) cs
+any_on p [] = refl
+any_on p (c ∷ cs) = ap (λ b. bytes_eq p c.on || b) (any_on p cs)
 
-never : (c b : Bool) {X : Type 0} (x : X) → cond (false && c) (Some x) None ≡ cond b (cond (false && c) (Some x) None) None
-never c true x = refl
-never c false x = refl
+about_what : (p : List ℕ) (what : What) → list_any (bytes_eq p) (what_subjects what) ≡ (is_attribute_claim_on p what || list_any (bytes_eq p) (target_of what))
+about_what p what = list_any-append (bytes_eq p) (map (λ (c : Change). c.on) (changes_of what)) (target_of what)
+    ∙ ap (λ b. b || list_any (bytes_eq p) (target_of what)) (any_on p (changes_of what))
 
-on_its_subject : (p : List ℕ) (when : When) (r : List ℕ) (kind : Kind) → claim_on p when r kind ≡ cond (passes (bytes_eq p) (subject kind)) (claim_on p when r kind) None
+on_its_subject : (p : List ℕ) (when : When) (r : List ℕ) (kind : Kind) → claim_on p when r kind ≡ cond (is_about p kind) (claim_on p when r kind) None
 on_its_subject p when r Plain = refl
 on_its_subject p when r (Key name) = refl
 on_its_subject p when r (File name parts) = refl
@@ -50,43 +54,39 @@ on_its_subject p when r (Bytes parts) = refl
 on_its_subject p when r (Directory name listing) = refl
 on_its_subject p when r (StaticSet members) = refl
 on_its_subject p when r (Permanode signed) = refl
-on_its_subject p when r (Claim signed date what) = by what
+on_its_subject p when r (Claim signed date what) =
+    by (is_attribute_claim_on p what) (list_any (bytes_eq p) (target_of what)) (counts_at when date)
+    ∙ ap (λ b. cond b (claim_on p when r (Claim signed date what)) None) (sym (about_what p what))
   where
-    by : (w : What) → claim_on p when r (Claim signed date w) ≡ cond (passes (bytes_eq p) (subject (Claim signed date w))) (claim_on p when r (Claim signed date w)) None
-    by (Set on attr value) = outside (bytes_eq p on) (counts_at when date) ((date, r), Set on attr value)
-    by (Add on attr value) = outside (bytes_eq p on) (counts_at when date) ((date, r), Add on attr value)
-    by (Del on attr value) = outside (bytes_eq p on) (counts_at when date) ((date, r), Del on attr value)
-    by (Delete target) = never (counts_at when date) (bytes_eq p target) ((date, r), Delete target)
+    made : Option (Moment × What)
+    made = Some ((date, r), what)
+
+    by : (own target counts : Bool) → cond (own && counts) made None ≡ cond (own || target) (cond (own && counts) made None) None
+    by true target counts = refl
+    by false true counts = refl
+    by false false counts = refl
 on_its_subject p when r (Unread name) = refl
 
 -- ---- one entry
 
-module _ (p : List ℕ) (read : Pair → Option Moment) (rest : List Pair) (tail : List (Moment × What)) (before : keys_of tail ≡ filter_map read (filter (λ c. bytes_eq p c.0) rest)) where
-  abbrev about : List Pair → List Pair
-  about = filter (λ c. bytes_eq p c.0)
-
-  nothing : (d : Bool) (m : Option (Moment × What)) → m ≡ None → keys_of (cond (not d) (cons_option m tail) tail) ≡ filter_map read (about rest)
+module _ (p : List ℕ) (read : Pair → Option Moment) (rest : List Pair) (tail : List (Moment × What)) (before : keys_of tail ≡ filter_map read rest) where
+  nothing : (d : Bool) (m : Option (Moment × What)) → m ≡ None → keys_of (cond (not d) (cons_option m tail) tail) ≡ filter_map read rest
   nothing d m none = ap (λ o. keys_of (cond (not d) (cons_option o tail) tail)) none ∙ by d
     where
-      by : (d : Bool) → keys_of (cond (not d) tail tail) ≡ filter_map read (about rest)
+      by : (d : Bool) → keys_of (cond (not d) tail tail) ≡ filter_map read rest
       by true = before
       by false = before
 
-  something : (d : Bool) (m : Option (Moment × What)) → keys_of (cond (not d) (cons_option m tail) tail) ≡ cons_option (option_map (λ x. x.0) (cond d None m)) (filter_map read (about rest))
+  something : (d : Bool) (m : Option (Moment × What)) → keys_of (cond (not d) (cons_option m tail) tail) ≡ cons_option (option_map (λ x. x.0) (cond d None m)) (filter_map read rest)
   something true m = before
   something false None = before
   something false (Some x) = λ i. x.0 ∷ before i
 
-  one_about : (b d : Bool) (m : Option (Moment × What)) (c : Pair) → m ≡ cond b m None → read c ≡ option_map (λ x. x.0) (cond d None m)
-      → keys_of (cond (not d) (cons_option m tail) tail) ≡ filter_map read (cond b (c ∷ about rest) (about rest))
-  one_about true d m c h is = something d m ∙ ap (λ o. cons_option o (filter_map read (about rest))) (sym is)
-  one_about false d m c h is = nothing d m h
-
-  one : (g d : Bool) (s : Option (List ℕ)) (m : Option (Moment × What)) (r : List ℕ) → m ≡ cond (passes (bytes_eq p) s) m None → ((on : List ℕ) → read (on, r) ≡ option_map (λ x. x.0) (cond d None m))
-      → keys_of (cond (g && not d) (cons_option m tail) tail) ≡ filter_map read (about (cons_option (cond g (option_map (λ on. (on, r)) s) None) rest))
-  one false d s m r h is = before
-  one true d None m r h is = nothing d m h
-  one true d (Some on) m r h is = one_about (bytes_eq p on) d m (on, r) h (is on)
+  one : (g d b : Bool) (m : Option (Moment × What)) (r : List ℕ) → m ≡ cond b m None → read (p, r) ≡ option_map (λ x. x.0) (cond d None m)
+      → keys_of (cond (g && not d) (cons_option m tail) tail) ≡ filter_map read (cond (g && b) ((p, r) ∷ rest) rest)
+  one false d b m r h is = before
+  one true d true m r h is = something d m ∙ ap (λ o. cons_option o (filter_map read rest)) (sym is)
+  one true d false m r h is = nothing d m h
 
 pub filter_map-cond : {X Y : Type 0} (h : X → Option Y) (b : Bool) (x : X) (xs : List X) → filter_map h (cond b (x ∷ xs) xs) ≡ cond b (cons_option (h x) (filter_map h xs)) (filter_map h xs)
 filter_map-cond h true x xs = refl
@@ -101,14 +101,15 @@ module _ (facts : Facts) (accepts : Accepts) (when : When) (p : List ℕ) where
   moment c = option_map (λ x. x.0) (counted_claim facts accepts when p c.1)
 
   moments_listed : (es : List Entry) → AllByRecursion (λ (e : Entry). get facts e.0 ≡ Some e.1) es
-      → keys_of (listed es) ≡ filter_map moment (filter (λ c. bytes_eq p c.0) (filter_map (claim_under (is_genuine facts accepts)) es))
+      → keys_of (listed es) ≡ filter_map moment (about (is_genuine facts accepts) p es)
   moments_listed [] had = refl
   moments_listed (e ∷ es) had =
       let deleted = is_deleted facts accepts when e.0 in
       ap keys_of (filter_map-cond (λ (f : Entry). claim_on p when f.0 f.1.kind) (stands_at facts accepts when e.0) e (filter (λ f. stands_at facts accepts when f.0) es))
-      ∙ one p moment (filter_map (claim_under (is_genuine facts accepts)) es) (listed es) (moments_listed es had.1)
-      (is_genuine facts accepts e.0) deleted (subject e.1.kind) (claim_on p when e.0 e.1.kind) e.0 (on_its_subject p when e.0 e.1.kind)
-      (λ on. ap (λ o. option_map (λ (x : Moment × What). x.0) (cond deleted None (option_and_then (λ fact. claim_on p when e.0 fact.kind) o))) had.0)
+      ∙ one p moment (about (is_genuine facts accepts) p es) (listed es) (moments_listed es had.1)
+      (is_genuine facts accepts e.0) deleted (is_about p e.1.kind) (claim_on p when e.0 e.1.kind) e.0 (on_its_subject p when e.0 e.1.kind)
+      (ap (λ o. option_map (λ (x : Moment × What). x.0) (cond deleted None (option_and_then (λ fact. claim_on p when e.0 fact.kind) o))) had.0)
+      ∙ sym (ap (filter_map moment) (about-cons (is_genuine facts accepts) p e es))
 
   -- each under its own ref, saying what its fact says
   abbrev IsOf : List ℕ → Kind → Moment × What → Type 0

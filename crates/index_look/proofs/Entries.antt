@@ -17,11 +17,11 @@ use Rattle.index_look.proofs.Order.{ascending_entries}
 pub same_ref : IsAntisymmetric ref_cmp
 same_ref = slice_cmp-IsAntisymmetric nat_cmp-IsAntisymmetric
 
-abbrev pub map_of : List Entry → Facts
+abbrev map_of : List Entry → Facts
 map_of es = from_entries es
 
 -- the map has each entry of the list
-abbrev pub IsHad : List Entry → Entry → Type 0
+abbrev IsHad : List Entry → Entry → Type 0
 IsHad es e = get (map_of es) e.0 ≡ Some e.1
 
 still_had : (e : Entry) (all es : List Entry) → AllByRecursion (λ y. ref_cmp e.0 y ≡ Less) (keys_of es) → AllByRecursion (IsHad all) es → AllByRecursion (IsHad (e ∷ all)) es
@@ -30,7 +30,7 @@ still_had e all (f ∷ es) h had =
     let other : eq_by_cmp ref_cmp f.0 e.0 ≡ false = (eq_by_cmp_equiv nat_list_cmp_total).symm f.0 e.0 ∙ ap is_eq h.0 in
     (get-insert nat_list_cmp_total (map_of all) e.0 e.1 f.0 ∙ cond-false (eq_by_cmp ref_cmp f.0 e.0) (Some e.1) (get (map_of all) f.0) other ∙ had.0, still_had e all es h.1 had.1)
 
-pub all_had : (es : List Entry) → IsStrictlySortedBy ref_cmp (keys_of es) → AllByRecursion (IsHad es) es
+all_had : (es : List Entry) → IsStrictlySortedBy ref_cmp (keys_of es) → AllByRecursion (IsHad es) es
 all_had [] h = tt
 all_had (e ∷ es) h = (
   get-insert nat_list_cmp_total (map_of es) e.0 e.1 e.0 ∙ cond-true (eq_by_cmp ref_cmp e.0 e.0) (Some e.1) (get (map_of es) e.0) ((eq_by_cmp_equiv nat_list_cmp_total).refl e.0),

@@ -3,4 +3,5 @@ pub mod Entries
 pub mod Keys
 pub mod Lasts
 pub mod Order
+pub mod Stepping
 pub mod Texts

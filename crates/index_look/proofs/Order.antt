@@ -1,19 +1,18 @@
 -- Lists of entries and the finite maps that they make: in another order the map is the same, and a list in order is the map's own.
-use Rattle.std.proofs.Common.{◌≡◌, ◌<◌, ℕ, ◌+◌, Bool, true, false, ◌&&◌, cond, List, [], ◌∷◌, length, get_or, Option, Some, None, refl, sym, ap, ◌∙◌, subst, arith, Ordering, Result, Ok, Err, IfSome, IfNone}
+use Rattle.std.proofs.Common.{◌≡◌, ◌<◌, ℕ, ◌+◌, Bool, true, false, ◌&&◌, cond, List, [], ◌∷◌, length, get_or, Option, Some, None, refl, sym, ap, ◌∙◌, subst, arith, Ordering}
 use Rattle.std.specs.Prelude.{T, slice_get}
 use Rattle.std.specs.declared.cmp.Ordering.TheVariants.{Less, Equal, Greater}
 use Rattle.std.proofs.lemmas.Bool.{and_parts}
 use Rattle.std.proofs.lemmas.List.{get_or-map}
 use Rattle.std.proofs.lemmas.Option.{get_or_from_slice_get, slice_get_within, slice_get-get_or}
-use Rattle.std.proofs.lemmas.List.Sorted.{Contains-permutation, IsPermutation-sym, IsPermutation-map, searchable_from_sorted}
-use Rattle.std.proofs.lemmas.Map.Keys.{sorted_head, sorted_tail, IsDistinct-IsPermutation, apart_from_distinct, sorted_from_all_adjacent, Less-from_sorted}
-use Rattle.std.proofs.lemmas.Map.Entries.{place_from_lookup, length-keys_of, lookup_from_place, lookup_at_gap}
+use Rattle.std.proofs.lemmas.List.Sorted.{Contains-permutation, IsPermutation-sym, IsPermutation-map}
+use Rattle.std.proofs.lemmas.Map.Keys.{sorted_head, sorted_tail, IsDistinct-IsPermutation, apart_from_distinct, sorted_from_all_adjacent}
+use Rattle.std.proofs.lemmas.Map.Entries.{place_from_lookup, length-keys_of, lookup_from_place}
 use Rattle.std.specs.List.{AllByRecursion, IsDistinct, Contains}
-use Rattle.std.specs.List.Sorted.{IsStrictlySortedBy, IsPermutation, IsSortedByKey, IsBinarySearchResult, IsSearchInRange}
+use Rattle.std.specs.List.Sorted.{IsStrictlySortedBy, IsPermutation, IsSortedByKey}
 use Rattle.std.specs.Ordering.{is_eq, is_lt, eq_by_cmp, ordering_reverse}
 use Rattle.std.specs.Cmp.{IsTotalOrder, eq_by_cmp_equiv}
 use Rattle.std.specs.Map.{lookup, keys_of}
-use Rattle.std.specs.Result.{result_ok}
 use Rattle.std.specs.FinMap.Entries.{below_all}
 use Rattle.std.specs.FinMap.{FinMap, IsAntisymmetric, entries, from_entries, from_sorted, find, is_sorted, same_map, entries_sorted, get-from_entries, get-from_sorted, entries-from_sorted}
 
@@ -38,7 +37,7 @@ same_answer None (Some y) f g = g y refl
 same_answer (Some x) b f g = sym (f x refl)
 
 module _ {K X : Type 0} (R : K → K → Ordering) where
-  pub find-lookup : (q : K) (es : List (K × X)) → find R q es ≡ lookup (eq_by_cmp R q) es
+  find-lookup : (q : K) (es : List (K × X)) → find R q es ≡ lookup (eq_by_cmp R q) es
   find-lookup q [] = refl
   find-lookup q (e ∷ es) = ap (cond (eq_by_cmp R q e.0) (Some e.1)) (find-lookup q es)
 
@@ -121,31 +120,6 @@ module _ {K X : Type 0} {R : K → K → Ordering} (o : IsTotalOrder R) (same : 
   unfolding IsStrictlySortedBy
   sorted_in_order [] h distinct = tt
   sorted_in_order (f ∷ fs) h distinct = sorted_from_all_adjacent o (keys_of (f ∷ fs)) f.0 (λ k lt. adjacent f (f ∷ fs) h distinct k lt)
-
-  falls : (es : List (K × X)) → IsStrictlySortedBy R (keys_of es) → (k : ℕ) (d : K × X) → k + 1 < length es → is_lt (R (get_or es (k + 1) d).0 (get_or es k d).0) ≡ false
-  falls es h k d fits =
-      let here : get_or (keys_of es) k d.0 ≡ (get_or es k d).0 = get_or-map (λ e. e.0) es k d d.0 (omega arith) in
-      let next : get_or (keys_of es) (k + 1) d.0 ≡ (get_or es (k + 1) d).0 = get_or-map (λ e. e.0) es (k + 1) d d.0 fits in
-      let less : R (get_or (keys_of es) k d.0) (get_or (keys_of es) (k + 1) d.0) ≡ Less = Less-from_sorted R (keys_of es) k (k + 1) d.0 h (omega arith) (omega (arith, length-keys_of es)) in
-      ap is_lt (o.antisymm (get_or es (k + 1) d).0 (get_or es k d).0 ∙ ap ordering_reverse (sym (λ i. R (here i) (next i)) ∙ less))
-
-  -- a binary search for q
-  pub found_at : (es : List (K × X)) (q : K) (r : Result ℕ ℕ) → IsSearchInRange r (length es) → IsBinarySearchResult (λ e. R e.0 q) es r → IfSome (result_ok r) (λ i. (i < length es) × (slice_get (keys_of es) i ≡ Some q))
-  found_at es q (Err i) bound at = tt
-  found_at [] q (Ok i) bound at = absurd (omega arith)
-  found_at (f ∷ fs) q (Ok i) bound at =
-      let es : List (K × X) = f ∷ fs in
-      let fits : i < length (keys_of es) = omega (arith, length-keys_of es) in
-      let key : get_or (keys_of es) i q ≡ q = get_or-map (λ e. e.0) es i f q bound ∙ same (get_or es i f).0 q (at f) in
-      (bound, slice_get-get_or (keys_of es) i q fits ∙ ap Some key)
-
-  pub absent_at : (es : List (K × X)) (q : K) (r : Result ℕ ℕ) → IsStrictlySortedBy R (keys_of es) → IsBinarySearchResult (λ e. R e.0 q) es r → IfNone (result_ok r) (find R q es ≡ None)
-  absent_at es q (Ok i) h at = tt
-  absent_at es q (Err i) h at =
-      let point = at (searchable_from_sorted o (λ e. e.0) es q (λ k d low fits. falls es h k d fits)) in
-      find-lookup R q es ∙ lookup_at_gap o q es i h
-      (λ j e lt is. o.antisymm q e.0 ∙ ap ordering_reverse (ap (λ (x : K × X). R x.0 q) (sym (get_or_from_slice_get es j e e is)) ∙ point.0 j e (omega arith) lt))
-      (λ e is. o.antisymm q e.0 ∙ ap ordering_reverse (ap (λ (x : K × X). R x.0 q) (sym (get_or_from_slice_get es i e e is)) ∙ point.1 i e (omega arith) (slice_get_within es i e is)))
 
 module _ {K : Type 0} {R : K → K → Ordering} (o : IsTotalOrder R) where
   -- what does not come after one that is less is less

@@ -1,18 +1,20 @@
 //! What single facts say as claims and signed blobs.
-ghost use Rattle.std.specs.Prelude.{◌≡◌, option_copied, option_map};
+ghost use Rattle.std.specs.Prelude.{◌≡◌, ◌+◌, option_copied, option_map};
 ghost use Rattle.std.specs.FinMap.{get};
+ghost use Rattle.std.specs.Str.{bytes_eq};
+ghost use Rattle.schema_fact.specs.Changes.{change_seen};
 ghost use Rattle.claim_model.specs.ByClaim.{claim_on, is_attribute_claim_on};
 ghost use Rattle.claim_model.specs.Deleted.{counts_at, can_be_deleted, deletes};
 ghost use Rattle.claim_model.specs.Facts.{is_permanode, passes};
 ghost use Rattle.claim_model.specs.Genuine.{key_accepts, signature};
-ghost use Rattle.index_look.specs.Claims.{claim_says};
+ghost use Rattle.index_look.specs.Claims.{change_said, claim_says};
 
 use crate::table::FactTable;
 use blobref::Ref;
 use claim_verify::Verifier;
 use edge_base::Steps;
 use schema_date::{Date, When};
-use schema_fact::{Kind, Signed, What};
+use schema_fact::{ChangeView, Kind, Signed, What};
 use std::sync::ledger::Ledger;
 
 /// Whether it is a permanode.
@@ -24,7 +26,8 @@ pub fn is_permanode(kind: &Kind) -> bool
 
 /// Whether the fact of a ref is a permanode; false where the table has none. One look-up.
 pub fn is_permanode_at<T: FactTable, L: Ledger>(table: &T, r: &Ref, steps: &mut Steps<L>) -> bool
-    ensures { result ≡ passes (λ fact. is_permanode fact.kind) (get (T.facts table.now) r.now) }
+    ensures value { result ≡ passes (λ fact. is_permanode fact.kind) (get (T.facts table.now) r.now) }
+    ensures ticks { steps.new ≡ steps.old + 1 }
 {
     match table.fact_at(r, steps) {
         Some(fact) => is_permanode(&fact.kind),
@@ -71,7 +74,8 @@ pub fn can_be_deleted(kind: &Kind) -> bool
 
 /// Whether a delete claim can delete the fact of a ref; false where the table has none. One look-up.
 pub fn can_be_deleted_at<T: FactTable, L: Ledger>(table: &T, r: &Ref, steps: &mut Steps<L>) -> bool
-    ensures { result ≡ passes (λ fact. can_be_deleted fact.kind) (get (T.facts table.now) r.now) }
+    ensures value { result ≡ passes (λ fact. can_be_deleted fact.kind) (get (T.facts table.now) r.now) }
+    ensures ticks { steps.new ≡ steps.old + 1 }
 {
     match table.fact_at(r, steps) {
         Some(fact) => can_be_deleted(&fact.kind),
@@ -107,10 +111,33 @@ pub fn moment_on(p: &Ref, when: &When, r: &Ref, kind: &Kind) -> Option<(Date, Re
 fn is_attribute_claim_on(p: &Ref, what: &What) -> bool
     ensures { result ≡ is_attribute_claim_on p.now what.now }
 {
-    match what {
-        What::Set { on, .. } | What::Add { on, .. } | What::Del { on, .. } => p == on,
-        What::Delete { .. } => false,
+    for place in 0..what.change_count() {
+        if is_on(p, what.change(place)) {
+            return true;
+        }
     }
+    false
+}
+
+fn is_on(p: &Ref, change: Option<ChangeView<'_>>) -> bool
+    ensures { result ≡ passes (λ c. bytes_eq p.now c.on) (option_map change_seen change.entry) }
+{
+    match change {
+        Some(change) => p == change.on,
+        None => false,
+    }
+}
+
+/// The change at a place of what the claim of a ref says; `None` where there is none. One look-up.
+pub fn change_said<'a, T: FactTable, L: Ledger>(
+    table: &'a T,
+    r: &Ref,
+    place: usize,
+    steps: &mut Steps<L>,
+) -> Option<ChangeView<'a>>
+    ensures { option_map change_seen result ≡ change_said (T.facts table.now) r.now place }
+{
+    claim_says(&table.fact_at(r, steps)?.kind)?.change(place)
 }
 
 /// What a claim says; `None` of any other kind.

@@ -1,7 +1,7 @@
 //! What single facts say as files, and whether their parts stand in their origins.
 ghost use Rattle.std.specs.Prelude.{◌≡◌, ◌+◌, IfSome, nat_le, option_copied};
 ghost use Rattle.schema_fact.specs.Limits.{total_size, IsShortPart, MeetsLimits};
-ghost use Rattle.schema_fact.specs.Validity.{IsValid, HasValidParts};
+ghost use Rattle.schema_fact.specs.Validity.{IsValid, IsValidKind};
 ghost use Rattle.claim_model.specs.Facts.{passes};
 ghost use Rattle.claim_model.specs.Trees.{is_file, own_size, tree_parts};
 
@@ -16,7 +16,7 @@ pub fn is_file(kind: &Kind) -> bool
 
 /// The parts of a file or bytes blob; `None` of any other kind.
 pub fn tree_parts(kind: &Kind) -> Option<&PartList>
-    requires { HasValidParts kind.now }
+    requires { IsValidKind kind.now }
     ensures value { option_copied result ≡ tree_parts kind.now }
     ensures valid { IfSome result (λ parts. MeetsLimits parts.now) }
 {

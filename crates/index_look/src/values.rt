@@ -1,17 +1,19 @@
 //! The values of attributes, folded out of counted claims.
-ghost use Rattle.std.specs.Prelude.{◌≡◌, [], IfOk, OnOk, fold, map, filter, not, option_copied, length, ◌==◌, if◌then◌else◌};
+ghost use Rattle.std.specs.Prelude.{◌≡◌, [], IfOk, OnOk, fold, map, filter, not, option_copied, length, slice_get, ◌==◌, if◌then◌else◌};
 ghost use Rattle.std.specs.List.{list_any};
 ghost use Rattle.std.specs.Str.{bytes_eq};
 ghost use Rattle.claim_model.specs.ByClaim.{apply};
-ghost use Rattle.index_look.specs.Claims.{apply_said, said};
+ghost use Rattle.claim_model.specs.Changes.{change_values};
+ghost use Rattle.schema_fact.specs.Changes.{change_seen, changes_of};
+ghost use Rattle.index_look.specs.Claims.{apply_said, change_said, said, values_with, values_with_own};
 ghost use Rattle.index_look.specs.Latest.{later_of};
 
-use crate::claim::claim_says;
+use crate::claim::{change_said, claim_says};
 use crate::table::FactTable;
 use blobref::{NoMemory, Ref, Text, TextList};
 use edge_base::Steps;
 use schema_date::Date;
-use schema_fact::What;
+use schema_fact::{Act, ChangeView, What};
 use std::alloc::Global;
 use std::sync::ledger::Ledger;
 
@@ -65,33 +67,78 @@ fn said<'a, T: FactTable, L: Ledger>(
     claim_says(&table.fact_at(r, steps)?.kind)
 }
 
-// What a claim makes of the values of the attribute of the permanode.
+// What a claim makes of the values of the attribute of the permanode: its changes on it, one after another.
 fn apply<'a>(found: &mut Vec<&'a Text>, p: &Ref, what: &'a What, attr: &str) -> Result<(), NoMemory>
     ensures { OnOk result (map (λ t. t.now) found.new.items ≡ apply p.now attr.now
         (map (λ t. t.now) found.old.items) what.now) }
 {
-    match what {
-        What::Set {
-            on,
-            attr: name,
-            value,
-        } if p == on && name.as_str() == attr => {
-            found.clear();
-            found.push(value)?;
-        }
-        What::Add {
-            on,
-            attr: name,
-            value,
-        } if p == on && name.as_str() == attr => found.push(value)?,
-        What::Del {
-            on,
-            attr: name,
-            value,
-        } if p == on && name.as_str() == attr => remove(found, value.as_str()),
-        _ => {}
+    for place in 0..what.change_count() {
+        apply_own(found, p, what, place, attr)?;
     }
     Ok(())
+}
+
+// What the change at a place of a claim makes of the values of the attribute of the permanode.
+fn apply_own<'a>(
+    found: &mut Vec<&'a Text>,
+    p: &Ref,
+    what: &'a What,
+    place: usize,
+    attr: &str,
+) -> Result<(), NoMemory>
+    ensures { OnOk result (map (λ t. t.now) found.new.items ≡ values_with_own p.now attr.now
+        (map (λ t. t.now) found.old.items) (slice_get (changes_of what.now) place)) }
+{
+    match what.change(place) {
+        Some(change) => if p == change.on {
+            apply_change(found, change, attr)
+        } else {
+            Ok(())
+        },
+        None => Ok(()),
+    }
+}
+
+// What a change makes of the values of the attribute.
+fn apply_change<'a>(
+    found: &mut Vec<&'a Text>,
+    change: ChangeView<'a>,
+    attr: &str,
+) -> Result<(), NoMemory>
+    ensures { OnOk result (map (λ t. t.now) found.new.items
+        ≡ change_values attr.now (map (λ t. t.now) found.old.items) (change_seen change.entry)) }
+{
+    if attr != change.attr.as_str() {
+        return Ok(());
+    }
+    match change.act {
+        Act::Set => {
+            found.clear();
+            found.push(change.value)?;
+        }
+        Act::Add => found.push(change.value)?,
+        Act::Del => remove(found, change.value.as_str()),
+    }
+    Ok(())
+}
+
+/// What the change at a place of the claim of a ref makes of the values of the attribute; nothing where there is none.
+/// One look-up. After `NoMemory` the values may be anything.
+pub fn apply_place<'a, T: FactTable, L: Ledger>(
+    table: &'a T,
+    found: &mut Vec<&'a Text>,
+    r: &Ref,
+    place: usize,
+    attr: &str,
+    steps: &mut Steps<L>,
+) -> Result<(), NoMemory>
+    ensures { OnOk result (map (λ t. t.now) found.new.items ≡ values_with attr.now
+        (map (λ t. t.now) found.old.items) (change_said (T.facts table.now) r.now place)) }
+{
+    match change_said(table, r, place, steps) {
+        Some(change) => apply_change(found, change, attr),
+        None => Ok(()),
+    }
 }
 
 // Takes out each value that is equal, and with the empty text all.

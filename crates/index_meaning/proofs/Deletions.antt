@@ -11,7 +11,7 @@ use Rattle.schema_date.specs.declared.date.When.{When}
 use Rattle.schema_fact.specs.declared.kinds.Fact.{Fact}
 use Rattle.schema_fact.specs.declared.kinds.Signed.{Signed}
 use Rattle.schema_fact.specs.declared.kinds.What.{What}
-use Rattle.schema_fact.specs.declared.kinds.What.TheVariants.{Set, Add, Del, Delete}
+use Rattle.schema_fact.specs.declared.kinds.What.TheVariants.{Set, Add, Del, Delete, Multi}
 use Rattle.schema_fact.specs.declared.kinds.Kind.{Kind}
 use Rattle.schema_fact.specs.declared.kinds.Kind.TheVariants.{Plain, Key, File, Bytes, Directory, StaticSet, Permanode, Claim, Unread}
 use Rattle.claim_model.specs.Facts.{Facts, Entry, passes}
@@ -31,6 +31,7 @@ what_of x (Set on attr value) h = absurd (false≢true h)
 what_of x (Add on attr value) h = absurd (false≢true h)
 what_of x (Del on attr value) h = absurd (false≢true h)
 what_of x (Delete target) h = ap Delete (sym ((bytes_eq-Decides x target).0 h))
+what_of x (Multi changes) h = absurd (false≢true h)
 
 -- what has the date of a delete claim on x is one
 claim_of : (x : List ℕ) (kind : Kind) (date : ℤ) → delete_date x kind ≡ Some date

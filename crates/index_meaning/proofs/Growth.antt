@@ -16,7 +16,9 @@ use Rattle.claim_model.specs.Facts.{Facts, passes, is_permanode}
 use Rattle.claim_model.specs.Ready.{is_ready}
 use Rattle.claim_model.specs.Least.{IsWithin}
 use Rattle.claim_model.specs.Deleted.{can_be_deleted, deletes as deletes_at}
-use Rattle.claim_model.specs.Changes.{Change, changes_of, gives}
+use Rattle.schema_fact.specs.declared.changes.Change.{Change}
+use Rattle.schema_fact.specs.Changes.{changes_of}
+use Rattle.claim_model.specs.Changes.{gives}
 use Rattle.claim_model.specs.Claims.{Moment}
 use Rattle.claim_model.proofs.Rounds.{ready_is_settled}
 use Rattle.claim_model.proofs.Least.{ready_grows}

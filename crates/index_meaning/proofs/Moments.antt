@@ -21,7 +21,8 @@ use Rattle.schema_fact.specs.declared.kinds.Kind.TheVariants.{Plain, Key, File, 
 use Rattle.claim_model.specs.Facts.{Facts, Entry, passes}
 use Rattle.claim_model.specs.Genuine.{is_genuine_permanode}
 use Rattle.claim_model.specs.Deleted.{counts_at}
-use Rattle.claim_model.specs.Changes.{Change, changes_of}
+use Rattle.schema_fact.specs.declared.changes.Change.{Change}
+use Rattle.schema_fact.specs.Changes.{changes_of}
 use Rattle.claim_model.specs.Claims.{Moment, moment_cmp, changes_on, stands_at, counted}
 use Rattle.claim_model.proofs.Entries.{IsEntry, entries_found}
 use Rattle.claim_model.proofs.ByClaim.{block, block-cons, find-append, find_other}

@@ -9,7 +9,7 @@ use Rattle.schema_fact.specs.declared.kinds.Fact.{Fact}
 use Rattle.schema_fact.specs.declared.kinds.What.{What}
 use Rattle.claim_model.specs.Least.{IsWithin}
 use Rattle.claim_model.specs.Facts.{Facts}
-use Rattle.claim_model.specs.Changes.{changes_of}
+use Rattle.schema_fact.specs.Changes.{changes_of}
 use Rattle.claim_model.specs.Claims.{Moment}
 use Rattle.index_look.specs.Claims.{claim_says}
 use Rattle.index_rows.specs.Changes.{Changes}

@@ -19,7 +19,9 @@ use Rattle.schema_fact.specs.declared.kinds.Kind.TheVariants.{Plain, Key, File, 
 use Rattle.claim_model.specs.Facts.{Facts, passes}
 use Rattle.claim_model.specs.Genuine.{is_genuine, is_genuine_permanode}
 use Rattle.claim_model.specs.Deleted.{counts_at, is_deleted}
-use Rattle.claim_model.specs.Changes.{Change, changes_of, values_after}
+use Rattle.schema_fact.specs.declared.changes.Change.{Change}
+use Rattle.schema_fact.specs.Changes.{changes_of}
+use Rattle.claim_model.specs.Changes.{values_after}
 use Rattle.claim_model.specs.Claims.{Moment, moment_cmp, counted, values, last_change}
 use Rattle.index_look.specs.Claims.{claim_says}
 use Rattle.index_look.proofs.Keys.{entries_held}

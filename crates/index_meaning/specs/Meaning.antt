@@ -11,7 +11,7 @@ use Rattle.claim_model.specs.Facts.{Facts, passes}
 use Rattle.claim_model.specs.Genuine.{is_genuine}
 use Rattle.claim_model.specs.Deleted.{what_deletes}
 use Rattle.claim_model.specs.Trees.{is_sound_tree}
-use Rattle.claim_model.specs.Changes.{changes_of}
+use Rattle.schema_fact.specs.Changes.{changes_of}
 use Rattle.claim_model.specs.Claims.{Moment}
 use Rattle.index_rows.specs.declared.rows.StateRow.{StateRow}
 use Rattle.index_rows.specs.Changes.{Changes}

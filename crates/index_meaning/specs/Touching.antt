@@ -6,7 +6,7 @@ use Rattle.schema_fact.specs.declared.kinds.What.{What}
 use Rattle.schema_fact.specs.declared.kinds.Kind.{Kind}
 use Rattle.schema_fact.specs.declared.kinds.Kind.TheVariants.{Plain, Key, File, Bytes, Directory, StaticSet, Permanode, Claim, Unread}
 use Rattle.claim_model.specs.Facts.{Facts}
-use Rattle.claim_model.specs.Changes.{changes_of}
+use Rattle.schema_fact.specs.Changes.{changes_of}
 use Rattle.index_rows.specs.States.{States, says_genuine}
 
 -- the permanodes that a claim changes, where its row says that it is genuine

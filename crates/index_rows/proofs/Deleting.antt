@@ -11,7 +11,7 @@ use Rattle.std.specs.FinMap.{FinMap, get, entries, find, get-entries, IsAntisymm
 use Rattle.schema_date.specs.declared.date.When.{When}
 use Rattle.schema_fact.specs.declared.kinds.Fact.{Fact}
 use Rattle.schema_fact.specs.declared.kinds.What.{What}
-use Rattle.schema_fact.specs.declared.kinds.What.TheVariants.{Set, Add, Del, Delete}
+use Rattle.schema_fact.specs.declared.kinds.What.TheVariants.{Set, Add, Del, Delete, Multi}
 use Rattle.schema_fact.specs.declared.kinds.Kind.{Kind}
 use Rattle.schema_fact.specs.declared.kinds.Kind.TheVariants.{Plain, Key, File, Bytes, Directory, StaticSet, Permanode, Claim, Unread}
 use Rattle.claim_model.specs.Facts.{Facts, Entry, passes}
@@ -83,6 +83,7 @@ module _ (facts : Facts) (rows : Deletes) where
   what_row d (Add on attr value) h = absurd (false≢true h)
   what_row d (Del on attr value) h = absurd (false≢true h)
   what_row d (Delete target) h = let found = a_value (get rows (target, d)) h in (target, found.0, found.1)
+  what_row d (Multi changes) h = absurd (false≢true h)
 
   kind_row : (d : List ℕ) (kind : Kind) → kind_has_row rows d kind ≡ true → HasRow d
   kind_row d Plain h = absurd (false≢true h)

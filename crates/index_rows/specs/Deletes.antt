@@ -6,7 +6,7 @@ use Rattle.schema_date.specs.declared.date.When.{When}
 use Rattle.schema_fact.specs.declared.kinds.Fact.{Fact}
 use Rattle.schema_fact.specs.declared.kinds.Signed.{Signed}
 use Rattle.schema_fact.specs.declared.kinds.What.{What}
-use Rattle.schema_fact.specs.declared.kinds.What.TheVariants.{Set, Add, Del, Delete}
+use Rattle.schema_fact.specs.declared.kinds.What.TheVariants.{Set, Add, Del, Delete, Multi}
 use Rattle.schema_fact.specs.declared.kinds.Kind.{Kind}
 use Rattle.schema_fact.specs.declared.kinds.Kind.TheVariants.{Plain, Key, File, Bytes, Directory, StaticSet, Permanode, Claim, Unread}
 use Rattle.claim_model.specs.Facts.{Facts, passes}
@@ -24,6 +24,7 @@ what_target y (Set on attr value) = y
 what_target y (Add on attr value) = y
 what_target y (Del on attr value) = y
 what_target y (Delete target) = target
+what_target y (Multi changes) = y
 
 -- the target of a delete claim, and of all else the ref itself
 abbrev pub kind_target : List ℕ → Kind → List ℕ
@@ -49,6 +50,7 @@ what_has_row rows d (Set on attr value) = false
 what_has_row rows d (Add on attr value) = false
 what_has_row rows d (Del on attr value) = false
 what_has_row rows d (Delete target) = contains_key rows (target, d)
+what_has_row rows d (Multi changes) = false
 
 abbrev pub kind_has_row : Deletes → List ℕ → Kind → Bool
 kind_has_row rows d Plain = false

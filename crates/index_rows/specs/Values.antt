@@ -1,5 +1,5 @@
 -- The values of permanodes, as the rows of changes tell them.
-use Rattle.std.specs.Prelude.{◌≡◌, ℕ, ◌&&◌, Bool, true, not, List, map, filter, Option, Some, None, ℤ, option_and_then, slice_get}
+use Rattle.std.specs.Prelude.{◌≡◌, ℕ, ◌&&◌, Bool, true, not, List, map, filter, Option, Some, None, ℤ, slice_get}
 use Rattle.std.specs.List.{filter_map, last_or}
 use Rattle.std.specs.FinMap.{get, contains_key}
 use Rattle.schema_date.specs.declared.date.When.{When}
@@ -8,17 +8,19 @@ use Rattle.schema_fact.specs.declared.kinds.Signed.{Signed}
 use Rattle.schema_fact.specs.declared.kinds.What.{What}
 use Rattle.schema_fact.specs.declared.kinds.Kind.TheVariants.{Claim}
 use Rattle.claim_model.specs.Facts.{Facts}
-use Rattle.claim_model.specs.Changes.{Change, changes_of, values_after}
+use Rattle.schema_fact.specs.declared.changes.Change.{Change}
+use Rattle.schema_fact.specs.Changes.{changes_of}
+use Rattle.claim_model.specs.Changes.{values_after}
 use Rattle.claim_model.specs.Claims.{Moment}
 use Rattle.claim_model.specs.Deleted.{counts_at}
-use Rattle.index_look.specs.Claims.{said}
+use Rattle.index_look.specs.Claims.{change_said}
 use Rattle.index_rows.specs.Changes.{Changes, changes_after}
 use Rattle.index_rows.specs.Deletes.{Deletes, row_deleted}
 use Rattle.index_rows.specs.States.{States, says_genuine}
 
 -- the change of a moment: that at its place in its claim
 abbrev pub change_at : Facts → Moment → Option Change
-change_at facts k = option_and_then (λ what. slice_get (changes_of what) k.2) (said facts k.1)
+change_at facts k = change_said facts k.1 k.2
 
 -- whether the claim of a moment counts at that time, and isn't deleted at it
 abbrev pub moment_counts : Facts → Deletes → When → Moment → Bool

@@ -1,14 +1,11 @@
 //! Deletion at a date, by a walk over the rows of delete claims.
 ghost use Rattle.std.specs.Prelude.{◌≡◌};
-ghost use Rattle.std.specs.FinMap.{get};
-ghost use Rattle.claim_model.specs.Facts.{passes};
-ghost use Rattle.claim_model.specs.Deleted.{can_be_deleted};
 ghost use Rattle.index_rows.specs.Deletes.{Ringless, row_deleted, target_in, kind_target, what_target};
 
 use crate::rows::Rows;
 use blobref::Ref;
 use edge_base::Steps;
-use index_look::claim::{can_be_deleted, counts_at};
+use index_look::claim::{can_be_deleted_at, counts_at};
 use schema_date::When;
 use schema_fact::{Kind, What};
 use std::sync::ledger::Ledger;
@@ -20,7 +17,7 @@ pub fn deleted_at<L: Ledger>(rows: &Rows, r: &Ref, when: &When, steps: &mut Step
     requires { Ringless rows.now.facts rows.now.deletes }
     ensures { result ≡ row_deleted rows.now.facts rows.now.deletes when.now r.now }
 {
-    if !can_be_deleted_at(rows, r, steps) {
+    if !can_be_deleted_at(&rows.facts, r, steps) {
         return false;
     }
     // `at` is the blob whose delete claims are looked through, and those up to `last` don't make it deleted.
@@ -48,15 +45,6 @@ pub fn deleted_at<L: Ledger>(rows: &Rows, r: &Ref, when: &When, steps: &mut Step
                 last = Some(y);
             }
         }
-    }
-}
-
-fn can_be_deleted_at<L: Ledger>(rows: &Rows, r: &Ref, steps: &mut Steps<L>) -> bool
-    ensures { result ≡ passes (λ fact. can_be_deleted fact.kind) (get rows.now.facts r.now) }
-{
-    match rows.facts.row(r, steps) {
-        Some(fact) => can_be_deleted(&fact.kind),
-        None => false,
     }
 }
 

@@ -147,8 +147,8 @@ pub fn file_size<T: FactTable, V: Verifier, L: Ledger>(
 }
 
 /// The genuine permanodes not deleted that have the value of the attribute, by claims of every date, ascending. It
-/// walks over all facts, and asks each genuine permanode for its values. `NoMemory` comes only where no memory is
-/// left.
+/// walks over all facts, and asks each genuine permanode for its values. A claim of several changes is gone through
+/// for each permanode that it is on. `NoMemory` comes only where no memory is left.
 pub fn holders<T: FactTable, V: Verifier, L: Ledger>(
     alloc: Global,
     table: &T,

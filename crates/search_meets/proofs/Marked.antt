@@ -1,9 +1,6 @@
 -- Marks: what is said of each ref of a list.
-use Rattle.std.proofs.Common.{◌≡◌, ◌∙◌, ◌++◌, append-nil, Box, ◌&&◌, ◌||◌, ◌<◌, ℕ, zero, suc, Bool, true, false, not, cond, List, [], ◌∷◌, map, zip, filter, Option, Some, None, IfSome, refl, sym, ap, get_or, length, arith, Bor, option_copied, if◌then◌else◌}
-use Rattle.std.specs.declared.cmp.Ordering.TheVariants.{Equal}
+use Rattle.std.proofs.Common.{◌≡◌, ◌∙◌, ◌++◌, append-nil, Box, ◌&&◌, ◌||◌, ℕ, Bool, true, false, not, cond, List, [], ◌∷◌, map, zip, filter, Option, Some, None, refl, sym, ap, length, if◌then◌else◌}
 use Rattle.std.specs.List.{list_all, list_any}
-use Rattle.blobref.specs.Blobref.{ref_cmp}
-use Rattle.index_look.proofs.Entries.{same_ref}
 use Rattle.claim_verify.specs.Verifier.{Accepts}
 use Rattle.schema_date.specs.declared.date.When.{When}
 use Rattle.claim_model.specs.Facts.{Facts}

@@ -1,4 +1,5 @@
 use Rattle.std.proofs.Common.{◌≡◌, OnOk, subst}
+use Rattle.schema_fact.specs.Changes.{change_seen}
 use Rattle.attr_fold.proofs.Standing.{noted_is}
 use Rattle.attr_fold.proofs.refolding.note_moment.Goals as goal
 
@@ -6,7 +7,6 @@ pub returns : goal.returns
 returns g c =
     subst (λ t. OnOk c.note.result (c.note.new.self ≡ t))
     (noted_is c.args.rows.now.facts c.args.rows.now.state c.args.rows.now.deletes c.requires.counted c.args.p.now
-    c.args.turns.now c.args.moment.now c.args.n c.requires.change
-    c.in-Some.fact.now c.in-Some-claim_says.what.now c.has_deleters-counts.result c.in-Some.ensures.value
-    c.in-Some-claim_says.ensures c.has_deleters-counts.ensures)
+    c.args.turns.now c.args.moment.now c.args.n c.requires.change (change_seen c.in-Some.change) c.has_deleters-counts.result
+    c.in-Some.ensures c.has_deleters-counts.ensures)
     c.note.ensures

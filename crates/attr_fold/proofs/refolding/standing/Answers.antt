@@ -4,4 +4,4 @@ use Rattle.attr_fold.proofs.refolding.standing.Goals as goal
 pub returns-in-Some : goal.returns-in-Some
 returns-in-Some g c =
     stands_is c.args.rows.now.facts c.args.rows.now.state c.args.rows.now.deletes c.requires c.args.p.now
-    c.in-Some.row.now c.if-not-is_permanode_at.ensures c.in-Some.ensures.value c.if-row.true
+    c.in-Some.row.now c.if-not-is_permanode_at.ensures.value c.in-Some.ensures.value c.if-row.true

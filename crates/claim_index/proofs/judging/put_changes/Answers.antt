@@ -1,13 +1,24 @@
-use Rattle.std.proofs.lemmas.Result.{on_ok_weaker}
-use Rattle.std.proofs.Common.{ap, ◌∙◌}
+use Rattle.std.proofs.Common.{◌∙◌, ◌||◌, ◌&&◌, ap, sym, add-one, Option, ℕ, nat_eq}
+use Rattle.std.specs.Str.{bytes_eq}
+use Rattle.std.specs.Ordering.{is_eq, int_cmp}
 use Rattle.std.specs.FinMap.{contains_key}
-use Rattle.index_rows.specs.Changes.{Changes}
-use Rattle.claim_index.proofs.Rows.{one_change, listed}
+use Rattle.schema_fact.specs.Changes.{changes_of}
+use Rattle.schema_fact.specs.declared.changes.Change.{Change}
+use Rattle.claim_model.specs.Facts.{passes}
+use Rattle.claim_index.proofs.Rows.{on_among, listed_more}
 use Rattle.claim_index.proofs.judging.put_changes.Goals as goal
 
-pub returns-in-Set : goal.returns-in-Set
-returns-in-Set g c =
-    let one = one_change c.in-Set.on c.args.what.now c.in-Set.is in
-    on_ok_weaker c.put.result (λ is p k.
-    ap (λ (m : Changes). contains_key m (p, k)) is
-    ∙ listed c.in-Set.on c.args.claim.now c.args.date.now c.args.what.now one.0 one.1 one.2 p k c.args.changes.now) c.put.ensures.ok
+pub loop-place-preserved : goal.loop-place-preserved
+loop-place-preserved g c p k =
+    let claim = c.args.claim.now in
+    let date = c.args.date.now in
+    let n = c.loop-place.place in
+    let cs = changes_of c.args.what.now in
+    let first = c.args.changes.now in
+    listed_more claim date n cs first c.loop-place.changes c.put_change.new.changes
+    (λ q m. c.in_ok-put_change.ensures q m
+    ∙ ap (λ (o : Option Change). contains_key c.loop-place.changes (q, m) || (bytes_eq m.1 claim && (is_eq (int_cmp m.0 date)
+    && (passes (λ (d : Change). bytes_eq q d.on) o && nat_eq m.2 n))))
+    c.change.ensures)
+    c.loop-place.invariant p k
+    ∙ ap (λ (m : ℕ). contains_key first (p, k) || (bytes_eq k.1 claim && (is_eq (int_cmp k.0 date) && on_among p k.2 m cs))) (sym (add-one n))

@@ -70,7 +70,7 @@ returns-in-Permanode-clause-halfway g c = ok_then c.concern.result (λ added lef
     (subst (IsHalfway a left work.deletes (work.concerned ++ concerned_by old.facts new.state x)) (judged_is old new e.facts e.waiters e.deletes e.holders)
     (concerns_more a old x left work.deletes work.concerned h can new.state new.changes e.state e.changes
     (e.judged (taken old) left able h.judged) (e.changed (taken old) left able h.changed)
-    (λ d. others_are_no_delete c.in-Permanode.is (e.answer ∙ d))))) c.concern.ensures.ok
+    (λ d. others_are_no_delete c.in-Permanode.is (e.answer ∙ d))))) c.concern.ensures
 
 pub returns-in-Permanode-clause-reached : goal.returns-in-Permanode-clause-reached
 returns-in-Permanode-clause-reached g c = ok_then c.concern.result (λ added left h can.
@@ -83,4 +83,4 @@ returns-in-Permanode-clause-reached g c = ok_then c.concern.result (λ added lef
     let able = can_judge a old x left work.deletes work.concerned h can in
     subst (CanBeJudged left) (judged_is old new e.facts e.waiters e.deletes e.holders)
     (can_go_on a old x left work.deletes work.concerned h can new.state new.changes e.state e.changes
-    (e.judged (taken old) left able h.judged) (e.changed (taken old) left able h.changed))) c.concern.ensures.ok
+    (e.judged (taken old) left able h.judged) (e.changed (taken old) left able h.changed))) c.concern.ensures

@@ -4,7 +4,7 @@ use Rattle.index_rows.proofs.DeletionSteps.{down, down_falls, on, on_falls, not_
 use Rattle.index_rows.proofs.deletion.deleted_at.Goals as goal
 
 pub walk-init : goal.walk-init
-walk-init g c = begins c.args.rows.now.facts c.args.rows.now.deletes c.args.when.now c.args.r.now c.requires (sym c.if-not-can_be_deleted_at.ensures)
+walk-init g c = begins c.args.rows.now.facts c.args.rows.now.deletes c.args.when.now c.args.r.now c.requires (sym c.if-not-can_be_deleted_at.ensures.value)
 
 pub walk-smaller-then-counts_at : goal.walk-smaller-then-counts_at
 walk-smaller-then-counts_at g c =

@@ -9,7 +9,7 @@ use Rattle.plain_answers.proofs.deletion.+deleted_within.Goals as goal
 pub returns-in_default : goal.returns-in_default
 returns-in_default g t c =
     let facts = g.T.FactTable.facts c.args.table.now in
-    sym (ap (λ n. deleted_within facts (g.V.Verifier.accepts c.args.keys.now) c.args.when.now n c.args.x.now) (none_left facts (option_copied c.args.after) c.in_default.ensures))
+    sym (ap (λ n. deleted_within facts (g.V.Verifier.accepts c.args.keys.now) c.args.when.now n c.args.x.now) (none_left facts (option_copied c.args.after) c.in_default.ensures.value))
 
 pub walk-init : goal.walk-init
 walk-init g t c =
@@ -20,7 +20,7 @@ pub deleted_within-requires : goal.deleted_within-requires
 deleted_within-requires g t c =
     let facts = g.T.FactTable.facts c.args.table.now in
     let is : number_after facts (option_copied c.args.after) ≡ t = c.decreases in
-    let less : number_after facts (Some c.in-Some.next) < t = omega (arith, is, one_less facts (option_copied c.args.after) c.in-Some.next c.in-Some.ensures) in
+    let less : number_after facts (Some c.in-Some.next) < t = omega (arith, is, one_less facts (option_copied c.args.after) c.in-Some.next c.in-Some.ensures.value) in
     λ κs lives. (less, lives)
 
 pub returns-then-not-deleted_within : goal.returns-then-not-deleted_within
@@ -28,15 +28,15 @@ returns-then-not-deleted_within g t c =
     let facts = g.T.FactTable.facts c.args.table.now in
     gone facts (g.V.Verifier.accepts c.args.keys.now) c.args.when.now c.args.x.now (number_after facts (Some c.in-Some.next)) (number_after facts (option_copied c.args.after))
     (entries_after facts c.walk.place) (c.in-Some-entry_after.entry.0, c.in-Some-entry_after.entry.1.now) _
-    (one_less facts (option_copied c.args.after) c.in-Some.next c.in-Some.ensures)
+    (one_less facts (option_copied c.args.after) c.in-Some.next c.in-Some.ensures.value)
     (ap (λ o. entries_after facts o) (sym c.as_ref.ensures.value) ∙ c.in-Some-entry_after.ensures.next)
-    c.if-not-can_be_deleted_at.ensures c.walk.invariant c.if-deletes.ensures c.if-is_genuine.ensures c.if-not-deleted_within.ensures
+    c.if-not-can_be_deleted_at.ensures.value c.walk.invariant c.if-deletes.ensures c.if-is_genuine.ensures c.if-not-deleted_within.ensures
 
 pub returns : goal.returns
 returns g t c =
     let facts = g.T.FactTable.facts c.args.table.now in
     stands facts (g.V.Verifier.accepts c.args.keys.now) c.args.when.now c.args.x.now (number_after facts (Some c.in-Some.next)) (number_after facts (option_copied c.args.after))
     (entries_after facts c.walk.place)
-    (one_less facts (option_copied c.args.after) c.in-Some.next c.in-Some.ensures)
+    (one_less facts (option_copied c.args.after) c.in-Some.next c.in-Some.ensures.value)
     (ap (λ o. entries_after facts o) (sym c.as_ref.ensures.value) ∙ c.in_default-entry_after.ensures.last)
-    c.if-not-can_be_deleted_at.ensures c.walk.invariant
+    c.if-not-can_be_deleted_at.ensures.value c.walk.invariant

@@ -30,13 +30,13 @@ parts_ready-loop-i-preserved g t c =
 pub ready_within-returns-in_default : goal.ready_within-returns-in_default
 ready_within-returns-in_default g t c =
     let facts = g.T.FactTable.facts c.args.table.now in
-    sym (ap (λ n. round facts n c.args.r.now) (none_left facts (option_copied c.args.after) c.in_default.ensures))
+    sym (ap (λ n. round facts n c.args.r.now) (none_left facts (option_copied c.args.after) c.in_default.ensures.value))
 
 pub ready_within-all_ready-requires : goal.ready_within-all_ready-requires
 ready_within-all_ready-requires g t c =
     let facts = g.T.FactTable.facts c.args.table.now in
     let is : 4 * number_after facts (option_copied c.args.after) ≡ t = c.decreases in
-    let less : 4 * number_after facts (Some c.in-Some.next) + 3 < t = omega (arith, is, one_less facts (option_copied c.args.after) c.in-Some.next c.in-Some.ensures) in
+    let less : 4 * number_after facts (Some c.in-Some.next) + 3 < t = omega (arith, is, one_less facts (option_copied c.args.after) c.in-Some.next c.in-Some.ensures.value) in
     λ κs lives. (less, lives)
 
 pub ready_within-returns-in-Some-fact_at : goal.ready_within-returns-in-Some-fact_at
@@ -44,5 +44,5 @@ ready_within-returns-in-Some-fact_at g t c =
     let facts = g.T.FactTable.facts c.args.table.now in
     let n = number_after facts (Some c.in-Some.next) in
     c.all_ready.ensures
-    ∙ sym (ap (λ n. round facts n c.args.r.now) (one_less facts (option_copied c.args.after) c.in-Some.next c.in-Some.ensures)
+    ∙ sym (ap (λ n. round facts n c.args.r.now) (one_less facts (option_copied c.args.after) c.in-Some.next c.in-Some.ensures.value)
     ∙ ap (passes (λ fact. list_all (round facts n) (dependencies fact))) (sym c.in-Some-fact_at.ensures.value))

@@ -2,8 +2,8 @@ use Rattle.std.proofs.Common.{option_copied}
 use Rattle.index_rows.proofs.Stored.{first_after, none_after}
 use Rattle.index_rows.proofs.fact_rows.FactRowsFactTable.fact_after.Goals as goal
 
-pub returns-in-Some : goal.returns-in-Some
-returns-in-Some g c = first_after c.args.self.now (option_copied c.args.after) _ _ c.in-Some.ensures.next
+pub returns-in-Some-clause-value : goal.returns-in-Some-clause-value
+returns-in-Some-clause-value g c = first_after c.args.self.now (option_copied c.args.after) _ _ c.in-Some.ensures.next
 
-pub returns-in-None : goal.returns-in-None
-returns-in-None g c = none_after c.args.self.now (option_copied c.args.after) c.in-None.ensures.last
+pub returns-in-None-clause-value : goal.returns-in-None-clause-value
+returns-in-None-clause-value g c = none_after c.args.self.now (option_copied c.args.after) c.in-None.ensures.last
