@@ -58,7 +58,7 @@ fn are_distinct(facts: &[(Ref, Fact)]) -> bool
     }
 }
 
-pub(crate) fn keyring(alloc: Global) -> Keyring {
+fn keyring(alloc: Global) -> Keyring {
     let mut keys = Keyring::empty(alloc);
     if let Some(name) = KeyName::read(b"jefe") {
         let _ = keys.add(&name, b"Jefe");

@@ -1,9 +1,9 @@
-//! The index that is computed from all facts: over claims that stand, are deleted and undeleted, and over file trees.
+//! The index that keeps its facts alone: over claims that stand, are deleted and undeleted, and over file trees.
 ghost use Rattle.std.specs.Prelude.{◌≡◌, ◌<◌};
 
 use crate::blobs::{
     DELETE, DELETE_AGAIN, FORGED, KEY, LOW, MAIN_IN_LOW, PERMANODE, TAG, UNDELETE, index_of,
-    keyring, time_of,
+    time_of,
 };
 use blobref::{NoMemory, Ref, RefList, TextList};
 use claim_verify::Keyring;
@@ -206,87 +206,69 @@ fn is_member<L: Ledger>(
     Ok(is_one_ref(&now, LOW) && before.len() == 0)
 }
 
-// Whether each file has its size, by the index and by its table.
-fn have_sizes<L: Ledger>(
-    index: &PlainIndex<Keyring>,
-    keys: &Keyring,
-    steps: &mut Steps<L>,
-) -> bool {
+// Whether each file has its size.
+fn have_sizes<L: Ledger>(index: &PlainIndex<Keyring>, steps: &mut Steps<L>) -> bool {
     for (blob, want) in SIZES {
-        let r = Ref::of(blob.as_bytes());
-        if index.file_size(&r, steps) != want
-            || plain_answers::file_size(index, keys, &r, steps) != want
-        {
+        if index.file_size(&Ref::of(blob.as_bytes()), steps) != want {
             return false;
         }
     }
     true
 }
 
-// Whether a table tells the permanodes, and the deletions at their dates.
-fn is_plain<L: Ledger>(table: &PlainIndex<Keyring>, keys: &Keyring, steps: &mut Steps<L>) -> bool {
+// Whether the low permanode comes before the other, which changed last when it was tagged, as of a time when the tag
+// stands.
+fn are_two_permanodes<L: Ledger>(index: &PlainIndex<Keyring>, steps: &mut Steps<L>) -> bool {
     let p = Ref::of(PERMANODE.as_bytes());
-    let tag = Ref::of(TAG.as_bytes());
     let low = Ref::of(LOW.as_bytes());
-    let then = time_of(UNDELETED);
-    plain_answers::fact_of(table, keys, &p, steps).is_some()
-        && plain_answers::is_permanode(table, keys, &p, steps)
-        && plain_answers::permanode_after(table, keys, None, steps) == Some(low)
-        && plain_answers::permanode_after(table, keys, Some(&low), steps) == Some(p)
-        && !plain_answers::deleted(table, keys, &tag, &then, steps)
-        && plain_answers::deleted(table, keys, &tag, &When::Always, steps)
-        && plain_answers::last_change(table, keys, &p, &then, steps)
-            == Date::read(b"2014-01-02T00:00:00Z")
+    index.permanode_after(None, steps) == Some(low)
+        && index.permanode_after(Some(&low), steps) == Some(p)
+        && index.last_change(&p, &time_of(UNDELETED), steps) == Date::read(b"2014-01-02T00:00:00Z")
 }
 
-// Whether a table gives the value and the parent that stand at a time.
-fn has_plain_values<L: Ledger>(
-    alloc: Global,
-    table: &PlainIndex<Keyring>,
-    keys: &Keyring,
+// Whether the value and the parent stand at that time.
+fn has_values_then<L: Ledger>(
+    index: &PlainIndex<Keyring>,
     steps: &mut Steps<L>,
 ) -> Result<bool, NoMemory> {
     let p = Ref::of(PERMANODE.as_bytes());
     let then = time_of(UNDELETED);
-    let values = plain_answers::values(alloc, table, keys, &p, "tag", &then, steps)?;
-    let parents = plain_answers::parents(alloc, table, keys, &p, &then, steps)?;
+    let values = index.values(&p, "tag", &then, steps)?;
+    let parents = index.parents(&p, &then, steps)?;
     Ok(is_one_text(&values, "sunset") && is_one_ref(&parents, LOW))
 }
 
-// Whether a table gives the holder of a value that stands by now, and none of one that doesn't.
-fn has_plain_holders<L: Ledger>(
-    alloc: Global,
-    table: &PlainIndex<Keyring>,
-    keys: &Keyring,
+// Whether a value that stands by now has its holder, and one that doesn't has none.
+fn has_holders<L: Ledger>(
+    index: &PlainIndex<Keyring>,
     steps: &mut Steps<L>,
 ) -> Result<bool, NoMemory> {
-    let none = plain_answers::holders(alloc, table, keys, "tag", "sunset", steps)?;
-    let low = plain_answers::holders(alloc, table, keys, "camliMember", MEMBER, steps)?;
+    let none = index.holders("tag", "sunset", steps)?;
+    let low = index.holders("camliMember", MEMBER, steps)?;
     Ok(none.len() == 0 && is_one_ref(&low, LOW))
 }
 
-// Whether an index over all blobs answers so, and as a table too.
+// Whether an index over all blobs answers so.
 fn answers_in_time<L: Ledger>(alloc: Global, blank: Blank) -> Result<bool, NoMemory>
     requires name { blank.name ≡ L.name }
     requires parts { blank.parts ≡ L.parts }
     requires some { 0 < blank.parts }
 {
     let mut steps = Steps::<L>::start(blank);
-    let keys = keyring(alloc);
     let index = index_of(alloc, &ALL)?;
     let is_told = is_gone_in_time(&index, &mut steps)
-        && have_sizes(&index, &keys, &mut steps)
-        && is_plain(&index, &keys, &mut steps);
+        && have_sizes(&index, &mut steps)
+        && are_two_permanodes(&index, &mut steps);
     Ok(
         is_told
             && is_member(&index, &mut steps)?
-            && has_plain_values(alloc, &index, &keys, &mut steps)?
-            && has_plain_holders(alloc, &index, &keys, &mut steps)?,
+            && has_values_then(&index, &mut steps)?
+            && has_holders(&index, &mut steps)?,
     )
 }
 
 #[test]
-fn an_index_and_its_table_answer_in_time(rt: HostRuntime) -> Result<(), NoMemory> {
+fn an_index_answers_in_time(rt: HostRuntime) -> Result<(), NoMemory> {
     assert!(rt; is_unknown::<Brand>(rt.alloc(), Blank::new(1))?);
     assert!(rt; answers_in_time::<Brand>(rt.alloc(), Blank::new(1))?);
     Ok(())

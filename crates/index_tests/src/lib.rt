@@ -1,5 +1,5 @@
-//! Tests of keys and dates, of what blobs say, of objects that are written, and of the index that is computed from all
-//! facts: where no command of the program tells it.
+//! Tests of keys and dates, of what blobs say, of objects that are written, and of the index that keeps its facts
+//! alone, claims of several changes in it too: where no command of the program tells it.
 #![tactic(auto)]
 
 #[cfg(test)]
@@ -16,3 +16,5 @@ mod keys;
 mod objects;
 #[cfg(test)]
 mod queries;
+#[cfg(test)]
+mod several;

@@ -1,13 +1,6 @@
-//! The index that is computed from scratch out of a list of facts.
+//! An index that keeps its facts alone, and answers each question straight from the definitions.
 #![tactic(auto)]
 
-mod claims;
-mod facts;
-mod genuine;
 mod index;
-mod lookup;
-mod rounds;
-mod soundness;
 
-pub use facts::FactList;
-pub use index::PlainIndex;
+pub use index::{FactList, PlainIndex};

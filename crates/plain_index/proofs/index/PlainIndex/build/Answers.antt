@@ -1,32 +1,18 @@
-use Rattle.std.proofs.Common.{ap, ◌∙◌, map, filter, ◌&&◌, List, ℕ}
-use Rattle.std.specs.FinMap.{from_entries}
-use Rattle.claim_model.specs.Facts.{Entry, is_permanode}
-use Rattle.claim_model.specs.Ready.{is_ready}
-use Rattle.claim_model.specs.Genuine.{is_genuine}
-use Rattle.claim_model.specs.Trees.{is_sound_tree, own_size}
-use Rattle.std.specs.List.{filter_map}
-use Rattle.std.specs.Str.{bytes_eq}
-use Rattle.index_look.specs.Claims.{claim_under}
-use Rattle.plain_index.specs.Tables.{beside}
-use Rattle.plain_index.proofs.Settling.{permanodes_kept, claims_told}
+use Rattle.std.proofs.Common.{ap, ◌∙◌, sym, subst}
+use Rattle.std.specs.Vec.Iter.{into_iter_items}
+use Rattle.index_rows.specs.Stored.{AreAllValid}
+use Rattle.plain_index.proofs.Collected.{collected, valid_in_map}
 use Rattle.plain_index.proofs.index.PlainIndex.build.Goals as goal
+
+pub returns-clause-facts : goal.returns-clause-facts
+returns-clause-facts g c =
+    let run = c.in_ok-facts.ensures.runs tt in
+    let items = (c.into_iter.ensures.runs run.0 run.0.seen).4 run.2 ∙ ap into_iter_items run.1 ∙ c.into_iter.ensures.rest ∙ c.into_vec.ensures in
+    collected c.args.facts run.0.items c.in_ok-facts.facts.entries c.requires.distinct items run.3.0
 
 pub invariant_of-result : goal.invariant_of-result
 invariant_of-result g c =
-    let accepts = g.V.Verifier.accepts c.args.keys in
-    let told = c.in_ok-genuine.ensures ∙ ap (λ es. map (λ (e : Entry). is_genuine (from_entries es) accepts e.0) es) c.deref-6.ensures.value in
-    record {
-      valid = c.in_ok-facts.ensures.valid;
-      ascending = c.in_ok-facts.ensures.ascending;
-      readiness = c.in_ok-ready.ensures ∙ ap (λ es. map (λ (e : Entry). is_ready (from_entries es) e.0) es) c.deref.ensures.value;
-      soundness = c.in_ok-sound.ensures ∙ ap (λ es. map (λ (e : Entry). is_sound_tree (from_entries es) e.0) es) c.deref-3.ensures.value;
-      sizes_are = c.in_ok-sizes.ensures ∙ ap (map (λ (e : Entry). own_size e.1)) c.deref-2.ensures.value;
-      genuineness = told;
-      nodes_are = c.in_ok-permanodes.ensures
-          ∙ (λ i. map (λ (e : Entry). e.0) (filter (λ e. beside (c.deref-8.ensures.value i) ((c.deref-9.ensures.value ∙ told) i) e.0 && is_permanode e.1.kind) (c.deref-8.ensures.value i)))
-          ∙ permanodes_kept accepts c.in_ok-facts.facts.items c.in_ok-facts.ensures.ascending;
-      claims_sorted = c.in_ok-claims.ensures.sorted;
-      claims_grouped = λ q. c.in_ok-claims.ensures.groups q
-          ∙ (λ i. filter (λ (d : List ℕ × List ℕ). bytes_eq q d.0) (filter_map (claim_under (beside (c.deref-10.ensures.value i) ((c.deref-11.ensures.value ∙ told) i))) (c.deref-10.ensures.value i)))
-          ∙ claims_told accepts c.in_ok-facts.facts.items c.in_ok-facts.ensures.ascending q;
-    }
+    let run = c.in_ok-facts.ensures.runs tt in
+    let items = (c.into_iter.ensures.runs run.0 run.0.seen).4 run.2 ∙ ap into_iter_items run.1 ∙ c.into_iter.ensures.rest ∙ c.into_vec.ensures in
+    let same = collected c.args.facts run.0.items c.in_ok-facts.facts.entries c.requires.distinct items run.3.0 in
+    subst AreAllValid (sym same) (valid_in_map c.args.facts c.requires.valid)
