@@ -92,6 +92,7 @@ fn hint_of_input(fault: &InputFault) -> &'static str {
         InputFault::NoKey => "the keyring doesn't hold the key",
         InputFault::TooLong { .. } => "a text, a file or a query is longer than it may be",
         InputFault::BadQuery(_) => "standard input is no query",
+        InputFault::BadChanges => "standard input is no list of changes",
     }
 }
 

@@ -14,7 +14,7 @@ use Rattle.std.specs.Str.{bytes_eq}
 use Rattle.blobref.specs.Blobref.{ref_cmp}
 use Rattle.schema_json.specs.Facts.{fact_of}
 use Rattle.schema_fact.specs.Validity.{IsValid}
-use Rattle.schema_json.proofs.ValidFacts.{HasValidParts-kind_of}
+use Rattle.schema_json.proofs.ValidFacts.{IsValidKind-kind_of}
 use Rattle.claim_model.specs.Facts.{Entry, AreDistinct, AreValid}
 use Rattle.salvage_scan.specs.declared.found.Found.{Found}
 use Rattle.salvage_scan.specs.Arrivals.{arrive, arrivals, content, blob_of}
@@ -109,7 +109,7 @@ gathered_distinct pack places facts shown is = subst AreDistinct (sym (is ∙ ga
 valid : (es : List Blob) → AreValid (map entry_of es)
 unfolding fact_of
 valid [] = All-nil (λ (e : Entry). IsValid e.1)
-valid (e ∷ es) = All-cons (λ (f : Entry). IsValid f.1) (entry_of e) (map entry_of es) (HasValidParts-kind_of e.1) (valid es)
+valid (e ∷ es) = All-cons (λ (f : Entry). IsValid f.1) (entry_of e) (map entry_of es) (IsValidKind-kind_of e.1) (valid es)
 
 pub gathered_valid : (pack : List ℕ) (places : List Found) (facts : List Entry) → places ≡ map place_of (salvage pack) → facts ≡ with_blobs [] (map (blob_at pack) places) → AreValid facts
 gathered_valid pack places facts shown is = subst AreValid (sym (is ∙ gathered pack places shown)) (valid (arrivals ((0, pack) ∷ [])))
@@ -248,7 +248,7 @@ distinct_more facts pushed blob is apart_now = subst AreDistinct (sym is) (go (h
 pub valid_push : (facts pushed : List Entry) (blob : Blob) → pushed ≡ facts ++ entry_of blob ∷ [] → AreValid facts → AreValid pushed
 unfolding fact_of
 valid_push facts pushed blob is valid_now =
-    subst AreValid (sym is) (All-append (λ (e : Entry). IsValid e.1) facts (entry_of blob ∷ []) valid_now (All-cons (λ (e : Entry). IsValid e.1) (entry_of blob) [] (HasValidParts-kind_of blob.1) (All-nil (λ (e : Entry). IsValid e.1))))
+    subst AreValid (sym is) (All-append (λ (e : Entry). IsValid e.1) facts (entry_of blob ∷ []) valid_now (All-cons (λ (e : Entry). IsValid e.1) (entry_of blob) [] (IsValidKind-kind_of blob.1) (All-nil (λ (e : Entry). IsValid e.1))))
 
 pub valid_more : (facts pushed : List Entry) (blob : Blob) → pushed ≡ with_blob facts blob → AreValid facts → AreValid pushed
 valid_more facts pushed blob is valid_now = subst AreValid (sym is) (go (has_fact facts blob.0))

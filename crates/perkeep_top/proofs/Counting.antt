@@ -1,12 +1,10 @@
 -- What was signed and stored counts.
-use Rattle.std.proofs.Common.{◌≡◌, ◌∙◌, ◌≤◌, ◌&&◌, ℕ, ℤ, Bool, true, List, [], ◌∷◌, Some, None, length, option_map, codes, refl, sym, ap, subst}
+use Rattle.std.proofs.Common.{◌≡◌, ◌∙◌, ◌&&◌, ℕ, ℤ, Bool, true, List, [], ◌∷◌, Some, None, length, option_map, codes, refl, sym, ap, subst}
 use Rattle.std.specs.FinMap.{get}
 use Rattle.std.specs.List.{list_all}
-use Rattle.blobref.specs.Blobref.{ref_of, is_blobref}
+use Rattle.blobref.specs.Blobref.{ref_of}
 use Rattle.blobref.proofs.Digests.{is_blobref-ref_of}
 use Rattle.claim_verify.specs.KeyName.{is_key_name}
-use Rattle.schema_date.specs.Dates.{IsInRange}
-use Rattle.schema_date.specs.DateTexts.{IsDateText}
 use Rattle.schema_fact.specs.Dependencies.{dependencies, target_of}
 use Rattle.schema_fact.specs.declared.kinds.Fact.{Fact}
 use Rattle.schema_fact.specs.declared.kinds.Kind.{Kind}
@@ -16,7 +14,7 @@ use Rattle.schema_fact.specs.declared.kinds.What.{What}
 use Rattle.schema_fact.specs.declared.kinds.What.TheVariants.{Delete}
 use Rattle.schema_json.specs.Facts.{fact_of, key_blob}
 use Rattle.schema_write.specs.Blobs.{permanode_payload, claim_payload, signed}
-use Rattle.schema_write.specs.Laws.{AreBytes, Says, MayBeSaid}
+use Rattle.schema_write.specs.Laws.{Says, MayBeSaid}
 use Rattle.schema_write.proofs.ClaimsRead.{permanode_read, claim_read}
 use Rattle.schema_write.proofs.Objects.{key_read}
 use Rattle.schema_write.proofs.SignedRead.{signed_fits}
@@ -151,6 +149,7 @@ module _ {D S K C R : Type 0} (o : Outside D S K C R) (keys : Keys) (accepted : 
     asked_stored called.List parts right texts ends = tt
     asked_stored called.Search parts right texts ends = tt
     asked_stored called.Query parts right texts ends = tt
+    asked_stored called.Multi parts right texts ends = tt
     asked_stored called.Salvage parts right texts ends = tt
     asked_stored called.SearchPack parts right texts ends = tt
     asked_stored called.PutFile parts right texts ends = tt

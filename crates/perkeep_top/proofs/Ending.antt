@@ -21,7 +21,7 @@ use Rattle.pack_store.specs.Puts.{PutsAll, HoldAll, Stands, PutsBlobs, PutLeaves
 use Rattle.pack_store.proofs.Moments.{keeps_itself, keeps_then, held_after, stays_itself, stays_then, stays_keeps}
 use Rattle.pack_store.proofs.Runs.{puts_join, told_join, told_nothing, hold_join, hold_on}
 use Rattle.perkeep_top.specs.declared.status.InputFault.{InputFault}
-use Rattle.perkeep_top.specs.declared.status.InputFault.TheVariants.{BadRef, BadDate, BadNumber, BadName, TooBig, NotAFile, Short, Deep, NoKey, TooLong, BadQuery}
+use Rattle.perkeep_top.specs.declared.status.InputFault.TheVariants.{BadRef, BadDate, BadNumber, BadName, TooBig, NotAFile, Short, Deep, NoKey, TooLong, BadQuery, BadChanges}
 use Rattle.perkeep_top.specs.declared.status.Status.{Status}
 use Rattle.perkeep_top.specs.declared.status.Status.TheVariants as status
 use Rattle.perkeep_top.specs.Faults.{put_status}
@@ -457,6 +457,7 @@ module _ {D S K C R : Type 0} (run : Begun D S K C R) where
       by (status.BadInput NoKey) w = absurd w
       by (status.BadInput (TooLong len)) w = absurd w
       by (status.BadInput (BadQuery fault)) w = absurd w
+      by (status.BadInput BadChanges) w = absurd w
       by status.Done w = absurd w
       by status.WriteFault w = absurd w
       by status.BadWords w = absurd w

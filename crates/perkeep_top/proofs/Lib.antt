@@ -11,3 +11,5 @@ pub mod Filing
 pub mod Querying
 pub mod Asked
 pub mod Counting
+pub mod Sealing
+pub mod Multi

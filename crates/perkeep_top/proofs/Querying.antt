@@ -2,7 +2,7 @@
 use Rattle.std.proofs.Common.{◌≤◌, inl, ℕ, [], refl}
 use Rattle.claim_verify.specs.Verifier.{Accepts}
 use Rattle.pack_disk.specs.Packs.{Packs}
-use Rattle.perkeep_top.specs.declared.status.InputFault.TheVariants.{BadRef, BadDate, BadNumber, BadName, TooBig, NotAFile, Short, Deep, NoKey, TooLong, BadQuery}
+use Rattle.perkeep_top.specs.declared.status.InputFault.TheVariants.{BadRef, BadDate, BadNumber, BadName, TooBig, NotAFile, Short, Deep, NoKey, TooLong, BadQuery, BadChanges}
 use Rattle.perkeep_top.specs.declared.status.Status.{Status}
 use Rattle.perkeep_top.specs.declared.status.Status.TheVariants as status
 use Rattle.perkeep_top.specs.Frame.{Ends, EndsBy, read_too_much, read_wrongly}
@@ -36,6 +36,7 @@ module _ {D S K C R : Type 0} (o : Outside D S K C R)
       by (status.BadInput (Short r has wants)) w = absurd w
       by (status.BadInput (Deep r)) w = absurd w
       by (status.BadInput NoKey) w = absurd w
+      by (status.BadInput BadChanges) w = absurd w
       by status.Done w = absurd w
       by status.WriteFault w = absurd w
       by status.Disk w = absurd w

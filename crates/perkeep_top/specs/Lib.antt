@@ -10,6 +10,7 @@ pub mod Get
 pub mod GetFile
 pub mod PutFile
 pub mod Notes
+pub mod Multi
 pub mod Stat
 pub mod ListRefs
 pub mod Search

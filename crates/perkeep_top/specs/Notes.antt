@@ -1,4 +1,4 @@
--- What `permanode`, `claim` and `delete` mean: a key signs, and its blob and the signed one are put (docs/commands.md).
+-- What `permanode`, `claim`, `delete` and `multi` mean: a key signs, and its blob and the signed one are put (docs/commands.md).
 use Rattle.std.specs.Prelude.{◌≡◌, ◌<◌, ◌+◌, ℕ, Bool, true, false, List, [], ◌∷◌, length, Option, None, Some}
 use Rattle.blobref.specs.Blobref.{ref_of}
 use Rattle.claim_verify.specs.Verifier.{Accepts, Seals}
@@ -16,7 +16,7 @@ use Rattle.perkeep_top.specs.declared.status.InputFault.{InputFault}
 use Rattle.perkeep_top.specs.declared.status.InputFault.TheVariants.{TooBig, NoKey, TooLong}
 use Rattle.perkeep_top.specs.declared.status.Status.{Status}
 use Rattle.perkeep_top.specs.declared.status.Status.TheVariants as status
-use Rattle.perkeep_top.specs.Frame.{Meaning, Given, opens_store, reads_nothing}
+use Rattle.perkeep_top.specs.Frame.{Meaning, Given, Input, opens_store, reads_nothing}
 
 -- what contracts know of the keys: which names are held, what they sign, and what is accepted
 pub record Keys : Type 0 where
@@ -46,21 +46,26 @@ pub record IsNoteOutput (seals : Seals) (name payload bytes : List ℕ) : Type 0
 abbrev pub note_blobs : Seals → (name payload : List ℕ) → List Blob
 note_blobs seals name payload = named (key_blob name ∷ sealed seals name payload ∷ [])
 
-abbrev pub note_meaning : Keys → List ℕ → (time random : Bool) → (Given → List ℕ) → Meaning
-note_meaning keys name time random payload = record {
+-- a payload is signed that is made of what was read, if anything is, and of what was drawn
+abbrev pub signed_meaning : Keys → List ℕ → (time random : Bool) → Input → (ℕ → InputFault) → (List ℕ → Option InputFault) → (Given → List ℕ) → Meaning
+signed_meaning keys name time random input too_long wrong payload = record {
   disk = opens_store;
-  input = reads_nothing;
+  input = input;
   draws_time = time;
   draws_random = random;
   bad = unless_held (keys.holds name);
-  too_long = TooBig;
-  wrong = λ input. None;
+  too_long = too_long;
+  wrong = wrong;
   blobs = λ given. note_blobs keys.seals name (payload given);
   IsOutput = λ given told bytes. IsNoteOutput keys.seals name (payload given) bytes;
   streams = false;
   IsPart = λ given told bytes. bytes ≡ [];
   Refuses = λ given told bytes gone answer. RefusesNote (payload given) gone answer;
 }
+
+abbrev pub note_meaning : Keys → List ℕ → (time random : Bool) → (Given → List ℕ) → Meaning
+note_meaning keys name time random payload =
+    signed_meaning keys name time random reads_nothing TooBig (λ input. None) payload
 
 abbrev pub permanode_meaning : Keys → List ℕ → Meaning
 permanode_meaning keys name = note_meaning keys name false true (λ given. permanode_payload (ref_of (key_blob name)) given.random)

@@ -12,7 +12,7 @@ use Rattle.pack_store.specs.Puts.{blobs_of}
 use Rattle.perkeep_lines.specs.Blobs.{facts_of_content}
 use Rattle.perkeep_lines.specs.Search.{query_line}
 use Rattle.perkeep_top.specs.declared.status.InputFault.{InputFault}
-use Rattle.perkeep_top.specs.declared.status.InputFault.TheVariants.{BadRef, BadDate, BadNumber, BadName, TooBig, NotAFile, Short, Deep, NoKey, TooLong, BadQuery}
+use Rattle.perkeep_top.specs.declared.status.InputFault.TheVariants.{TooLong, BadQuery}
 use Rattle.perkeep_top.specs.declared.status.Status.{Status}
 use Rattle.perkeep_top.specs.declared.status.Status.TheVariants as status
 use Rattle.perkeep_top.specs.Frame.{Meaning, opens_store, reads_first, GaveWhole, IsTooBig}
@@ -80,27 +80,3 @@ RefusesQuery g old new status.ReadFault = Rose (g.faults old) (g.faults new)
 RefusesQuery g old new (status.BadInput fault) = RefusesInputFault g old new fault
 RefusesQuery g old new status.NoMemory = Unit {0}
 RefusesQuery g old new _ = ⊥
-
--- a text that is too long, told as such
-abbrev pub too_long_status : Status → Status
-too_long_status (status.BadInput (TooBig size)) = status.BadInput (TooLong size)
-too_long_status (status.BadInput BadRef) = status.BadInput BadRef
-too_long_status (status.BadInput BadDate) = status.BadInput BadDate
-too_long_status (status.BadInput BadNumber) = status.BadInput BadNumber
-too_long_status (status.BadInput BadName) = status.BadInput BadName
-too_long_status (status.BadInput (NotAFile r)) = status.BadInput (NotAFile r)
-too_long_status (status.BadInput (Short r has wants)) = status.BadInput (Short r has wants)
-too_long_status (status.BadInput (Deep r)) = status.BadInput (Deep r)
-too_long_status (status.BadInput NoKey) = status.BadInput NoKey
-too_long_status (status.BadInput (TooLong len)) = status.BadInput (TooLong len)
-too_long_status (status.BadInput (BadQuery fault)) = status.BadInput (BadQuery fault)
-too_long_status status.Done = status.Done
-too_long_status status.NoMemory = status.NoMemory
-too_long_status status.BadWords = status.BadWords
-too_long_status (status.Absent r) = status.Absent r
-too_long_status status.ReadFault = status.ReadFault
-too_long_status status.WriteFault = status.WriteFault
-too_long_status status.Disk = status.Disk
-too_long_status status.HandFault = status.HandFault
-too_long_status (status.Full blobs pack) = status.Full blobs pack
-too_long_status (status.Damaged want is) = status.Damaged want is

@@ -13,6 +13,7 @@ use Rattle.perkeep_top.specs.Frame.{Meaning, IsQuiet, Ends}
 use Rattle.perkeep_top.specs.Get.{get_meaning}
 use Rattle.perkeep_top.specs.GetFile.{get_file_meaning}
 use Rattle.perkeep_top.specs.Notes.{Keys, permanode_meaning, claim_meaning, what_of}
+use Rattle.perkeep_top.specs.Multi.{multi_meaning}
 use Rattle.perkeep_top.specs.ListRefs.{list_meaning}
 use Rattle.perkeep_top.specs.Load.{load_meaning}
 use Rattle.perkeep_top.specs.Outside.{Outside, World}
@@ -33,6 +34,7 @@ meaning_of keys (command.Search dir attr value at) = search_meaning keys.accepts
 meaning_of keys (command.Salvage dir) = salvage_meaning
 meaning_of keys (command.Permanode dir name) = permanode_meaning keys name
 meaning_of keys (command.Claim dir kind r attr value name) = claim_meaning keys name (what_of kind r attr value)
+meaning_of keys (command.Multi dir name) = multi_meaning keys name
 meaning_of keys (command.Delete dir r name) = claim_meaning keys name (Delete r)
 meaning_of keys (command.PutFile dir name) = put_file_meaning name
 meaning_of keys (command.GetFile dir r) = get_file_meaning r

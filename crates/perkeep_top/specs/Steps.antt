@@ -8,7 +8,8 @@ use Rattle.edge_base.specs.declared.edge.Sink.{Ghosts as SinkGhosts}
 use Rattle.pack_disk.specs.Packs.{Packs}
 use Rattle.pack_disk.specs.declared.disk.Disk.{Ghosts as DiskGhosts}
 use Rattle.pack_store.specs.Puts.{blobs_of}
-use Rattle.perkeep_top.specs.declared.status.InputFault.TheVariants.{TooBig}
+use Rattle.perkeep_top.specs.declared.status.InputFault.TheVariants.{BadRef, BadDate, BadNumber, BadName, TooBig, NotAFile, Short, Deep}
+use Rattle.perkeep_top.specs.declared.status.InputFault.TheVariants.{NoKey, TooLong, BadQuery, BadChanges}
 use Rattle.perkeep_top.specs.declared.status.Status.{Status}
 use Rattle.perkeep_top.specs.declared.status.Status.TheVariants as status
 use Rattle.perkeep_top.specs.Frame.{IsTooBig}
@@ -19,6 +20,31 @@ RefusesInput g most old new status.ReadFault = Rose (g.faults old) (g.faults new
 RefusesInput g most old new (status.BadInput (TooBig size)) = IsTooBig size most (g.left old) (g.left new)
 RefusesInput g most old new status.NoMemory = Unit {0}
 RefusesInput g most old new _ = ⊥
+
+-- a text that is too long, told as such
+abbrev pub too_long_status : Status → Status
+too_long_status (status.BadInput (TooBig size)) = status.BadInput (TooLong size)
+too_long_status (status.BadInput BadRef) = status.BadInput BadRef
+too_long_status (status.BadInput BadDate) = status.BadInput BadDate
+too_long_status (status.BadInput BadNumber) = status.BadInput BadNumber
+too_long_status (status.BadInput BadName) = status.BadInput BadName
+too_long_status (status.BadInput (NotAFile r)) = status.BadInput (NotAFile r)
+too_long_status (status.BadInput (Short r has wants)) = status.BadInput (Short r has wants)
+too_long_status (status.BadInput (Deep r)) = status.BadInput (Deep r)
+too_long_status (status.BadInput NoKey) = status.BadInput NoKey
+too_long_status (status.BadInput (TooLong len)) = status.BadInput (TooLong len)
+too_long_status (status.BadInput (BadQuery fault)) = status.BadInput (BadQuery fault)
+too_long_status (status.BadInput BadChanges) = status.BadInput BadChanges
+too_long_status status.Done = status.Done
+too_long_status status.NoMemory = status.NoMemory
+too_long_status status.BadWords = status.BadWords
+too_long_status (status.Absent r) = status.Absent r
+too_long_status status.ReadFault = status.ReadFault
+too_long_status status.WriteFault = status.WriteFault
+too_long_status status.Disk = status.Disk
+too_long_status status.HandFault = status.HandFault
+too_long_status (status.Full blobs pack) = status.Full blobs pack
+too_long_status (status.Damaged want is) = status.Damaged want is
 
 -- what was asked of the disk, which nothing changed, was refused: by that cause, or as memory or the disk failed
 abbrev pub Finds : {D : Type 0} → DiskGhosts D → D → D → (Status → Type 0) → Status → Type 0

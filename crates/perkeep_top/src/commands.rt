@@ -5,6 +5,7 @@ pub(crate) mod get;
 pub(crate) mod get_file;
 pub(crate) mod list;
 pub(crate) mod load;
+pub(crate) mod multi;
 pub(crate) mod permanode;
 pub(crate) mod put;
 pub(crate) mod put_file;

@@ -10,6 +10,7 @@ use crate::commands::get::get;
 use crate::commands::get_file::get_file;
 use crate::commands::list::list;
 use crate::commands::load::load;
+use crate::commands::multi::multi;
 use crate::commands::permanode::permanode;
 use crate::commands::put::put;
 use crate::commands::put_file::put_file;
@@ -32,13 +33,13 @@ use std::alloc::Global;
 /// nothing else.
 ///
 /// What is wrong is told in this order: the words, the texts in them from left to right, a key that isn't held, a read
-/// that failed, an input that is too long, a clock or dice that failed, the disk as the store is opened, what the
-/// command meets, a write that failed. After `BadWords`, and where a text is wrong or a key isn't held, nothing was
-/// touched. After a refusal of the command a front of the blobs that it puts was put, and nothing else; what it writes
-/// as it goes is a front of its output. What it doesn't ask for, the source, the disk, the clock or the dice, is left
-/// alone, and where it only looks at the disk, no moment of that passes. `NoMemory` comes only where no memory is
-/// left, and may come at any time. Whatever is answered, a crash at any moment leaves what holds every ref that each
-/// image held before.
+/// that failed, an input that is too long or isn't what it should be, a clock or dice that failed, the disk as the
+/// store is opened, what the command meets, a write that failed. After `BadWords`, and where a text is wrong or a key
+/// isn't held, nothing was touched. After a refusal of the command a front of the blobs that it puts was put, and
+/// nothing else; what it writes as it goes is a front of its output. What it doesn't ask for, the source, the disk, the
+/// clock or the dice, is left alone, and where it only looks at the disk, no moment of that passes. `NoMemory` comes
+/// only where no memory is left, and may come at any time. Whatever is answered, a crash at any moment leaves what
+/// holds every ref that each image held before.
 pub fn run<D: Disk, V: Signer, S: Source, K: Sink, C: Clock, R: Dice>(
     alloc: Global,
     words: &[Text],
@@ -139,6 +140,9 @@ fn run_command<D: Disk, V: Signer, S: Source, K: Sink, C: Clock, R: Dice>(
             clock,
             dice,
         ),
+        Command::Multi { dir: _, key } => {
+            multi(alloc, key, keys, disk, source, sink, clock, dice)
+        }
         Command::Delete { dir: _, r, key } => {
             let what = What::Delete { target: *r };
             claim(alloc, &what, key, keys, disk, source, sink, clock, dice)

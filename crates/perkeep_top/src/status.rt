@@ -32,11 +32,13 @@ pub enum InputFault {
     Deep { r: Ref },
     /// The keyring doesn't hold the key.
     NoKey,
-    /// A text is too long for its blob, which would have this number of bytes; or a file, its name or a query is longer
-    /// than it may be, the name with this number of bytes, the file and the query with this number or more.
+    /// A text is too long for its blob, which would have this number of bytes; or a file, its name, a query or a list of
+    /// changes is longer than it may be, the name with this number of bytes, the others with this number or more.
     TooLong { len: u64 },
     /// The input is no query: its first fault.
     BadQuery(QueryFault),
+    /// The input is no JSON list of 1 to 1,000 changes.
+    BadChanges,
 }
 
 /// How a run ended (`docs/commands.md`).

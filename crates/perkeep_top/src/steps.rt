@@ -7,7 +7,7 @@ ghost use Rattle.pack_store.specs.Packs.{KeepsAll};
 ghost use Rattle.pack_store.specs.Puts.{Stands, PutLeaves};
 ghost use Rattle.perkeep_top.specs.Frame.{GaveWhole};
 ghost use Rattle.perkeep_top.specs.Limits.{limits};
-ghost use Rattle.perkeep_top.specs.Steps.{RefusesInput, Finds, NeverRefuses, Writes};
+ghost use Rattle.perkeep_top.specs.Steps.{RefusesInput, too_long_status, Finds, NeverRefuses, Writes};
 
 use crate::status::{InputFault, Status};
 use blobref::Ref;
@@ -41,6 +41,18 @@ pub(crate) fn read_input<S: Source>(
             size: most as u64 + 1,
         })),
         Err(ReadAllError::NoMemory) => Err(Status::NoMemory),
+    }
+}
+
+/// A text that is too long is told as such, and not as a blob that is too big.
+pub(crate) fn told_too_long(status: Status) -> Status
+    ensures { result ≡ too_long_status status }
+{
+    match status {
+        Status::BadInput(InputFault::TooBig { size }) => {
+            Status::BadInput(InputFault::TooLong { len: size })
+        }
+        status => status,
     }
 }
 

@@ -94,6 +94,7 @@ command_at name.Permanode parts = command.Permanode (position_at 0 parts) (text_
 command_at name.Claim parts =
     command.Claim (position_at 0 parts) (change_at 1 parts) (position_at 2 parts) (position_at 3 parts)
     (position_at 4 parts) (text_of (codes "key") parts)
+command_at name.Multi parts = command.Multi (position_at 0 parts) (text_of (codes "key") parts)
 command_at name.Delete parts = command.Delete (position_at 0 parts) (position_at 1 parts) (text_of (codes "key") parts)
 command_at name.PutFile parts = command.PutFile (position_at 0 parts) (position_at 1 parts)
 command_at name.GetFile parts = command.GetFile (position_at 0 parts) (position_at 1 parts)

@@ -4,7 +4,7 @@ use Rattle.perkeep_words.specs.Forms.{OptionForm, Form, begins_at_dir}
 use Rattle.perkeep_words.specs.declared.kinds.TextKind.{TextKind}
 use Rattle.perkeep_words.specs.declared.kinds.TextKind.TheVariants.{Dir, Any, Blobref, Date, Name, Key, Change, Number}
 use Rattle.perkeep_words.specs.declared.table.CommandName.{CommandName}
-use Rattle.perkeep_words.specs.declared.table.CommandName.TheVariants.{Put, Get, Stat, List as ListBlobs, Search, Query, Salvage, SearchPack, Permanode, Claim, Delete, PutFile, GetFile, Load}
+use Rattle.perkeep_words.specs.declared.table.CommandName.TheVariants.{Put, Get, Stat, List as ListBlobs, Search, Query, Salvage, SearchPack, Permanode, Claim, Multi, Delete, PutFile, GetFile, Load}
 
 -- its name, whether it may change the store, its positions, how many are needed, what spares the others, its options
 abbrev pub row : List ℕ → Bool → List TextKind → ℕ → Option (ℕ × List ℕ) → List OptionForm → Form
@@ -48,14 +48,15 @@ form_of SearchPack = row (codes "search-pack") false (Name ∷ Any ∷ []) 2 Non
 form_of Permanode = row (codes "permanode") true (Dir ∷ []) 1 None (must (codes "key") Key ∷ [])
 form_of Claim = row (codes "claim") true (Dir ∷ Change ∷ Blobref ∷ Name ∷ Any ∷ []) 4 (Some (1, codes "del"))
     (must (codes "key") Key ∷ [])
+form_of Multi = row (codes "multi") true (Dir ∷ []) 1 None (must (codes "key") Key ∷ [])
 form_of Delete = row (codes "delete") true (Dir ∷ Blobref ∷ []) 2 None (must (codes "key") Key ∷ [])
 form_of PutFile = row (codes "put-file") true (Dir ∷ Any ∷ []) 2 None []
 form_of GetFile = row (codes "get-file") false (Dir ∷ Blobref ∷ []) 2 None []
 form_of Load = row (codes "load") false (Number 1 count_max ∷ Number 0 start_max ∷ []) 2 None []
 
 abbrev pub commands : List CommandName
-commands = Put ∷ Get ∷ Stat ∷ ListBlobs ∷ Search ∷ Query ∷ Salvage ∷ SearchPack ∷ Permanode ∷ Claim ∷ Delete
-    ∷ PutFile ∷ GetFile ∷ Load ∷ []
+commands = Put ∷ Get ∷ Stat ∷ ListBlobs ∷ Search ∷ Query ∷ Salvage ∷ SearchPack ∷ Permanode ∷ Claim ∷ Multi
+    ∷ Delete ∷ PutFile ∷ GetFile ∷ Load ∷ []
 
 -- the first of these that a word names
 abbrev pub named_in : List CommandName → List ℕ → Option CommandName

@@ -77,6 +77,11 @@ pub enum Command<'a> {
         value: Word<'a>,
         key: KeyName,
     },
+    /// `multi DIR --key NAME`
+    Multi {
+        dir: Word<'a>,
+        key: KeyName,
+    },
     /// `delete DIR REF --key NAME`
     Delete {
         dir: Word<'a>,
@@ -219,6 +224,10 @@ fn command_at<'a>(line: &RightLine<'a>) -> Command<'a>
             r: line.blobref(2),
             attr: line.filled(3),
             value: line.word(4),
+            key: line.key_option("key"),
+        },
+        CommandName::Multi => Command::Multi {
+            dir,
             key: line.key_option("key"),
         },
         CommandName::Delete => Command::Delete {

@@ -20,13 +20,14 @@ pub enum CommandName {
     SearchPack,
     Permanode,
     Claim,
+    Multi,
     Delete,
     PutFile,
     GetFile,
     Load,
 }
 
-const COMMANDS: [CommandName; 14] = [
+const COMMANDS: [CommandName; 15] = [
     CommandName::Put,
     CommandName::Get,
     CommandName::Stat,
@@ -37,6 +38,7 @@ const COMMANDS: [CommandName; 14] = [
     CommandName::SearchPack,
     CommandName::Permanode,
     CommandName::Claim,
+    CommandName::Multi,
     CommandName::Delete,
     CommandName::PutFile,
     CommandName::GetFile,
@@ -125,6 +127,7 @@ impl CommandName {
                     ],
                 )
             },
+            CommandName::Multi => signed("multi", &[TextKind::Dir]),
             CommandName::Delete => signed("delete", &[TextKind::Dir, TextKind::Blobref]),
             CommandName::PutFile => writing("put-file", &[TextKind::Dir, TextKind::Any]),
             CommandName::GetFile => plain("get-file", &[TextKind::Dir, TextKind::Blobref]),

@@ -1,16 +1,16 @@
 //! `query DIR`
-ghost use Rattle.std.specs.Prelude.{◌≡◌, ◌≤◌, IfOk, IfErr};
+ghost use Rattle.std.specs.Prelude.{◌≤◌, IfOk, IfErr};
 ghost use Rattle.pack_store.specs.Puts.{Stands};
 ghost use Rattle.pack_store.specs.Reading.{StaysStill};
 ghost use Rattle.perkeep_top.specs.Outside.{outside, world};
 ghost use Rattle.perkeep_top.specs.Frame.{Ends};
 ghost use Rattle.perkeep_top.specs.Limits.{limits};
-ghost use Rattle.perkeep_top.specs.Query.{query_meaning, too_long_status, IsAnswerOf, ReadsQuery, RefusesQuery};
+ghost use Rattle.perkeep_top.specs.Query.{query_meaning, IsAnswerOf, ReadsQuery, RefusesQuery};
 ghost use Rattle.perkeep_top.specs.Search.{RefusesFacts};
 ghost use Rattle.perkeep_top.specs.Steps.{Finds};
 
-use crate::status::{InputFault, Status};
-use crate::steps::{opened, read_input, written};
+use crate::status::Status;
+use crate::steps::{opened, read_input, told_too_long, written};
 use blobref::Octets;
 use claim_verify::Verifier;
 use edge_base::{Clock, Dice, Sink, Source};
@@ -65,18 +65,6 @@ fn read_query<S: Source>(alloc: Global, source: &mut S) -> Result<Query, Status>
     match query_read::read(alloc, &text) {
         Ok(query) => Ok(query),
         Err(fault) => Err(Status::from(fault)),
-    }
-}
-
-// A text that is too long is told as such, and not as a blob that is too big.
-fn told_too_long(status: Status) -> Status
-    ensures { result ≡ too_long_status status }
-{
-    match status {
-        Status::BadInput(InputFault::TooBig { size }) => {
-            Status::BadInput(InputFault::TooLong { len: size })
-        }
-        status => status,
     }
 }
 
