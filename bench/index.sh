@@ -1,10 +1,10 @@
 #!/usr/bin/env bash
 # Times an index over 100,000 blobs, 25,000 of them permanodes, against openssl over the same bytes: inserts one by one,
 # in the order of the pack and with its last blob first, and all blobs at once; then `perkeep search` over a store of the
-# same blobs. The first program is crates/lab, which is built where it is missing or older than the sources, or what LAB
-# names; the other one is ./perkeep's, or what PERKEEP names. BEFORE names one more to be timed beside that, as that of an
-# earlier commit. BENCH_BLOBS is another number of blobs, to try the script: with a few thousand of them the peaks of
-# memory say nothing.
+# same blobs; and an index over claims of 1,000 changes, against one over as many claims of one change. The first program
+# is crates/lab, which is built where it is missing or older than the sources, or what LAB names; the other one is
+# ./perkeep's, or what PERKEEP names. BEFORE names one more to be timed beside that, as that of an earlier commit.
+# BENCH_BLOBS is another number of blobs, to try the script: with a few thousand of them the peaks of memory say nothing.
 #
 # Prints ratios within this run, inserts a second, and the bytes that a fact takes: the peak memory above that of reading
 # the same facts one after another and keeping none. Ends with status 1 where an answer is wrong.
@@ -13,3 +13,4 @@ perkeep=$program
 . bench/lab.bash
 python3 bench/make_pack.py store "$folder"
 python3 bench/index.py "$program" "$perkeep" "$folder"
+python3 bench/several.py "$program" "$folder"

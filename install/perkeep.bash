@@ -14,6 +14,7 @@ _perkeep_words() {
     search-pack) positions=(A V) options=() ;;
     permanode) positions=(DIR) options=(--key) ;;
     claim) positions=(DIR KIND REF ATTR VALUE) options=(--key) ;;
+    multi) positions=(DIR) options=(--key) ;;
     delete) positions=(DIR REF) options=(--key) ;;
     get-file) positions=(DIR REF) options=() ;;
     put-file) positions=(DIR NAME) options=() ;;
@@ -31,7 +32,7 @@ _perkeep() {
   local word=${COMP_WORDS[COMP_CWORD]} place count=0 is_over='' given=' ' positions options
   COMPREPLY=()
   if [ "$COMP_CWORD" -eq 1 ]; then
-    _perkeep_offer -W 'put get stat list search query salvage search-pack permanode claim delete get-file put-file load serve'
+    _perkeep_offer -W 'put get stat list search query salvage search-pack permanode claim multi delete get-file put-file load serve'
     return
   fi
   _perkeep_words "${COMP_WORDS[1]}"

@@ -13,7 +13,7 @@ import writing
 from harness import compare, compare_ending, main
 from inputs import CLAIM, DELETE, KEY, NODE, OTHER_SECRET, changed, day
 from reference import older_ref_of, ref_of
-from writing import claim, delete, key_blob, keyring_line, pack, permanode, permanode_payload, signed
+from writing import claim, delete, key_blob, keyring_line, multi, pack, permanode, permanode_payload, signed
 
 KEYRING = keyring_line() + keyring_line("other", OTHER_SECRET)
 ALWAYS = "always"
@@ -101,6 +101,39 @@ def permanodes():
         Row("a false signature", NODE, (KEY, NODE, FORGED), {day(1, NOON): "", ALWAYS: ""}),
         Row("a permanode with a key", KEYED, (KEY, KEYED, keyed), {MOMENTS[0]: "", ALWAYS: "k"}),
         Row("two permanodes", SECOND_NODE, (KEY, NODE, CLAIM, SECOND_NODE, second), {day(2, NOON): "", ALWAYS: "a"}),
+    ]
+
+
+def tags(*changes, on=NODE):
+    """Changes of the tags of a permanode, each of a kind and a value."""
+    return [(kind, ref_of(on), "tag", value) for kind, value in changes]
+
+
+# On two permanodes, its deletion, and that of the deletion.
+SEVERAL = multi(tags(("set", "a")) + tags(("set", "a"), on=SECOND_NODE), day(1))
+DELETE_SEVERAL = delete_of(SEVERAL, 2)
+UNDELETE_SEVERAL = delete_of(DELETE_SEVERAL, 3)
+SET_U_V = multi(tags(("set", "u"), ("set", "v")), day(2))
+ADD_X_Y = multi(tags(("add", "x"), ("add", "x"), ("del", "x"), ("add", "y")), day(2))
+# At the date of SET_V and SET_U_V, whose refs are lesser ones.
+SET_U_X = multi(tags(("set", "u"), ("add", "x")), day(2))
+FORGED_SEVERAL = signed(writing.multi_payload(tags(("set", "a"), ("add", "x")), day(1)), OTHER_SECRET)
+
+
+def several():
+    """Claims of several changes."""
+    both = (KEY, NODE, SECOND_NODE, SEVERAL, DELETE_SEVERAL)
+    gone, back = {day(1, NOON): "a", ALWAYS: ""}, {day(1, NOON): "a", day(2, NOON): "", ALWAYS: "a"}
+    return [
+        Row("set twice by one claim", NODE, (KEY, NODE, SET_U_V), {day(1, NOON): "", ALWAYS: "v"}),
+        Row("added, removed and added", NODE, (KEY, NODE, CLAIM, ADD_X_Y), {day(1, NOON): "a", ALWAYS: "ay"}),
+        Row("one claim on two permanodes, deleted", NODE, both, gone),
+        Row("the other of the two", SECOND_NODE, both, gone),
+        Row("its deletion is deleted", NODE, (*both, UNDELETE_SEVERAL), back),
+        Row("its deletion is deleted, of the other", SECOND_NODE, (*both, UNDELETE_SEVERAL), back),
+        Row("several changes at a claim's date", NODE, (KEY, NODE, SET_V, SET_U_X), {day(1, NOON): "", ALWAYS: "ux"}),
+        Row("a false signature of several", NODE, (KEY, NODE, CLAIM, FORGED_SEVERAL), {ALWAYS: "a"}),
+        Row("two claims of several changes", NODE, (KEY, NODE, SET_U_V, SET_U_X), {day(1, NOON): "", ALWAYS: "ux"}),
     ]
 
 
@@ -218,4 +251,4 @@ def checks_of(program, group):
 
 
 if __name__ == "__main__":
-    main("arrivals.sh", [parts, deletions, changes, permanodes, older_names], checks_of=checks_of)
+    main("arrivals.sh", [parts, deletions, changes, several, permanodes, older_names], checks_of=checks_of)

@@ -6,7 +6,7 @@ from harness import chance
 from http_inputs import BAD_QUERIES, METHODS, TARGETS, blob_target, chunk, head, part, stat_pairs
 from inputs import ABSENT, KEY, OTHER_NAMES, day
 from query_inputs import RandomQuery, RandomStore, node, spell, spell_otherwise
-from writing import Names, claim, delete, octets, pack, permanode
+from writing import Names, claim, delete, multi, octets, pack, permanode
 
 # So many stores, and streams to each; and so many of sessions.
 STORES, STREAMS = 40, 55
@@ -135,8 +135,13 @@ class FewBlobs:
         self.blobs = [KEY, *self.nodes] * 3 + self.claims
 
     def change(self, random):
+        some = [self.one_change(random) for _ in range(random.choice((1, 1, 2, 3)))]
+        date = random.choice(DAYS)
+        return claim(*some[0], date, self.key) if len(some) == 1 else multi(some, date, self.key)
+
+    def one_change(self, random):
         kind, on = random.choice(("set", "add", "add", "del")), self.name_of(random.choice(self.nodes))
-        return claim(kind, on, "tag", random.choice(TAGS), random.choice(DAYS), self.key)
+        return kind, on, "tag", random.choice(TAGS)
 
     def deletion(self, random):
         target = random.choice(self.claims if random.random() < 0.8 else self.nodes)

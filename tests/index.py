@@ -15,6 +15,8 @@ KEY = writing.key_blob()
 NODE = writing.permanode()
 TAG = writing.claim("set", ref_of(NODE), "tag", "a", DATE)
 BOTH_ORDERS = ("insert", "insert-backwards")
+# Claims of several changes, and the changes of each.
+CLAIMS, CHANGES = 20, 1_000
 
 
 def members():
@@ -43,6 +45,25 @@ def late_key():
     return checks("a key that comes last", [*nodes, TAG, NODE, KEY], BOTH_ORDERS, "tag", "a", 1)
 
 
+def several_changes():
+    """Claims of 1,000 changes: each of one permanode, and one of each of 1,000, which wait for their key, which are
+    falsely signed, and one that is deleted."""
+    nodes = [writing.permanode(f"{number:032x}") for number in range(CHANGES)]
+    refs = list(map(ref_of, nodes))
+    on_one = [("add", refs[0], "tag", f"v{place}") for place in range(CHANGES)]
+    on_all = [("add", ref, "tag", "a") for ref in refs]
+    dates = [f"2020-01-01T00:00:{number:02}Z" for number in range(CLAIMS)]
+    ones, alls = ([writing.multi(some, date) for date in dates] for some in (on_one, on_all))
+    false = [writing.multi(on_all, date, secret=b"false") for date in dates]
+    gone = writing.delete(ref_of(alls[0]), DATE)
+    return [
+        *checks("changes of one permanode", [KEY, *nodes, *ones], BOTH_ORDERS, "tag", "v7", 1),
+        *checks("changes of 1,000 permanodes", [*alls, *nodes, KEY], BOTH_ORDERS, "tag", "a", CHANGES),
+        *checks("changes falsely signed", [KEY, *nodes, *false], BOTH_ORDERS, "tag", "a", 0),
+        *checks("changes that are deleted", [KEY, *nodes, alls[0], gone], BOTH_ORDERS, "tag", "a", 0),
+    ]
+
+
 def shared_trees():
     """Trees each of which names the one before twice."""
     trees = [writing.bytes_blob([writing.part(1)])]
@@ -63,7 +84,7 @@ def checks(what, blobs, words, attribute, value, holders):
 
 
 # They are timed, so nothing else runs beside them.
-GROUPS = [members, deletions, late_key, shared_trees]
+GROUPS = [members, deletions, late_key, several_changes, shared_trees]
 
 
 def checks_of(program, group):

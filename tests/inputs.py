@@ -13,7 +13,7 @@ import reference
 import writing
 from reference import MARKER, older_ref_of, ref_of
 from writing import Names, attribute_payload, claim, delete, delete_payload, deleted_record, header, key_blob
-from writing import keyring_line, pack, permanode, permanode_payload, record, signed
+from writing import keyring_line, multi, multi_payload, pack, permanode, permanode_payload, record, signed
 
 SECRET = writing.SECRET
 OTHER_SECRET = b"another secret"
@@ -871,11 +871,14 @@ def later_of(*claims):
 
 
 def value_of(blob):
-    return reference.fact_of(blob).value
+    [change] = reference.fact_of(blob).changes
+    return change.value
 
 
 def claim_lists():
     yield from attribute_claims()
+    yield from several_changes()
+    yield from lists_of_changes()
     yield from claims_in_time()
     yield from delete_claims()
     yield from signers()
@@ -916,6 +919,170 @@ def attribute_claims():
     yield "another attribute removed", [on_tag("add", u, d1), other], {u: True}
     yield "another attribute set", [on_tag("add", u, d1), claim("set", ref_of(NODE), "other", v, d2)], {u: True, v: False}
     yield "an attribute in upper case", [claim("set", ref_of(NODE), "TAG", u, d1)], {u: False}
+
+
+# Lists of changes
+
+def change_text(kind="set", on=ref_of(NODE), attribute="tag", value="b"):
+    return writing.change_text(kind, on, attribute, value)
+
+
+CHANGE = change_text()
+# A place of a change that sets `tag` to `b`, what stands there instead, and whether it still is a change; or else the
+# values that `tag` has then, where it had `a` before.
+CHANGED_CHANGES = [
+    ('"set-attribute"', '"add-attribute"', "ab"),
+    ('"set-attribute"', '"del-attribute"', "a"),
+    ('"set-attribute"', '"s\\u0065t-attribute"', True),
+    ('"set-attribute"', '"delete"', False),
+    ('"set-attribute"', '"multi"', False),
+    ('"set-attribute"', '"set"', False),
+    ('"set-attribute"', '"Set-attribute"', False),
+    ('"set-attribute"', '"set-attribute "', False),
+    ('"set-attribute"', '""', False),
+    ('"set-attribute"', "null", False),
+    ('"set-attribute"', "1", False),
+    ('"set-attribute"', '["set-attribute"]', False),
+    ('"changeType"', '"claimType"', False),
+    ('"changeType"', '"changetype"', False),
+    ('"changeType":"set-attribute",', "", False),
+    (f'"permaNode":"{ref_of(NODE)}",', "", False),
+    (f'"permaNode":"{ref_of(NODE)}"', '"permaNode":null', False),
+    (f'"permaNode":"{ref_of(NODE)}"', '"permaNode":"x"', False),
+    (f'"permaNode":"{ref_of(NODE)}"', f'"permaNode":"{ref_of(NODE).upper()}"', False),
+    (f'"permaNode":"{ref_of(NODE)}"', f'"permaNode":"{ref_of(NODE)} "', False),
+    (f'"permaNode":"{ref_of(NODE)}"', f'"permaNode":"{ref_of(NODE)[:-1]}"', False),
+    (f'"permaNode":"{ref_of(NODE)}"', f'"permaNode":["{ref_of(NODE)}"]', False),
+    (f'"permaNode":"{ref_of(NODE)}"', f'"permanode":"{ref_of(NODE)}"', False),
+    (f'"permaNode":"{ref_of(NODE)}"', f'"target":"{ref_of(NODE)}"', False),
+    (f'"permaNode":"{ref_of(NODE)}"', f'"permaNode":"{ABSENT}"', "a"),
+    (f'"permaNode":"{ref_of(NODE)}"', f'"permaNode":"{OLDER_ABSENT}"', "a"),
+    ('"attribute":"tag",', "", False),
+    ('"attribute":"tag"', '"attribute":""', False),
+    ('"attribute":"tag"', '"attribute":null', False),
+    ('"attribute":"tag"', '"attribute":1', False),
+    ('"attribute":"tag"', '"attribute":["tag"]', False),
+    ('"attribute":"tag"', '"attribute":"Tag"', "a"),
+    ('"attribute":"tag"', '"attribute":"\\u0074ag"', True),
+    (',"value":"b"', "", False),
+    ('"value":"b"', '"value":null', False),
+    ('"value":"b"', '"value":1', False),
+    ('"value":"b"', '"value":["b"]', False),
+    ('"value":"b"', '"value":"a","value":"b"', True),
+    ('"value":"b"', '"value":"b","value":null', False),
+    ('"value":"b"', '"value":"\\u0062"', True),
+    ('"value":"b"', '"value":"b","unknown":[null,{}]', True),
+    ('"value":"b"', '"value":"b","claimType":"delete","claimDate":"x","target":1,"camliVersion":2', True),
+    ('"value":"b"', '"value":"b","changes":[]', True),
+    ('{"changeType"', ' {\n\t"changeType"', True),
+    ("}", "} \r\n", True),
+]
+# What stands under `changes`, and whether it is a list of changes, or the values of `tag`.
+LISTS = [
+    ("null", False),
+    ("{}", False),
+    ('""', False),
+    ("1", False),
+    ("true", False),
+    ("[]", False),
+    ("[ ]", False),
+    (CHANGE, False),
+    (f'{{"0":{CHANGE}}}', False),
+    (f"[[{CHANGE}]]", False),
+    (f"[{CHANGE},[]]", False),
+    (f"[null,{CHANGE}]", False),
+    (f"[{CHANGE},null]", False),
+    (f"[{CHANGE},{{}}]", False),
+    (f'[{CHANGE},"set-attribute"]', False),
+    (f"[{CHANGE},0,{CHANGE}]", False),
+    (f"[{CHANGE}]", True),
+    (f"[{CHANGE},{CHANGE}]", True),
+    (f" [ {CHANGE} ,\n{CHANGE}\t] ", True),
+    (f'[{CHANGE},{change_text("add", value="c")}]', "bc"),
+    (f'[{CHANGE},{change_text("del", value="a")}]', True),
+    (f'[{CHANGE},{change_text("del", value="b")}]', ""),
+    (f'[{CHANGE},{change_text("del", value="")}]', ""),
+    (f'[{CHANGE},{change_text("del", value="")[:-1]},"value":""}}]', ""),
+    (f'[{CHANGE},{change_text("del", value="")[:-1]},"value":null}}]', False),
+    (f'[{CHANGE},{change_text("del", value="")[:-1]},"value":0}}]', False),
+    (f'[{CHANGE},{change_text("del", attribute="other", value="")}]', True),
+    (f'[{change_text("set", attribute="")},{CHANGE}]', False),
+    ("[" + ",".join([CHANGE] * reference.MOST_CHANGES) + "]", True),
+    ("[" + ",".join([CHANGE] * (reference.MOST_CHANGES + 1)) + "]", False),
+]
+LISTS += [(f"[{changed(CHANGE, old, new)}]", reads) for old, new, reads in CHANGED_CHANGES]
+NO_CHANGES = [changed(CHANGE, old, new) for old, new, reads in CHANGED_CHANGES if reads is False]
+LISTS += [(f'[{CHANGE},{change_text("add", value="c")},{bad}]', False) for bad in NO_CHANGES]
+
+
+def values_of(reads):
+    """The values of `tag` that a list of changes leaves where it had `a`."""
+    return reads if isinstance(reads, str) else "b" if reads else "a"
+
+
+def lists_of_changes():
+    """A claim that sets `tag` to `a`, and behind it one of a list."""
+    before, head = on_tag("set", "a", day(1)), writing.claim_head(day(2)) + ',"claimType":"multi"'
+    for text, reads in LISTS:
+        later = signed(f'{head},"changes":{text}')
+        yield f"the list {text[:90]}", [before, later], {value: value in values_of(reads) for value in "abc"}
+    unnamed = [("no list", ""), ("another key", f',"change":[{CHANGE}]'), ("a change of the claim itself", "," + CHANGE[1:-1])]
+    for what, rest in unnamed:
+        yield f"a list: {what}", [before, signed(head + rest)], {"a": True, "b": False}
+    twice = f',"changes":[],"changes":[{CHANGE}]'
+    yield "two lists, of which the last counts", [before, signed(head + twice)], {"a": False, "b": True}
+    odd = f',"changes":[{CHANGE}],"permaNode":null,"attribute":"","value":1,"target":2'
+    yield "a list beside fields of other claims", [before, signed(head + odd)], {"a": False, "b": True}
+    one = attribute_payload("set", ref_of(NODE), "tag", "c", day(2)) + f',"changes":[{CHANGE}]'
+    yield "a claim of one change with a list", [before, signed(one)], {"a": False, "b": False, "c": True}
+    gone = delete_payload(ref_of(before), day(2)) + f',"changes":[{CHANGE}]'
+    yield "a deletion with a list", [before, signed(gone)], {"a": False, "b": False}
+
+
+def tags(*changes, on=NODE):
+    """Changes of the tags of a permanode, each of a kind and a value."""
+    return [(kind, ref_of(on), "tag", value) for kind, value in changes]
+
+
+def several_changes():
+    u, v, w = "u", "v", "w"
+    d1, d2, d3, d4 = (day(number) for number in (1, 2, 3, 4))
+    for what, changes, expected in [
+        ("set twice", tags(("set", u), ("set", v)), {u: False, v: True}),
+        ("added twice, removed, another added", tags(("add", u), ("add", u), ("del", u), ("add", v)), {u: False, v: True}),
+        ("removed, then added", tags(("del", u), ("add", u)), {u: True}),
+        ("all removed", tags(("add", u), ("add", v), ("del", "")), {u: False, v: False}),
+        ("all removed, then added", tags(("add", u), ("del", ""), ("add", v)), {u: False, v: True}),
+        ("the empty value", tags(("add", ""), ("add", u), ("del", u)), {"": True, u: False}),
+        ("many", tags(*(("add", f"n{number}") for number in range(1_000))), {"n0": True, "n999": True, "n1000": False}),
+        ("set many times", tags(*(("set", f"n{number}") for number in range(1_000))), {"n0": False, "n998": False, "n999": True}),
+        ("too many", tags(*(("add", f"n{number}") for number in range(1_001))), {"n0": False, "n1000": False}),
+        (
+            "another attribute between",
+            [*tags(("set", u)), ("set", ref_of(NODE), "other", v), *tags(("add", w))],
+            {u: True, v: False, w: True},
+        ),
+        ("others between", [("set", ABSENT, "tag", v), *tags(("set", u)), ("del", ref_of(KEY), "tag", "")], {u: True, v: False}),
+    ]:
+        yield f"{what}, by one claim", [multi(changes, d1)], expected
+    both, more = multi(tags(("set", u), ("add", v)), d2), on_tag("add", w, d3)
+    yield "a claim behind it", [both, more], {u: True, v: True, w: True}
+    yield "a claim before it", [on_tag("add", w, d1), both], {u: True, v: True, w: False}
+    yield "another one behind it", [both, multi(tags(("del", u), ("add", w)), d3)], {u: False, v: True, w: True}
+    gone = delete(ref_of(both), d3)
+    yield "several changes deleted", [both, gone], {u: False, v: False}
+    yield "several changes deleted and back", [both, gone, delete(ref_of(gone), d4)], {u: True, v: True}
+    false = multi(tags(("set", u), ("add", v)), d2, secret=OTHER_SECRET)
+    yield "several changes falsely signed", [on_tag("set", w, d1), false], {u: False, v: False, w: True}
+    yield "several changes by a key that isn't there", [multi(tags(("set", u)), d2, ref_of(key_blob("lost")))], {u: False}
+    for number in range(4):
+        pair = [multi(tags(("set", f"u{number}"), ("add", "y")), d1), multi(tags(("set", f"v{number}"), ("add", "z")), d1)]
+        is_first = later_of(*pair) == pair[0]
+        expected = {f"u{number}": is_first, "y": is_first, f"v{number}": not is_first, "z": not is_first}
+        yield f"two lists at one date {number}", pair, expected
+        pair = [multi(tags(("set", f"u{number}"), ("add", "y")), d1), on_tag("set", "x", d1)]
+        is_first = later_of(*pair) == pair[0]
+        yield f"a list and a claim at one date {number}", pair, {f"u{number}": is_first, "y": is_first, "x": not is_first}
 
 
 def claims_in_time():
@@ -1037,6 +1204,17 @@ def several_permanodes():
     expected = {f"v{rest}": [ref_of(node) for number, node in enumerate(nodes) if number % 3 == rest] for rest in range(3)}
     yield "several permanodes", [KEY, *nodes, *claims], expected
     yield "several permanodes, backwards", [*reversed(claims), *reversed(nodes), KEY], expected
+    changes = [("add", ref_of(node), "tag", f"v{number % 3}") for number, node in enumerate(nodes)]
+    by_one = multi(changes, day(1))
+    yield "several permanodes by one claim", [KEY, *nodes, by_one], expected
+    yield "several permanodes by one claim, backwards", [by_one, *reversed(nodes), KEY], expected
+    gone = delete(ref_of(by_one), day(2))
+    undone = delete(ref_of(gone), day(3))
+    none = {value: [] for value in expected}
+    yield "several permanodes by one claim, deleted", [KEY, *nodes, by_one, gone], none
+    yield "several permanodes by one claim, deleted, backwards", [gone, by_one, *nodes, KEY], none
+    yield "several permanodes by one claim, deleted and back", [KEY, *nodes, by_one, gone, undone], expected
+    yield "several permanodes by one claim, deleted and back, backwards", [undone, gone, by_one, *nodes, KEY], expected
 
 
 def older_signers():
@@ -1318,11 +1496,10 @@ def random_blobs(chance, count):
             blob = permanode(f"{chance.getrandbits(128):032x}", said(key_blob(key)), secret)
             nodes.append(said(blob))
         elif kind == "attribute" or not claims:
-            on = chance.choice(nodes) if chance.random() < 0.97 else chance.choice(claims + others)
-            what = chance.choices(("set", "add", "del"), (3, 5, 2))[0]
-            value = chance.choice(RANDOM_VALUES)
-            attribute = chance.choice(RANDOM_ATTRIBUTES)
-            blob = claim(what, on, attribute, value, random_date(chance), said(key_blob(key)), secret)
+            some = [random_change(chance, nodes, claims + others) for _ in range(chance.choice(CHANGES_OF_A_CLAIM))]
+            signer, date = said(key_blob(key)), random_date(chance)
+            several = len(some) > 1 or chance.random() < 0.1
+            blob = multi(some, date, signer, secret) if several else claim(*some[0], date, signer, secret)
             claims.append(said(blob))
         else:
             target = chance.choice(chance.choices((claims, nodes, others, claims[-20:]), (6, 1, 1, 6))[0])
@@ -1330,6 +1507,17 @@ def random_blobs(chance, count):
             claims.append(said(blob))
         blobs.append(blob)
     return blobs, names
+
+
+# How many changes a claim has: most have one.
+CHANGES_OF_A_CLAIM = (1, 1, 1, 1, 1, 1, 2, 3, 5, 9)
+
+
+def random_change(chance, nodes, others):
+    """A change of a permanode, or rarely of another blob: its kind, what it is on, attribute and value."""
+    on = chance.choice(nodes) if chance.random() < 0.97 else chance.choice(others)
+    what = chance.choices(("set", "add", "del"), (3, 5, 2))[0]
+    return what, on, chance.choice(RANDOM_ATTRIBUTES), chance.choice(RANDOM_VALUES)
 
 
 def random_plain(chance, nodes):

@@ -1,124 +1,29 @@
-"""Runs `perkeep permanode`, `claim` and `delete`: what they put, what is found by it, and what they refuse.
+"""Runs `perkeep permanode`, `claim`, `multi` and `delete`: what they put, what is found by it, and what they refuse.
 
-The program draws a moment and random bytes. These are read out of the blob that it put; all else of the blob, its
-signature too, has to be what writing.py gives for them, and the moment has to lie between the start and the end of the
-program.
+What they put is looked at in note_stores.py, and what is shown of `multi` alone stands in multis.py.
 """
 
 import concurrent.futures
 import itertools
 import os
-import re
 import shutil
 import subprocess
-import time
 
 import harness
 import inputs
+import multis
 import reference
 import writing
 from faults import ends_with_fault, faults_of, is_durable_when_printed, own_calls
 from harness import LeftOut, chance, check, compare, compare_ending, with_streams
+from note_stores import DATE, KEYRING, OTHERS, RANDOM, SECRETS, Notes, list_text
 from reference import older_ref_of, ref_of
-from refused_alike import bad_keyrings, bad_packs, ends_first, leaves, refused_lines, waits_too_long
+from refused_alike import SOURCE, bad_keyrings, bad_packs, ends_first, leaves, refused_lines, waits_too_long
 from store_packs import write_deleted_records
 from store_refusals import BAD_REFS
 from stores import ABC, NOWHERE, TORN, Store, check_search, look
 from tracing import need_strace, trace, traced
 from writing import directory, keyring_line, pack, record, static_set
-
-SECRETS = {
-    "jefe": writing.SECRET,
-    "other": inputs.OTHER_SECRET,
-    "a": b"\0",
-    "-": b"\xff" * 63,
-    "0-9": b"of sixty-four bytes".ljust(64, b"\0"),
-    "z": b"of sixty-five bytes".ljust(65, b"\0"),
-    "k" * 64: bytes(range(128)),
-}
-KEYRING = b"".join(keyring_line(name, secret) for name, secret in SECRETS.items())
-OTHERS = {"keyring": KEYRING}
-RANDOM = re.compile(rb'"random":"([0-9a-f]{32})"')
-DATE = re.compile(rb'"claimDate":"([^"]*)"')
-
-
-class Notes(Store):
-    """A store with a keyring, and what the program put into it."""
-
-    def __init__(self, program, packs=None):
-        super().__init__(program, packs or {}, OTHERS)
-        # The moments of the claims, in their order.
-        self.moments = []
-
-    def permanode(self, what, key="jefe", words=None):
-        """Puts a permanode; answers its ref."""
-        line = words or ["permanode", str(self.path), f"--key={key}"]
-        return self.note(what, line, key, RANDOM, lambda drawn: writing.permanode_payload(drawn, signer(key)))
-
-    def claim(self, what, kind, on, attribute, *value, key="jefe", words=None):
-        """Puts a claim; answers its ref."""
-        line = words or ["claim", f"--key={key}", "--", str(self.path), kind, on, attribute, *value]
-        text = "".join(value)
-        payload_of = lambda date: writing.attribute_payload(kind, on, attribute, text, date, signer(key))
-        return self.dated(what, line, key, payload_of)
-
-    def delete(self, what, target, key="jefe", words=None):
-        """Puts a delete claim; answers its ref."""
-        line = words or ["delete", str(self.path), target, f"--key={key}"]
-        return self.dated(what, line, key, lambda date: writing.delete_payload(target, date, signer(key)))
-
-    def put_file(self, what, name, content):
-        """Puts a file; answers its ref."""
-        blobs = writing.file_blobs(name, writing.chunks_of(content))
-        for blob in blobs:
-            self.packs = reference.put(self.packs, blob)
-        ref = ref_of(blobs[-1])
-        self.program.check(what, self.words("put-file", name), ref.encode() + b"\n", source=content)
-        self.check_files(what)
-        return ref
-
-    def dated(self, what, line, key, payload_of):
-        start = time.time_ns()
-        ref = self.note(what, line, key, DATE, payload_of)
-        end = time.time_ns()
-        date = DATE.search(self.blobs()[ref])[1].decode()
-        moment = reference.moment_of(date)
-        check(f"{what}: {date} isn't between {start} and {end}", start <= moment <= end)
-        compare(what, "the written date", reference.date_text(moment), date)
-        self.moments.append(moment)
-        return ref
-
-    def note(self, what, line, key, pattern, payload_of, **streams):
-        """Runs a line; the key's blob and one blob more have to stand then."""
-        status, out, err = self.program.run(what, line, **streams)
-        compare_ending(what, 0, status, err)
-        return self.noted(what, key, pattern, payload_of, out)
-
-    def noted(self, what, key, pattern, payload_of, out):
-        """The ref of what was put, and printed."""
-        last = list(reference.arrivals(reference.packs_of(self.files())).values())[-1:]
-        drawn = last and pattern.search(last[0])
-        check(f"{what}: what stands last is {last}", drawn)
-        blob = writing.signed(payload_of(drawn[1].decode()), SECRETS[key])
-        compare(what, "the blob", blob, last[0])
-        self.packs = reference.put(reference.put(self.packs, writing.key_blob(key)), blob)
-        self.check_files(what)
-        compare(what, "standard output", ref_of(blob).encode() + b"\n", out)
-        return ref_of(blob)
-
-    def finds(self, what, found, attribute, value, at=None):
-        """A search has to find these permanodes, by the reference too."""
-        archive = reference.archive_of_store(self.packs, KEYRING)
-        compare(what, "the reference", sorted(found), archive.holders(attribute, value, at))
-        when = [] if at is None else [f"--at={reference.date_text(at)}"]
-        out = reference.search_text(sorted(found)) + b"\n"
-        what = f"{what}: {attribute} {value} at {at}"
-        self.reads(what, "search", f"--attr={attribute}", f"--value={value}", *when, out=out)
-
-
-def signer(key):
-    return ref_of(writing.key_blob(key))
-
 
 # The examples of docs/formats/schema.md, "Examples of written blobs"
 
@@ -145,6 +50,12 @@ EXAMPLE_CLAIMS = [
         "sha224-81755f2723da750a7f5be6bd1d641ff84be48b8fead337b48c400e4f",
     ),
     (
+        "1578009600.0",
+        "2020-01-03T00:00:00Z",
+        ("multi",),
+        "sha224-177bc809399b42d748fadff3abe650ce4792b7daabcd03b7762710f1",
+    ),
+    (
         "1577923200.0",
         "2020-01-02T00:00:00Z",
         ("delete",),
@@ -153,9 +64,18 @@ EXAMPLE_CLAIMS = [
 ]
 
 
+EXAMPLE_CHANGES = [
+    ("set", EXAMPLE_NODE, "tag", "a"),
+    ("add", EXAMPLE_NODE, "title", 'say "hi"\n'),
+    ("del", EXAMPLE_NODE, "tag", ""),
+]
+
+
 def example_payload(date, kind, attribute="", *value):
     if kind == "delete":
         return writing.delete_payload(EXAMPLE_NODE, date)
+    if kind == "multi":
+        return writing.multi_payload(EXAMPLE_CHANGES, date)
     return writing.attribute_payload(kind, EXAMPLE_NODE, attribute, "".join(value), date)
 
 
@@ -167,12 +87,13 @@ def pages(program):
 
 
 def lines_of(folder):
-    """One good line of each command over a folder."""
+    """One good line of each command over a folder; what the last one reads is SOURCE."""
     key = ("--key", "jefe")
     return [
         ["permanode", str(folder), *key],
         ["claim", str(folder), "set", ABC, "tag", "a", *key],
         ["delete", str(folder), ABC, *key],
+        ["multi", str(folder), *key],
     ]
 
 
@@ -436,6 +357,10 @@ def random_changes(program, number):
         what, key = f"change {place}", random.choice(names)
         if refs and random.random() < 0.3:
             refs.append(store.delete(what, random.choice(refs[-8:] + nodes[:1]), key))
+        elif random.random() < 0.3:
+            pools = nodes, ("tag", "title"), inputs.RANDOM_VALUES
+            kinds = random.choices(("set", "add", "add", "del"), k=random.randrange(1, 9))
+            refs.append(store.multi(what, [(kind, *map(random.choice, pools)) for kind in kinds], key=key))
         else:
             kind, value = random.choice(("set", "add", "add", "del")), random.choice(inputs.RANDOM_VALUES)
             given = () if kind == "del" and value == "" and random.random() < 0.5 else (value,)
@@ -458,7 +383,7 @@ def words(program):
 
 def bad_lines(folder, ref):
     key = ("--key", "jefe")
-    return bad_permanodes(folder, key) + bad_claims(folder, ref, key) + bad_deletes(folder, ref, key)
+    return bad_permanodes(folder, key) + bad_claims(folder, ref, key) + bad_deletes(folder, ref, key) + bad_multis(folder, key)
 
 
 def bad_permanodes(folder, key):
@@ -531,6 +456,24 @@ def bad_deletes(folder, ref, key):
     ]
 
 
+def bad_multis(folder, key):
+    return [
+        ("multi",),
+        ("multi", folder),
+        ("multi", *key),
+        ("multi", folder, "jefe"),
+        ("multi", folder, "x", *key),
+        ("multi", folder, SOURCE.decode(), *key),
+        ("multi", folder, "--key"),
+        ("multi", folder, *key, "--key=jefe"),
+        ("multi", folder, *key, "--at", inputs.DATE),
+        ("multi", folder, "-", *key),
+        ("multis", folder, *key),
+        ("Multi", folder, *key),
+        ("claim", folder, "multi", *key),
+    ]
+
+
 def good_lines(program):
     """Options in front of positions, between and behind them; positions behind `--`."""
     store = Notes(program)
@@ -563,6 +506,13 @@ def good_lines(program):
         ("delete", folder, "--key=jefe", node, "--"),
     ]:
         store.delete(f"words {form}", node, words=list(form))
+    for form in [
+        ("multi", folder, *key),
+        ("multi", *key, folder),
+        ("multi", "--key=jefe", "--", folder),
+        ("multi", folder, "--key=jefe", "--"),
+    ]:
+        store.multi(f"words {form}", [("set", node, "tag", "a")], words=list(form))
 
 
 BAD_KEYS = ["", "Jefe", "je fe", "jefe ", "jefe\n", "je_fe", "k" * 65, "\u00e4", "jefe\u0301", "a.b"]
@@ -576,6 +526,7 @@ def refused_texts(program):
     lines = [("permanode", folder, f"--key={name}") for name in BAD_KEYS + NO_KEYS]
     lines += [("claim", folder, "set", ABC, "tag", "a", f"--key={name}") for name in BAD_KEYS + NO_KEYS]
     lines += [("delete", folder, ABC, f"--key={name}") for name in BAD_KEYS + NO_KEYS]
+    lines += [("multi", folder, f"--key={name}") for name in BAD_KEYS + NO_KEYS]
     lines += [("claim", folder, kind, ref, "tag", "a", *key) for kind in ("set", "add", "del") for ref in BAD_REFS]
     lines += [("claim", folder, kind, ABC, "", "a", *key) for kind in ("set", "add", "del")]
     lines += [("claim", folder, "del", ABC, "", *key), ("claim", folder, "set", "", "", "", *key)]
@@ -601,7 +552,7 @@ def folders(program):
     """Packs that can't be read, and a folder that stays locked."""
     return [
         lambda number=number: waits_too_long(program, lambda folder: lines_of(folder)[number], OTHERS)
-        for number in range(3)
+        for number in range(4)
     ] + bad_packs(program, lines_of, OTHERS)
 
 
@@ -620,7 +571,7 @@ def room_for_one(program, line):
     path = store.path / reference.pack_name(reference.LAST_PACK)
     length, key = reference.BYTES_OF_A_FULL_PACK - 1, record(inputs.KEY)
     write_deleted_records(path, length)
-    program.check(what, [line[0], str(store.path), *line[2:]], status=9)
+    program.check(what, [line[0], str(store.path), *line[2:]], status=9, source=SOURCE)
     compare(what, "length of the pack", length + len(key), path.stat().st_size)
     with open(path, "rb") as file:
         file.seek(length)
@@ -654,11 +605,11 @@ def kept_though_unsaid(program):
 
 
 def closed_input(program):
-    """Standard input may be closed, and nothing of it is taken."""
+    """Standard input may be closed, and nothing of it is taken, but by `multi`."""
     store = Notes(program, {})
     source = program.new_path()
     source.write_bytes(b"a source")
-    for line in lines_of(store.path):
+    for line in lines_of(store.path)[:-1]:
         with_streams(program, f"{line}, standard input is closed", line, 0, closed=0, folder=program.working)
         with open(source, "rb", buffering=0) as file:
             with_streams(program, f"{line}", line, 0, source=file.fileno(), folder=program.working)
@@ -816,9 +767,9 @@ def failing(program):
 def is_synced(store, calls, packs):
     what = f"a permanode beside {sorted(packs)}"
     is_durable_when_printed(what, calls, store.path, reference.pack_for_the_next_record(packs), packs, False)
-    for line in (store.words("claim", "set", ABC, "tag", "a"), store.words("delete", ABC)):
+    for line in (store.words("claim", "set", ABC, "tag", "a"), store.words("delete", ABC), store.words("multi")):
         before = reference.packs_of(store.files())
-        calls = traced(store.program, line[0], [*line, "--key=jefe"])
+        calls = traced(store.program, line[0], [*line, "--key=jefe"], SOURCE)
         is_durable_when_printed(line[0], calls, store.path, reference.pack_for_the_next_record(before), before, False)
 
 
@@ -905,19 +856,22 @@ def under_clock(library, time):
 
 def tells(program, library, time, date):
     what, store, clock = f"the time {time}", Notes(program), under_clock(library, time)
-    _, claim_line, delete_line = lines_of(store.path)
+    _, claim_line, delete_line, multi_line = lines_of(store.path)
     claim_payload = writing.attribute_payload("set", ABC, "tag", "a", date)
     store.note(what, claim_line, "jefe", DATE, lambda drawn: claim_payload, **clock)
     delete_payload = writing.delete_payload(ABC, date)
     store.note(what, delete_line, "jefe", DATE, lambda drawn: delete_payload, **clock)
+    multi_payload = writing.multi_payload([("set", ABC, "tag", "a")], date)
+    store.note(what, multi_line, "jefe", DATE, lambda drawn: multi_payload, source=SOURCE, **clock)
 
 
 def makes_example(program, library, time, date, change, ref):
     what, store, kind = f"the example {change}", Notes(program), change[0]
-    words = ["delete", EXAMPLE_NODE] if kind == "delete" else ["claim", kind, EXAMPLE_NODE, *change[1:]]
-    payload = example_payload(date, *change)
+    of_kind = {"delete": ["delete", EXAMPLE_NODE], "multi": ["multi"]}
+    words = of_kind.get(kind, ["claim", kind, EXAMPLE_NODE, *change[1:]])
+    payload, source = example_payload(date, *change), list_text(EXAMPLE_CHANGES).encode()
     line = store.words(*words, "--key=jefe")
-    made = store.note(what, line, "jefe", DATE, lambda drawn: payload, **under_clock(library, time))
+    made = store.note(what, line, "jefe", DATE, lambda drawn: payload, source=source, **under_clock(library, time))
     compare(what, "the ref", ref, made)
     compare(what, "refs", [EXAMPLE_KEY, ref], list(store.blobs()))
 
@@ -927,19 +881,24 @@ def fails(program, library, time):
     store, failing = Notes(program, {0: pack(b"abc")}), Store(program, {}, OTHERS)
     (failing.path / "pack-00001.blobs").mkdir()
     for one in (store, failing):
-        _, claim_line, delete_line = lines_of(one.path)
-        for line, status in [(claim_line, 12), (delete_line, 12), (one.words("delete", ABC, "--key=none"), 4)]:
+        _, claim_line, delete_line, multi_line = lines_of(one.path)
+        no_key = one.words("delete", ABC, "--key=none")
+        for line, status in [(claim_line, 12), (delete_line, 12), (multi_line, 12), (no_key, 4)]:
             what, before = f"the time {time}: {line}", look(one.path)
-            is_status, out, err = program.run(what, line, **under_clock(library, time))
+            is_status, out, err = program.run(what, line, SOURCE, **under_clock(library, time))
             compare_ending(what, status, is_status, err)
             compare(what, "standard output", b"", out)
             compare(what, "the folder", before, look(one.path))
+    # A list that is none is told before the clock is asked.
+    what = f"the time {time}: no list"
+    is_status, _, err = program.run(what, lines_of(store.path)[-1], b"[]", **under_clock(library, time))
+    compare_ending(what, 4, is_status, err)
     what, clock = f"the time {time}: a permanode", under_clock(library, time)
     store.note(what, lines_of(store.path)[0], "jefe", RANDOM, writing.permanode_payload, **clock)
 
 
 GROUPS = [pages, folders, rows, keys, texts, long_texts, changes, realistic, words, refused_texts, keyrings]
-GROUPS += [clock, known_dice, dice, failing]
+GROUPS += [clock, known_dice, dice, failing, *multis.GROUPS]
 
 if __name__ == "__main__":
-    harness.main("notes.sh", GROUPS, [full, streams])
+    harness.main("notes.sh", GROUPS, [full, streams, *multis.ONE_AT_A_TIME])

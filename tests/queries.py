@@ -290,11 +290,7 @@ class Archive(reference.Archive):
         """The date of the last counted change of a genuine permanode; None where there is none (docs/claims.md,
         "Values")."""
         if (permanode, when) not in self.known_changes:
-            dates = [
-                self.facts[claim].date
-                for claim in self.attribute_claims.get(permanode, ())
-                if self.counts_at(claim, when) and not self.deleted(claim, when)
-            ]
+            dates = [date for date, _ in self.counted(permanode, when)]
             self.known_changes[permanode, when] = max(dates, default=None)
         return self.known_changes[permanode, when]
 

@@ -7,10 +7,10 @@ import inputs
 import queries
 import reference
 import writing
-from inputs import ABSENT, OLDER_ABSENT, OTHER_NAMES, OTHER_SECRET, SECRET, day, records_of
+from inputs import ABSENT, CHANGES_OF_A_CLAIM, OLDER_ABSENT, OTHER_NAMES, OTHER_SECRET, SECRET, day, records_of
 from reference import older_ref_of, ref_of
-from writing import Names, bytes_blob, claim, delete, directory, file_blob, key_blob, keyring_line, pack, part, permanode
-from writing import static_set
+from writing import Names, bytes_blob, claim, delete, directory, file_blob, key_blob, keyring_line, multi, pack, part
+from writing import permanode, static_set
 
 LATE_SECRET = b"a late secret"
 KEYRING = inputs.KEYRING + keyring_line("late", LATE_SECRET)
@@ -643,7 +643,7 @@ class RandomStore:
                 node_ref, date = random.choice(self.nodes), random.choice(DATES)
                 self.add(self.claims, claim("add", node_ref, "camliContent", ref, date, *self.signer()))
         for _ in range(random.choice((10, 20, 30, 45))):
-            self.add(self.claims, self.change() if random.random() < 0.72 or not self.claims else self.deletion())
+            self.add(self.claims, self.changes() if random.random() < 0.72 or not self.claims else self.deletion())
         random.shuffle(self.blobs)
 
     def add(self, refs, blob):
@@ -705,6 +705,12 @@ class RandomStore:
         renamed = {"sha1": "sha224-", "sha224": "sha1-"}[name] + digits
         return random.choice((ref.upper(), ref[:-1], ref + " ", digits, renamed, "sha1-" + digits[:39]))
 
+    def changes(self):
+        """A claim of one change, or now and then of several."""
+        some = [self.change() for _ in range(self.random.choice(CHANGES_OF_A_CLAIM))]
+        date, signer = self.random.choice(DATES), self.signer()
+        return claim(*some[0], date, *signer) if len(some) == 1 else multi(some, date, *signer)
+
     def change(self):
         random = self.random
         on = self.said(random.choice(self.nodes)) if random.random() < 0.94 else self.any_ref(random)
@@ -718,7 +724,7 @@ class RandomStore:
             value = random.choice(self.texts)
         if kind == "del" and random.random() < 0.4:
             value = ""
-        return claim(kind, on, attribute, value, random.choice(DATES), *self.signer())
+        return kind, on, attribute, value
 
     def deletion(self):
         random = self.random

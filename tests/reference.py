@@ -280,6 +280,15 @@ class Part(NamedTuple):
     tree: Optional[str]
 
 
+class Change(NamedTuple):
+    """What is done to the values of an attribute of a permanode."""
+
+    act: str
+    on: str
+    attribute: str
+    value: str
+
+
 class Fact(NamedTuple):
     """What a blob says. Fields that its kind doesn't have are None."""
 
@@ -290,13 +299,15 @@ class Fact(NamedTuple):
     date: Optional[int] = None
     claim: Optional[str] = None
     target: Optional[str] = None
-    attribute: Optional[str] = None
-    value: Optional[str] = None
+    changes: Optional[tuple] = None
     parts: Optional[tuple] = None
 
 
 # docs/formats/schema.md, "Kinds": the row of `Plain`
 LARGEST_SCHEMA_BLOB = 1_048_576
+# docs/formats/schema.md, "Claims"
+ACTS = "set-attribute", "add-attribute", "del-attribute"
+MOST_CHANGES = 1_000
 # docs/formats/schema.md, "Part lists"
 MOST_BYTES_OF_A_FILE = 281_474_976_710_656
 # docs/formats/schema.md, "Kinds": the row of `Key`; docs/formats/keyring.md, "Name"
@@ -411,12 +422,28 @@ def claim_fact(blob):
     if claim == "delete":
         target = body.get("target")
         return fact._replace(target=target, needs=(signed.signer, target)) if is_ref(target) else None
-    if claim not in ("set-attribute", "add-attribute", "del-attribute"):
+    if claim == "multi":
+        changes = change_list(body.get("changes"))
+    else:
+        change = change_of(body, "claimType")
+        changes = change and (change,)
+    return fact._replace(changes=changes) if changes else None
+
+
+def change_of(body, key):
+    """The change that an object says, with its type under this key; None where it says none."""
+    act, on, attribute = body.get(key), body.get("permaNode"), body.get("attribute")
+    value = body.get("value", "" if act == "del-attribute" else None)
+    good = act in ACTS and is_ref(on) and isinstance(attribute, str) and attribute != "" and isinstance(value, str)
+    return Change(act, on, attribute, value) if good else None
+
+
+def change_list(items):
+    """The changes of a list, in their order; None where it is no list of 1 to 1,000 changes."""
+    if not isinstance(items, list) or not 1 <= len(items) <= MOST_CHANGES:
         return None
-    on, attribute = body.get("permaNode"), body.get("attribute")
-    value = body.get("value", "" if claim == "del-attribute" else None)
-    good = is_ref(on) and isinstance(attribute, str) and attribute != "" and isinstance(value, str)
-    return fact._replace(target=on, attribute=attribute, value=value) if good else None
+    changes = tuple(change_of(item, "changeType") if isinstance(item, dict) else None for item in items)
+    return None if None in changes else changes
 
 
 def signed_of(blob):
@@ -449,8 +476,8 @@ class Archive:
         self.keys = keys
         self.ready = self.rounds()
         self.genuine = {ref for ref in self.ready if self.is_genuine(self.facts[ref])}
-        self.deletes = self.claims_by_target(lambda fact: fact.claim == "delete")
-        self.attribute_claims = self.claims_by_target(lambda fact: fact.attribute is not None)
+        self.deletes = self.deletes_by_target()
+        self.changes = self.changes_by_permanode()
         self.known_deleted = {}
 
     def rounds(self):
@@ -473,14 +500,24 @@ class Archive:
             return False
         return signature(self.keys[signer.name], fact.signed.payload) == fact.signed.signature
 
-    def claims_by_target(self, wanted):
-        """The genuine claims that are wanted, by the ref that they are on."""
+    def deletes_by_target(self):
+        """The genuine delete claims, by the ref that they are on."""
         claims = {}
         for ref in self.genuine:
             fact = self.facts[ref]
-            if fact.kind == "Claim" and wanted(fact):
+            if fact.claim == "delete":
                 claims.setdefault(fact.target, []).append(ref)
         return claims
+
+    def changes_by_permanode(self):
+        """The changes of genuine claims by the ref that they are on, in the order in which they count: each with the
+        date of its claim, the claim's ref and its place there."""
+        changes = {}
+        for ref in self.genuine:
+            fact = self.facts[ref]
+            for place, change in enumerate(fact.changes or ()):
+                changes.setdefault(change.on, []).append((fact.date, ref, place, change))
+        return {on: sorted(some) for on, some in changes.items()}
 
     def deleted(self, ref, when):
         """Whether a permanode or a claim is deleted: some delete claim on it counts at the moment and isn't deleted
@@ -500,28 +537,30 @@ class Archive:
     def is_permanode(self, ref):
         return ref in self.genuine and self.facts[ref].kind == "Permanode"
 
-    def values(self, permanode, attribute, when):
-        """The values of an attribute, in the order in which they were given."""
+    def counted(self, permanode, when):
+        """The changes of a permanode that count at a moment, in their order, each with the date of its claim."""
         if not self.is_permanode(permanode):
             return []
-        claims = [
-            claim
-            for claim in self.attribute_claims.get(permanode, ())
+        return [
+            (date, change)
+            for date, claim, _, change in self.changes.get(permanode, ())
             if self.counts_at(claim, when) and not self.deleted(claim, when)
         ]
+
+    def values(self, permanode, attribute, when):
+        """The values of an attribute, in the order in which they were given."""
         values = []
-        for claim in sorted(claims, key=lambda claim: (self.facts[claim].date, claim)):
-            fact = self.facts[claim]
-            if fact.attribute != attribute:
+        for _, change in self.counted(permanode, when):
+            if change.attribute != attribute:
                 continue
-            if fact.claim == "set-attribute":
-                values = [fact.value]
-            elif fact.claim == "add-attribute":
-                values.append(fact.value)
-            elif fact.value == "":
+            if change.act == "set-attribute":
+                values = [change.value]
+            elif change.act == "add-attribute":
+                values.append(change.value)
+            elif change.value == "":
                 values = []
             else:
-                values = [value for value in values if value != fact.value]
+                values = [value for value in values if value != change.value]
         return values
 
     def holders(self, attribute, value, when=ALWAYS):

@@ -11,12 +11,12 @@ import time
 import inputs
 from harness import check, compare, with_streams
 from reference import pack_name
-from stores import Store, look
-from writing import pack
+from stores import ABC, Store, look
+from writing import change_text, pack
 
 SECONDS_OF_WAITING = 10
-# What standard input holds; no command may read it where it is refused before.
-SOURCE = b"a source"
+# What standard input holds, a list of changes; no command may read it where it is refused before.
+SOURCE = f"[{change_text('set', ABC, 'tag', 'a')}]".encode()
 
 
 def refused_lines(store, what, lines, status):

@@ -237,6 +237,7 @@ def kinds_in(archive, blobs):
     claims = {ref for ref in archive.genuine if facts[ref].kind == "Claim"}
     targets = [facts[facts[ref].target] for ref in claims if facts[ref].claim == "delete"]
     dates = [facts[ref].date for ref in claims]
+    named = [[change.on for change in facts[ref].changes] for ref in claims if facts[ref].claim == "multi"]
     return {
         "older refs for about a half": len(blobs) / 3 < len(older) < len(blobs) * 2 / 3,
         "an older permanode that counts": any(facts[ref].kind == "Permanode" for ref in older & archive.genuine),
@@ -249,6 +250,9 @@ def kinds_in(archive, blobs):
         "a permanode that is deleted": any(fact.kind == "Permanode" for fact in targets),
         "a deletion that is deleted": any(fact.claim == "delete" for fact in targets),
         "two claims at one date": len(set(dates)) < len(dates),
+        "a claim of several changes of one permanode": any(len(changes) > len(set(changes)) for changes in named),
+        "a claim on several permanodes": any(len(set(changes)) > 1 for changes in named),
+        "a claim of several changes that is deleted": any(fact.claim == "multi" for fact in targets),
     }
 
 

@@ -64,6 +64,7 @@ def hints(program):
     """Each word, with what stands behind it."""
     store = Store(program, {0: pack(b"abc", b"{")})
     bad = Store(program, {0: pack(b"abc")}, {"keyring": BAD_KEYRING})
+    keyed = Store(program, {}, {"keyring": b"me 00\n"})
     nowhere, folder = str(program.new_path()), str(store.path)
     rows = [
         (["put"], 2, "words (no line of a command has these words; docs/commands.md has them all)"),
@@ -75,6 +76,7 @@ def hints(program):
         (["get-file", folder, ref_of(b"abc")], 4, "input (a blob that should be a file, or a part of one, is none)"),
         (["permanode", folder, "--key=me"], 4, "input (the keyring doesn't hold the key)"),
         (["query", folder], 4, "input (standard input is no query)"),
+        (["multi", str(keyed.path), "--key=me"], 4, "input (standard input is no list of changes)"),
         (["list", str(bad.path)], 4, "input (each line of the keyring is a name, a space, hexadecimal digits and a line feed)"),
     ]
     return [lambda row=row: is_told(program, *row) for row in rows] + [lambda: held(program), lambda: done(program)]

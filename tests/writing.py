@@ -63,6 +63,17 @@ def attribute_payload(kind, permanode, attribute, value, date, signer=KEY):
     return claim_head(date, signer) + rest
 
 
+def change_text(kind, permanode, attribute, value):
+    """A change of a claim of several, of the kind `set`, `add` or `del`."""
+    written = "" if kind == "del" and value == "" else f',"value":{text(value)}'
+    return f'{{"changeType":"{kind}-attribute","permaNode":"{permanode}","attribute":{text(attribute)}{written}}}'
+
+
+def multi_payload(changes, date, signer=KEY):
+    """A claim of several changes, each of a kind, a permanode, an attribute and a value."""
+    return claim_head(date, signer) + f',"claimType":"multi","changes":[{",".join(change_text(*one) for one in changes)}]'
+
+
 def delete_payload(target, date, signer=KEY):
     return claim_head(date, signer) + f',"claimType":"delete","target":"{target}"'
 
@@ -75,6 +86,10 @@ def permanode(random=RANDOM, signer=KEY, secret=SECRET):
 
 def claim(kind, permanode_ref, attribute, value, date, signer=KEY, secret=SECRET):
     return signed(attribute_payload(kind, permanode_ref, attribute, value, date, signer), secret)
+
+
+def multi(changes, date, signer=KEY, secret=SECRET):
+    return signed(multi_payload(changes, date, signer), secret)
 
 
 def delete(target, date, signer=KEY, secret=SECRET):
