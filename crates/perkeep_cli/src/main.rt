@@ -52,13 +52,13 @@ fn ending_of<R: Threads + Wait + Sync>(rt: &HostRuntime, threads: &R) -> Ending 
         Ok(words) => words,
         Err(status) => return Ending::Ran(status),
     };
+    let folder = folder_named(&words);
     if let Some(plan) = serve_words(&words) {
-        return serve(rt, threads, &plan);
+        return serve(rt, threads, folder, &plan);
     }
     let Some(line) = Line::read(&words) else {
         return Ending::Ran(Status::BadWords);
     };
-    let folder = folder_named(&words);
     let keys = match read_keyring(rt, folder) {
         Ok(keys) => keys,
         Err(ending) => return ending,

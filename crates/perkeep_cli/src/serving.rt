@@ -31,9 +31,9 @@ const MOST_PAUSES: u32 = 25;
 pub(crate) fn serve<R: Threads + Wait + Sync>(
     rt: &HostRuntime,
     threads: &R,
-    plan: &ServePlan<'_>,
+    folder: &str,
+    plan: &ServePlan,
 ) -> Ending {
-    let folder = plan.dir.as_str();
     let keys = match read_keyring(rt, folder) {
         Ok(keys) => keys,
         Err(ending) => return ending,
@@ -69,7 +69,7 @@ fn serve_home<H: Home + Sync, R: Threads + Wait + Sync>(
     passes: Vec<H::Pass>,
     listener: &TcpListener,
     gate: &Pauses<'_>,
-    plan: &ServePlan<'_>,
+    plan: &ServePlan,
 ) -> Ending
 where
     H::Pass: Drop + Send,

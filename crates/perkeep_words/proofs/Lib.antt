@@ -3,3 +3,4 @@ pub mod Numbers
 pub mod LineReadings
 pub mod Fitting
 pub mod Placing
+pub mod OnePlace

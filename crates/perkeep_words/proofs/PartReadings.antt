@@ -65,14 +65,14 @@ plain_word (c ∷ word) plain = by (cases_Bool (nat_eq 45 c))
     by (inr other) = (let turned : nat_eq c 45 ≡ false = ne_eqb c 45 (λ e. eqb-false 45 c other (sym e)) in rw turned refl, rw other refl)
 
 -- a position, an option that waits for its value, and an option with it
-position_step : (word : List ℕ) → begins_with_dash word ≡ false → item_step word ≡ Some (start, Some (position word))
+pub position_step : (word : List ℕ) → begins_with_dash word ≡ false → item_step word ≡ Some (start, Some (position word))
 position_step word plain = let other = plain_word word plain in rw (other.0, other.1, plain) refl
 
-name_step : (name : List ℕ) → is_option_name name ≡ true → item_step (codes "--" ++ name) ≡ Some ((Some name, false), None)
+pub name_step : (name : List ℕ) → is_option_name name ≡ true → item_step (codes "--" ++ name) ≡ Some ((Some name, false), None)
 name_step [] named = absurd (cc)
 name_step (c ∷ name) named = waits_here (c ∷ name) named (omega arith)
 
-joined_step : (name value : List ℕ) → is_option_name name ≡ true → item_step (codes "--" ++ name ++ codes "=" ++ value) ≡ Some (start, Some (Some name, value))
+pub joined_step : (name value : List ℕ) → is_option_name name ≡ true → item_step (codes "--" ++ name ++ codes "=" ++ value) ≡ Some (start, Some (Some name, value))
 joined_step [] value named = absurd (cc)
 joined_step (c ∷ name) value named = ap (λ rest. option_step (c ∷ rest)) (append_assoc name (61 ∷ []) value) ∙ joins_here (c ∷ name) value named (omega arith)
 

@@ -1,34 +1,46 @@
 -- Where the words of a line name the folder of the store (docs/commands.md).
-use Rattle.std.specs.Prelude.{◌≡◌, ◌⊎◌, ◌+◌, ◌&&◌, ℕ, Bool, true, false, not, if◌then◌else◌, List, [], ◌∷◌, ◌++◌, Option, Some, None, is_some, option_and_then, length, drop, flat_map, codes}
+use Rattle.std.specs.Prelude.{◌≡◌, ◌⊎◌, ◌+◌, ◌&&◌, ◌||◌, ℕ, Bool, true, false, not, if◌then◌else◌, List, [], ◌∷◌, ◌++◌, Option, Some, None, is_some, length, drop, flat_map, codes}
 use Rattle.std.specs.List.{list_all}
-use Rattle.perkeep_words.specs.Words.{Item, Apart, Joined, Position, words_of, is_item}
-use Rattle.perkeep_words.specs.Parts.{Part, State, Step, start, step}
+use Rattle.perkeep_words.specs.Words.{begins_with_dash, Item, Apart, Joined, Position, words_of, is_item}
+use Rattle.perkeep_words.specs.Parts.{Part, State, Step, start, step, parts_from}
 use Rattle.perkeep_words.specs.Forms.{position_at}
-use Rattle.perkeep_words.specs.Table.{form_of, has_dir}
+use Rattle.perkeep_words.specs.Table.{has_dir}
 use Rattle.perkeep_words.specs.Reading.{LineSeen, line_of}
+use Rattle.perkeep_words.specs.Serving.{serve_of}
+use Rattle.perkeep_words.specs.declared.serving.ServePlan.{ServePlan}
+
+-- the words are a line that has DIR, of a command or of a server, and this is what it says of DIR
+pub data SaysDir (words : List (List ℕ)) (dir : List ℕ) : Type 0 where
+  OfCommand : (line : LineSeen) → line_of words ≡ Some line → has_dir line.0 ≡ true → dir ≡ position_at 0 line.1 → SaysDir words dir
+  OfServer : (plan : ServePlan) → serve_of words ≡ Some plan → dir ≡ position_at 0 (parts_from start (drop 1 words)) → SaysDir words dir
 
 abbrev pub is_option : Item → Bool
 is_option (Apart name value) = true
 is_option (Joined name value) = true
 is_option (Position word) = false
 
--- DIR stands at this place in the words of the line: before it stand the command's name, options, and perhaps `--`
+-- DIR stands at this place in the words of the line: before it stand the command's name, options, and `--` where one of
+-- the words so far is `--`. So without `--` before it DIR begins with no dash.
 pub record StandsAsDir (words : List (List ℕ)) (place : ℕ) : Type 0 where
-  pub line : LineSeen
-  pub is_line : line_of words ≡ Some line
-  pub has : has_dir line.0 ≡ true
+  pub name : List ℕ
   pub options : List Item
   pub are_options : list_all (λ item. is_item item && is_option item) options ≡ true
   pub dashes : List (List ℕ)
-  pub closes : (dashes ≡ []) ⊎ (dashes ≡ codes "--" ∷ [])
+  pub dir : List ℕ
+  pub says : SaysDir words dir
+  pub closes : ((dashes ≡ []) × (begins_with_dash dir ≡ false)) ⊎ (dashes ≡ codes "--" ∷ [])
   pub behind : List (List ℕ)
-  pub spelled : words ≡ (form_of line.0).name ∷ (flat_map words_of options ++ dashes ++ position_at 0 line.1 ∷ behind)
+  pub spelled : words ≡ name ∷ (flat_map words_of options ++ dashes ++ dir ∷ behind)
   pub counted : place ≡ 1 + length (flat_map words_of options ++ dashes)
 
 -- the place is that of DIR, or none where the words are no line that has it
 abbrev pub IsDirPlace : List (List ℕ) → Option ℕ → Type 0
-IsDirPlace words None = (line : LineSeen) → line_of words ≡ Some line → has_dir line.0 ≡ false
+IsDirPlace words None = (dir : List ℕ) → SaysDir words dir → ⊥
 IsDirPlace words (Some place) = StandsAsDir words place
+
+-- words have one place of DIR, or none
+abbrev pub OneDirPlace : Type 0
+OneDirPlace = (words : List (List ℕ)) (a b : Option ℕ) → IsDirPlace words a → IsDirPlace words b → a ≡ b
 
 abbrev pub is_position : Option Part → Bool
 is_position None = false
@@ -43,9 +55,14 @@ abbrev pub first_position : State → ℕ → List (List ℕ) → Option ℕ
 first_position state place [] = None
 first_position state place (word ∷ words) = position_or (step state word) place (λ next. first_position next (place + 1) words)
 
-abbrev pub dir_place_in : List (List ℕ) → LineSeen → Option ℕ
-dir_place_in words line = if has_dir line.0 then first_position start 1 (drop 1 words) else None
+abbrev pub line_has_dir : Option LineSeen → Bool
+line_has_dir None = false
+line_has_dir (Some line) = has_dir line.0
+
+-- whether the words are a line that has DIR
+abbrev pub says_dir : List (List ℕ) → Bool
+says_dir words = is_some (serve_of words) || line_has_dir (line_of words)
 
 -- the place of DIR
 abbrev pub dir_place : List (List ℕ) → Option ℕ
-dir_place words = option_and_then (dir_place_in words) (line_of words)
+dir_place words = if says_dir words then first_position start 1 (drop 1 words) else None

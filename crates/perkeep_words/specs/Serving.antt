@@ -2,7 +2,7 @@
 use Rattle.std.specs.Prelude.{◌&&◌, ◌≤◌, ℕ, Bool, true, not, if◌then◌else◌, List, [], ◌∷◌, Option, None, is_some, option_map, option_and_then, bytes_eq, codes}
 use Rattle.perkeep_words.specs.Parts.{Part, start, are_parts, parts_from}
 use Rattle.perkeep_words.specs.Kinds.{number_within}
-use Rattle.perkeep_words.specs.Forms.{Form, has_form, first_fault, position_at, value_of}
+use Rattle.perkeep_words.specs.Forms.{Form, has_form, first_fault, value_of}
 use Rattle.perkeep_words.specs.Table.{row, may, must}
 use Rattle.perkeep_words.specs.Reading.{number_of}
 use Rattle.perkeep_words.specs.declared.kinds.TextKind.TheVariants.{Dir, Number}
@@ -26,7 +26,6 @@ serve_form = row (codes "serve") true (Dir ∷ []) 1 None
 
 abbrev pub plan_with : List Part → ℕ → ServePlan
 plan_with parts port = record {
-  dir = position_at 0 parts;
   port = port;
   workers = number_of (codes "workers") 1 threads_max 8 parts;
   indexers = number_of (codes "indexers") 1 threads_max 2 parts;

@@ -1,15 +1,17 @@
 //! Where the words name the folder of the store, and the address of a peer.
-ghost use Rattle.std.specs.Prelude.{◌≡◌, None};
+ghost use Rattle.std.specs.Prelude.{◌≡◌, ◌||◌, None, is_some};
 ghost use Rattle.perkeep_words.specs.Parts.{start};
-ghost use Rattle.perkeep_words.specs.Places.{IsDirPlace, first_position, is_position, dir_place};
+ghost use Rattle.perkeep_words.specs.Reading.{line_named, line_of};
+ghost use Rattle.perkeep_words.specs.Places.{IsDirPlace, OneDirPlace, first_position, is_position, line_has_dir, says_dir, dir_place};
 
 use crate::parts::{Part, State};
 use crate::place::Places;
+use crate::serving::serve_words;
 use crate::table::CommandName;
 use blobref::Text;
 
 /// The places of DIR and ADDR in the words. Each is None exactly where the words are no line that has it, whatever the
-/// line's texts say (docs/commands.md). It takes no memory.
+/// line's texts say (docs/commands.md); a line of `serve` is one. It takes no memory.
 pub fn places(words: &[Text]) -> Places
     ensures dir { IsDirPlace words.now result.dir }
     ensures addr { result.addr ≡ None }
@@ -24,12 +26,39 @@ pub fn places(words: &[Text]) -> Places
 fn dir_place(words: &[Text]) -> Option<usize>
     ensures { result ≡ dir_place words.now }
 {
-    let (word, behind) = words.split_first()?;
-    let form = CommandName::of(word.as_str())?.form();
-    if !form.has_line(behind) || !form.begins_at_dir() {
-        return None;
+    if says_dir(words) {
+        first_position(words.split_first()?.1)
+    } else {
+        None
     }
-    first_position(behind)
+}
+
+// Whether the words are a line that has DIR.
+fn says_dir(words: &[Text]) -> bool
+    ensures { result ≡ says_dir words.now }
+{
+    serve_words(words).is_some() || is_command_with_dir(words)
+}
+
+// Whether the words are a command's line that has DIR.
+fn is_command_with_dir(words: &[Text]) -> bool
+    ensures { result ≡ line_has_dir (line_of words.now) }
+{
+    let Some((word, behind)) = words.split_first() else {
+        return false;
+    };
+    match CommandName::of(word.as_str()) {
+        Some(name) => is_line_with_dir(name, behind),
+        None => false,
+    }
+}
+
+// Whether the words behind the command's name make a line that has DIR.
+fn is_line_with_dir(name: CommandName, behind: &[Text]) -> bool
+    ensures { result ≡ line_has_dir (line_named behind.now name) }
+{
+    let form = name.form();
+    form.has_line(behind) && form.begins_at_dir()
 }
 
 // The place of the first position, of the words behind the command's name.
@@ -55,3 +84,9 @@ fn is_position(part: &Option<Part>) -> bool
         None => false,
     }
 }
+
+/// What `places` tells of DIR is the one thing that can be told: at most one place meets what it says of a place, and
+/// none does where it tells none.
+pub fn places_agree()
+    ensures { OneDirPlace }
+{}

@@ -13,7 +13,7 @@ mod table;
 mod words;
 
 pub use change::Change;
-pub use finding::places;
+pub use finding::{places, places_agree};
 pub use kinds::TextFault;
 pub use parts::parts_agree;
 pub use place::Places;

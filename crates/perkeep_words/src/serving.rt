@@ -1,14 +1,12 @@
 //! The words that start a server.
-ghost use Rattle.std.specs.Prelude.{◌≡◌, ◌≤◌, IfSome};
+ghost use Rattle.std.specs.Prelude.{◌≡◌, IfSome};
 ghost use Rattle.perkeep_words.specs.Parts.{start, parts_from};
-ghost use Rattle.perkeep_words.specs.Forms.{value_of};
 ghost use Rattle.perkeep_words.specs.Kinds.{number_within};
 ghost use Rattle.perkeep_words.specs.Serving.{serve_form, plan_in, is_serve_line, serve_of, IsInRange};
 
-use crate::forms::{Form, OptionForm, nth, position};
+use crate::forms::{Form, OptionForm, nth};
 use crate::kinds::{TextKind, number_within};
 use crate::reading::number_option;
-use crate::words::Word;
 use blobref::Text;
 
 const PORT_MAX: u64 = 65_535;
@@ -42,11 +40,9 @@ const OPTIONS: &[OptionForm] = &[
     },
 ];
 
-/// What a line of `serve` asks for (`docs/commands.md`).
-#[derive(Drop)]
-pub struct ServePlan<'a> {
-    /// The folder of the store.
-    pub dir: Word<'a>,
+/// What a line of `serve` asks for (`docs/commands.md`). Where its DIR stands `places` tells.
+#[derive(Clone, Copy, Debug, PartialEq, Eq)]
+pub struct ServePlan {
     /// The port on the loopback address.
     pub port: u16,
     /// How many connections are served at once.
@@ -59,7 +55,7 @@ pub struct ServePlan<'a> {
 
 /// What the words ask for, where they are a line of `serve`. `None` exactly where they are none: a port, or a number
 /// of workers, indexers or connections, that may not stand there makes them no line.
-pub fn serve_words(words: &[Text]) -> Option<ServePlan<'_>>
+pub fn serve_words(words: &[Text]) -> Option<ServePlan>
     ensures plan { result ≡ serve_of words.now }
     ensures range { IfSome result IsInRange }
 {
@@ -92,13 +88,12 @@ fn is_serve_line(behind: &[Text]) -> bool
 }
 
 // What a line asks for.
-fn plan_in(behind: &[Text]) -> Option<ServePlan<'_>>
+fn plan_in(behind: &[Text]) -> Option<ServePlan>
     ensures plan { result ≡ plan_in (parts_from start behind.now) }
     ensures range { IfSome result IsInRange }
 {
     let port = number_within(1, PORT_MAX, nth(behind, Some("port"), 0)?)?;
     Some(ServePlan {
-        dir: Word::of(position(behind, 0)),
         port: port as u16,
         workers: number_option(behind, "workers", 1, THREADS_MAX, DEFAULT_WORKERS) as usize,
         indexers: number_option(behind, "indexers", 1, THREADS_MAX, DEFAULT_INDEXERS) as usize,
