@@ -19,8 +19,8 @@ is_option (Apart name value) = true
 is_option (Joined name value) = true
 is_option (Position word) = false
 
--- DIR stands at this place in the words of the line: before it stand the command's name, options, and `--` where one of
--- the words so far is `--`. So without `--` before it DIR begins with no dash.
+-- DIR stands at this place in the words of the line: before it stand the command's name, options, and `--` if the line has
+-- it so far. If it hasn't, DIR begins with no dash; so one place fits at most.
 pub record StandsAsDir (words : List (List ℕ)) (place : ℕ) : Type 0 where
   pub name : List ℕ
   pub options : List Item
