@@ -16,7 +16,7 @@ use Rattle.http_wire.specs.declared.head.HeadFault.TheVariants as fault
 use Rattle.http_wire.specs.Lines.{scanned, scanned_on, Reaches, Lacks}
 use Rattle.http_wire.specs.Stream.{Begins}
 use Rattle.http_wire.specs.Heads.{HeadSays, framing_of, headers_of}
-use Rattle.http_wire.specs.Wires.{HeadEnds, RefusesHead}
+use Rattle.http_wire.specs.Wires.{HeadEnds, RefusesHead, LacksHead}
 use Rattle.http_wire.specs.Speaking.{Request, HasNoRequest, Speaks, SpeaksTo, IsOpen, GoesOn, place_behind, last_of}
 use Rattle.http_wire.proofs.Seams.{scanned-append, reached}
 use Rattle.http_wire.proofs.Passing.{one_text}
@@ -52,6 +52,10 @@ not_refused x why b = λ r after is e.
 
 not_open : (x : List ℕ) → Lacks Start 16384 x → HasNoRequest x
 not_open x lacks = λ r after is e. not_lacking Start 16384 x r.head (r.framed ++ after) (e ∙ append_assoc r.head r.framed after) is.lines lacks
+
+-- bytes that end inside a head have no whole request
+pub short_head : (x : List ℕ) → LacksHead x → HasNoRequest x
+short_head x h = not_open x h.1
 
 not_empty : (x : List ℕ) → x ≡ [] → HasNoRequest x
 not_empty x none = λ r after is e.

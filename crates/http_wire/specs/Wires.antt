@@ -35,6 +35,10 @@ body_of Chunked = body.ChunkLine
 abbrev pub RefusesHead : HeadFault → List ℕ → Type 0
 RefusesHead why text = IsHeadText text × HeadSays text (Err why)
 
+-- these bytes end inside a head, or before one
+abbrev pub LacksHead : List ℕ → Type 0
+LacksHead bytes = (length bytes < 16384) × Lacks Start 16384 bytes
+
 -- why no head was read, where the request begins at that place
 abbrev pub HeadEnds : Option (List ℕ) → ℕ → WireEnd → Type 0
 HeadEnds x place ends.Closed = IfSome x (λ bytes. bytes ≡ [])

@@ -21,6 +21,7 @@ pub fn take_line<S: Source>(ahead: &mut Ahead, source: &mut S) -> Result<u64, St
     ensures cut { IsErrOf result Stop.Cut → IfSome (stream ahead.new.bytes (S.left source.new)) (Stops body.ChunkLine) }
     ensures broken { IsErrOf result Stop.Broken
         → IfSome (stream ahead.new.bytes (S.left source.new)) (Breaks body.ChunkLine) }
+    ensures short { IsErrOf result Stop.Failed → Stops body.ChunkLine ahead.new.bytes }
     ensures fault { IsErrOf result Stop.Failed → Rose (S.faults source.old) (S.faults source.new) }
     ensures later { S.faults source.old ≤ S.faults source.new }
 {

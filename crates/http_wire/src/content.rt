@@ -23,6 +23,7 @@ pub fn take_content<S: Source>(
     ensures err { OnErr result (Passed (S.left source.old) (S.left source.new) ahead.old ahead.new []) }
     ensures cut { IsErrOf result Stop.Cut → IfSome (stream ahead.new.bytes (S.left source.new)) (λ x. x ≡ []) }
     ensures whole { IsErrOf result Stop.Broken → ⊥ }
+    ensures short { IsErrOf result Stop.Failed → ahead.new.bytes ≡ [] }
     ensures fault { IsErrOf result Stop.Failed → Rose (S.faults source.old) (S.faults source.new) }
     ensures later { S.faults source.old ≤ S.faults source.new }
 {
@@ -39,6 +40,7 @@ fn take_into<S: Source>(ahead: &mut Ahead, source: &mut S, buf: &mut [u8]) -> Re
     ensures err { OnErr result (Passed (S.left source.old) (S.left source.new) ahead.old ahead.new []) }
     ensures cut { IsErrOf result Stop.Cut → IfSome (stream ahead.new.bytes (S.left source.new)) (λ x. x ≡ []) }
     ensures whole { IsErrOf result Stop.Broken → ⊥ }
+    ensures short { IsErrOf result Stop.Failed → ahead.new.bytes ≡ [] }
     ensures fault { IsErrOf result Stop.Failed → Rose (S.faults source.old) (S.faults source.new) }
     ensures later { S.faults source.old ≤ S.faults source.new }
 {
@@ -70,6 +72,7 @@ fn read_on<S: Source>(ahead: &mut Ahead, source: &mut S, buf: &mut [u8]) -> Resu
     ensures err { OnErr result (Passed (S.left source.old) (S.left source.new) ahead.old ahead.new []) }
     ensures cut { IsErrOf result Stop.Cut → IfSome (stream ahead.new.bytes (S.left source.new)) (λ x. x ≡ []) }
     ensures whole { IsErrOf result Stop.Broken → ⊥ }
+    ensures short { IsErrOf result Stop.Failed → ahead.new.bytes ≡ [] }
     ensures fault { IsErrOf result Stop.Failed → Rose (S.faults source.old) (S.faults source.new) }
     ensures later { S.faults source.old ≤ S.faults source.new }
 {

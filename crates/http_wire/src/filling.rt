@@ -16,7 +16,7 @@ pub enum Missed {
     Long,
     /// The source ended before it.
     Ended,
-    /// A read failed.
+    /// A read failed, and the end isn't within what was read before.
     Failed,
 }
 
@@ -36,6 +36,8 @@ pub fn fill<S: Source>(
     ensures ended { IsErrOf result Missed.Ended
         → IfSome (stream ahead.new.bytes (S.left source.new)) (λ x. (length x < limit) × Lacks place limit x) }
     ensures end { IsErrOf result Missed.Ended → AtEnd (S.left source.new) }
+    ensures short { IsErrOf result Missed.Failed
+        → (length ahead.new.bytes < limit) × Lacks place limit ahead.new.bytes }
     ensures fault { IsErrOf result Missed.Failed → Rose (S.faults source.old) (S.faults source.new) }
     ensures later { S.faults source.old ≤ S.faults source.new }
 {
@@ -55,6 +57,8 @@ fn fill_on<S: Source>(
     ensures long { IsErrOf result Missed.Long → Lacks place limit ahead.new.bytes × (limit ≤ length ahead.new.bytes) }
     ensures ended { IsErrOf result Missed.Ended → Lacks place limit ahead.new.bytes × (length ahead.new.bytes < limit)
         × AtEnd (S.left source.new) }
+    ensures short { IsErrOf result Missed.Failed
+        → (length ahead.new.bytes < limit) × Lacks place limit ahead.new.bytes }
     ensures fault { IsErrOf result Missed.Failed → Rose (S.faults source.old) (S.faults source.new) }
     ensures taken { ahead.new.taken ≡ ahead.old.taken }
     ensures later { S.faults source.old ≤ S.faults source.new }

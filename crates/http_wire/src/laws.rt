@@ -7,7 +7,7 @@ ghost use Rattle.http_wire.specs.Replies.{phrase_of};
 ghost use Rattle.http_wire.specs.Speaking.{Request, IsRequest, Speaks, text_of, HasNoRequest, IsOpen, SpeaksTo};
 ghost use Rattle.http_wire.specs.Speaking.{place_behind, last_of, Begun, IsBegun};
 ghost use Rattle.http_wire.specs.Bodies.{Stops, Breaks};
-ghost use Rattle.http_wire.specs.Wires.{HeadEnds};
+ghost use Rattle.http_wire.specs.Wires.{HeadEnds, LacksHead};
 ghost use Rattle.http_wire.specs.declared.ends.WireEnd.{WireEnd};
 ghost use Rattle.http_wire.specs.declared.place.Place.{Place};
 
@@ -51,7 +51,14 @@ pub fn ends_begin_no_request()
         → (end ≡ WireEnd.ReadFault → ⊥) → HasNoRequest x }
 {}
 
-/// Where the source ends inside the body of a request, or the body breaks, no whole request begins with that head.
+/// Where bytes end inside a head, or before one, no whole request stands in them. So none does in what was read when a
+/// read of a head failed.
+pub fn short_heads_begin_no_request()
+    ensures { (x : List ℕ) → LacksHead x → HasNoRequest x }
+{}
+
+/// Where the source ends inside the body of a request, or the body breaks, no whole request begins with that head. So
+/// none does in what was read when a read of that body failed.
 pub fn unfinished_bodies_begin_no_request()
     ensures { (x tail : List ℕ) (b : Begun) → IsBegun b → x ≡ b.head ++ (b.framed ++ tail)
         → Stops b.at tail ⊎ Breaks b.at tail → HasNoRequest x }

@@ -2,7 +2,7 @@
 ghost use Rattle.std.specs.Prelude.{◌≡◌, ◌<◌, ◌≤◌, [], length, take, IfOk, IfErr, IfSome, OnOk, OnErr, IsErrOf};
 ghost use Rattle.edge_base.specs.Edge.{Rose};
 ghost use Rattle.http_wire.specs.Stream.{stream, Passed};
-ghost use Rattle.http_wire.specs.Bodies.{Moves, Leads, StopSays, IsPastEnd, IsPastLine, IsReady, given_by};
+ghost use Rattle.http_wire.specs.Bodies.{Moves, Leads, Stops, StopSays, IsPastEnd, IsPastLine, IsReady, given_by};
 
 use crate::ahead::Ahead;
 use crate::body::Body;
@@ -25,6 +25,7 @@ pub fn read_body<S: Source>(
     ensures bound { IfOk result (λ n. n ≤ length buf.old) }
     ensures end { IfOk result (λ n. n ≡ 0 → 0 < length buf.old → body.new ≡ Body.Done) }
     ensures err { IfErr result (λ stop. StopSays (stream ahead.new.bytes (S.left source.new)) body.new stop) }
+    ensures short { IsErrOf result Stop.Failed → Stops body.new ahead.new.bytes }
     ensures fault { IsErrOf result Stop.Failed → Rose (S.faults source.old) (S.faults source.new) }
     ensures later { S.faults source.old ≤ S.faults source.new }
 {
@@ -39,6 +40,7 @@ fn get_ready<S: Source>(ahead: &mut Ahead, source: &mut S, body: &mut Body) -> R
     ensures moved { Moves (S.left source.old) (S.left source.new) ahead.old ahead.new body.old body.new [] }
     ensures past { OnOk result (IsReady body.new) }
     ensures err { IfErr result (λ stop. StopSays (stream ahead.new.bytes (S.left source.new)) body.new stop) }
+    ensures short { IsErrOf result Stop.Failed → Stops body.new ahead.new.bytes }
     ensures fault { IsErrOf result Stop.Failed → Rose (S.faults source.old) (S.faults source.new) }
     ensures later { S.faults source.old ≤ S.faults source.new }
 {
@@ -53,6 +55,7 @@ fn pass_end<S: Source>(ahead: &mut Ahead, source: &mut S, body: &mut Body) -> Re
     ensures moved { Moves (S.left source.old) (S.left source.new) ahead.old ahead.new body.old body.new [] }
     ensures past { OnOk result (IsPastEnd body.new) }
     ensures err { IfErr result (λ stop. StopSays (stream ahead.new.bytes (S.left source.new)) body.new stop) }
+    ensures short { IsErrOf result Stop.Failed → Stops body.new ahead.new.bytes }
     ensures fault { IsErrOf result Stop.Failed → Rose (S.faults source.old) (S.faults source.new) }
     ensures later { S.faults source.old ≤ S.faults source.new }
 {
@@ -75,6 +78,7 @@ fn pass_line<S: Source>(ahead: &mut Ahead, source: &mut S, body: &mut Body) -> R
     ensures moved { Moves (S.left source.old) (S.left source.new) ahead.old ahead.new body.old body.new [] }
     ensures past { OnOk result (IsPastLine body.new) }
     ensures err { IfErr result (λ stop. StopSays (stream ahead.new.bytes (S.left source.new)) body.new stop) }
+    ensures short { IsErrOf result Stop.Failed → Stops body.new ahead.new.bytes }
     ensures fault { IsErrOf result Stop.Failed → Rose (S.faults source.old) (S.faults source.new) }
     ensures later { S.faults source.old ≤ S.faults source.new }
 {
@@ -106,6 +110,7 @@ fn pass_trailers<S: Source>(ahead: &mut Ahead, source: &mut S, body: &mut Body) 
     ensures moved { Moves (S.left source.old) (S.left source.new) ahead.old ahead.new body.old body.new [] }
     ensures past { OnOk result (IsReady body.new) }
     ensures err { IfErr result (λ stop. StopSays (stream ahead.new.bytes (S.left source.new)) body.new stop) }
+    ensures short { IsErrOf result Stop.Failed → Stops body.new ahead.new.bytes }
     ensures fault { IsErrOf result Stop.Failed → Rose (S.faults source.old) (S.faults source.new) }
     ensures later { S.faults source.old ≤ S.faults source.new }
 {
@@ -132,6 +137,7 @@ fn give<S: Source>(
     ensures bound { IfOk result (λ n. n ≤ length buf.old) }
     ensures end { IfOk result (λ n. n ≡ 0 → 0 < length buf.old → body.new ≡ Body.Done) }
     ensures err { IfErr result (λ stop. StopSays (stream ahead.new.bytes (S.left source.new)) body.new stop) }
+    ensures short { IsErrOf result Stop.Failed → Stops body.new ahead.new.bytes }
     ensures fault { IsErrOf result Stop.Failed → Rose (S.faults source.old) (S.faults source.new) }
     ensures later { S.faults source.old ≤ S.faults source.new }
 {

@@ -4,7 +4,7 @@ ghost use Rattle.edge_base.specs.Edge.{Rose};
 ghost use Rattle.http_wire.specs.Lines.{Lacks};
 ghost use Rattle.http_wire.specs.Stream.{Passed, AtEnd, stream};
 ghost use Rattle.http_wire.specs.Heads.{IsHeadText, HeadSays};
-ghost use Rattle.http_wire.specs.Wires.{HeadEnds, RefusesHead};
+ghost use Rattle.http_wire.specs.Wires.{HeadEnds, RefusesHead, LacksHead};
 
 use crate::ahead::Ahead;
 use crate::ends::WireEnd;
@@ -28,6 +28,7 @@ pub fn take_head<S: Source>(
         × IsHeadText kept.new × HeadSays kept.new (Ok head)) }
     ensures same { OnErr result (Passed (S.left source.old) (S.left source.new) ahead.old ahead.new []) }
     ensures err { IfErr result (λ end. HeadEnds (stream ahead.new.bytes (S.left source.new)) ahead.old.taken end) }
+    ensures short { IsErrOf result WireEnd.ReadFault → LacksHead ahead.new.bytes }
     ensures fault { IsErrOf result WireEnd.ReadFault → Rose (S.faults source.old) (S.faults source.new) }
     ensures later { S.faults source.old ≤ S.faults source.new }
 {

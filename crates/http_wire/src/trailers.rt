@@ -22,6 +22,7 @@ pub fn take_trailers<S: Source>(ahead: &mut Ahead, source: &mut S) -> Result<(),
     ensures cut { IsErrOf result Stop.Cut → IfSome (stream ahead.new.bytes (S.left source.new)) (Stops body.Trailers) }
     ensures broken { IsErrOf result Stop.Broken
         → IfSome (stream ahead.new.bytes (S.left source.new)) (Breaks body.Trailers) }
+    ensures short { IsErrOf result Stop.Failed → Stops body.Trailers ahead.new.bytes }
     ensures fault { IsErrOf result Stop.Failed → Rose (S.faults source.old) (S.faults source.new) }
     ensures later { S.faults source.old ≤ S.faults source.new }
 {

@@ -3,8 +3,8 @@ ghost use Rattle.std.specs.Prelude.{◌≡◌, ◌<◌, ◌≤◌, [], length, I
 ghost use Rattle.edge_base.specs.Edge.{Rose};
 ghost use Rattle.http_wire.specs.Stream.{Passed};
 ghost use Rattle.http_wire.specs.Heads.{IsHeadText, HeadSays, IsPlaceIn};
-ghost use Rattle.http_wire.specs.Bodies.{Moves, given_by};
-ghost use Rattle.http_wire.specs.Wires.{to_come, body_of, HeadEnds, BodyEnds};
+ghost use Rattle.http_wire.specs.Bodies.{Moves, Stops, given_by};
+ghost use Rattle.http_wire.specs.Wires.{to_come, body_of, HeadEnds, BodyEnds, LacksHead};
 
 use crate::ahead::Ahead;
 use crate::body::Body;
@@ -78,8 +78,9 @@ impl Wire {
     /// isn't empty is the body's end, as it is for a request without a body. Chunk lines and trailers are dropped.
     ///
     /// It ends with `Cut` where the source ends inside the body, with `BadLength` where what comes is no body, both
-    /// with the number of bytes before the request, and with `ReadFault` where a read failed. After each the bytes
-    /// given so far are those of the body, and what it tells is what the stream then has.
+    /// with the number of bytes before the request, and with `ReadFault` where a read failed and what was read before
+    /// ends inside the body. After each the bytes given so far are those of the body, and what it tells is what the
+    /// stream then has.
     pub fn body<S: Source>(&mut self, source: &mut S, buf: &mut [u8]) -> Result<usize, WireEnd>
         ensures moved { Moves (S.left source.old) (S.left source.new) self.old.flow self.new.flow
             self.old.body self.new.body (given_by result buf.new) }
@@ -88,6 +89,7 @@ impl Wire {
         ensures end { IfOk result (λ n. n ≡ 0 → 0 < length buf.old → self.new.body ≡ Body.Done) }
         ensures err { IfErr result
             (λ end. BodyEnds (to_come self.new (S.left source.new)) self.new.body self.old.begun end) }
+        ensures short { IsErrOf result WireEnd.ReadFault → Stops self.new.body self.new.flow.bytes }
         ensures fault { IsErrOf result WireEnd.ReadFault → Rose (S.faults source.old) (S.faults source.new) }
         ensures later { S.faults source.old ≤ S.faults source.new }
     {
@@ -102,7 +104,8 @@ impl Wire {
     ///
     /// It ends with `Closed` where the source ends before the first byte, with `Cut` where it ends inside the head, and
     /// with `BadHead`, `TooLong` and `BadLength` where the head is refused, in this order. `at` is the number of bytes
-    /// before the request. With `ReadFault` a read failed. An error takes nothing from the stream.
+    /// before the request. With `ReadFault` a read failed, and what was read before ends inside the head. An error takes
+    /// nothing from the stream.
     pub fn next_head<S: Source>(&mut self, source: &mut S) -> Result<Head, WireEnd>
         requires { self.old.body ≡ Body.Done }
         ensures ok { IfOk result
@@ -112,6 +115,7 @@ impl Wire {
         ensures same { OnErr result (Passed (S.left source.old) (S.left source.new) self.old.flow self.new.flow []
             × (self.new.body ≡ Body.Done)) }
         ensures err { IfErr result (λ end. HeadEnds (to_come self.new (S.left source.new)) self.old.flow.taken end) }
+        ensures short { IsErrOf result WireEnd.ReadFault → LacksHead self.new.flow.bytes }
         ensures fault { IsErrOf result WireEnd.ReadFault → Rose (S.faults source.old) (S.faults source.new) }
         ensures later { S.faults source.old ≤ S.faults source.new }
     {

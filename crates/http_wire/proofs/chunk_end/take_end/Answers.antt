@@ -2,6 +2,7 @@ use Rattle.std.proofs.Common.{◌≡◌, ℕ, List, [], take, sym, ap, ◌∙◌
 use Rattle.httparse.specs.Ascii.{crlf_bytes}
 use Rattle.http_wire.specs.Stream.{Passed}
 use Rattle.http_wire.proofs.Passing.{Passed-none, Passed-chain}
+use Rattle.http_wire.proofs.Fetching.{Fetched-chain}
 use Rattle.http_wire.proofs.Leading.{bad_stream}
 use Rattle.http_wire.proofs.chunk_end.take_end.Goals as goal
 
@@ -13,3 +14,7 @@ returns-in-Whole-clause-ok g c =
 
 pub returns-in-Wrong-clause-broken : goal.returns-in-Wrong-clause-broken
 returns-in-Wrong-clause-broken g c = λ _. bad_stream c.reads.ahead.bytes c.as_slice.result.now _ c.as_slice.ensures c.in-Wrong.ensures
+
+pub returns-in_default-clause-err : goal.returns-in_default-clause-err
+returns-in_default-clause-err g c =
+    Passed-none _ _ c.args.ahead.now c.fetch.new.self (Fetched-chain _ _ _ _ _ _ c.reads.invariant.fetched c.in_default.ensures.fetched) (c.in_default.ensures.taken ∙ c.reads.invariant.taken)

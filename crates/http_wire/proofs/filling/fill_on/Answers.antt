@@ -28,6 +28,16 @@ returns-then-n-eq0-clause-ended g c = λ _.
     ap (λ xs. scanned c.args.place (take c.args.limit xs)) same ∙ seam_read c.args.place c.reads.at (Open c.in-Open.next) c.reads.ahead.bytes c.as_slice-bytes.result.now c.reads.seen c.args.limit c.min-most.result c.as_slice-bytes.ensures c.min-most.ensures (omega arith) (omega arith) c.reads.invariant.looked c.in-Open.ensures in
     ((c.in-Open.next, open_still), omega (arith, ap length c.as_slice-bytes.ensures, c.in-Ok.ensures.grew), c.in-Ok.ensures.end c.if-n-eq0.true)
 
+pub returns-in_default-clause-fetched : goal.returns-in_default-clause-fetched
+returns-in_default-clause-fetched g c = Fetched-chain _ _ _ _ _ _ c.reads.invariant.fetched c.in_default.ensures.fetched
+
+pub returns-in_default-clause-short : goal.returns-in_default-clause-short
+returns-in_default-clause-short g c = λ _.
+    let same = c.in_default.ensures.kept in
+    let open_still : scanned c.args.place (take c.args.limit c.fetch.new.self.bytes) ≡ Open c.in-Open.next =
+    ap (λ xs. scanned c.args.place (take c.args.limit xs)) same ∙ seam_read c.args.place c.reads.at (Open c.in-Open.next) c.reads.ahead.bytes c.as_slice-bytes.result.now c.reads.seen c.args.limit c.min-most.result c.as_slice-bytes.ensures c.min-most.ensures (omega arith) (omega arith) c.reads.invariant.looked c.in-Open.ensures in
+    (omega (arith, ap length c.as_slice-bytes.ensures, ap length same), (c.in-Open.next, open_still))
+
 pub reads-preserved : goal.reads-preserved
 reads-preserved g c = record {
   fetched = Fetched-chain _ _ _ _ _ _ c.reads.invariant.fetched c.in-Ok.ensures.fetched;
