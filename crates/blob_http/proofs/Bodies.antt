@@ -8,7 +8,7 @@ use Rattle.http_wire.specs.declared.ends.WireEnd.TheVariants as ends
 use Rattle.http_wire.specs.Stream.{Flow, Passed}
 use Rattle.http_wire.specs.Bodies.{Moves}
 use Rattle.http_wire.specs.Wires.{WireView, to_come, BodyEnds}
-use Rattle.http_wire.proofs.Passing.{Passed-none}
+use Rattle.http_wire.proofs.Passing.{none_passed}
 use Rattle.http_wire.proofs.Leading.{Leads-none, Moves-chain}
 use Rattle.edge_base.specs.Edge.{Gave}
 use Rattle.blob_http.specs.declared.gathering.Stopped.{Stopped}
@@ -20,7 +20,7 @@ gave_none None = refl
 gave_none (Some x) = (x, refl, refl)
 
 pub passed_none : (x : Option (List ℕ)) (flow : Flow) → Passed x x flow flow []
-passed_none x flow = Passed-none x x flow flow ([], sym (append-nil flow.bytes), gave_none x) refl
+passed_none x flow = none_passed x x flow flow ([], sym (append-nil flow.bytes), gave_none x) refl
 
 -- nothing is taken
 pub moves_none : (x : Option (List ℕ)) (flow : Flow) (at : Body) → Moves x x flow flow at at []

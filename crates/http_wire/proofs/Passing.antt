@@ -18,8 +18,8 @@ counted-chain : (t a b : ℕ) → counted (counted t a) b ≡ counted t (a + b)
 counted-chain t a b = omega arith
 
 -- nothing was taken
-pub Passed-none : (before now : Option (List ℕ)) (old new : Flow) → Fetched before now old.bytes new.bytes → new.taken ≡ old.taken → Passed before now old new []
-Passed-none before now old new h e = record {
+pub none_passed : (before now : Option (List ℕ)) (old new : Flow) → Fetched before now old.bytes new.bytes → new.taken ≡ old.taken → Passed before now old new []
+none_passed before now old new h e = record {
   gave = Gave-none (stream old.bytes before) (stream new.bytes now) (stream_same before now old.bytes new.bytes h);
   taken = e ∙ sym (counted-zero old.taken);
 }

@@ -20,7 +20,9 @@ pub enum Missed {
     Failed,
 }
 
+// The body doesn't need `fetched_twice`. With it a body that reads once more is refused for `short` alone.
 /// Reads on until the lines end, and says behind how many bytes. Nothing is taken from the stream.
+#[tactic(auto, using(crate::proofs::Passing::none_passed, crate::proofs::Fetching::fetched_twice))]
 pub fn fill<S: Source>(
     ahead: &mut Ahead,
     source: &mut S,

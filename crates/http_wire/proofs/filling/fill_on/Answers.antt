@@ -2,7 +2,7 @@ use Rattle.std.proofs.Common.{◌≡◌, ◌+◌, length, take, ap, ◌∙◌, a
 use Rattle.http_wire.specs.declared.scanning.Scanned.TheVariants.{End, Open}
 use Rattle.http_wire.specs.Lines.{scanned}
 use Rattle.http_wire.proofs.Seams.{seam_read, front_same, reached}
-use Rattle.http_wire.proofs.Fetching.{Fetched-chain, none_came}
+use Rattle.http_wire.proofs.Fetching.{fetched_twice, none_came}
 use Rattle.http_wire.proofs.filling.fill_on.Goals as goal
 
 pub overflow_add-result : goal.overflow_add-result
@@ -29,7 +29,7 @@ returns-then-n-eq0-clause-ended g c = λ _.
     ((c.in-Open.next, open_still), omega (arith, ap length c.as_slice-bytes.ensures, c.in-Ok.ensures.grew), c.in-Ok.ensures.end c.if-n-eq0.true)
 
 pub returns-in_default-clause-fetched : goal.returns-in_default-clause-fetched
-returns-in_default-clause-fetched g c = Fetched-chain _ _ _ _ _ _ c.reads.invariant.fetched c.in_default.ensures.fetched
+returns-in_default-clause-fetched g c = fetched_twice _ _ _ _ _ _ c.reads.invariant.fetched c.in_default.ensures.fetched
 
 pub returns-in_default-clause-short : goal.returns-in_default-clause-short
 returns-in_default-clause-short g c = λ _.
@@ -40,7 +40,7 @@ returns-in_default-clause-short g c = λ _.
 
 pub reads-preserved : goal.reads-preserved
 reads-preserved g c = record {
-  fetched = Fetched-chain _ _ _ _ _ _ c.reads.invariant.fetched c.in-Ok.ensures.fetched;
+  fetched = fetched_twice _ _ _ _ _ _ c.reads.invariant.fetched c.in-Ok.ensures.fetched;
   taken = c.in-Ok.ensures.taken ∙ c.reads.invariant.taken;
   later = omega (arith, c.in-Ok.ensures.cause.later);
   looked = ap (scanned c.args.place) (front_same c.args.limit c.min-most.result c.reads.ahead.bytes c.as_slice-bytes.result.now _ c.fetch.new.self.bytes c.as_slice-bytes.ensures c.min-most.ensures c.in-Ok.ensures.fetched.1) ∙ seam_read c.args.place c.reads.at (Open c.in-Open.next) c.reads.ahead.bytes c.as_slice-bytes.result.now c.reads.seen c.args.limit c.min-most.result c.as_slice-bytes.ensures c.min-most.ensures (omega arith) (omega arith) c.reads.invariant.looked c.in-Open.ensures;
