@@ -14,3 +14,4 @@ pub mod Targets
 pub mod Unfinished
 pub mod Values
 pub mod Within
+pub mod OneReading

@@ -6,6 +6,7 @@ ghost use Rattle.http_wire.specs.Lines.{Reaches};
 ghost use Rattle.http_wire.specs.Replies.{phrase_of};
 ghost use Rattle.http_wire.specs.Speaking.{Request, IsRequest, Speaks, text_of, HasNoRequest, IsOpen, SpeaksTo};
 ghost use Rattle.http_wire.specs.Speaking.{place_behind, last_of, Begun, IsBegun};
+ghost use Rattle.http_wire.specs.Readings.{OneReading, IsLongest, SpeaksToNoMore};
 ghost use Rattle.http_wire.specs.Bodies.{Stops, Breaks};
 ghost use Rattle.http_wire.specs.Wires.{HeadEnds, LacksHead};
 ghost use Rattle.http_wire.specs.declared.ends.WireEnd.{WireEnd};
@@ -43,6 +44,15 @@ pub fn one_more_request()
 /// A stream begins with one head text at most.
 pub fn one_head_text()
     ensures { (x a b after rest : List ℕ) → x ≡ a ++ after → x ≡ b ++ rest → IsHeadText a → IsHeadText b → a ≡ b }
+{}
+
+/// A stream has one reading as requests. Of two the shorter has the first requests of the longer, with the same texts,
+/// closings and bodies, and what follows is read as the others. None is longer than one behind which no whole request
+/// begins. So a stream speaks to one list of requests, where none is answered that isn't read to its end.
+pub fn one_reading()
+    ensures first { OneReading }
+    ensures longest { IsLongest }
+    ensures answered { SpeaksToNoMore }
 {}
 
 /// Where no head is read, and no read failed, no whole request begins.

@@ -30,7 +30,8 @@ pub use ends::WireEnd;
 pub use head::{Framing, Head, HeadFault, Piece};
 pub use laws::{
     ends_are_last, ends_begin_no_request, heads_are_lines, one_head_text, one_more_request,
-    phrases, short_heads_begin_no_request, trailers_are_lines, unfinished_bodies_begin_no_request,
+    one_reading, phrases, short_heads_begin_no_request, trailers_are_lines,
+    unfinished_bodies_begin_no_request,
 };
 pub use replies::reply_head;
 pub use wire::Wire;
