@@ -21,12 +21,20 @@ fn is_quoted_byte(byte: u8) -> bool
     is_header_value_token(byte) && byte != b'"' && byte != b'\\'
 }
 
+// Whether a token may have the byte. A dash is asked for first, since boundaries have many of them.
+#[tactic(auto, unfolding(httparse::specs::Grammar::is_token_byte))]
+fn is_token_byte(byte: u8) -> bool
+    ensures { result ≡ is_token_byte byte }
+{
+    byte == b'-' || is_header_name_token(byte)
+}
+
 fn token_len(text: &[u8]) -> usize
     ensures value { result ≡ prefix_len is_token_byte text.now }
     ensures within { result ≤ length text.now }
 {
     for i in 0..text.len() {
-        if !is_header_name_token(text[i]) {
+        if !is_token_byte(text[i]) {
             return i;
         }
     }
