@@ -48,7 +48,8 @@ pub trait Home {
         requires { belongs self.now pass.old }
         ensures own { belongs self.now pass.new }
         ensures turn { StoreCall (result ≡ Err PutFault.NoMemory)
-            (λ before entry. PutSays said.now bytes.now before result entry) (sight pass.old) (sight pass.new) };
+            (λ before entry. PutSays (sight pass.old).store.limits said.now bytes.now before result entry)
+            (sight pass.old) (sight pass.new) };
 
     /// The bytes of the blob under a ref, in one turn of the store, as `StorePlace::get`.
     fn fetch<R: Wait>(

@@ -30,8 +30,9 @@ pub trait StorePlace {
     ghost tells: { Self → Bool };
 
     /// Puts a blob under its ref. `TooBig`, `BadDigest` and `Already` come exactly where `put_settled` says so, in
-    /// this order; `Full` and `Disk` only with the entry of this turn that tells the same. After an error nothing
-    /// arrived.
+    /// this order. Else it is `Full` where as many blobs arrived as there may be; below that it is so only where its
+    /// pack is the last one. `Full` and `Disk` come only with the entry of this turn that tells the same. After an
+    /// error nothing arrived.
     fn put<R: Wait>(
         &self,
         rt: &R,
@@ -41,7 +42,8 @@ pub trait StorePlace {
     ) -> Result<Put, PutFault>
         requires { belongs self.now seat.old }
         ensures own { belongs self.now seat.new }
-        ensures turn { StoreTurn (λ before entry. PutSays said.now bytes.now before result entry)
+        ensures turn { StoreTurn
+            (λ before entry. PutSays (sight seat.old).limits said.now bytes.now before result entry)
             (sight seat.old) (sight seat.new) };
 
     /// The bytes of the blob under a ref, and `None` exactly where none arrived. `Disk` and `Damaged` come only with

@@ -3,7 +3,7 @@ use Rattle.std.proofs.Common.{◌≡◌, ℕ, ◌-◌, ◌≤◌, List, [], ◌�
 use Rattle.std.specs.Option.{ForSome, option_map, option_or}
 use Rattle.std.proofs.lemmas.List.{append-nil, map-append}
 use Rattle.std.specs.Cmp.Lexicographic.{pointwise}
-use Rattle.std.proofs.lemmas.Bool.{and_from, eq-eqb, le-leb, ltb-false, ltb-true}
+use Rattle.std.proofs.lemmas.Bool.{and_from, eq-eqb, le-leb, leb-false, ltb-false, ltb-true}
 use Rattle.std.proofs.lemmas.Cmp.{nat_list_eq_equiv}
 use Rattle.blobref.specs.Blobref.{IsOwnRef, is_own_ref, ref_like}
 use Rattle.edge_base.specs.Edge.{Rose}
@@ -21,8 +21,8 @@ use Rattle.histories.specs.declared.stamped.Stamped.{Stamped}
 use Rattle.histories.specs.declared.events.StoreEvent.{StoreEvent}
 use Rattle.histories.specs.declared.events.StoreEvent.TheVariants as store
 use Rattle.histories.specs.History.{events, stamped}
-use Rattle.histories.specs.Stores.{Blob, puts, arrivals, last_faults, number_of}
-use Rattle.histories.specs.StoreCalls.{sizes, put_settled, PutAnswers, PutSays}
+use Rattle.histories.specs.Stores.{Blob, puts, arrivals, last_faults, number_of, is_full_at}
+use Rattle.histories.specs.StoreCalls.{sizes, put_settled, HasRoom, PutAnswers, PutSays}
 use Rattle.told_store.specs.Telling.{limits_of, StoreTells, AddsEntry, put_entry}
 use Rattle.told_store.proofs.Rows.{same_count, same_number, has_none}
 use Rattle.told_store.proofs.Growing.{tells_same, tells_more, told_after, rose_above}
@@ -36,22 +36,37 @@ at_limit true b last next full = refl
 at_limit false true last next full = let lt = ltb-true last next full in le-leb last (next - 1) (omega (arith, lt))
 at_limit false false last next full = absurd (cc full)
 
+or_false : (a b : Bool) → (a || b) ≡ false → a ≡ false
+or_false true b is = is
+or_false false b is = refl
+
 module _ {D : Type 0} (g : Ghosts D) (old new : Archive D) (r bytes : List ℕ) (own : IsOwnRef r bytes) (later : g.faults old.disk ≤ g.faults new.disk)
     (h : List (Stamped StoreEvent)) (turn : ℕ) (tells : StoreTells g old h) where
   abbrev Grown : Option StoreEvent → Type 0
   Grown entry = StoreTells g new (h ++ stamped turn entry)
 
   abbrev Adds : Option (Result Put PutFault) → Result Put PutFault → Type 0
-  Adds settled result = Grown (put_entry r bytes result (g.faults new.disk)) × PutAnswers r bytes (arrivals h) settled result (put_entry r bytes result (g.faults new.disk))
+  Adds settled result = Grown (put_entry r bytes result (g.faults new.disk)) × PutAnswers (limits_of old) r bytes (arrivals h) settled result (put_entry r bytes result (g.faults new.disk))
 
   nothing : new ≡ old → Grown None
   nothing same = tells_same g old new h turn tells (ap limits_of same) (ap (λ (s : Archive D). stood.sizes_in s.rows) same)
       (subst (λ (s : Archive D). ForSome (g.packs s.disk) (λ held. stood.arrivals_in held s.rows ≡ arrivals h)) (sym same) tells.told) later
 
+  -- where the store is full, that is told
+  at_full : is_full old ≡ true → is_full_at (limits_of old) (length (arrivals h)) (count old) (greatest old) ≡ true
+  at_full full = and_from (nat_eq (count old) (length (arrivals h))) _ (eq-eqb _ _ (same_count old.rows (arrivals h) tells.rows))
+      (at_limit (nat_le old.limits.blobs (count old)) (needs_pack old) old.limits.last_pack old.next full)
+
+  -- where it isn't, there is room
+  has_room : is_full old ≡ false → HasRoom (limits_of old) (arrivals h)
+  has_room room =
+      let below = leb-false old.limits.blobs (count old) (or_false (nat_le old.limits.blobs (count old)) _ room) in
+      let counted = same_count old.rows (arrivals h) tells.rows in
+      omega (arith, below, counted)
+
   -- there was no room
   filled : new ≡ old → is_full old ≡ true → Grown (Some (store.Full (count old) (greatest old)))
-  filled same full = tells_more g old new h turn tells (ap limits_of same) (store.Full (count old) (greatest old))
-      (and_from (nat_eq (count old) (length (puts (events h)))) _ (eq-eqb _ _ (same_count old.rows (arrivals h) tells.rows)) (at_limit (nat_le old.limits.blobs (count old)) (needs_pack old) old.limits.last_pack old.next full))
+  filled same full = tells_more g old new h turn tells (ap limits_of same) (store.Full (count old) (greatest old)) (at_full full)
       (ap (λ (s : Archive D). stood.sizes_in s.rows) same ∙ tells.rows ∙ ap sizes (sym (append-nil (arrivals h))))
       (subst (λ bs. ForSome (g.packs new.disk) (λ held. stood.arrivals_in held new.rows ≡ bs)) (sym (append-nil (arrivals h)))
       (subst (λ (s : Archive D). ForSome (g.packs s.disk) (λ held. stood.arrivals_in held s.rows ≡ arrivals h)) (sym same) tells.told))
@@ -84,26 +99,26 @@ module _ {D : Type 0} (g : Ghosts D) (old new : Archive D) (r bytes : List ℕ) 
       → (Leaves g old new r bytes answer → Adds settled answer) → Leaves g old new r bytes result → Adds settled result
   answered answer settled result is f leaves = subst (Adds settled) (sym is) (f (subst (Leaves g old new r bytes) is leaves))
 
-  tried : nat_lt max_size (length bytes) ≡ false → stood.number_of r old.rows ≡ None → (result : Result Put PutFault) → Answers None (count old) result → Leaves g old new r bytes result
+  tried : nat_lt max_size (length bytes) ≡ false → stood.number_of r old.rows ≡ None → is_full old ≡ false → (result : Result Put PutFault) → Answers None (count old) result → Leaves g old new r bytes result
       → (result ≡ Err fault.Disk → Rose (g.faults old.disk) (g.faults new.disk)) → Adds None result
-  tried small absent (Ok (Stored n)) is leaves rose = (
+  tried small absent room (Ok (Stored n)) is leaves rose = (
     subst (λ m. Grown (Some (store.Put m r bytes))) (sym is) (stored leaves small absent),
-    (is ∙ same_count old.rows (arrivals h) tells.rows, refl),
+    (has_room room, is ∙ same_count old.rows (arrivals h) tells.rows, refl),
   )
-  tried small absent (Ok (Already n)) is leaves rose = absurd is
-  tried small absent (Err (fault.TooBig size)) is leaves rose = absurd is
-  tried small absent (Err (fault.BadDigest said other)) is leaves rose = absurd is
-  tried small absent (Err (fault.Full blobs pack)) is leaves rose = absurd is
-  tried small absent (Err fault.Disk) is leaves rose = (failed leaves (rose refl), (g.faults new.disk, refl))
-  tried small absent (Err fault.NoMemory) is leaves rose = (nothing leaves, refl)
+  tried small absent room (Ok (Already n)) is leaves rose = absurd is
+  tried small absent room (Err (fault.TooBig size)) is leaves rose = absurd is
+  tried small absent room (Err (fault.BadDigest said other)) is leaves rose = absurd is
+  tried small absent room (Err (fault.Full blobs pack)) is leaves rose = absurd is
+  tried small absent room (Err fault.Disk) is leaves rose = (failed leaves (rose refl), (has_room room, (g.faults new.disk, refl)))
+  tried small absent room (Err fault.NoMemory) is leaves rose = (nothing leaves, (has_room room, refl))
 
   by_number : nat_lt max_size (length bytes) ≡ false → (o : Option ℕ) → stood.number_of r old.rows ≡ o → (full : Bool) → is_full old ≡ full → (result : Result Put PutFault)
       → Answers (option_or (option_map (λ (n : ℕ). Ok (Already n)) o) (cond full (Some (Err (fault.Full (count old) (greatest old)))) None)) (count old) result
       → Leaves g old new r bytes result → (result ≡ Err fault.Disk → Rose (g.faults old.disk) (g.faults new.disk))
       → Adds (option_map (λ (n : ℕ). Ok (Already n)) o) result
   by_number small (Some n) at full is_full_so result is leaves rose = answered (Ok (Already n)) (Some (Ok (Already n))) result is (λ same. (nothing same, (refl, refl))) leaves
-  by_number small None at true is_full_so result is leaves rose = answered (Err (fault.Full (count old) (greatest old))) None result is (λ same. (filled same is_full_so, refl)) leaves
-  by_number small None at false is_full_so result is leaves rose = tried small at result is leaves rose
+  by_number small None at true is_full_so result is leaves rose = answered (Err (fault.Full (count old) (greatest old))) None result is (λ same. (filled same is_full_so, (at_full is_full_so, refl))) leaves
+  by_number small None at false is_full_so result is leaves rose = tried small at is_full_so result is leaves rose
 
   by_size : (big : Bool) → nat_lt max_size (length bytes) ≡ big → (result : Result Put PutFault)
       → Answers (cond big (Some (Err (fault.TooBig (length bytes)))) (option_or (option_map (λ (n : ℕ). Ok (Already n)) (stood.number_of r old.rows)) (cond (is_full old) (Some (Err (fault.Full (count old) (greatest old)))) None))) (count old) result
@@ -126,5 +141,5 @@ module _ {D : Type 0} (g : Ghosts D) (old new : Archive D) (r bytes : List ℕ) 
 pub put_adds : {D : Type 0} (g : Ghosts D) (old new : Archive D) (r bytes : List ℕ) (result : Result Put PutFault) → IsOwnRef r bytes
     → Answers (early_answer_own old r (length bytes)) (count old) result → Leaves g old new r bytes result
     → (result ≡ Err fault.Disk → Rose (g.faults old.disk) (g.faults new.disk)) → g.faults old.disk ≤ g.faults new.disk
-    → AddsEntry g old new (put_entry r bytes result (g.faults new.disk)) (λ before entry. PutSays r bytes before result entry)
+    → AddsEntry g old new (put_entry r bytes result (g.faults new.disk)) (λ before entry. PutSays (limits_of old) r bytes before result entry)
 put_adds g old new r bytes result own is leaves rose later h turn tells before = put_adds_here g old new r bytes own later h turn tells result is leaves rose

@@ -9,16 +9,16 @@ use edge_base::{Put, PutFault};
 use pack_disk::Disk;
 use pack_store::Store;
 
-/// Puts a blob under its own ref, whose digest the caller has taken. `TooBig`, `Already` and `Stored` come as
-/// `put_settled` says, `BadDigest` never, `Full` and `Disk` only with the entry that tells the same. After an error
-/// nothing arrived.
+/// Puts a blob under its own ref, whose digest the caller has taken. `TooBig` and `Already` come as `put_settled`
+/// says, `BadDigest` never; of the others `PutTried` says which may come within the limits. `Full` and `Disk` come only
+/// with the entry that tells the same. After an error nothing arrived.
 pub fn put<D: Disk>(store: &mut Store<D>, r: &Ref, bytes: &[u8]) -> Result<Put, PutFault>
     requires own { IsOwnRef r.now bytes.now }
     ensures limits { limits_of store.new ≡ limits_of store.old }
     ensures told { is_told D.Disk store.new ≡ is_told D.Disk store.old }
     ensures tells { AddsEntry D.Disk store.old store.new
         (put_entry r.now bytes.now result (D.faults store.new.disk))
-        (λ before entry. PutSays r.now bytes.now before result entry) }
+        (λ before entry. PutSays (limits_of store.old) r.now bytes.now before result entry) }
 {
     store.put_own(r, bytes)
 }

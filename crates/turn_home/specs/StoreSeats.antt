@@ -4,6 +4,7 @@ use Rattle.pack_disk.specs.declared.disk.Disk.{Ghosts}
 use Rattle.turn_cell.specs.Seats.{IsSeatOf, about, made_of, seen, turns}
 use Rattle.told_store.specs.Telling.{is_told}
 use Rattle.home_core.specs.Seats.{StoreSight}
+use Rattle.turn_home.specs.declared.store.StoreAbout.{StoreAbout}
 use Rattle.turn_home.specs.declared.store.TurnStore.{TurnStore}
 use Rattle.turn_home.specs.declared.store.StoreSeat.{StoreSeat}
 use Rattle.turn_home.specs.StoreAbout.{about_of, limits_seen}
@@ -11,9 +12,13 @@ use Rattle.turn_home.specs.StoreAbout.{about_of, limits_seen}
 abbrev pub store_sight : {D : Type 0} {b : _} → StoreSeat D b → StoreSight
 store_sight s = record { history = seen s.seat; turns = turns s.seat; limits = limits_seen (about s.seat) }
 
+-- what no turn changes of the place's store
+abbrev pub place_about : {D : Type 0} → Ghosts D → TurnStore D → StoreAbout
+place_about g p = about_of g (made_of p.turn).store
+
 -- the seat is one of this place's
 abbrev pub IsOfStore : {D : Type 0} {b : _} → Ghosts D → TurnStore D → StoreSeat D b → Type 0
-IsOfStore g p s = IsSeatOf p.turn s.seat × (about s.seat ≡ Some (about_of g (made_of p.turn).store))
+IsOfStore g p s = IsSeatOf p.turn s.seat × (about s.seat ≡ Some (place_about g p))
 
 -- whether the place tells the bytes of its blobs
 abbrev pub place_tells : {D : Type 0} → Ghosts D → TurnStore D → Bool

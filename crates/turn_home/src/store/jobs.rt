@@ -19,10 +19,11 @@ pub struct PutOwn<'a> {
 impl<'a, D: Disk> StoreJob<D> for PutOwn<'a> {
     ghost use Rattle.histories.specs.StoreCalls.{PutSays};
     ghost use Rattle.told_store.specs.Telling.{put_entry};
+    ghost use Rattle.turn_home.specs.StoreAbout.{limits_in};
 
     type Out = Result<Put, PutFault>;
 
-    ghost says = { λ j tells before result entry. PutSays j.r.now j.bytes.now before result entry };
+    ghost says = { λ j about before result entry. PutSays (limits_in about) j.r.now j.bytes.now before result entry };
 
     ghost adds = { λ j result s. put_entry j.r.now j.bytes.now result (D.faults s.disk) };
 
@@ -43,7 +44,7 @@ impl<'a, D: Disk> StoreJob<D> for Find<'a> {
 
     type Out = Result<Option<Found>, GetFault>;
 
-    ghost says = { λ j tells before result entry. GetSays tells j.r.now before (checked_get result) entry };
+    ghost says = { λ j about before result entry. GetSays about.tells j.r.now before (checked_get result) entry };
 
     ghost adds = { λ j result s. find_entry result (D.faults s.disk) };
 
@@ -64,7 +65,8 @@ impl<D: Disk> StoreJob<D> for FindNumber {
 
     type Out = Result<Option<Found>, GetFault>;
 
-    ghost says = { λ j tells before result entry. ArrivalSays tells j.number before (checked_arrival result) entry };
+    ghost says = { λ j about before result entry.
+        ArrivalSays about.tells j.number before (checked_arrival result) entry };
 
     ghost adds = { λ j result s. find_entry result (D.faults s.disk) };
 
@@ -86,7 +88,7 @@ impl<'a, D: Disk> StoreJob<D> for Page<'a> {
 
     type Out = Result<Listing, NoMemory>;
 
-    ghost says = { λ j tells before result entry. ListSays (option_copied j.after) j.limit before result entry };
+    ghost says = { λ j about before result entry. ListSays (option_copied j.after) j.limit before result entry };
 
     ghost adds = { λ j result s. None };
 
@@ -108,7 +110,7 @@ impl<'a, D: Disk> StoreJob<D> for Sizes<'a> {
 
     type Out = Result<Listing, NoMemory>;
 
-    ghost says = { λ j tells before result entry. (asked : List (List ℕ)) → j.once.now ≡ each_once [] asked
+    ghost says = { λ j about before result entry. (asked : List (List ℕ)) → j.once.now ≡ each_once [] asked
         → StatSays asked before result entry };
 
     ghost adds = { λ j result s. None };
@@ -127,7 +129,7 @@ impl<D: Disk> StoreJob<D> for Count {
 
     type Out = u64;
 
-    ghost says = { λ j tells before result entry. (result ≡ length before) × (entry ≡ None) };
+    ghost says = { λ j about before result entry. (result ≡ length before) × (entry ≡ None) };
 
     ghost adds = { λ j result s. None };
 

@@ -1,5 +1,5 @@
 //! One turn of the store.
-ghost use Rattle.turn_home.specs.StoreSeats.{IsOfStore, store_sight, place_tells};
+ghost use Rattle.turn_home.specs.StoreSeats.{IsOfStore, store_sight, place_about};
 ghost use Rattle.home_core.specs.Seats.{StoreTurn};
 
 use super::{KeptStore, StoreSeat, TurnStore};
@@ -11,19 +11,20 @@ use turn_cell::Job;
 
 /// What is done to the store in one turn.
 pub trait StoreJob<D: Disk> {
-    ghost use Rattle.std.specs.Prelude.{◌≡◌, List, Option, Bool};
+    ghost use Rattle.std.specs.Prelude.{◌≡◌, List, Option};
     ghost use Rattle.histories.specs.declared.events.StoreEvent.{StoreEvent};
     ghost use Rattle.histories.specs.Stores.{Blob};
     ghost use Rattle.pack_store.specs.Archive.{Archive};
-    ghost use Rattle.told_store.specs.Telling.{AddsEntry, is_told};
+    ghost use Rattle.told_store.specs.Telling.{AddsEntry};
+    ghost use Rattle.turn_home.specs.declared.store.StoreAbout.{StoreAbout};
     ghost use Rattle.turn_home.specs.StoreAbout.{about_of};
 
     /// What it answers.
     type Out;
 
-    /// What it means: of the job, whether the disk tells, the blobs that arrived before the turn, the answer, and the
+    /// What it means: of the job, what no turn changes, the blobs that arrived before the turn, the answer, and the
     /// entry that the turn adds.
-    ghost says: { Self → Bool → List Blob → Self.Out → Option StoreEvent → Type 0 };
+    ghost says: { Self → StoreAbout → List Blob → Self.Out → Option StoreEvent → Type 0 };
 
     /// The entry that the turn adds, if any: of the job, the answer, and the store after.
     ghost adds: { Self → Self.Out → Archive D → Option StoreEvent };
@@ -32,7 +33,7 @@ pub trait StoreJob<D: Disk> {
     fn go(self, store: &mut Store<D>) -> Self::Out
         ensures about { about_of D.Disk store.new ≡ about_of D.Disk store.old }
         ensures tells { AddsEntry D.Disk store.old store.new (adds self result store.new)
-            (λ before entry. says self (is_told D.Disk store.old) before result entry) };
+            (λ before entry. says self (about_of D.Disk store.old) before result entry) };
 }
 
 impl<D: Disk, O, J: StoreJob<D, Out = O> + Drop> Job<KeptStore<D>> for Counted<J> {
@@ -42,7 +43,7 @@ impl<D: Disk, O, J: StoreJob<D, Out = O> + Drop> Job<KeptStore<D>> for Counted<J
 
     type Out = O;
 
-    ghost says = { λ j about before turn result k entry. J.says j.was.value about.tells (arrivals before) result entry
+    ghost says = { λ j about before turn result k entry. J.says j.was.value about (arrivals before) result entry
         × (k.count ≡ length (arrivals (before ++ stamped turn entry))) };
 
     ghost adds = { λ j result kept. J.adds j.was.value result kept.store };
@@ -67,7 +68,7 @@ impl<D: Disk> TurnStore<D> {
     ) -> O
         requires { IsOfStore D.Disk self.now seat.old }
         ensures own { IsOfStore D.Disk self.now seat.new }
-        ensures turn { StoreTurn (λ before entry. J.says job (place_tells D.Disk self.now) before result entry)
+        ensures turn { StoreTurn (λ before entry. J.says job (place_about D.Disk self.now) before result entry)
             (store_sight seat.old) (store_sight seat.new) }
     {
         let mut counted = Counted::of(job);
