@@ -49,15 +49,15 @@ named_as : (r q : List ℕ) (size : ℕ) (o : Option ℕ) → option_map {U = Li
 named_as r q size None is = absurd (cc is)
 named_as r q size (Some n) is = ap (λ (e : List ℕ × ℕ). e.0) (some_same (r, n) (q, size) is)
 
-pub find_adds : {D : Type 0} (g : Ghosts D) (old new : Archive D) (r : List ℕ) (result : Result (Option Found) GetFault)
+pub find_adds : {D : Type 0} (g : Ghosts D) (made : ℕ) (old new : Archive D) (r : List ℕ) (result : Result (Option Found) GetFault)
     → ((result ≡ Ok None) ↔ (stood.number_of r old.rows ≡ None)) → IfOk result (λ found. IfSome found (IsFound (read.entry_of r old.rows)))
     → IfOk result (λ found. ForSome (g.packs old.disk) (λ held. bytes_found found ≡ read.bytes_of r held old.rows))
     → IfOk result (λ found. IfSome found (λ b. ForSome (g.packs old.disk) (λ held. IsOwnRef b.r b.bytes)))
     → read.IsDamage None (g.packs old.disk) result → read.StaysStill g old new → (result ≡ Err unread.Disk → Rose (g.faults old.disk) (g.faults new.disk)) → g.faults old.disk ≤ g.faults new.disk
-    → AddsEntry g old new (find_entry result (g.faults new.disk)) (λ before entry. GetSays (is_told g old) r before (checked_get result) entry)
-find_adds g old new r result none placed bytes own damage still rose later h turn tells before =
+    → AddsEntry g made old new (find_entry result (g.faults new.disk)) (λ before entry. GetSays (is_told g old) r before (checked_get result) entry)
+find_adds g made old new r result none placed bytes own damage still rose later h turn tells before =
     let blobs = arrivals h in
-    let both = found_adds g old new still later h turn tells (blob_under r blobs) (read.entry_of r old.rows) (same_entry old.rows blobs tells.rows r) (under_arrived r blobs) result
+    let both = found_adds g made old new still later h turn tells (blob_under r blobs) (read.entry_of r old.rows) (same_entry old.rows blobs tells.rows r) (under_arrived r blobs) result
     (λ is. none_under r blobs (sym (same_number old.rows blobs tells.rows r) ∙ none.0 is)) placed
     (λ b is held told.
     let here : IsFound (read.entry_of r old.rows) b = subst (λ o. IfOk o (λ found. IfSome found (IsFound (read.entry_of r old.rows)))) is placed in
@@ -75,16 +75,16 @@ at_arrived (b ∷ blobs) zero q own at =
     or_left (is_ref q b.0) _ (subst (λ (x : List ℕ). is_ref q x ≡ true) (ap (λ (e : Blob). e.0) (sym (some_same b (q, own) at))) (nat_list_eq_equiv.refl q))
 at_arrived (b ∷ blobs) (suc n) q own at = or_right (is_ref q b.0) _ (at_arrived blobs n q own at)
 
-pub find_number_adds : {D : Type 0} (g : Ghosts D) (old new : Archive D) (n : ℕ) (result : Result (Option Found) GetFault)
+pub find_number_adds : {D : Type 0} (g : Ghosts D) (made : ℕ) (old new : Archive D) (n : ℕ) (result : Result (Option Found) GetFault)
     → ((result ≡ Ok None) ↔ (count old ≤ n)) → IfOk result (λ found. IfSome found (IsFound (read.entry_at n old.rows)))
     → IfOk result (λ found. ForSome (g.packs old.disk) (λ held. arrival_found found ≡ slice_get (stood.arrivals_in held old.rows) n))
     → IfOk result (λ found. IfSome found (λ b. ForSome (g.packs old.disk) (λ held. IsOwnRef b.r b.bytes)))
     → read.IsDamage None (g.packs old.disk) result → read.StaysStill g old new → (result ≡ Err unread.Disk → Rose (g.faults old.disk) (g.faults new.disk)) → g.faults old.disk ≤ g.faults new.disk
-    → AddsEntry g old new (find_entry result (g.faults new.disk)) (λ before entry. ArrivalSays (is_told g old) n before (checked_arrival result) entry)
-find_number_adds g old new n result none placed bytes own damage still rose later h turn tells before =
+    → AddsEntry g made old new (find_entry result (g.faults new.disk)) (λ before entry. ArrivalSays (is_told g old) n before (checked_arrival result) entry)
+find_number_adds g made old new n result none placed bytes own damage still rose later h turn tells before =
     let blobs = arrivals h in
     let counted = same_count old.rows blobs tells.rows in
-    let both = found_adds g old new still later h turn tells (slice_get blobs n) (read.entry_at n old.rows) (same_entry_at old.rows blobs tells.rows n) (at_arrived blobs n) result
+    let both = found_adds g made old new still later h turn tells (slice_get blobs n) (read.entry_at n old.rows) (same_entry_at old.rows blobs tells.rows n) (at_arrived blobs n) result
     (λ is. slice_get_past blobs n (let le : count old ≤ n = none.0 is in omega (arith, le, counted))) placed
     (λ b is held told.
     let there : Some (b.r, b.bytes) ≡ slice_get (stood.arrivals_in held old.rows) n

@@ -11,7 +11,7 @@ use Rattle.edge_base.specs.declared.answers.GetFault.TheVariants as unread
 use Rattle.pack_disk.specs.Packs.{Packs}
 use Rattle.pack_disk.specs.declared.disk.Disk.{Ghosts}
 use Rattle.pack_store.specs.declared.reading.Found.{Found}
-use Rattle.pack_store.specs.Archive.{Archive}
+use Rattle.pack_store.specs.Archive.{Archive, greatest}
 use Rattle.pack_store.specs.Rows as stood
 use Rattle.pack_store.specs.Reading as read
 use Rattle.pack_store.specs.Finding.{IsFound, checked}
@@ -24,7 +24,7 @@ use Rattle.histories.specs.StoreCalls.{sizes, IsQuiet, IsRead, GetFails, GetSays
 use Rattle.told_store.specs.Telling.{limits_of, is_told, StoreTells}
 use Rattle.told_store.specs.Finding.{find_entry, bytes_in, blob_in, checked_get, checked_arrival}
 use Rattle.told_store.proofs.Rows.{blob_under}
-use Rattle.told_store.proofs.Growing.{tells_same, tells_more, rose_above}
+use Rattle.told_store.proofs.Growing.{Onward, tells_same, tells_more, rose_above}
 use Rattle.pack_store.proofs.Held.{some_same}
 use Rattle.told_store.proofs.Puts.{own_true}
 
@@ -44,10 +44,10 @@ asked_blob (Some b) r size is =
 second_same : (blob : Option Blob) (r a b : List ℕ) → blob ≡ Some (r, a) → blob ≡ Some (r, b) → b ≡ a
 second_same blob r a b at bytes = ap (λ (x : Blob). x.1) (some_same (r, b) (r, a) (sym bytes ∙ at))
 
-module _ {D : Type 0} (g : Ghosts D) (old new : Archive D) (still : read.StaysStill g old new) (later : g.faults old.disk ≤ g.faults new.disk)
-    (h : List (Stamped StoreEvent)) (turn : ℕ) (tells : StoreTells g old h) where
+module _ {D : Type 0} (g : Ghosts D) (made : ℕ) (old new : Archive D) (still : read.StaysStill g old new) (later : g.faults old.disk ≤ g.faults new.disk)
+    (h : List (Stamped StoreEvent)) (turn : ℕ) (tells : StoreTells g made old h) where
   abbrev Grown : Option StoreEvent → Type 0
-  Grown entry = StoreTells g new (h ++ stamped turn entry)
+  Grown entry = StoreTells g made new (h ++ stamped turn entry)
 
   rows_are : stood.sizes_in new.rows ≡ stood.sizes_in old.rows
   rows_are = ap (λ (s : Archive D). stood.sizes_in s.rows) still.value
@@ -55,25 +55,33 @@ module _ {D : Type 0} (g : Ghosts D) (old new : Archive D) (still : read.StaysSt
   told_now : ForSome (g.packs new.disk) (λ held. stood.arrivals_in held new.rows ≡ arrivals h)
   told_now held is = ap (λ (s : Archive D). stood.arrivals_in held s.rows) still.value ∙ tells.told held (sym still.stays.told ∙ is)
 
+  onward : Onward g old new
+  onward = record {
+    limits = ap limits_of still.value;
+    told = ap (λ (o : Option Packs). is_some o) still.stays.told;
+    later = later;
+    packs = let is : greatest new ≡ greatest old = ap greatest still.value in omega (arith, is);
+  }
+
   nothing : Grown None
-  nothing = tells_same g old new h turn tells (ap limits_of still.value) rows_are told_now later
+  nothing = tells_same g made old new h turn tells onward rows_are told_now
 
   none_put : (e : StoreEvent) → puts (e ∷ []) ≡ [] → arrivals h ≡ arrivals h ++ puts (e ∷ [])
   none_put e none = sym (ap (λ bs. arrivals h ++ bs) none ∙ append-nil (arrivals h))
 
   failed : Rose (g.faults old.disk) (g.faults new.disk) → Grown (Some (store.Fault (g.faults new.disk)))
-  failed rose = tells_more g old new h turn tells (ap limits_of still.value) (store.Fault (g.faults new.disk))
+  failed rose = tells_more g made old new h turn tells onward (store.Fault (g.faults new.disk))
       (le-leb _ _ (rose_above (last_faults 0 (events h)) (g.faults old.disk) (g.faults new.disk) tells.faults rose))
       (rows_are ∙ tells.rows ∙ ap sizes (none_put (store.Fault (g.faults new.disk)) refl))
       (λ held is. told_now held is ∙ none_put (store.Fault (g.faults new.disk)) refl)
-      (omega arith)
+      (omega arith) (le-leb _ _ (rose_above made (g.faults old.disk) (g.faults new.disk) tells.later rose)) refl
 
-  damaged : (r bytes : List ℕ) → has_ref r (arrivals h) ≡ true → is_own_ref r bytes ≡ false → Grown (Some (store.Damage r (ref_like r bytes)))
-  damaged r bytes arrived other = tells_more g old new h turn tells (ap limits_of still.value) (store.Damage r (ref_like r bytes))
+  damaged : (r bytes : List ℕ) → is_told g old ≡ false → has_ref r (arrivals h) ≡ true → is_own_ref r bytes ≡ false → Grown (Some (store.Damage r (ref_like r bytes)))
+  damaged r bytes untold arrived other = tells_more g made old new h turn tells onward (store.Damage r (ref_like r bytes))
       (and_from (has_ref r (puts (events h))) _ arrived (ap not other))
       (rows_are ∙ tells.rows ∙ ap sizes (none_put (store.Damage r (ref_like r bytes)) refl))
       (λ held is. told_now held is ∙ none_put (store.Damage r (ref_like r bytes)) refl)
-      (let was = tells.faults in omega (arith, was, later))
+      (let was = tells.faults in omega (arith, was, later)) (ap not untold) refl
 
   module _ (blob : Option Blob) (asked : Option (List ℕ × ℕ)) (same : asked ≡ option_map (λ (b : Blob). (b.0, length b.1)) blob)
       (arrived : (r own : List ℕ) → blob ≡ Some (r, own) → has_ref r (arrivals h) ≡ true) where
@@ -95,7 +103,7 @@ module _ {D : Type 0} (g : Ghosts D) (old new : Archive D) (still : read.StaysSt
         × FoundSays (is_told g old) blob (blob_in (cond right (Ok (b.r, b.bytes)) (Err (unread.Damaged b.r (ref_like b.r b.bytes))))) (cond right None (Some (store.Damage b.r (ref_like b.r b.bytes))))
     by_digest b own at bytes named true right = (nothing, ((own, at, is_read (g.packs old.disk) b own at bytes right), tt))
     by_digest b own at bytes named false right = (
-      damaged b.r b.bytes (arrived b.r own at) right,
+      damaged b.r b.bytes (untold (g.packs old.disk) b named right) (arrived b.r own at) right,
       (ap (option_map (λ (x : Blob). x.0)) at, untold (g.packs old.disk) b named right, refl),
     )
 

@@ -1,6 +1,6 @@
 -- A put adds the entry of its answer.
 use Rattle.std.proofs.Common.{◌≡◌, ℕ, ◌-◌, ◌≤◌, List, [], ◌∷◌, ◌++◌, length, cond, Bool, true, false, not, ◌&&◌, ◌||◌, nat_eq, nat_le, nat_lt, Option, Some, None, Result, Ok, Err, refl, sym, ap, subst, ◌∙◌, arith}
-use Rattle.std.specs.Option.{ForSome, option_map, option_or}
+use Rattle.std.specs.Option.{ForSome, is_some, option_map, option_or}
 use Rattle.std.proofs.lemmas.List.{append-nil, map-append}
 use Rattle.std.specs.Cmp.Lexicographic.{pointwise}
 use Rattle.std.proofs.lemmas.Bool.{and_from, eq-eqb, le-leb, leb-false, ltb-false, ltb-true}
@@ -14,18 +14,19 @@ use Rattle.edge_base.specs.declared.answers.PutFault.TheVariants as fault
 use Rattle.pack_format.specs.Header.{max_size}
 use Rattle.pack_disk.specs.declared.disk.Disk.{Ghosts}
 use Rattle.pack_store.specs.declared.rows.Row.{Row}
+use Rattle.pack_store.specs.declared.rows.Current.{Current}
 use Rattle.pack_store.specs.Archive.{Archive, count, greatest, needs_pack, is_full}
 use Rattle.pack_store.specs.Rows as stood
-use Rattle.pack_store.specs.Putting.{early_answer_own, Answers, Leaves, Stores, Fails, row_after}
+use Rattle.pack_store.specs.Putting.{early_answer_own, Answers, Leaves, Stores, Fails, row_after, next_after}
 use Rattle.histories.specs.declared.stamped.Stamped.{Stamped}
 use Rattle.histories.specs.declared.events.StoreEvent.{StoreEvent}
 use Rattle.histories.specs.declared.events.StoreEvent.TheVariants as store
 use Rattle.histories.specs.History.{events, stamped}
 use Rattle.histories.specs.Stores.{Blob, puts, arrivals, last_faults, number_of, is_full_at}
 use Rattle.histories.specs.StoreCalls.{sizes, put_settled, HasRoom, PutAnswers, PutSays}
-use Rattle.told_store.specs.Telling.{limits_of, StoreTells, AddsEntry, put_entry}
+use Rattle.told_store.specs.Telling.{limits_of, is_told, StoreTells, AddsEntry, put_entry}
 use Rattle.told_store.proofs.Rows.{same_count, same_number, has_none}
-use Rattle.told_store.proofs.Growing.{tells_same, tells_more, told_after, rose_above}
+use Rattle.told_store.proofs.Growing.{Onward, next_later, tells_same, tells_more, told_after, told_same, rose_above}
 
 pub own_true : (r bytes : List ℕ) → IsOwnRef r bytes → is_own_ref r bytes ≡ true
 own_true r bytes own = subst (λ (x : List ℕ). pointwise nat_eq (ref_like r bytes) x ≡ true) own (nat_list_eq_equiv.refl (ref_like r bytes))
@@ -40,17 +41,20 @@ or_false : (a b : Bool) → (a || b) ≡ false → a ≡ false
 or_false true b is = is
 or_false false b is = refl
 
-module _ {D : Type 0} (g : Ghosts D) (old new : Archive D) (r bytes : List ℕ) (own : IsOwnRef r bytes) (later : g.faults old.disk ≤ g.faults new.disk)
-    (h : List (Stamped StoreEvent)) (turn : ℕ) (tells : StoreTells g old h) where
+module _ {D : Type 0} (g : Ghosts D) (made : ℕ) (old new : Archive D) (r bytes : List ℕ) (own : IsOwnRef r bytes) (later : g.faults old.disk ≤ g.faults new.disk)
+    (h : List (Stamped StoreEvent)) (turn : ℕ) (tells : StoreTells g made old h) where
   abbrev Grown : Option StoreEvent → Type 0
-  Grown entry = StoreTells g new (h ++ stamped turn entry)
+  Grown entry = StoreTells g made new (h ++ stamped turn entry)
 
   abbrev Adds : Option (Result Put PutFault) → Result Put PutFault → Type 0
   Adds settled result = Grown (put_entry r bytes result (g.faults new.disk)) × PutAnswers (limits_of old) r bytes (arrivals h) settled result (put_entry r bytes result (g.faults new.disk))
 
+  unchanged : new ≡ old → Onward g old new
+  unchanged same = record { limits = ap limits_of same; told = ap (is_told g) same; later = later; packs = let is : greatest new ≡ greatest old = ap greatest same in omega (arith, is) }
+
   nothing : new ≡ old → Grown None
-  nothing same = tells_same g old new h turn tells (ap limits_of same) (ap (λ (s : Archive D). stood.sizes_in s.rows) same)
-      (subst (λ (s : Archive D). ForSome (g.packs s.disk) (λ held. stood.arrivals_in held s.rows ≡ arrivals h)) (sym same) tells.told) later
+  nothing same = tells_same g made old new h turn tells (unchanged same) (ap (λ (s : Archive D). stood.sizes_in s.rows) same)
+      (subst (λ (s : Archive D). ForSome (g.packs s.disk) (λ held. stood.arrivals_in held s.rows ≡ arrivals h)) (sym same) tells.told)
 
   -- where the store is full, that is told
   at_full : is_full old ≡ true → is_full_at (limits_of old) (length (arrivals h)) (count old) (greatest old) ≡ true
@@ -66,24 +70,35 @@ module _ {D : Type 0} (g : Ghosts D) (old new : Archive D) (r bytes : List ℕ) 
 
   -- there was no room
   filled : new ≡ old → is_full old ≡ true → Grown (Some (store.Full (count old) (greatest old)))
-  filled same full = tells_more g old new h turn tells (ap limits_of same) (store.Full (count old) (greatest old)) (at_full full)
+  filled same full = tells_more g made old new h turn tells (unchanged same) (store.Full (count old) (greatest old)) (at_full full)
       (ap (λ (s : Archive D). stood.sizes_in s.rows) same ∙ tells.rows ∙ ap sizes (sym (append-nil (arrivals h))))
       (subst (λ bs. ForSome (g.packs new.disk) (λ held. stood.arrivals_in held new.rows ≡ bs)) (sym (append-nil (arrivals h)))
       (subst (λ (s : Archive D). ForSome (g.packs s.disk) (λ held. stood.arrivals_in held s.rows ≡ arrivals h)) (sym same) tells.told))
-      (let was = tells.faults in omega (arith, was, later))
+      (let was = tells.faults in omega (arith, was, later)) refl
+      (le-leb (greatest old) (greatest new) (let is : greatest new ≡ greatest old = ap greatest same in omega (arith, is)))
+
+  -- a pack was asked for, or the current one was there
+  asked : {rows : List Row} {current : Option Current} → new ≡ record { rows = rows; limits = old.limits; next = next_after old; current = current; disk = new.disk }
+      → is_some (g.packs new.disk) ≡ is_some (g.packs old.disk) → Onward g old new
+  asked value told = record {
+    limits = ap limits_of value;
+    told = told;
+    later = later;
+    packs = let is : greatest new ≡ next_after old - 1 = ap greatest value in let more = next_later (needs_pack old) old.next in omega (arith, is, more);
+  }
 
   -- the disk failed
   failed : Fails g old new → Rose (g.faults old.disk) (g.faults new.disk) → Grown (Some (store.Fault (g.faults new.disk)))
-  failed fails rose = tells_more g old new h turn tells (ap limits_of fails.value) (store.Fault (g.faults new.disk))
+  failed fails rose = tells_more g made old new h turn tells (asked fails.value (told_same (g.packs old.disk) (g.packs new.disk) _ fails.arrived)) (store.Fault (g.faults new.disk))
       (le-leb _ _ (rose_above (last_faults 0 (events h)) (g.faults old.disk) (g.faults new.disk) tells.faults rose))
       (ap (λ (s : Archive D). stood.sizes_in s.rows) fails.value ∙ tells.rows ∙ ap sizes (sym (append-nil (arrivals h))))
       (told_after (g.packs old.disk) (g.packs new.disk) _ fails.arrived (λ held. stood.arrivals_in held old.rows ≡ arrivals h) _ tells.told
       (λ x y step was. step ∙ was ∙ sym (append-nil (arrivals h))))
-      (omega arith)
+      (omega arith) (le-leb _ _ (rose_above made (g.faults old.disk) (g.faults new.disk) tells.later rose)) refl
 
   -- the blob arrived
   stored : Stores g old new r bytes → nat_lt max_size (length bytes) ≡ false → stood.number_of r old.rows ≡ None → Grown (Some (store.Put (count old) r bytes))
-  stored stores small absent = tells_more g old new h turn tells (ap limits_of stores.value) (store.Put (count old) r bytes)
+  stored stores small absent = tells_more g made old new h turn tells (asked stores.value (told_same (g.packs old.disk) (g.packs new.disk) _ stores.arrived)) (store.Put (count old) r bytes)
       (and_from (nat_eq (count old) (length (puts (events h)))) _ (eq-eqb _ _ (same_count old.rows (arrivals h) tells.rows))
       (and_from (nat_le (length bytes) max_size && is_own_ref r bytes) _
       (and_from (nat_le (length bytes) max_size) _ (le-leb _ _ (ltb-false max_size (length bytes) small)) (own_true r bytes own))
@@ -92,7 +107,7 @@ module _ {D : Type 0} (g : Ghosts D) (old new : Archive D) (r bytes : List ℕ) 
       ∙ ap (λ es. es ++ (r, length bytes) ∷ []) tells.rows ∙ sym (map-append (λ (b : Blob). (b.0, length b.1)) (arrivals h) ((r, bytes) ∷ [])))
       (told_after (g.packs old.disk) (g.packs new.disk) _ stores.arrived (λ held. stood.arrivals_in held old.rows ≡ arrivals h) _ tells.told
       (λ x y step was. step ∙ ap (λ bs. bs ++ (r, bytes) ∷ []) was))
-      (let was = tells.faults in omega (arith, was, later))
+      (let was = tells.faults in omega (arith, was, later)) refl refl
 
   -- an answer that comes before anything is done
   answered : (answer : Result Put PutFault) (settled : Option (Result Put PutFault)) (result : Result Put PutFault) → result ≡ answer
@@ -138,8 +153,8 @@ module _ {D : Type 0} (g : Ghosts D) (old new : Archive D) (r bytes : List ℕ) 
       → (result ≡ Err fault.Disk → Rose (g.faults old.disk) (g.faults new.disk)) → Adds (put_settled r bytes (arrivals h)) result
   put_adds_here result is leaves rose = subst (λ settled. Adds settled result) (sym settled_is) (by_size (nat_lt max_size (length bytes)) refl result is leaves rose)
 
-pub put_adds : {D : Type 0} (g : Ghosts D) (old new : Archive D) (r bytes : List ℕ) (result : Result Put PutFault) → IsOwnRef r bytes
+pub put_adds : {D : Type 0} (g : Ghosts D) (made : ℕ) (old new : Archive D) (r bytes : List ℕ) (result : Result Put PutFault) → IsOwnRef r bytes
     → Answers (early_answer_own old r (length bytes)) (count old) result → Leaves g old new r bytes result
     → (result ≡ Err fault.Disk → Rose (g.faults old.disk) (g.faults new.disk)) → g.faults old.disk ≤ g.faults new.disk
-    → AddsEntry g old new (put_entry r bytes result (g.faults new.disk)) (λ before entry. PutSays (limits_of old) r bytes before result entry)
-put_adds g old new r bytes result own is leaves rose later h turn tells before = put_adds_here g old new r bytes own later h turn tells result is leaves rose
+    → AddsEntry g made old new (put_entry r bytes result (g.faults new.disk)) (λ before entry. PutSays (limits_of old) r bytes before result entry)
+put_adds g made old new r bytes result own is leaves rose later h turn tells before = put_adds_here g made old new r bytes own later h turn tells result is leaves rose

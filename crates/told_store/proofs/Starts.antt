@@ -1,6 +1,6 @@
 -- A store stands for the history with which it begins.
-use Rattle.std.proofs.Common.{◌≡◌, ℕ, zero, suc, ◌+◌, ◌≤◌, true, false, not, ◌&&◌, List, [], ◌∷◌, ◌++◌, length, map, Option, Some, None, nat_eq, nat_le, refl, sym, ap, subst, ◌∙◌, arith, length-append}
-use Rattle.std.specs.List.{All}
+use Rattle.std.proofs.Common.{◌≡◌, ℕ, zero, suc, ◌+◌, ◌≤◌, Bool, true, false, not, ◌&&◌, List, [], ◌∷◌, ◌++◌, length, map, Option, Some, None, nat_eq, nat_le, refl, sym, ap, subst, ◌∙◌, arith, length-append}
+use Rattle.std.specs.List.{All, list_all}
 use Rattle.std.proofs.lemmas.List.{map-append}
 use Rattle.std.proofs.lemmas.Bool.{and_from, eq-eqb, le-leb}
 use Rattle.blobref.specs.Blobref.{IsOwnRef, is_own_ref}
@@ -8,7 +8,7 @@ use Rattle.pack_format.specs.Header.{max_size}
 use Rattle.pack_disk.specs.Packs.{Packs}
 use Rattle.pack_disk.specs.declared.disk.Disk.{Ghosts}
 use Rattle.pack_store.specs.declared.rows.Row.{Row}
-use Rattle.pack_store.specs.Archive.{Archive}
+use Rattle.pack_store.specs.Archive.{Archive, greatest}
 use Rattle.pack_store.specs.Rows as stood
 use Rattle.pack_store.specs.Reading.{AreHeld}
 use Rattle.histories.specs.declared.events.StoreEvent.{StoreEvent}
@@ -18,7 +18,7 @@ use Rattle.histories.specs.Stores.{Blob, StoreLimits, puts, arrivals, last_fault
 use Rattle.histories.specs.StoreCalls.{sizes}
 use Rattle.histories.proofs.Rising.{events_start}
 use Rattle.histories.proofs.Standing.{puts_append}
-use Rattle.told_store.specs.Telling.{limits_of, StoreTells}
+use Rattle.told_store.specs.Telling.{limits_of, is_told, may_stand, is_pack_within, StoreTells}
 use Rattle.told_store.specs.Beginning.{blobs_told, puts_from, begins}
 use Rattle.told_store.proofs.Rows.{same_number, has_none}
 use Rattle.told_store.proofs.Puts.{own_true}
@@ -31,6 +31,14 @@ puts_are n (b ∷ blobs) = ap (λ bs. b ∷ bs) (puts_are (n + 1) blobs)
 no_faults : (f n : ℕ) (blobs : List Blob) → last_faults f (puts_from n blobs) ≡ f
 no_faults f n [] = refl
 no_faults f n (b ∷ blobs) = no_faults f (n + 1) blobs
+
+puts_stand : (made : ℕ) (tells : Bool) (n : ℕ) (blobs : List Blob) → list_all (may_stand made tells) (puts_from n blobs) ≡ true
+puts_stand made tells n [] = refl
+puts_stand made tells n (b ∷ blobs) = puts_stand made tells (n + 1) blobs
+
+puts_within : (most n : ℕ) (blobs : List Blob) → list_all (is_pack_within most) (puts_from n blobs) ≡ true
+puts_within most n [] = refl
+puts_within most n (b ∷ blobs) = puts_within most (n + 1) blobs
 
 -- the blob of a row may arrive
 abbrev MayStand : Blob → Type 0
@@ -99,7 +107,7 @@ module _ {D : Type 0} (g : Ghosts D) (s : Archive D) (are : AreHeld g s) where
   begun_own None is = some_own s.rows are.blobs
   begun_own (Some held) is = are.named held is
 
-  pub begins_told : StoreTells g s (map (stamp 0) (begins g s))
+  pub begins_told : StoreTells g (g.faults s.disk) s (map (stamp 0) (begins g s))
   begins_told =
       let blobs = blobs_told s.rows (g.packs s.disk) in
       let events_are : events (map (stamp 0) (begins g s)) ≡ begins g s = events_start (begins g s) in
@@ -110,5 +118,8 @@ module _ {D : Type 0} (g : Ghosts D) (s : Archive D) (are : AreHeld g s) where
             (may_follow (limits_of s) [] [] [] 0 refl refl refl s.rows blobs same are.distinct (small_sizes s.rows blobs same are.blobs (begun_own (g.packs s.disk) refl)));
         rows = same ∙ ap sizes (sym arrivals_are);
         told = λ held is. ap (blobs_told s.rows) (sym is) ∙ sym arrivals_are;
+        later = omega arith;
+        stands = ap (list_all (may_stand (g.faults s.disk) (is_told g s))) events_are ∙ puts_stand (g.faults s.disk) (is_told g s) 0 blobs;
+        packs = ap (list_all (is_pack_within (greatest s))) events_are ∙ puts_within (greatest s) 0 blobs;
         faults = let none : last_faults 0 (events (map (stamp 0) (begins g s))) ≡ 0 = ap (last_faults 0) events_are ∙ no_faults 0 0 blobs in omega (arith, none);
       }

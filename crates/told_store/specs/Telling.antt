@@ -1,12 +1,14 @@
 -- Which histories a store of packs stands for, and what its calls add to them (docs/store.md).
-use Rattle.std.specs.Prelude.{◌≡◌, ℕ, ◌≤◌, List, ◌++◌, Bool, true, Option, Some, None, Result, Ok, Err}
+use Rattle.std.specs.Prelude.{◌≡◌, ℕ, ◌≤◌, List, ◌++◌, Bool, true, not, nat_le, Option, Some, None, Result, Ok, Err}
+use Rattle.std.specs.List.{list_all}
 use Rattle.std.specs.Option.{ForSome, is_some}
+use Rattle.edge_base.specs.Edge.{one_more}
 use Rattle.edge_base.specs.declared.answers.Put.{Put}
 use Rattle.edge_base.specs.declared.answers.Put.TheVariants.{Stored, Already}
 use Rattle.edge_base.specs.declared.answers.PutFault.{PutFault}
 use Rattle.edge_base.specs.declared.answers.PutFault.TheVariants as fault
 use Rattle.pack_disk.specs.declared.disk.Disk.{Ghosts}
-use Rattle.pack_store.specs.Archive.{Archive}
+use Rattle.pack_store.specs.Archive.{Archive, greatest}
 use Rattle.pack_store.specs.Rows.{arrivals_in, sizes_in}
 use Rattle.histories.specs.declared.stamped.Stamped.{Stamped}
 use Rattle.histories.specs.declared.events.StoreEvent.{StoreEvent}
@@ -23,24 +25,44 @@ limits_of s = record { blobs = s.limits.blobs; last_pack = s.limits.last_pack }
 abbrev pub is_told : {D : Type 0} → Ghosts D → Archive D → Bool
 is_told g s = is_some (g.packs s.disk)
 
--- The store stands for the history: it is legal within the limits, its arrivals have the refs and sizes of the rows,
--- and where the disk tells, the bytes there. The disk has counted each fault.
-pub record StoreTells {D : Type 0} (g : Ghosts D) (s : Archive D) (h : List (Stamped StoreEvent)) : Type 0 where
+-- An entry may stand in the history of a store that came behind its lock with so many faults counted, and tells its packs
+-- or doesn't: a Fault's count is above those, and there is no Damage where the disk tells.
+abbrev pub may_stand : ℕ → Bool → StoreEvent → Bool
+may_stand made tells (store.Put n r bytes) = true
+may_stand made tells (store.Fault faults) = nat_le (one_more made) faults
+may_stand made tells (store.Damage want is) = not tells
+may_stand made tells (store.Full blobs pack) = true
+
+-- a Full's pack is at most this one
+abbrev pub is_pack_within : ℕ → StoreEvent → Bool
+is_pack_within most (store.Put n r bytes) = true
+is_pack_within most (store.Fault faults) = true
+is_pack_within most (store.Damage want is) = true
+is_pack_within most (store.Full blobs pack) = nat_le pack most
+
+-- The store, whose disk had counted so many faults when it came behind its lock, stands for the history. That is legal
+-- within the limits, its arrivals have the refs and sizes of the rows, and where the disk tells, the bytes there. Each
+-- entry may stand there; no Fault has a greater count than the disk has now, and no Full a greater pack than the
+-- store's greatest one, or 0 where there is none.
+pub record StoreTells {D : Type 0} (g : Ghosts D) (made : ℕ) (s : Archive D) (h : List (Stamped StoreEvent)) : Type 0 where
   pub legal : is_legal_store (limits_of s) h ≡ true
   pub rows : sizes_in s.rows ≡ sizes (arrivals h)
   pub told : ForSome (g.packs s.disk) (λ held. arrivals_in held s.rows ≡ arrivals h)
+  pub later : made ≤ g.faults s.disk
   pub faults : last_faults 0 (events h) ≤ g.faults s.disk
+  pub stands : list_all (may_stand made (is_told g s)) (events h) ≡ true
+  pub packs : list_all (is_pack_within (greatest s)) (events h) ≡ true
 
 -- A call in a turn adds this entry to each history that the store stood for, and answers as is said over the blobs that
 -- arrived before.
-abbrev pub AddsEntry : {D : Type 0} → Ghosts D → (old new : Archive D) → Option StoreEvent
+abbrev pub AddsEntry : {D : Type 0} → Ghosts D → ℕ → (old new : Archive D) → Option StoreEvent
     → (List Blob → Option StoreEvent → Type 0) → Type 0
-AddsEntry g old new entry says = (h : List (Stamped StoreEvent)) (turn : ℕ) → StoreTells g old h → Before turn h
-    → StoreTells g new (h ++ stamped turn entry) × says (arrivals h) entry
+AddsEntry g made old new entry says = (h : List (Stamped StoreEvent)) (turn : ℕ) → StoreTells g made old h
+    → Before turn h → StoreTells g made new (h ++ stamped turn entry) × says (arrivals h) entry
 
 -- A call adds no entry, and answers as is said over the blobs that arrived.
-abbrev pub AddsNone : {D : Type 0} → Ghosts D → Archive D → (List Blob → Option StoreEvent → Type 0) → Type 0
-AddsNone g s says = (h : List (Stamped StoreEvent)) → StoreTells g s h → says (arrivals h) None
+abbrev pub AddsNone : {D : Type 0} → Ghosts D → ℕ → Archive D → (List Blob → Option StoreEvent → Type 0) → Type 0
+AddsNone g made s says = (h : List (Stamped StoreEvent)) → StoreTells g made s h → says (arrivals h) None
 
 -- what a put of a blob under its own ref adds, where the disk counts so many faults after it
 abbrev pub put_entry : List ℕ → List ℕ → Result Put PutFault → ℕ → Option StoreEvent

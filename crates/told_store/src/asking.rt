@@ -14,7 +14,7 @@ use std::collections::BTreeSet;
 
 /// How many blobs arrived.
 pub fn count<D: Disk>(store: &Store<D>) -> u64
-    ensures tells { AddsNone D.Disk store.now (λ before entry. CountSays before result entry) }
+    ensures tells { (made : ℕ) → AddsNone D.Disk made store.now (λ before entry. CountSays before result entry) }
 {
     store.count()
 }
@@ -26,7 +26,7 @@ pub fn list<D: Disk>(
     after: Option<&Ref>,
     limit: usize,
 ) -> Result<Listing, NoMemory>
-    ensures tells { AddsNone D.Disk store.now
+    ensures tells { (made : ℕ) → AddsNone D.Disk made store.now
         (λ before entry. ListSays (option_copied after.entry) limit before result entry) }
 {
     store.list(after, limit)
@@ -35,8 +35,8 @@ pub fn list<D: Disk>(
 /// Those of the refs under which a blob arrived, in their order, each with the size of its blob in bytes. Where these
 /// are refs without their repeats, as `once` gives them, that is the answer for the refs.
 pub fn stat<D: Disk>(alloc: Global, store: &Store<D>, refs: &RefList) -> Result<Listing, NoMemory>
-    ensures tells { (asked : List (List ℕ)) → refs.now ≡ each_once [] asked
-        → AddsNone D.Disk store.now (λ before entry. StatSays asked before result entry) }
+    ensures tells { (made : ℕ) (asked : List (List ℕ)) → refs.now ≡ each_once [] asked
+        → AddsNone D.Disk made store.now (λ before entry. StatSays asked before result entry) }
 {
     let mut found = Listing::empty(alloc);
     for r in refs.as_slice() {

@@ -8,9 +8,9 @@ use pack_disk::Disk;
 use pack_store::Store;
 
 /// A store stands for the history in which its blobs arrived before the first turn, in their order. Where its disk
-/// doesn't tell them, it is of some bytes of their refs and sizes.
+/// doesn't tell them, it is of some bytes of their refs and sizes. What its disk has counted is what it came with.
 pub fn begins_tell<D: Disk>(store: &Store<D>)
-    ensures { StoreTells D.Disk store.now (map (stamp 0) (begins D.Disk store.now)) }
+    ensures { StoreTells D.Disk (D.faults store.now.disk) store.now (map (stamp 0) (begins D.Disk store.now)) }
 {
     store.arrivals_are_held();
 }

@@ -1,4 +1,5 @@
 -- What a seat has seen is legal.
+use Rattle.std.proofs.lemmas.Bool.{and_parts}
 use Rattle.claim_verify.specs.Verifier.{Accepts}
 use Rattle.turn_cell.specs.Seats.{about, seen, turns}
 use Rattle.home_core.specs.Seats.{IsStoreSight, IsIndexSight}
@@ -9,7 +10,7 @@ use Rattle.turn_home.specs.StoreSeats.{store_sight}
 use Rattle.turn_home.specs.IndexSeats.{accepts_of, index_sight}
 
 pub store_seat_legal : {D : Type 0} {b : _} (s : StoreSeat D b) → IsStoreSight (store_sight s)
-store_seat_legal s = record { legal = s.legal; rising = s.seat.rising }
+store_seat_legal s = record { legal = (and_parts _ _ s.legal).0; rising = s.seat.rising }
 
 pub index_seat_legal : {V : Type 0} {b : _} (accepts : V → Accepts) (s : IndexSeat V b)
     → IsIndexSight (index_sight accepts s)

@@ -1,19 +1,39 @@
 -- What no turn changes of a store.
-use Rattle.std.specs.Prelude.{Option, Some, None}
-use Rattle.histories.specs.Stores.{StoreLimits}
+use Rattle.std.specs.Prelude.{◌≡◌, ℕ, List, Bool, true, false, ◌&&◌, Option, Some, None}
+use Rattle.std.specs.List.{list_all}
+use Rattle.std.proofs.lemmas.Bool.{and_from}
+use Rattle.histories.specs.declared.stamped.Stamped.{Stamped}
+use Rattle.histories.specs.declared.events.StoreEvent.{StoreEvent}
+use Rattle.histories.specs.History.{events}
+use Rattle.histories.specs.Stores.{StoreLimits, is_legal_store}
 use Rattle.pack_disk.specs.declared.disk.Disk.{Ghosts}
 use Rattle.pack_store.specs.Archive.{Archive}
-use Rattle.told_store.specs.Telling.{limits_of, is_told}
+use Rattle.told_store.specs.Telling.{limits_of, is_told, may_stand, StoreTells}
 use Rattle.turn_home.specs.declared.store.StoreAbout.{StoreAbout}
 
-abbrev pub about_of : {D : Type 0} → Ghosts D → Archive D → StoreAbout
-about_of g s = record { blobs = (limits_of s).blobs; last_pack = (limits_of s).last_pack; tells = is_told g s }
+-- of a store whose disk had counted so many faults when it came behind the lock
+abbrev pub about_of : {D : Type 0} → Ghosts D → ℕ → Archive D → StoreAbout
+about_of g made s =
+    record { blobs = (limits_of s).blobs; last_pack = (limits_of s).last_pack; tells = is_told g s; made = made }
 
 -- the limits among it
 abbrev pub limits_in : StoreAbout → StoreLimits
 limits_in a = record { blobs = a.blobs; last_pack = a.last_pack }
 
--- the same of what a seat knows; each seat of a lock knows it
+-- The history is legal within the limits. Its faults were counted since the store came behind the lock, and where the
+-- disk tells, there is no damage in it.
+abbrev pub is_legal_within : StoreAbout → List (Stamped StoreEvent) → Bool
+is_legal_within a h = is_legal_store (limits_in a) h && list_all (may_stand a.made a.tells) (events h)
+
+-- so is each history that a store stands for
+pub legal_within : {D : Type 0} (g : Ghosts D) (made : ℕ) (s : Archive D) (h : List (Stamped StoreEvent))
+    → StoreTells g made s h → is_legal_within (about_of g made s) h ≡ true
+legal_within g made s h tells = and_from _ _ tells.legal tells.stands
+
+-- what a seat knows of it; each seat of a lock knows it
+abbrev pub about_seen : Option StoreAbout → StoreAbout
+about_seen None = record { blobs = 0; last_pack = 0; tells = false; made = 0 }
+about_seen (Some a) = a
+
 abbrev pub limits_seen : Option StoreAbout → StoreLimits
-limits_seen None = record { blobs = 0; last_pack = 0 }
-limits_seen (Some a) = limits_in a
+limits_seen o = limits_in (about_seen o)

@@ -14,7 +14,7 @@ store_sight s = record { history = seen s.seat; turns = turns s.seat; limits = l
 
 -- what no turn changes of the place's store
 abbrev pub place_about : {D : Type 0} → Ghosts D → TurnStore D → StoreAbout
-place_about g p = about_of g (made_of p.turn).store
+place_about g p = about_of g (made_of p.turn).made (made_of p.turn).store
 
 -- the seat is one of this place's
 abbrev pub IsOfStore : {D : Type 0} {b : _} → Ghosts D → TurnStore D → StoreSeat D b → Type 0

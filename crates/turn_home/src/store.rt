@@ -1,8 +1,8 @@
 //! The store behind its lock, and the seats of it.
 ghost use Rattle.std.specs.Prelude.{◌≡◌, true, length};
-ghost use Rattle.histories.specs.Stores.{arrivals, is_legal_store};
+ghost use Rattle.histories.specs.Stores.{arrivals};
 ghost use Rattle.turn_cell.specs.Seats.{about, seen};
-ghost use Rattle.turn_home.specs.StoreAbout.{limits_seen};
+ghost use Rattle.turn_home.specs.StoreAbout.{about_seen, is_legal_within};
 
 use histories::StoreEvent;
 use pack_disk::Disk;
@@ -23,33 +23,36 @@ pub struct StoreAbout {
     pub last_pack: u32,
     /// Whether its disk tells the bytes of its packs.
     pub tells: bool,
+    /// How often a call on its disk had failed when it came behind the lock.
+    pub made: u64,
 }
 
 /// The store, as it lies behind the lock.
 #[derive(Drop)]
 pub struct KeptStore<D: Disk> {
     pub store: Store<D>,
+    /// How often a call on its disk had failed when it came behind the lock. Contracts alone read it.
+    pub made: u64,
 }
 
 impl<D: Disk> Told for KeptStore<D> {
-    ghost use Rattle.histories.specs.Stores.{is_legal_store};
     ghost use Rattle.told_store.specs.Telling.{StoreTells};
     ghost use Rattle.told_store.specs.Beginning.{begins};
-    ghost use Rattle.turn_home.specs.StoreAbout.{about_of, limits_in};
+    ghost use Rattle.turn_home.specs.StoreAbout.{about_of, is_legal_within, legal_within};
 
     type Entry = StoreEvent;
 
     type About = StoreAbout;
 
-    ghost about = { λ k. about_of D.Disk k.store };
+    ghost about = { λ k. about_of D.Disk k.made k.store };
 
-    ghost tells = { λ k h. StoreTells D.Disk k.store h };
+    ghost tells = { λ k h. StoreTells D.Disk k.made k.store h };
 
     ghost begins = { λ k. begins D.Disk k.store };
 
-    ghost legal = { λ a h. is_legal_store (limits_in a) h };
+    ghost legal = { λ a h. is_legal_within a h };
 
-    ghost is_legal = { λ k h t. t.legal };
+    ghost is_legal = { λ k h t. legal_within D.Disk k.made k.store h t };
 }
 
 /// A store of packs that several seats share, on any disk (`docs/core.md`). Its bytes are told where its disk tells
@@ -61,11 +64,12 @@ pub struct TurnStore<D: Disk> {
 }
 
 /// What one actor knows of a `TurnStore`: the history of the store that it has seen, the turns that it drew, and how
-/// many blobs arrived in that history. It has eight bytes.
+/// many blobs arrived in that history. The faults that it has seen were counted since the store came behind the lock,
+/// and where the disk tells, it has seen no damage. It has eight bytes.
 #[derive(Drop)]
 pub struct StoreSeat<D: Disk> {
     seat: TurnSeat<KeptStore<D>, StoreEvent, StoreAbout>,
     count: u64,
-    pub ghost legal: { is_legal_store (limits_seen (about seat)) (seen seat) ≡ true },
+    pub ghost legal: { is_legal_within (about_seen (about seat)) (seen seat) ≡ true },
     ghost counted: { count ≡ length (arrivals (seen seat)) },
 }

@@ -31,7 +31,8 @@ impl<D: Disk> TurnStore<D> {
     {
         begins_tell(&store);
         let count = count(&store);
-        match Turn::make(alloc, KeptStore { store }) {
+        let made = store.faults();
+        match Turn::make(alloc, KeptStore { store, made }) {
             Ok((turn, seat)) => Ok((TurnStore { alloc, turn }, StoreSeat { seat, count })),
             Err((kept, NoMemory)) => Err((kept.store, NoMemory)),
         }

@@ -11,7 +11,7 @@ use turn_cell::Job;
 
 /// What is done to the store in one turn.
 pub trait StoreJob<D: Disk> {
-    ghost use Rattle.std.specs.Prelude.{◌≡◌, List, Option};
+    ghost use Rattle.std.specs.Prelude.{◌≡◌, ℕ, List, Option};
     ghost use Rattle.histories.specs.declared.events.StoreEvent.{StoreEvent};
     ghost use Rattle.histories.specs.Stores.{Blob};
     ghost use Rattle.pack_store.specs.Archive.{Archive};
@@ -31,9 +31,9 @@ pub trait StoreJob<D: Disk> {
 
     /// Does the job.
     fn go(self, store: &mut Store<D>) -> Self::Out
-        ensures about { about_of D.Disk store.new ≡ about_of D.Disk store.old }
-        ensures tells { AddsEntry D.Disk store.old store.new (adds self result store.new)
-            (λ before entry. says self (about_of D.Disk store.old) before result entry) };
+        ensures about { (made : ℕ) → about_of D.Disk made store.new ≡ about_of D.Disk made store.old }
+        ensures tells { (made : ℕ) → AddsEntry D.Disk made store.old store.new (adds self result store.new)
+            (λ before entry. says self (about_of D.Disk made store.old) before result entry) };
 }
 
 impl<D: Disk, O, J: StoreJob<D, Out = O> + Drop> Job<KeptStore<D>> for Counted<J> {

@@ -2,6 +2,6 @@ use Rattle.told_store.proofs.Finds.{find_adds}
 use Rattle.told_store.proofs.finding.find.Goals as goal
 
 pub returns-clause-tells : goal.returns-clause-tells
-returns-clause-tells g c =
-    find_adds g.D.Disk c.args.store.now c.find.new.self c.args.r.now c.find.result c.find.ensures.none c.find.ensures.placed c.find.ensures.bytes c.find.ensures.own
+returns-clause-tells g c made =
+    find_adds g.D.Disk made c.args.store.now c.find.new.self c.args.r.now c.find.result c.find.ensures.none c.find.ensures.placed c.find.ensures.bytes c.find.ensures.own
     c.find.ensures.damaged c.find.ensures.stays c.find.ensures.failed c.find.ensures.later

@@ -1,10 +1,10 @@
 use Rattle.std.proofs.Common.{◌≡◌, ◌∙◌, sym, subst, length, true, Option}
-use Rattle.histories.specs.Stores.{arrivals, is_legal_store}
+use Rattle.histories.specs.Stores.{arrivals}
 use Rattle.histories.proofs.Prefixes.{prefix_length}
 use Rattle.histories.proofs.Standing.{arrivals_prefix}
 use Rattle.turn_cell.specs.Seats.{about, seen}
 use Rattle.turn_home.specs.declared.store.StoreAbout.{StoreAbout}
-use Rattle.turn_home.specs.StoreAbout.{limits_seen}
+use Rattle.turn_home.specs.StoreAbout.{about_seen, is_legal_within}
 use Rattle.turn_home.proofs.Joining.{longer_keeps, longer_counts}
 use Rattle.turn_home.proofs.store.calls.TurnStoreStorePlace.join.Goals as goal
 
@@ -14,9 +14,9 @@ invariant_of-into-clause-legal g c =
     let one = c.args.into.now in
     let other = c.args.other in
     let join = c.join.ensures in
-    longer_keeps (λ h. is_legal_store (limits_seen (about left)) h ≡ true) (seen one.seat) (seen other.seat) (seen left) join.longer
-    (subst (λ (a : Option StoreAbout). is_legal_store (limits_seen a) (seen one.seat) ≡ true) (sym join.about) one.legal)
-    (subst (λ (a : Option StoreAbout). is_legal_store (limits_seen a) (seen other.seat) ≡ true) (join.same ∙ sym join.about) other.legal)
+    longer_keeps (λ h. is_legal_within (about_seen (about left)) h ≡ true) (seen one.seat) (seen other.seat) (seen left) join.longer
+    (subst (λ (a : Option StoreAbout). is_legal_within (about_seen a) (seen one.seat) ≡ true) (sym join.about) one.legal)
+    (subst (λ (a : Option StoreAbout). is_legal_within (about_seen a) (seen other.seat) ≡ true) (join.same ∙ sym join.about) other.legal)
 
 pub invariant_of-into-clause-counted : goal.invariant_of-into-clause-counted
 invariant_of-into-clause-counted g c =
