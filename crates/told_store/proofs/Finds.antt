@@ -54,7 +54,7 @@ pub find_adds : {D : Type 0} (g : Ghosts D) (made : ℕ) (old new : Archive D) (
     → IfOk result (λ found. ForSome (g.packs old.disk) (λ held. bytes_found found ≡ read.bytes_of r held old.rows))
     → IfOk result (λ found. IfSome found (λ b. ForSome (g.packs old.disk) (λ held. IsOwnRef b.r b.bytes)))
     → read.IsDamage None (g.packs old.disk) result → read.StaysStill g old new → (result ≡ Err unread.Disk → Rose (g.faults old.disk) (g.faults new.disk)) → g.faults old.disk ≤ g.faults new.disk
-    → AddsEntry g made old new (find_entry result (g.faults new.disk)) (λ before entry. GetSays (is_told g old) r before (checked_get result) entry)
+    → AddsEntry g made old new (find_entry result (g.faults old.disk) (g.faults new.disk)) (λ before entry. GetSays (is_told g old) r before (checked_get result) entry)
 find_adds g made old new r result none placed bytes own damage still rose later h turn tells before =
     let blobs = arrivals h in
     let both = found_adds g made old new still later h turn tells (blob_under r blobs) (read.entry_of r old.rows) (same_entry old.rows blobs tells.rows r) (under_arrived r blobs) result
@@ -65,7 +65,7 @@ find_adds g made old new r result none placed bytes own damage still rose later 
     let name : r ≡ b.r = named_as r b.r here.size (read.size_of r old.rows) here.asked_for in
     ap (option_map {U = Blob} (λ (x : List ℕ). (r, x))) (sym (there ∙ ap (lookup (pointwise nat_eq r)) (tells.told held told))) ∙ (λ i. Some (name i, b.bytes)))
     own damage rose in
-    (both.0, get_says (is_told g old) r blobs result (find_entry result (g.faults new.disk)) both.1)
+    (both.0, get_says (is_told g old) r blobs result (find_entry result (g.faults old.disk) (g.faults new.disk)) both.1)
 
 -- ---- under a number
 
@@ -80,7 +80,7 @@ pub find_number_adds : {D : Type 0} (g : Ghosts D) (made : ℕ) (old new : Archi
     → IfOk result (λ found. ForSome (g.packs old.disk) (λ held. arrival_found found ≡ slice_get (stood.arrivals_in held old.rows) n))
     → IfOk result (λ found. IfSome found (λ b. ForSome (g.packs old.disk) (λ held. IsOwnRef b.r b.bytes)))
     → read.IsDamage None (g.packs old.disk) result → read.StaysStill g old new → (result ≡ Err unread.Disk → Rose (g.faults old.disk) (g.faults new.disk)) → g.faults old.disk ≤ g.faults new.disk
-    → AddsEntry g made old new (find_entry result (g.faults new.disk)) (λ before entry. ArrivalSays (is_told g old) n before (checked_arrival result) entry)
+    → AddsEntry g made old new (find_entry result (g.faults old.disk) (g.faults new.disk)) (λ before entry. ArrivalSays (is_told g old) n before (checked_arrival result) entry)
 find_number_adds g made old new n result none placed bytes own damage still rose later h turn tells before =
     let blobs = arrivals h in
     let counted = same_count old.rows blobs tells.rows in
@@ -91,4 +91,4 @@ find_number_adds g made old new n result none placed bytes own damage still rose
     = subst (λ o. IfOk o (λ found. ForSome (g.packs old.disk) (λ held. arrival_found found ≡ slice_get (stood.arrivals_in held old.rows) n))) is bytes held told in
     sym (there ∙ ap (λ xs. slice_get xs n) (tells.told held told)))
     own damage rose in
-    (both.0, arrival_says (is_told g old) n blobs result (find_entry result (g.faults new.disk)) both.1)
+    (both.0, arrival_says (is_told g old) n blobs result (find_entry result (g.faults old.disk) (g.faults new.disk)) both.1)

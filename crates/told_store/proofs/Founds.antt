@@ -1,9 +1,9 @@
 -- A find adds the entry of what was read.
-use Rattle.std.proofs.Common.{◌≡◌, ℕ, zero, suc, ◌≤◌, List, [], ◌∷◌, ◌++◌, length, cond, Bool, true, false, not, Option, Some, None, IfSome, Result, Ok, Err, IfOk, refl, sym, ap, subst, ◌∙◌, arith, slice_get}
+use Rattle.std.proofs.Common.{◌≡◌, ℕ, zero, suc, ◌≤◌, List, [], ◌∷◌, ◌++◌, length, cond, Bool, true, false, not, nat_lt, Option, Some, None, IfSome, Result, Ok, Err, IfOk, refl, sym, ap, subst, ◌∙◌, arith, slice_get}
 use Rattle.std.specs.Option.{ForSome, option_map, is_some}
 use Rattle.std.specs.Cmp.Lexicographic.{same_text}
 use Rattle.std.proofs.lemmas.List.{append-nil}
-use Rattle.std.proofs.lemmas.Bool.{and_from, le-leb, false≢true}
+use Rattle.std.proofs.lemmas.Bool.{and_from, le-leb, ltb-true, false≢true}
 use Rattle.blobref.specs.Blobref.{IsOwnRef, is_own_ref, ref_like}
 use Rattle.edge_base.specs.Edge.{Rose}
 use Rattle.edge_base.specs.declared.answers.GetFault.{GetFault}
@@ -21,10 +21,10 @@ use Rattle.histories.specs.declared.events.StoreEvent.TheVariants as store
 use Rattle.histories.specs.History.{events, stamped}
 use Rattle.histories.specs.Stores.{Blob, puts, arrivals, last_faults, bytes_of, has_ref}
 use Rattle.histories.specs.StoreCalls.{sizes, IsQuiet, IsRead, GetFails, GetSays, ArrivalSays}
-use Rattle.told_store.specs.Telling.{limits_of, is_told, StoreTells}
+use Rattle.told_store.specs.Telling.{limits_of, is_told, fault_entry, StoreTells}
 use Rattle.told_store.specs.Finding.{find_entry, bytes_in, blob_in, checked_get, checked_arrival}
 use Rattle.told_store.proofs.Rows.{blob_under}
-use Rattle.told_store.proofs.Growing.{Onward, tells_same, tells_more, rose_above}
+use Rattle.told_store.proofs.Growing.{Onward, more_rose, is_quiet, tells_same, tells_more, rose_above}
 use Rattle.pack_store.proofs.Held.{some_same}
 use Rattle.told_store.proofs.Puts.{own_true}
 
@@ -76,6 +76,17 @@ module _ {D : Type 0} (g : Ghosts D) (made : ℕ) (old new : Archive D) (still :
       (λ held is. told_now held is ∙ none_put (store.Fault (g.faults new.disk)) refl)
       (omega arith) (le-leb _ _ (rose_above made (g.faults old.disk) (g.faults new.disk) tells.later rose)) refl
 
+  -- a fault, exactly where the count rose
+  counted : Grown (fault_entry (g.faults old.disk) (g.faults new.disk))
+  counted = go (nat_lt (g.faults old.disk) (g.faults new.disk)) refl
+    where
+      go : (b : Bool) → nat_lt (g.faults old.disk) (g.faults new.disk) ≡ b → Grown (cond b (Some (store.Fault (g.faults new.disk))) None)
+      go true is = failed (more_rose (g.faults old.disk) (g.faults new.disk) (ltb-true _ _ is))
+      go false is = nothing
+
+  quiet : IsQuiet (fault_entry (g.faults old.disk) (g.faults new.disk))
+  quiet = is_quiet (g.faults old.disk) (g.faults new.disk)
+
   damaged : (r bytes : List ℕ) → is_told g old ≡ false → has_ref r (arrivals h) ≡ true → is_own_ref r bytes ≡ false → Grown (Some (store.Damage r (ref_like r bytes)))
   damaged r bytes untold arrived other = tells_more g made old new h turn tells onward (store.Damage r (ref_like r bytes))
       (and_from (has_ref r (puts (events h))) _ arrived (ap not other))
@@ -86,7 +97,7 @@ module _ {D : Type 0} (g : Ghosts D) (made : ℕ) (old new : Archive D) (still :
   module _ (blob : Option Blob) (asked : Option (List ℕ × ℕ)) (same : asked ≡ option_map (λ (b : Blob). (b.0, length b.1)) blob)
       (arrived : (r own : List ℕ) → blob ≡ Some (r, own) → has_ref r (arrivals h) ≡ true) where
     abbrev Adds : Result (Option Found) GetFault → Type 0
-    Adds result = Grown (find_entry result (g.faults new.disk)) × FoundSays (is_told g old) blob (checked_arrival result) (find_entry result (g.faults new.disk))
+    Adds result = Grown (find_entry result (g.faults old.disk) (g.faults new.disk)) × FoundSays (is_told g old) blob (checked_arrival result) (find_entry result (g.faults old.disk) (g.faults new.disk))
 
     is_read : (told : Option Packs) (b : Found) (own : List ℕ) → blob ≡ Some (b.r, own) → ((held : Packs) → told ≡ Some held → blob ≡ Some (b.r, b.bytes)) → is_own_ref b.r b.bytes ≡ true
         → IsRead (is_some told) b.r own b.bytes
@@ -99,9 +110,9 @@ module _ {D : Type 0} (g : Ghosts D) (made : ℕ) (old new : Archive D) (still :
 
     by_digest : (b : Found) (own : List ℕ) → blob ≡ Some (b.r, own) → ((held : Packs) → g.packs old.disk ≡ Some held → blob ≡ Some (b.r, b.bytes))
         → ForSome (g.packs old.disk) (λ held. IsOwnRef b.r b.bytes) → (right : Bool) → is_own_ref b.r b.bytes ≡ right
-        → Grown (cond right None (Some (store.Damage b.r (ref_like b.r b.bytes))))
-        × FoundSays (is_told g old) blob (blob_in (cond right (Ok (b.r, b.bytes)) (Err (unread.Damaged b.r (ref_like b.r b.bytes))))) (cond right None (Some (store.Damage b.r (ref_like b.r b.bytes))))
-    by_digest b own at bytes named true right = (nothing, ((own, at, is_read (g.packs old.disk) b own at bytes right), tt))
+        → Grown (cond right (fault_entry (g.faults old.disk) (g.faults new.disk)) (Some (store.Damage b.r (ref_like b.r b.bytes))))
+        × FoundSays (is_told g old) blob (blob_in (cond right (Ok (b.r, b.bytes)) (Err (unread.Damaged b.r (ref_like b.r b.bytes))))) (cond right (fault_entry (g.faults old.disk) (g.faults new.disk)) (Some (store.Damage b.r (ref_like b.r b.bytes))))
+    by_digest b own at bytes named true right = (counted, ((own, at, is_read (g.packs old.disk) b own at bytes right), quiet))
     by_digest b own at bytes named false right = (
       damaged b.r b.bytes (untold (g.packs old.disk) b named right) (arrived b.r own at) right,
       (ap (option_map (λ (x : Blob). x.0)) at, untold (g.packs old.disk) b named right, refl),
@@ -111,13 +122,13 @@ module _ {D : Type 0} (g : Ghosts D) (made : ℕ) (old new : Archive D) (still :
         → ((b : Found) → result ≡ Ok (Some b) → (held : Packs) → g.packs old.disk ≡ Some held → blob ≡ Some (b.r, b.bytes))
         → IfOk result (λ found. IfSome found (λ b. ForSome (g.packs old.disk) (λ held. IsOwnRef b.r b.bytes)))
         → read.IsDamage None (g.packs old.disk) result → (result ≡ Err unread.Disk → Rose (g.faults old.disk) (g.faults new.disk)) → Adds result
-    found_adds (Ok None) none placed bytes named damage rose = (nothing, (none refl, tt))
+    found_adds (Ok None) none placed bytes named damage rose = (counted, (none refl, quiet))
     found_adds (Ok (Some b)) none placed bytes named damage rose =
         let own = asked_blob blob b.r placed.size (sym same ∙ placed.asked_for) in
         by_digest b own.0 own.1 (bytes b refl) named (is_own_ref b.r b.bytes) refl
     found_adds (Err unread.Disk) none placed bytes named damage rose = (failed (rose refl), (g.faults new.disk, refl))
     found_adds (Err (unread.Damaged want is)) none placed bytes named damage rose = absurd (cc (damage.asked_for))
-    found_adds (Err unread.NoMemory) none placed bytes named damage rose = (nothing, tt)
+    found_adds (Err unread.NoMemory) none placed bytes named damage rose = (counted, quiet)
 
 -- ---- under a ref
 

@@ -1,10 +1,10 @@
 -- A store stands for a history with one entry more.
-use Rattle.std.proofs.Common.{◌≡◌, ℕ, ◌+◌, suc, ◌-◌, ◌^◌, ◌≤◌, List, [], ◌∷◌, ◌++◌, Bool, true, false, cond, nat_le, Option, Some, None, refl, sym, ap, subst, ◌∙◌, arith, min}
+use Rattle.std.proofs.Common.{◌≡◌, ℕ, ◌+◌, suc, ◌-◌, ◌^◌, ◌≤◌, ◌<◌, List, [], ◌∷◌, ◌++◌, Bool, true, false, cond, nat_le, nat_lt, Option, Some, None, refl, sym, ap, subst, ◌∙◌, arith, min}
 use Rattle.std.specs.List.{list_all}
 use Rattle.std.specs.Option.{ForSome, is_some}
 use Rattle.std.proofs.lemmas.List.{append-nil}
 use Rattle.std.proofs.lemmas.List.Folds.{list_all-append}
-use Rattle.std.proofs.lemmas.Bool.{and_parts, and_from, le-leb, leb-true}
+use Rattle.std.proofs.lemmas.Bool.{and_parts, and_from, le-leb, leb-true, lt-leb}
 use Rattle.pack_disk.specs.Packs.{Packs}
 use Rattle.pack_disk.specs.Disk.{Tells}
 use Rattle.pack_disk.specs.declared.disk.Disk.{Ghosts}
@@ -16,11 +16,11 @@ use Rattle.histories.specs.declared.events.StoreEvent.{StoreEvent}
 use Rattle.histories.specs.declared.events.StoreEvent.TheVariants.{Put, Fault, Damage, Full}
 use Rattle.histories.specs.History.{events, stamp, is_legal_after}
 use Rattle.histories.specs.Stores.{puts, arrivals, last_faults, may_join_store, is_legal_store, StoreLimits}
-use Rattle.histories.specs.StoreCalls.{sizes}
+use Rattle.histories.specs.StoreCalls.{sizes, IsQuiet}
 use Rattle.histories.proofs.Rising.{events_more}
 use Rattle.histories.proofs.Legality.{legal_more}
 use Rattle.histories.proofs.Standing.{puts_append}
-use Rattle.told_store.specs.Telling.{limits_of, is_told, may_stand, is_pack_within, StoreTells}
+use Rattle.told_store.specs.Telling.{limits_of, is_told, may_stand, is_pack_within, fault_entry, StoreTells}
 
 pub last_more : (f : ℕ) (es : List StoreEvent) (e : StoreEvent) → last_faults f (es ++ e ∷ []) ≡ last_faults (last_faults f es) (e ∷ [])
 last_more f [] e = refl
@@ -35,6 +35,21 @@ capped most a b le = omega arith
 -- a count of faults that rose above a count is above what was at most that count
 pub rose_above : (last before now : ℕ) → last ≤ before → Rose before now → one_more last ≤ now
 rose_above last before now le rose = let step = capped (2 ^ 64 - 1) last before le in omega (arith, step, rose)
+
+-- a count that is greater has risen
+pub more_rose : (before now : ℕ) → before < now → Rose before now
+more_rose before now more = omega (arith, more)
+
+-- a count that isn't adds no fault
+pub no_fault : (before now : ℕ) → now ≤ before → fault_entry before now ≡ None
+no_fault before now le = ap (λ b. cond b (Some (Fault now)) None) (lt-leb (suc before) now (omega (arith, le)))
+
+pub is_quiet : (before now : ℕ) → IsQuiet (fault_entry before now)
+is_quiet before now = go (nat_lt before now)
+  where
+    go : (b : Bool) → IsQuiet (cond b (Some (Fault now)) None)
+    go true = tt
+    go false = tt
 
 -- what holds of the packs before and after
 pub told_after : (a b : Option Packs) (P : Packs → Packs → Type 0) → Tells a b P → (Q R : Packs → Type 0) → ForSome a Q → ((x y : Packs) → P x y → Q x → R y) → ForSome b R

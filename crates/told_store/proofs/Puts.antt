@@ -24,9 +24,9 @@ use Rattle.histories.specs.declared.events.StoreEvent.TheVariants as store
 use Rattle.histories.specs.History.{events, stamped}
 use Rattle.histories.specs.Stores.{Blob, puts, arrivals, last_faults, number_of, is_full_at}
 use Rattle.histories.specs.StoreCalls.{sizes, put_settled, HasRoom, PutAnswers, PutSays}
-use Rattle.told_store.specs.Telling.{limits_of, is_told, StoreTells, AddsEntry, put_entry}
+use Rattle.told_store.specs.Telling.{limits_of, is_told, StoreTells, AddsEntry, fault_entry, put_entry}
 use Rattle.told_store.proofs.Rows.{same_count, same_number, has_none}
-use Rattle.told_store.proofs.Growing.{Onward, next_later, tells_same, tells_more, told_after, told_same, rose_above}
+use Rattle.told_store.proofs.Growing.{Onward, next_later, no_fault, tells_same, tells_more, told_after, told_same, rose_above}
 
 pub own_true : (r bytes : List ℕ) → IsOwnRef r bytes → is_own_ref r bytes ≡ true
 own_true r bytes own = subst (λ (x : List ℕ). pointwise nat_eq (ref_like r bytes) x ≡ true) own (nat_list_eq_equiv.refl (ref_like r bytes))
@@ -47,7 +47,7 @@ module _ {D : Type 0} (g : Ghosts D) (made : ℕ) (old new : Archive D) (r bytes
   Grown entry = StoreTells g made new (h ++ stamped turn entry)
 
   abbrev Adds : Option (Result Put PutFault) → Result Put PutFault → Type 0
-  Adds settled result = Grown (put_entry r bytes result (g.faults new.disk)) × PutAnswers (limits_of old) r bytes (arrivals h) settled result (put_entry r bytes result (g.faults new.disk))
+  Adds settled result = Grown (put_entry r bytes result (g.faults old.disk) (g.faults new.disk)) × PutAnswers (limits_of old) r bytes (arrivals h) settled result (put_entry r bytes result (g.faults old.disk) (g.faults new.disk))
 
   unchanged : new ≡ old → Onward g old new
   unchanged same = record { limits = ap limits_of same; told = ap (is_told g) same; later = later; packs = let is : greatest new ≡ greatest old = ap greatest same in omega (arith, is) }
@@ -55,6 +55,13 @@ module _ {D : Type 0} (g : Ghosts D) (made : ℕ) (old new : Archive D) (r bytes
   nothing : new ≡ old → Grown None
   nothing same = tells_same g made old new h turn tells (unchanged same) (ap (λ (s : Archive D). stood.sizes_in s.rows) same)
       (subst (λ (s : Archive D). ForSome (g.packs s.disk) (λ held. stood.arrivals_in held s.rows ≡ arrivals h)) (sym same) tells.told)
+
+  -- nothing was changed, so the count didn't rise
+  none_rose : new ≡ old → fault_entry (g.faults old.disk) (g.faults new.disk) ≡ None
+  none_rose same = no_fault (g.faults old.disk) (g.faults new.disk) (let is : g.faults new.disk ≡ g.faults old.disk = ap (λ (s : Archive D). g.faults s.disk) same in omega (arith, is))
+
+  still : new ≡ old → Grown (fault_entry (g.faults old.disk) (g.faults new.disk))
+  still same = subst Grown (sym (none_rose same)) (nothing same)
 
   -- where the store is full, that is told
   at_full : is_full old ≡ true → is_full_at (limits_of old) (length (arrivals h)) (count old) (greatest old) ≡ true
@@ -125,13 +132,13 @@ module _ {D : Type 0} (g : Ghosts D) (made : ℕ) (old new : Archive D) (r bytes
   tried small absent room (Err (fault.BadDigest said other)) is leaves rose = absurd is
   tried small absent room (Err (fault.Full blobs pack)) is leaves rose = absurd is
   tried small absent room (Err fault.Disk) is leaves rose = (failed leaves (rose refl), (has_room room, (g.faults new.disk, refl)))
-  tried small absent room (Err fault.NoMemory) is leaves rose = (nothing leaves, (has_room room, refl))
+  tried small absent room (Err fault.NoMemory) is leaves rose = (still leaves, (has_room room, none_rose leaves))
 
   by_number : nat_lt max_size (length bytes) ≡ false → (o : Option ℕ) → stood.number_of r old.rows ≡ o → (full : Bool) → is_full old ≡ full → (result : Result Put PutFault)
       → Answers (option_or (option_map (λ (n : ℕ). Ok (Already n)) o) (cond full (Some (Err (fault.Full (count old) (greatest old)))) None)) (count old) result
       → Leaves g old new r bytes result → (result ≡ Err fault.Disk → Rose (g.faults old.disk) (g.faults new.disk))
       → Adds (option_map (λ (n : ℕ). Ok (Already n)) o) result
-  by_number small (Some n) at full is_full_so result is leaves rose = answered (Ok (Already n)) (Some (Ok (Already n))) result is (λ same. (nothing same, (refl, refl))) leaves
+  by_number small (Some n) at full is_full_so result is leaves rose = answered (Ok (Already n)) (Some (Ok (Already n))) result is (λ same. (still same, (refl, none_rose same))) leaves
   by_number small None at true is_full_so result is leaves rose = answered (Err (fault.Full (count old) (greatest old))) None result is (λ same. (filled same is_full_so, (at_full is_full_so, refl))) leaves
   by_number small None at false is_full_so result is leaves rose = tried small at is_full_so result is leaves rose
 
@@ -139,7 +146,7 @@ module _ {D : Type 0} (g : Ghosts D) (made : ℕ) (old new : Archive D) (r bytes
       → Answers (cond big (Some (Err (fault.TooBig (length bytes)))) (option_or (option_map (λ (n : ℕ). Ok (Already n)) (stood.number_of r old.rows)) (cond (is_full old) (Some (Err (fault.Full (count old) (greatest old)))) None))) (count old) result
       → Leaves g old new r bytes result → (result ≡ Err fault.Disk → Rose (g.faults old.disk) (g.faults new.disk))
       → Adds (cond big (Some (Err (fault.TooBig (length bytes)))) (option_map (λ (n : ℕ). Ok (Already n)) (stood.number_of r old.rows))) result
-  by_size true size result is leaves rose = answered (Err (fault.TooBig (length bytes))) (Some (Err (fault.TooBig (length bytes)))) result is (λ same. (nothing same, (refl, refl))) leaves
+  by_size true size result is leaves rose = answered (Err (fault.TooBig (length bytes))) (Some (Err (fault.TooBig (length bytes)))) result is (λ same. (still same, (refl, none_rose same))) leaves
   by_size false size result is leaves rose = by_number size (stood.number_of r old.rows) refl (is_full old) refl result is leaves rose
 
   -- what is settled over the blobs that arrived
@@ -156,5 +163,5 @@ module _ {D : Type 0} (g : Ghosts D) (made : ℕ) (old new : Archive D) (r bytes
 pub put_adds : {D : Type 0} (g : Ghosts D) (made : ℕ) (old new : Archive D) (r bytes : List ℕ) (result : Result Put PutFault) → IsOwnRef r bytes
     → Answers (early_answer_own old r (length bytes)) (count old) result → Leaves g old new r bytes result
     → (result ≡ Err fault.Disk → Rose (g.faults old.disk) (g.faults new.disk)) → g.faults old.disk ≤ g.faults new.disk
-    → AddsEntry g made old new (put_entry r bytes result (g.faults new.disk)) (λ before entry. PutSays (limits_of old) r bytes before result entry)
+    → AddsEntry g made old new (put_entry r bytes result (g.faults old.disk) (g.faults new.disk)) (λ before entry. PutSays (limits_of old) r bytes before result entry)
 put_adds g made old new r bytes result own is leaves rose later h turn tells before = put_adds_here g made old new r bytes own later h turn tells result is leaves rose

@@ -7,16 +7,18 @@ use Rattle.pack_store.specs.declared.reading.Found.{Found}
 use Rattle.pack_store.specs.Finding.{checked}
 use Rattle.histories.specs.declared.events.StoreEvent.{StoreEvent}
 use Rattle.histories.specs.declared.events.StoreEvent.TheVariants as store
+use Rattle.told_store.specs.Telling.{fault_entry}
 
--- what a find adds, under a ref or under a number: that the bytes that were read have another ref, or that the disk
--- failed, where it counts so many faults after it
-abbrev pub find_entry : Result (Option Found) GetFault → ℕ → Option StoreEvent
-find_entry (Ok None) faults = None
-find_entry (Ok (Some b)) faults =
-    if is_own_ref b.r b.bytes then None else Some (store.Damage b.r (ref_like b.r b.bytes))
-find_entry (Err unread.Disk) faults = Some (store.Fault faults)
-find_entry (Err (unread.Damaged want is)) faults = None
-find_entry (Err unread.NoMemory) faults = None
+-- What a find adds, under a ref or under a number: that the bytes that were read have another ref, or that the disk
+-- failed, where it had counted so many faults before it, and has after it. A fault is answered only where the count rose,
+-- or stands at its last value. Any other answer adds it exactly where the count rose.
+abbrev pub find_entry : Result (Option Found) GetFault → (before now : ℕ) → Option StoreEvent
+find_entry (Ok None) before now = fault_entry before now
+find_entry (Ok (Some b)) before now =
+    if is_own_ref b.r b.bytes then fault_entry before now else Some (store.Damage b.r (ref_like b.r b.bytes))
+find_entry (Err unread.Disk) before now = Some (store.Fault now)
+find_entry (Err (unread.Damaged want is)) before now = fault_entry before now
+find_entry (Err unread.NoMemory) before now = fault_entry before now
 
 -- what is answered of a blob that was looked at
 abbrev pub bytes_in : Result (List ℕ × List ℕ) GetFault → Result (Option (List ℕ)) GetFault

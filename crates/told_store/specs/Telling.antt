@@ -1,5 +1,5 @@
 -- Which histories a store of packs stands for, and what its calls add to them (docs/store.md).
-use Rattle.std.specs.Prelude.{◌≡◌, ℕ, ◌≤◌, List, ◌++◌, Bool, true, not, nat_le, Option, Some, None, Result, Ok, Err}
+use Rattle.std.specs.Prelude.{◌≡◌, ℕ, ◌≤◌, List, ◌++◌, Bool, true, not, nat_le, nat_lt, if◌then◌else◌, Option, Some, None, Result, Ok, Err}
 use Rattle.std.specs.List.{list_all}
 use Rattle.std.specs.Option.{ForSome, is_some}
 use Rattle.edge_base.specs.Edge.{one_more}
@@ -64,12 +64,16 @@ AddsEntry g made old new entry says = (h : List (Stamped StoreEvent)) (turn : �
 abbrev pub AddsNone : {D : Type 0} → Ghosts D → ℕ → Archive D → (List Blob → Option StoreEvent → Type 0) → Type 0
 AddsNone g made s says = (h : List (Stamped StoreEvent)) → StoreTells g made s h → says (arrivals h) None
 
--- what a put of a blob under its own ref adds, where the disk counts so many faults after it
-abbrev pub put_entry : List ℕ → List ℕ → Result Put PutFault → ℕ → Option StoreEvent
-put_entry r bytes (Ok (Stored n)) faults = Some (store.Put n r bytes)
-put_entry r bytes (Ok (Already n)) faults = None
-put_entry r bytes (Err (fault.TooBig size)) faults = None
-put_entry r bytes (Err (fault.BadDigest said is)) faults = None
-put_entry r bytes (Err (fault.Full blobs pack)) faults = Some (store.Full blobs pack)
-put_entry r bytes (Err fault.Disk) faults = Some (store.Fault faults)
-put_entry r bytes (Err fault.NoMemory) faults = None
+-- a Fault with the disk's count after the turn, exactly where that is above the one before it
+abbrev pub fault_entry : (before now : ℕ) → Option StoreEvent
+fault_entry before now = if nat_lt before now then Some (store.Fault now) else None
+
+-- what a put of a blob under its own ref adds, where the disk had counted so many faults before it, and has after it
+abbrev pub put_entry : List ℕ → List ℕ → Result Put PutFault → (before now : ℕ) → Option StoreEvent
+put_entry r bytes (Ok (Stored n)) before now = Some (store.Put n r bytes)
+put_entry r bytes (Ok (Already n)) before now = fault_entry before now
+put_entry r bytes (Err (fault.TooBig size)) before now = fault_entry before now
+put_entry r bytes (Err (fault.BadDigest said is)) before now = fault_entry before now
+put_entry r bytes (Err (fault.Full blobs pack)) before now = Some (store.Full blobs pack)
+put_entry r bytes (Err fault.Disk) before now = Some (store.Fault now)
+put_entry r bytes (Err fault.NoMemory) before now = fault_entry before now

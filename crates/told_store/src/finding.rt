@@ -10,12 +10,13 @@ use pack_disk::Disk;
 use pack_store::{Found, Store};
 
 /// The blob under a ref, and `None` exactly where none arrived. What is answered in the end is what `check` makes of
-/// it; the entry that tells of damage is decided by the bytes that were read. `Disk` comes only with the entry that
-/// tells the same.
+/// it; the entry that tells of damage is decided by the bytes that were read. Else the entry tells of a fault exactly
+/// where the disk's count rose in the call, whatever is answered; `Disk` comes only with it.
 pub fn find<D: Disk>(store: &mut Store<D>, r: &Ref) -> Result<Option<Found>, GetFault>
     ensures limits { limits_of store.new ≡ limits_of store.old }
     ensures told { is_told D.Disk store.new ≡ is_told D.Disk store.old }
-    ensures tells { (made : ℕ) → AddsEntry D.Disk made store.old store.new (find_entry result (D.faults store.new.disk))
+    ensures tells { (made : ℕ) → AddsEntry D.Disk made store.old store.new
+        (find_entry result (D.faults store.old.disk) (D.faults store.new.disk))
         (λ before entry. GetSays (is_told D.Disk store.old) r.now before (checked_get result) entry) }
 {
     store.find(r)
@@ -26,7 +27,8 @@ pub fn find<D: Disk>(store: &mut Store<D>, r: &Ref) -> Result<Option<Found>, Get
 pub fn find_number<D: Disk>(store: &mut Store<D>, number: u64) -> Result<Option<Found>, GetFault>
     ensures limits { limits_of store.new ≡ limits_of store.old }
     ensures told { is_told D.Disk store.new ≡ is_told D.Disk store.old }
-    ensures tells { (made : ℕ) → AddsEntry D.Disk made store.old store.new (find_entry result (D.faults store.new.disk))
+    ensures tells { (made : ℕ) → AddsEntry D.Disk made store.old store.new
+        (find_entry result (D.faults store.old.disk) (D.faults store.new.disk))
         (λ before entry. ArrivalSays (is_told D.Disk store.old) number before (checked_arrival result) entry) }
 {
     store.find_number(number)

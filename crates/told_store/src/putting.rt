@@ -13,14 +13,15 @@ use pack_store::Store;
 
 /// Puts a blob under its own ref, whose digest the caller has taken. `TooBig` and `Already` come as `put_settled`
 /// says, `BadDigest` never, and `Full` exactly as `pack_store` says; of the others `PutTried` says which may come within
-/// the limits. `Full` and `Disk` come only with the entry that tells the same. After an error nothing arrived.
+/// the limits. `Full` and `Disk` come only with the entry that tells the same; of the other answers only
+/// `Stored` may come where the disk's count rose. After an error nothing arrived.
 pub fn put<D: Disk>(store: &mut Store<D>, r: &Ref, bytes: &[u8]) -> Result<Put, PutFault>
     requires own { IsOwnRef r.now bytes.now }
     ensures answer { Answers (early_answer_own store.old r.now (length bytes.now)) (count store.old) result }
     ensures limits { limits_of store.new ≡ limits_of store.old }
     ensures told { is_told D.Disk store.new ≡ is_told D.Disk store.old }
     ensures tells { (made : ℕ) → AddsEntry D.Disk made store.old store.new
-        (put_entry r.now bytes.now result (D.faults store.new.disk))
+        (put_entry r.now bytes.now result (D.faults store.old.disk) (D.faults store.new.disk))
         (λ before entry. PutSays (limits_of store.old) r.now bytes.now before result entry) }
 {
     store.put_own(r, bytes)

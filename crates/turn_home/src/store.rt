@@ -31,8 +31,10 @@ pub struct StoreAbout {
 #[derive(Drop)]
 pub struct KeptStore<D: Disk> {
     pub store: Store<D>,
-    /// How often a call on its disk had failed when it came behind the lock. Contracts alone read it.
+    /// How often a call on its disk had failed when it came behind the lock. Contracts alone read this, and the next.
     pub made: u64,
+    /// The same before the last turn.
+    pub before: u64,
 }
 
 impl<D: Disk> Told for KeptStore<D> {

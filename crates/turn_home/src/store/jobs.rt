@@ -25,7 +25,7 @@ impl<'a, D: Disk> StoreJob<D> for PutOwn<'a> {
 
     ghost says = { λ j about before result entry. PutSays (limits_in about) j.r.now j.bytes.now before result entry };
 
-    ghost adds = { λ j result s. put_entry j.r.now j.bytes.now result (D.faults s.disk) };
+    ghost adds = { λ j result before now. put_entry j.r.now j.bytes.now result before now };
 
     fn go(self, store: &mut Store<D>) -> Result<Put, PutFault> {
         told_store::put(store, self.r, self.bytes)
@@ -46,7 +46,7 @@ impl<'a, D: Disk> StoreJob<D> for Find<'a> {
 
     ghost says = { λ j about before result entry. GetSays about.tells j.r.now before (checked_get result) entry };
 
-    ghost adds = { λ j result s. find_entry result (D.faults s.disk) };
+    ghost adds = { λ j result before now. find_entry result before now };
 
     fn go(self, store: &mut Store<D>) -> Result<Option<Found>, GetFault> {
         told_store::find(store, self.r)
@@ -68,7 +68,7 @@ impl<D: Disk> StoreJob<D> for FindNumber {
     ghost says = { λ j about before result entry.
         ArrivalSays about.tells j.number before (checked_arrival result) entry };
 
-    ghost adds = { λ j result s. find_entry result (D.faults s.disk) };
+    ghost adds = { λ j result before now. find_entry result before now };
 
     fn go(self, store: &mut Store<D>) -> Result<Option<Found>, GetFault> {
         told_store::find_number(store, self.number)
@@ -90,7 +90,7 @@ impl<'a, D: Disk> StoreJob<D> for Page<'a> {
 
     ghost says = { λ j about before result entry. ListSays (option_copied j.after) j.limit before result entry };
 
-    ghost adds = { λ j result s. None };
+    ghost adds = { λ j result before now. None };
 
     fn go(self, store: &mut Store<D>) -> Result<Listing, NoMemory> {
         told_store::list(store, self.after, self.limit)
@@ -113,7 +113,7 @@ impl<'a, D: Disk> StoreJob<D> for Sizes<'a> {
     ghost says = { λ j about before result entry. (asked : List (List ℕ)) → j.once.now ≡ each_once [] asked
         → StatSays asked before result entry };
 
-    ghost adds = { λ j result s. None };
+    ghost adds = { λ j result before now. None };
 
     fn go(self, store: &mut Store<D>) -> Result<Listing, NoMemory> {
         told_store::stat(self.alloc, store, self.once)
@@ -131,7 +131,7 @@ impl<D: Disk> StoreJob<D> for Count {
 
     ghost says = { λ j about before result entry. (result ≡ length before) × (entry ≡ None) };
 
-    ghost adds = { λ j result s. None };
+    ghost adds = { λ j result before now. None };
 
     fn go(self, store: &mut Store<D>) -> u64 {
         told_store::count(store)

@@ -32,7 +32,12 @@ impl<D: Disk> TurnStore<D> {
         begins_tell(&store);
         let count = count(&store);
         let made = store.faults();
-        match Turn::make(alloc, KeptStore { store, made }) {
+        let kept = KeptStore {
+            store,
+            made,
+            before: made,
+        };
+        match Turn::make(alloc, kept) {
             Ok((turn, seat)) => Ok((TurnStore { alloc, turn }, StoreSeat { seat, count })),
             Err((kept, NoMemory)) => Err((kept.store, NoMemory)),
         }

@@ -14,7 +14,6 @@ pub trait StoreJob<D: Disk> {
     ghost use Rattle.std.specs.Prelude.{◌≡◌, ℕ, List, Option};
     ghost use Rattle.histories.specs.declared.events.StoreEvent.{StoreEvent};
     ghost use Rattle.histories.specs.Stores.{Blob};
-    ghost use Rattle.pack_store.specs.Archive.{Archive};
     ghost use Rattle.told_store.specs.Telling.{AddsEntry};
     ghost use Rattle.turn_home.specs.declared.store.StoreAbout.{StoreAbout};
     ghost use Rattle.turn_home.specs.StoreAbout.{about_of};
@@ -26,13 +25,15 @@ pub trait StoreJob<D: Disk> {
     /// entry that the turn adds.
     ghost says: { Self → StoreAbout → List Blob → Self.Out → Option StoreEvent → Type 0 };
 
-    /// The entry that the turn adds, if any: of the job, the answer, and the store after.
-    ghost adds: { Self → Self.Out → Archive D → Option StoreEvent };
+    /// The entry that the turn adds, if any: of the job, the answer, and how many faults the disk had counted before the
+    /// turn, and has after it.
+    ghost adds: { Self → Self.Out → ℕ → ℕ → Option StoreEvent };
 
     /// Does the job.
     fn go(self, store: &mut Store<D>) -> Self::Out
         ensures about { (made : ℕ) → about_of D.Disk made store.new ≡ about_of D.Disk made store.old }
-        ensures tells { (made : ℕ) → AddsEntry D.Disk made store.old store.new (adds self result store.new)
+        ensures tells { (made : ℕ) → AddsEntry D.Disk made store.old store.new
+            (adds self result (D.faults store.old.disk) (D.faults store.new.disk))
             (λ before entry. says self (about_of D.Disk made store.old) before result entry) };
 }
 
@@ -46,12 +47,13 @@ impl<D: Disk, O, J: StoreJob<D, Out = O> + Drop> Job<KeptStore<D>> for Counted<J
     ghost says = { λ j about before turn result k entry. J.says j.was.value about (arrivals before) result entry
         × (k.count ≡ length (arrivals (before ++ stamped turn entry))) };
 
-    ghost adds = { λ j result kept. J.adds j.was.value result kept.store };
+    ghost adds = { λ j result kept. J.adds j.was.value result kept.before (D.faults kept.store.disk) };
 
     ghost may = { λ j about. j.job ≡ Some j.was.value };
 
     fn go(&mut self, _turn: u64, value: &mut KeptStore<D>) -> O {
         let job = self.job.take().unwrap();
+        value.before = value.store.faults();
         let answer = job.go(&mut value.store);
         self.count = told_store::count(&value.store);
         answer
