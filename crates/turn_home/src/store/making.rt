@@ -3,7 +3,8 @@ ghost use Rattle.std.specs.Prelude.{◌≡◌, [], map, IfOk, IfErr};
 ghost use Rattle.histories.specs.History.{stamp};
 ghost use Rattle.told_store.specs.Telling.{is_told, limits_of};
 ghost use Rattle.told_store.specs.Beginning.{begins};
-ghost use Rattle.turn_home.specs.StoreSeats.{IsOfStore, store_sight, place_tells};
+ghost use Rattle.turn_home.specs.StoreAbout.{about_of};
+ghost use Rattle.turn_home.specs.StoreSeats.{IsOfStore, store_sight, place_about, place_tells};
 
 use super::{KeptStore, StoreSeat, TurnStore};
 use blobref::NoMemory;
@@ -15,13 +16,15 @@ use turn_cell::Turn;
 
 impl<D: Disk> TurnStore<D> {
     /// Puts a store behind a lock, and gives the first seat. It has seen the blobs of the store arrive, in turn 0, and
-    /// drew no turn. After `NoMemory` the store is given back as it was.
+    /// drew no turn. Each fault that a seat will see is counted above what the disk has counted now. After `NoMemory`
+    /// the store is given back as it was.
     pub fn make(
         alloc: Global,
         store: Store<D>,
     ) -> Result<(TurnStore<D>, StoreSeat<D>), (Store<D>, NoMemory)>
         ensures own { IfOk result (λ r. IsOfStore D.Disk r.0 r.1) }
         ensures tells { IfOk result (λ r. place_tells D.Disk r.0 ≡ is_told D.Disk store) }
+        ensures about { IfOk result (λ r. place_about D.Disk r.0 ≡ about_of D.Disk (D.faults store.disk) store) }
         ensures seat { IfOk result (λ r. store_sight r.1 ≡ record {
           history = map (stamp 0) (begins D.Disk store);
           turns = [];
