@@ -131,3 +131,7 @@ module _ {D : Type 0} (g : Ghosts D) (made : ℕ) (old new : Archive D) (h : Lis
             ∙ all_more (may_stand made (is_told g new)) (events h) e stands_now (ap (λ b. may_stand made b e) onward.told ∙ stands);
         packs = ap (list_all (is_pack_within (greatest new))) events_are ∙ all_more (is_pack_within (greatest new)) (events h) e packs_now within;
       }
+
+-- a turn in which nothing is added
+pub tells_end : {D : Type 0} (g : Ghosts D) (made : ℕ) (s : Archive D) (h : List (Stamped StoreEvent)) → StoreTells g made s h → StoreTells g made s (h ++ [])
+tells_end g made s h tells = subst (StoreTells g made s) (sym (append-nil h)) tells
