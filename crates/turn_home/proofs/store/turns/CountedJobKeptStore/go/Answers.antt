@@ -26,8 +26,9 @@ returns-clause-says g c h tells before =
     let about = about_of g.D.Disk made c.args.value.now.store in
     let same = some_same c.unwrap-job.result c.args.self.now.was.value (sym c.unwrap-job.ensures ∙ c.take.ensures.value ∙ c.requires) in
     let both = c.go-answer.ensures.tells made h c.args._turn tells before in
-    let entry = g.J.StoreJob.adds c.args.self.now.was.value c.go-answer.result c.faults-value.result now in
-    (subst (λ j. g.J.StoreJob.says j about (arrivals h) c.go-answer.result entry) same
-    (subst (λ (e : Option StoreEvent). g.J.StoreJob.says c.unwrap-job.result about (arrivals h) c.go-answer.result e)
-    (λ i. g.J.StoreJob.adds (same i) c.go-answer.result (sym c.faults-value.ensures i) now) both.1),
-    (c.count-self.ensures.tells made (h ++ stamped c.args._turn entry) (returns-clause-kept g c h tells before)).0)
+    let entry = g.J.StoreJob.adds c.args.self.now.was.value c.go-answer.result c.faults-value.result now in (
+      subst (λ j. g.J.StoreJob.says j about (arrivals h) c.go-answer.result entry) same
+          (subst (λ (e : Option StoreEvent). g.J.StoreJob.says c.unwrap-job.result about (arrivals h) c.go-answer.result e)
+          (λ i. g.J.StoreJob.adds (same i) c.go-answer.result (sym c.faults-value.ensures i) now) both.1),
+      (c.count-self.ensures.tells made (h ++ stamped c.args._turn entry) (returns-clause-kept g c h tells before)).0,
+    )
