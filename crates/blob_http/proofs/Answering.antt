@@ -52,6 +52,10 @@ quiet_stays before n (Some (store.Fault f)) q =
 quiet_stays before n (Some (store.Damage want is)) q = absurd q
 quiet_stays before n (Some (store.Full b p)) q = absurd q
 
+-- a turn that added nothing put nothing
+none_quiet : (e : Option StoreEvent) → e ≡ None → IsQuiet e
+none_quiet e none = subst IsQuiet (sym none) tt
+
 has_one : (t : ℕ) → has (t ∷ []) t ≡ true
 has_one t = or_left (eqb t t) (eq-eqb t t refl)
   where
@@ -325,7 +329,7 @@ module _ (tells closes : Bool) where
   stat_made refs (Ok found) m is accepts before blobs g e same says =
       defined_made tells accepts blobs g closes (question.Stat refs) _ m is
       (ap (λ (z : List (List ℕ × ℕ)). json_reply closes (stat_text z))
-      (says.0 ∙ ap (λ (z : List Blob). filter_map (sized z) (each_once [] refs)) (sym (same says.1))))
+      (says.0 ∙ ap (λ (z : List Blob). filter_map (sized z) (each_once [] refs)) (sym (same (none_quiet e says.1)))))
   stat_made refs (Err f) m is accepts before blobs g e same says = memory_made tells accepts blobs g closes
       (question.Stat refs) m is
 
@@ -355,7 +359,7 @@ module _ (tells closes : Bool) where
   page_made p (Ok found) m is accepts before blobs g e same says =
       defined_made tells accepts blobs g closes (question.Refs p) _ m is
       (ap (json_reply closes)
-      (ap (cut_page p.limit) (says.0 ∙ ap (page p.after (p.limit + 1)) (sym (same says.1)))
+      (ap (cut_page p.limit) (says.0 ∙ ap (page p.after (p.limit + 1)) (sym (same (none_quiet e says.1))))
       ∙ cut_is p.after p.limit blobs))
   page_made p (Err f) m is accepts before blobs g e same says = memory_made tells accepts blobs g closes
       (question.Refs p) m is

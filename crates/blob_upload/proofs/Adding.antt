@@ -18,7 +18,7 @@ use Rattle.histories.specs.declared.stamped.Stamped.{Stamped}
 use Rattle.histories.specs.declared.events.StoreEvent.{StoreEvent}
 use Rattle.histories.specs.declared.events.StoreEvent.TheVariants as store
 use Rattle.histories.specs.History.{stamp, stamped, has}
-use Rattle.histories.specs.Stores.{Blob, arrivals, number_of}
+use Rattle.histories.specs.Stores.{Blob, StoreLimits, arrivals, number_of}
 use Rattle.histories.specs.StoreCalls.{PutSays, PutAnswers, put_settled}
 use Rattle.histories.proofs.Prefixes.{prefix_trans}
 use Rattle.histories.proofs.Growing.{grew_chain, ran_grew, has_rest}
@@ -106,97 +106,97 @@ stamped_stands h t entry e is =
     (Contains-append_right h (stamp t e ∷ []) (stamp t e) (0, omega arith, refl))
 
 -- the entry that a put adds
-put_adds : (parts : List Part) (part : Part) (before : List Blob) (o : Option (Result Put PutFault))
-    (answer : Result Put PutFault) (came : Came) (e : StoreEvent) → EndsBy answer came
-    → PutAnswers part.0 part.1 before o answer (Some e)
-    → IsAddedBy parts came e
-put_adds parts part before (Some settled) answer came e ends said = absurd (cc (said.1))
-put_adds parts part before None (Ok (Stored n)) came e ends said =
-    let is : e ≡ store.Put n part.0 part.1 = cc (said.1) in subst (IsAddedBy parts came) (sym is) (inr ends)
-put_adds parts part before None (Ok (Already n)) came e ends said = absurd said
-put_adds parts part before None (Err (put.TooBig size)) came e ends said = absurd said
-put_adds parts part before None (Err (put.BadDigest a b)) came e ends said = absurd said
-put_adds parts part before None (Err (put.Full blobs pack)) came e ends said =
-    let is : e ≡ store.Full blobs pack = cc said in subst (IsAddedBy parts came) (sym is) ends
-put_adds parts part before None (Err put.Disk) came e ends said =
-    let is : e ≡ store.Fault (said.0) = cc (said.1) in subst (IsAddedBy parts came) (sym is) ends
-put_adds parts part before None (Err put.NoMemory) came e ends said = absurd (cc said)
+put_adds : (limits : StoreLimits) (parts : List Part) (part : Part) (before : List Blob)
+    (o : Option (Result Put PutFault)) (answer : Result Put PutFault) (came : Came) (e : StoreEvent)
+    → EndsBy answer came → PutAnswers limits part.0 part.1 before o answer (Some e) → IsAddedBy parts came e
+put_adds limits parts part before (Some settled) answer came e ends said = absurd (cc (said.1))
+put_adds limits parts part before None (Ok (Stored n)) came e ends said =
+    let is : e ≡ store.Put n part.0 part.1 = cc (said.2) in subst (IsAddedBy parts came) (sym is) (inr ends)
+put_adds limits parts part before None (Ok (Already n)) came e ends said = absurd said
+put_adds limits parts part before None (Err (put.TooBig size)) came e ends said = absurd said
+put_adds limits parts part before None (Err (put.BadDigest a b)) came e ends said = absurd said
+put_adds limits parts part before None (Err (put.Full blobs pack)) came e ends said =
+    let is : e ≡ store.Full blobs pack = cc (said.1) in subst (IsAddedBy parts came) (sym is) ends
+put_adds limits parts part before None (Err put.Disk) came e ends said =
+    let is : e ≡ store.Fault (said.1.0) = cc (said.1.1) in subst (IsAddedBy parts came) (sym is) ends
+put_adds limits parts part before None (Err put.NoMemory) came e ends said = absurd (cc (said.1))
 
 -- a part that is told of a body isn't too big
-big_by : (part : Part) (before : List Blob) (long other : Bool) (place : Option ℕ) (size : ℕ)
+big_by : (limits : StoreLimits) (part : Part) (before : List Blob) (long other : Bool) (place : Option ℕ) (size : ℕ)
     (entry : Option StoreEvent)
-    → PutAnswers part.0 part.1 before (settled_by part before long other place) (Err (put.TooBig size)) entry
+    → PutAnswers limits part.0 part.1 before (settled_by part before long other place) (Err (put.TooBig size)) entry
     → long ≡ true
-big_by part before true other place size entry said = refl
-big_by part before false true place size entry said = absurd (cc (said.0))
-big_by part before false false None size entry said = absurd said
-big_by part before false false (Some n) size entry said = absurd (cc (said.0))
+big_by limits part before true other place size entry said = refl
+big_by limits part before false true place size entry said = absurd (cc (said.0))
+big_by limits part before false false None size entry said = absurd said
+big_by limits part before false false (Some n) size entry said = absurd (cc (said.0))
 
-pub never_big : (part : Part) (before : List Blob) (size : ℕ) (entry : Option StoreEvent) → length part.1 ≤ max_size
-    → PutSays part.0 part.1 before (Err (put.TooBig size)) entry → ⊥
-never_big part before size entry few said =
+pub never_big : (limits : StoreLimits) (part : Part) (before : List Blob) (size : ℕ) (entry : Option StoreEvent)
+    → length part.1 ≤ max_size → PutSays limits part.0 part.1 before (Err (put.TooBig size)) entry → ⊥
+never_big limits part before size entry few said =
     let long : nat_lt max_size (length part.1) ≡ true =
-    big_by part before (nat_lt max_size (length part.1)) (not (is_own_ref part.0 part.1))
+    big_by limits part before (nat_lt max_size (length part.1)) (not (is_own_ref part.0 part.1))
     (number_of part.0 before) size entry said in
     let many = ltb-true max_size (length part.1) long in
     absurd (omega (arith, few, many))
 
-turned : (part : Part) (before : List Blob) (answer : Result Put PutFault) (entry : Option StoreEvent) (came : Came)
-    (n : ℕ)
-    → length part.1 ≤ max_size → PutSays part.0 part.1 before answer entry → EndsBy answer came → Turns came n (n + 1)
-turned part before answer entry came n few said ends = by answer ends said
+turned : (limits : StoreLimits) (part : Part) (before : List Blob) (answer : Result Put PutFault)
+    (entry : Option StoreEvent) (came : Came) (n : ℕ)
+    → length part.1 ≤ max_size → PutSays limits part.0 part.1 before answer entry → EndsBy answer came
+    → Turns came n (n + 1)
+turned limits part before answer entry came n few said ends = by answer ends said
   where
     at : (is : Came) → Turns is n (n + 1) → came ≡ is → Turns came n (n + 1)
     at is turns same = subst (λ c. Turns c n (n + 1)) (sym same) turns
 
-    by : (answer : Result Put PutFault) → EndsBy answer came → PutSays part.0 part.1 before answer entry
+    by : (answer : Result Put PutFault) → EndsBy answer came → PutSays limits part.0 part.1 before answer entry
         → Turns came n (n + 1)
     by (Ok stored) ends said = at Memory (inr refl) ends
-    by (Err (put.TooBig size)) ends said = absurd (never_big part before size entry few said)
+    by (Err (put.TooBig size)) ends said = absurd (never_big limits part before size entry few said)
     by (Err (put.BadDigest a b)) ends said = at (came_of_put (put.BadDigest a b)) refl ends
     by (Err (put.Full blobs pack)) ends said = at (Full blobs pack) refl ends
     by (Err put.Disk) ends said = at Disk refl ends
     by (Err put.NoMemory) ends said = at Memory (inr refl) ends
 
-full_by : (part : Part) (before : List Blob) (long other : Bool) (place : Option ℕ) (blobs pack : ℕ)
-    (entry : Option StoreEvent)
-    → PutAnswers part.0 part.1 before (settled_by part before long other place) (Err (put.Full blobs pack)) entry
+full_by : (limits : StoreLimits) (part : Part) (before : List Blob) (long other : Bool) (place : Option ℕ)
+    (blobs pack : ℕ) (entry : Option StoreEvent)
+    → PutAnswers limits part.0 part.1 before (settled_by part before long other place) (Err (put.Full blobs pack)) entry
     → entry ≡ Some (store.Full blobs pack)
-full_by part before true other place blobs pack entry said = absurd (cc (said.0))
-full_by part before false true place blobs pack entry said = absurd (cc (said.0))
-full_by part before false false None blobs pack entry said = said
-full_by part before false false (Some n) blobs pack entry said = absurd (cc (said.0))
+full_by limits part before true other place blobs pack entry said = absurd (cc (said.0))
+full_by limits part before false true place blobs pack entry said = absurd (cc (said.0))
+full_by limits part before false false None blobs pack entry said = said.1
+full_by limits part before false false (Some n) blobs pack entry said = absurd (cc (said.0))
 
-disk_by : (part : Part) (before : List Blob) (long other : Bool) (place : Option ℕ) (entry : Option StoreEvent)
-    → PutAnswers part.0 part.1 before (settled_by part before long other place) (Err put.Disk) entry
+disk_by : (limits : StoreLimits) (part : Part) (before : List Blob) (long other : Bool) (place : Option ℕ)
+    (entry : Option StoreEvent)
+    → PutAnswers limits part.0 part.1 before (settled_by part before long other place) (Err put.Disk) entry
     → (f : ℕ) × (entry ≡ Some (store.Fault f))
-disk_by part before true other place entry said = absurd (cc (said.0))
-disk_by part before false true place entry said = absurd (cc (said.0))
-disk_by part before false false None entry said = said
-disk_by part before false false (Some n) entry said = absurd (cc (said.0))
+disk_by limits part before true other place entry said = absurd (cc (said.0))
+disk_by limits part before false true place entry said = absurd (cc (said.0))
+disk_by limits part before false false None entry said = said.1
+disk_by limits part before false false (Some n) entry said = absurd (cc (said.0))
 
-shows_why : (part : Part) (answer : Result Put PutFault) (came : Came) (h : List (Stamped StoreEvent)) (turns : List ℕ)
-    (t : ℕ)
-    (entry : Option StoreEvent) → EndsBy answer came → PutSays part.0 part.1 (arrivals h) answer entry
-    → ShowsWhy came (turns ++ t ∷ []) (h ++ stamped t entry)
-shows_why part answer came h turns t entry ends said = by answer ends said
+shows_why : (limits : StoreLimits) (part : Part) (answer : Result Put PutFault) (came : Came)
+    (h : List (Stamped StoreEvent)) (turns : List ℕ) (t : ℕ) (entry : Option StoreEvent) → EndsBy answer came
+    → PutSays limits part.0 part.1 (arrivals h) answer entry → ShowsWhy came (turns ++ t ∷ []) (h ++ stamped t entry)
+shows_why limits part answer came h turns t entry ends said = by answer ends said
   where
     at : (is : Came) → ShowsWhy is (turns ++ t ∷ []) (h ++ stamped t entry) → came ≡ is
         → ShowsWhy came (turns ++ t ∷ []) (h ++ stamped t entry)
     at is shows same = subst (λ c. ShowsWhy c (turns ++ t ∷ []) (h ++ stamped t entry)) (sym same) shows
 
-    by : (answer : Result Put PutFault) → EndsBy answer came → PutSays part.0 part.1 (arrivals h) answer entry
+    by : (answer : Result Put PutFault) → EndsBy answer came → PutSays limits part.0 part.1 (arrivals h) answer entry
         → ShowsWhy came (turns ++ t ∷ []) (h ++ stamped t entry)
     by (Ok stored) ends said = at Memory tt ends
     by (Err (put.TooBig size)) ends said = at (came_of_put (put.TooBig size)) tt ends
     by (Err (put.BadDigest a b)) ends said = at (came_of_put (put.BadDigest a b)) tt ends
     by (Err (put.Full blobs pack)) ends said =
-        let is = full_by part (arrivals h) (nat_lt max_size (length part.1)) (not (is_own_ref part.0 part.1))
+        let is = full_by limits part (arrivals h) (nat_lt max_size (length part.1)) (not (is_own_ref part.0 part.1))
         (number_of part.0 (arrivals h)) blobs pack entry said in
         let stands = stamped_stands h t entry (store.Full blobs pack) is in
         at (Full blobs pack) (t, has_rest turns (t ∷ []) t (has_one t), stands) ends
     by (Err put.Disk) ends said =
-        let is = disk_by part (arrivals h) (nat_lt max_size (length part.1)) (not (is_own_ref part.0 part.1))
+        let is = disk_by limits part (arrivals h) (nat_lt max_size (length part.1)) (not (is_own_ref part.0 part.1))
         (number_of part.0 (arrivals h)) entry said in
         let stands = stamped_stands h t entry (store.Fault (is.0)) (is.1) in
         at Disk (t, is.0, has_rest turns (t ∷ []) t (has_one t), stands) ends
@@ -205,7 +205,8 @@ shows_why part answer came h turns t entry ends said = by answer ends said
 module _ (parts : List Part) (part : Part) (came : Came) (v m w : Sight) (puts : Puts parts v m)
     (few : length part.1 ≤ max_size) where
   adds_turned : (answer : Result Put PutFault) → EndsBy answer came
-      → StoreTurned (λ before entry. PutSays part.0 part.1 before answer entry) m w → Adds parts came v w
+      → StoreTurned (λ before entry. PutSays m.store.limits part.0 part.1 before answer entry) m w
+      → Adds parts came v w
   adds_turned answer ends t =
       let r = t.turn.ran in
       let longer : IsPrefix m.store.history w.store.history =
@@ -216,14 +217,16 @@ module _ (parts : List Part) (part : Part) (came : Came) (v m w : Sight) (puts :
         grew = grew_chain (IsAddedBy parts came) v.store.history m.store.history w.store.history v.store.turns
             m.store.turns
             w.store.turns (wider parts came v m puts.grew)
-            (ran_grew (λ before turn entry. PutSays part.0 part.1 (arrivals before) answer entry) (IsAddedBy parts came)
+            (ran_grew (λ before turn entry. PutSays m.store.limits part.0 part.1 (arrivals before) answer entry)
+            (IsAddedBy parts came)
             m.store.history w.store.history m.store.turns w.store.turns
             (λ h n e said.
-            put_adds parts part (arrivals h) (put_settled part.0 part.1 (arrivals h)) answer came e ends said) r);
+            put_adds m.store.limits parts part (arrivals h) (put_settled part.0 part.1 (arrivals h)) answer came e ends
+            said) r);
         turns = subst (λ n. Turns came (length parts) n) (sym count)
-            (turned part (arrivals r.before) answer r.entry came (length parts) few r.said ends);
+            (turned m.store.limits part (arrivals r.before) answer r.entry came (length parts) few r.said ends);
         why = subst (λ h. ShowsWhy came (puts.grew.further ++ (r.ticket + 1) ∷ []) h) (sym r.added)
-            (shows_why part answer came r.before puts.grew.further (r.ticket + 1) r.entry ends r.said);
+            (shows_why m.store.limits part answer came r.before puts.grew.further (r.ticket + 1) r.entry ends r.said);
         stand = All-weaker (stands m) (stands w) (λ other stood. stands_longer m w other longer stood) parts puts.stand;
         index = t.index ∙ puts.index;
         limits = t.turn.limits ∙ puts.limits;
@@ -251,7 +254,7 @@ module _ (parts : List Part) (part : Part) (came : Came) (v m w : Sight) (puts :
       memory : (answer : Result Put PutFault) → answer ≡ Err put.NoMemory → EndsBy answer came → came ≡ Memory
       memory answer is ends = subst (λ a. EndsBy a came) is ends
 
-      by : StoreTurned (λ before entry. PutSays part.0 part.1 before last.answer entry) m w
+      by : StoreTurned (λ before entry. PutSays m.store.limits part.0 part.1 before last.answer entry) m w
           ⊎ ((last.answer ≡ Err put.NoMemory) × Spends m w) → Adds parts came v w
       by (inl turn) = adds_turned last.answer last.ends turn
       by (inr spent) = adds_spent (memory last.answer (spent.0) last.ends) (spent.1)

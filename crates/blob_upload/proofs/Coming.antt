@@ -10,7 +10,7 @@ use Rattle.http_wire.specs.declared.ends.WireEnd.{WireEnd}
 use Rattle.http_wire.specs.declared.ends.WireEnd.TheVariants as ends
 use Rattle.http_wire.specs.Wires.{WireView, to_come, BodyEnds}
 use Rattle.histories.specs.declared.events.StoreEvent.{StoreEvent}
-use Rattle.histories.specs.Stores.{Blob, arrivals, number_of}
+use Rattle.histories.specs.Stores.{Blob, StoreLimits, arrivals, number_of}
 use Rattle.histories.specs.StoreCalls.{PutSays, PutAnswers}
 use Rattle.multipart_read.specs.declared.events.PartFault.{PartFault}
 use Rattle.multipart_read.specs.declared.events.PartFault.TheVariants as part_faults
@@ -31,7 +31,7 @@ use Rattle.blob_upload.proofs.Adding.{never_big}
 
 -- ---- the answer to a put tells whether its part has a fault
 
-module _ (part : Part) (before : List Blob) (named : is_blobref part.0 ≡ true) where
+module _ (limits : StoreLimits) (part : Part) (before : List Blob) (named : is_blobref part.0 ≡ true) where
   -- a part is judged by its digest, since its name is a blobref
   judged : (other : Bool) → not (is_own_ref part.0 part.1) ≡ other
       → part_fault part ≡ cond other (Some (BadDigest part.0 (ref_like part.0 part.1))) None
@@ -41,7 +41,8 @@ module _ (part : Part) (before : List Blob) (named : is_blobref part.0 ≡ true)
       ∙ ap (λ b. cond b (Some (BadDigest part.0 (ref_like part.0 part.1))) None) is
 
   digest_by : (long other : Bool) (place : Option ℕ) (said is : List ℕ) (entry : Option StoreEvent)
-      → PutAnswers part.0 part.1 before (settled_by part before long other place) (Err (put.BadDigest said is)) entry
+      → PutAnswers limits part.0 part.1 before (settled_by part before long other place) (Err (put.BadDigest said is))
+      entry
       → (other ≡ true) × (said ≡ part.0) × (is ≡ ref_like part.0 part.1)
   digest_by true other place said is entry says = absurd (cc (says.0))
   digest_by false true place said is entry says = (refl, cc (says.0), cc (says.0))
@@ -49,14 +50,15 @@ module _ (part : Part) (before : List Blob) (named : is_blobref part.0 ≡ true)
   digest_by false false (Some n) said is entry says = absurd (cc (says.0))
 
   full_by : (long other : Bool) (place : Option ℕ) (blobs pack : ℕ) (entry : Option StoreEvent)
-      → PutAnswers part.0 part.1 before (settled_by part before long other place) (Err (put.Full blobs pack)) entry
-      → other ≡ false
+      → PutAnswers limits part.0 part.1 before (settled_by part before long other place) (Err (put.Full blobs pack))
+      entry → other ≡ false
   full_by true other place blobs pack entry says = absurd (cc (says.0))
   full_by false true place blobs pack entry says = absurd (cc (says.0))
   full_by false false place blobs pack entry says = refl
 
   disk_by : (long other : Bool) (place : Option ℕ) (entry : Option StoreEvent)
-      → PutAnswers part.0 part.1 before (settled_by part before long other place) (Err put.Disk) entry → other ≡ false
+      → PutAnswers limits part.0 part.1 before (settled_by part before long other place) (Err put.Disk) entry
+      → other ≡ false
   disk_by true other place entry says = absurd (cc (says.0))
   disk_by false true place entry says = absurd (cc (says.0))
   disk_by false false place entry says = refl
@@ -68,18 +70,19 @@ module _ (part : Part) (before : List Blob) (named : is_blobref part.0 ≡ true)
   other = not (is_own_ref part.0 part.1)
 
   digest_fault : (said is : List ℕ) (entry : Option StoreEvent)
-      → PutSays part.0 part.1 before (Err (put.BadDigest said is)) entry
+      → PutSays limits part.0 part.1 before (Err (put.BadDigest said is)) entry
       → (said ≡ part.0) × (part_fault part ≡ Some (BadDigest part.0 is))
   digest_fault said is entry says =
       let found = digest_by long other (number_of part.0 before) said is entry says in
       (found.1, judged true (found.0) ∙ ap (λ r. Some (BadDigest part.0 r)) (sym (found.2)))
 
   full_sound : (blobs pack : ℕ) (entry : Option StoreEvent)
-      → PutSays part.0 part.1 before (Err (put.Full blobs pack)) entry
+      → PutSays limits part.0 part.1 before (Err (put.Full blobs pack)) entry
       → part_fault part ≡ None
   full_sound blobs pack entry says = judged false (full_by long other (number_of part.0 before) blobs pack entry says)
 
-  disk_sound : (entry : Option StoreEvent) → PutSays part.0 part.1 before (Err put.Disk) entry → part_fault part ≡ None
+  disk_sound : (entry : Option StoreEvent) → PutSays limits part.0 part.1 before (Err put.Disk) entry
+      → part_fault part ≡ None
   disk_sound entry says = judged false (disk_by long other (number_of part.0 before) entry says)
 
 -- ---- each way to end
@@ -122,26 +125,26 @@ module _ (boundary given : List ℕ) (parts : List Part) (wire : WireView) (x : 
     at_digest said is found =
         subst (λ name. comes (Refused (BadDigest name is))) (sym (found.0)) (part.1, (later, told), found.1)
 
-    at_put : (answer : Result Put PutFault) (before : List Blob) (entry : Option StoreEvent) (came : Came)
-        → EndsBy answer came
-        → PutSays part.0 part.1 before answer entry → comes came
-    at_put (Ok stored) before entry came by says = as_told came Memory (part_tokens part ++ later, told) by
-    at_put (Err (put.TooBig size)) before entry came by says =
-        absurd (never_big part before size entry (contents_fit boundary given parts part later told) says)
-    at_put (Err (put.BadDigest said is)) before entry came by says =
+    at_put : (limits : StoreLimits) (answer : Result Put PutFault) (before : List Blob) (entry : Option StoreEvent)
+        (came : Came) → EndsBy answer came → PutSays limits part.0 part.1 before answer entry → comes came
+    at_put limits (Ok stored) before entry came by says = as_told came Memory (part_tokens part ++ later, told) by
+    at_put limits (Err (put.TooBig size)) before entry came by says =
+        absurd (never_big limits part before size entry (contents_fit boundary given parts part later told) says)
+    at_put limits (Err (put.BadDigest said is)) before entry came by says =
         as_told came (Refused (BadDigest said is))
-        (at_digest said is (digest_fault part before named said is entry says)) by
-    at_put (Err (put.Full blobs pack)) before entry came by says =
-        as_told came (Full blobs pack) (part, (later, told), full_sound part before named blobs pack entry says) by
-    at_put (Err put.Disk) before entry came by says =
-        as_told came Disk (part, (later, told), disk_sound part before named entry says) by
-    at_put (Err put.NoMemory) before entry came by says = as_told came Memory (part_tokens part ++ later, told) by
+        (at_digest said is (digest_fault limits part before named said is entry says)) by
+    at_put limits (Err (put.Full blobs pack)) before entry came by says =
+        as_told came (Full blobs pack) (part, (later, told), full_sound limits part before named blobs pack entry says)
+        by
+    at_put limits (Err put.Disk) before entry came by says =
+        as_told came Disk (part, (later, told), disk_sound limits part before named entry says) by
+    at_put limits (Err put.NoMemory) before entry came by says = as_told came Memory (part_tokens part ++ later, told) by
 
     at_part : (came : Came) (v w : Sight) (answer : Result Put PutFault) → EndsBy answer came
-        → StoreTurned (λ before entry. PutSays part.0 part.1 before answer entry) v w
+        → StoreTurned (λ before entry. PutSays v.store.limits part.0 part.1 before answer entry) v w
         ⊎ ((answer ≡ Err put.NoMemory) × Spends v w) → comes came
     at_part came v w answer by (inl t) =
-        at_put answer (arrivals t.turn.ran.before) t.turn.ran.entry came by t.turn.ran.said
+        at_put v.store.limits answer (arrivals t.turn.ran.before) t.turn.ran.entry came by t.turn.ran.said
     at_part came v w answer by (inr (none, spends)) =
         as_told came Memory (part_tokens part ++ later, told) (subst (λ a. EndsBy a came) none by)
 

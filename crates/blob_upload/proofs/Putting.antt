@@ -18,7 +18,7 @@ use Rattle.histories.specs.declared.stamped.Stamped.{Stamped}
 use Rattle.histories.specs.declared.events.StoreEvent.{StoreEvent}
 use Rattle.histories.specs.declared.events.StoreEvent.TheVariants as store
 use Rattle.histories.specs.History.{stamped}
-use Rattle.histories.specs.Stores.{Blob, arrivals, is_ref, has_ref, number_of}
+use Rattle.histories.specs.Stores.{Blob, StoreLimits, arrivals, is_ref, has_ref, number_of}
 use Rattle.histories.specs.StoreCalls.{PutSays, PutAnswers, put_settled, sizes}
 use Rattle.histories.proofs.Growing.{grew_none, grew_chain, ran_grew}
 use Rattle.histories.proofs.Prefixes.{prefix_trans}
@@ -84,47 +84,50 @@ module _ (part : Part) (before : List Blob) where
       else if other then Some (BadDigest part.0 (ref_like part.0 part.1))
       else None
 
+module _ (limits : StoreLimits) (part : Part) (before : List Blob) where
   sound_by : (long other : Bool) (place : Option ℕ) (put : Put) (entry : Option StoreEvent)
-      → PutAnswers part.0 part.1 before (settled_by long other place) (Ok put) entry → fault_by false other ≡ None
+      → PutAnswers limits part.0 part.1 before (settled_by part before long other place) (Ok put) entry
+      → fault_by part before false other ≡ None
   sound_by true other place put entry said = absurd (cc (said.0))
   sound_by false true place put entry said = absurd (cc (said.0))
   sound_by false false place put entry said = refl
 
   -- a part that was put has no fault
-  pub put_sound : (put : Put) (entry : Option StoreEvent) → PutSays part.0 part.1 before (Ok put) entry
+  pub put_sound : (put : Put) (entry : Option StoreEvent) → PutSays limits part.0 part.1 before (Ok put) entry
       → is_blobref part.0 ≡ true → part_fault part ≡ None
   put_sound put entry said named =
-      ap (λ b. fault_by (not b) (not (is_own_ref part.0 part.1))) named
+      ap (λ b. fault_by part before (not b) (not (is_own_ref part.0 part.1))) named
       ∙ sound_by (nat_lt max_size (length part.1)) (not (is_own_ref part.0 part.1))
       (number_of part.0 before) put entry said
 
   -- what it adds is its arrival
   put_adds : (answer : Option (Result Put PutFault)) (put : Put) (parts : List Part) (e : StoreEvent)
-      → PutAnswers part.0 part.1 before answer (Ok put) (Some e) → IsArrivalOf (parts ++ part ∷ []) e
+      → PutAnswers limits part.0 part.1 before answer (Ok put) (Some e) → IsArrivalOf (parts ++ part ∷ []) e
   put_adds (Some answer) put parts e said = absurd (cc (said.1))
   put_adds None (Stored n) parts e said =
-      let is : e ≡ store.Put n part.0 part.1 = cc (said.1) in
+      let is : e ≡ store.Put n part.0 part.1 = cc (said.2) in
       subst (IsArrivalOf (parts ++ part ∷ [])) (sym is) (Contains-push parts part)
   put_adds None (Already n) parts e said = absurd said
 
   placed_by : (long other : Bool) (place : Option ℕ) (n : ℕ) (entry : Option StoreEvent)
-      → PutAnswers part.0 part.1 before (settled_by long other place) (Ok (Already n)) entry → place ≡ Some n
+      → PutAnswers limits part.0 part.1 before (settled_by part before long other place) (Ok (Already n)) entry
+      → place ≡ Some n
   placed_by true other place n entry said = absurd (cc (said.0))
   placed_by false true place n entry said = absurd (cc (said.0))
   placed_by false false None n entry said = absurd said
   placed_by false false (Some m) n entry said = cc (said.0)
 
   stored_by : (long other : Bool) (place : Option ℕ) (n : ℕ) (entry : Option StoreEvent)
-      → PutAnswers part.0 part.1 before (settled_by long other place) (Ok (Stored n)) entry
+      → PutAnswers limits part.0 part.1 before (settled_by part before long other place) (Ok (Stored n)) entry
       → entry ≡ Some (store.Put n part.0 part.1)
   stored_by true other place n entry said = absurd (cc (said.0))
   stored_by false true place n entry said = absurd (cc (said.0))
-  stored_by false false None n entry said = said.1
+  stored_by false false None n entry said = said.2
   stored_by false false (Some m) n entry said = absurd (cc (said.0))
 
   -- behind the put its blob stands
   put_has : (put : Put) (entry : Option StoreEvent) (h : List (Stamped StoreEvent)) (t : ℕ) → arrivals h ≡ before
-      → PutSays part.0 part.1 before (Ok put) entry → has_ref part.0 (arrivals (h ++ stamped t entry)) ≡ true
+      → PutSays limits part.0 part.1 before (Ok put) entry → has_ref part.0 (arrivals (h ++ stamped t entry)) ≡ true
   put_has (Stored n) entry h t is said =
       let added : entry ≡ Some (store.Put n part.0 part.1) =
       stored_by (nat_lt max_size (length part.1)) (not (is_own_ref part.0 part.1))
@@ -177,20 +180,22 @@ puts_none v = record {
 }
 
 puts_more : (parts : List Part) (part : Part) (put : Put) (u v w : Sight) → Puts parts u v
-    → StoreTurned (λ before entry. PutSays part.0 part.1 before (Ok put) entry) v w → Puts (parts ++ part ∷ []) u w
+    → StoreTurned (λ before entry. PutSays v.store.limits part.0 part.1 before (Ok put) entry) v w
+    → Puts (parts ++ part ∷ []) u w
 puts_more parts part put u v w p t =
     let r = t.turn.ran in
     let longer : IsPrefix v.store.history w.store.history =
     prefix_trans v.store.history r.before w.store.history r.longer (stamped (r.ticket + 1) r.entry, sym r.added) in
     let here : stands w part =
     subst (λ h. has_ref part.0 (arrivals h) ≡ true) (sym r.added)
-    (put_has part (arrivals r.before) put r.entry r.before (r.ticket + 1) refl r.said) in
+    (put_has v.store.limits part (arrivals r.before) put r.entry r.before (r.ticket + 1) refl r.said) in
     record {
       grew = grew_chain (IsArrivalOf (parts ++ part ∷ [])) u.store.history v.store.history w.store.history u.store.turns
           v.store.turns w.store.turns (of_more parts part u v p.grew)
-          (ran_grew (λ before turn entry. PutSays part.0 part.1 (arrivals before) (Ok put) entry)
+          (ran_grew (λ before turn entry. PutSays v.store.limits part.0 part.1 (arrivals before) (Ok put) entry)
           (IsArrivalOf (parts ++ part ∷ [])) v.store.history w.store.history v.store.turns w.store.turns
-          (λ h n e said. put_adds part (arrivals h) (put_settled part.0 part.1 (arrivals h)) put parts e said) r);
+          (λ h n e said. put_adds v.store.limits part (arrivals h) (put_settled part.0 part.1 (arrivals h)) put parts e
+          said) r);
       turns = length-append p.grew.further ((r.ticket + 1) ∷ []) ∙ ap (λ n. n + 1) p.turns
           ∙ sym (length-append parts (part ∷ []));
       stand = All-push (stands w) parts part
@@ -211,12 +216,12 @@ keeps_none kept v = record {
 -- a part more was put and listed
 pub keeps_more : (parts : List Part) (part : Part) (put : Put) (first kept kept' : List (List ℕ × ℕ)) (u v w : Sight)
     → Keeps parts first kept u v → is_blobref part.0 ≡ true → kept' ≡ kept ++ (part.0, length part.1) ∷ []
-    → StoreTurned (λ before entry. PutSays part.0 part.1 before (Ok put) entry) v w
+    → StoreTurned (λ before entry. PutSays v.store.limits part.0 part.1 before (Ok put) entry) v w
     → Keeps (parts ++ part ∷ []) first kept' u w
 keeps_more parts part put first kept kept' u v w k named listed t =
     let r = t.turn.ran in
     let sound : part_fault part ≡ None =
-    put_sound part (arrivals r.before) put r.entry r.said named in
+    put_sound v.store.limits part (arrivals r.before) put r.entry r.said named in
     record {
       sound = All-push (λ (p : Part). part_fault p ≡ None) parts part k.sound sound;
       listed = listed ∙ ap (λ l. l ++ (part.0, length part.1) ∷ []) k.listed

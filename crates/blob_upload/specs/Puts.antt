@@ -43,8 +43,9 @@ abbrev pub EndsBy : Result Put PutFault → Came → Type 0
 EndsBy (Ok put) came = came ≡ Memory
 EndsBy (Err fault) came = came ≡ came_of_put fault
 
--- the put of a part that wasn't kept
+-- the put of a part that wasn't kept, within the limits of the store
 pub record LastPut (part : Part) (came : Came) (v w : Sight) : Type 0 where
   pub answer : Result Put PutFault
   pub ends : EndsBy answer came
-  pub call : StoreCall (answer ≡ Err NoMemory) (λ before entry. PutSays part.0 part.1 before answer entry) v w
+  pub call : StoreCall (answer ≡ Err NoMemory)
+      (λ before entry. PutSays v.store.limits part.0 part.1 before answer entry) v w

@@ -28,11 +28,11 @@ abbrev pub with_bytes : List ℕ → Cut → Cut
 with_bytes bytes between = between
 with_bytes bytes (inside name front) = inside name (front ++ bytes)
 
--- a part was put and kept, or that is what the upload ends with
+-- a part was put, within the limits of the store, and kept; or that is what the upload ends with
 abbrev pub PutsPart : List ℕ → List ℕ → List (List ℕ × ℕ) → List (List ℕ × ℕ) → Sight → Sight
     → Result (Unit {0}) Came → Type 0
 PutsPart name content kept kept' v w (Ok done) = (put : Put) × (kept' ≡ kept ++ (name, length content) ∷ [])
-    × StoreTurned (λ before entry. PutSays name content before (Ok put) entry) v w
+    × StoreTurned (λ before entry. PutSays v.store.limits name content before (Ok put) entry) v w
 PutsPart name content kept kept' v w (Err came) = (kept' ≡ kept) × LastPut (name, content) came v w
 
 -- the same of what is open; nothing is, where none is
