@@ -20,7 +20,7 @@ use Rattle.histories.proofs.Prefixes.{prefix_get}
 use Rattle.home_core.specs.Passes.{IsTrouble, Agrees}
 use Rattle.index_worker.specs.Works.{IsWork}
 
-pub quiet_trouble : (e : StoreEvent) → IsQuiet (Some e) → IsTrouble e
+quiet_trouble : (e : StoreEvent) → IsQuiet (Some e) → IsTrouble e
 quiet_trouble (store.Put n r b) q = absurd q
 quiet_trouble (store.Fault f) q = tt
 quiet_trouble (store.Damage w i) q = absurd q

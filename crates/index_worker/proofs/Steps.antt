@@ -23,7 +23,7 @@ use Rattle.home_core.specs.declared.home.Indexed.{Indexed}
 use Rattle.home_core.specs.declared.home.Indexed.TheVariants.{New, Already, Idle}
 use Rattle.home_core.specs.Working.{IndexesNext, Takes, TakesAnd, Indexes, Fails, GivesBack, Refuses}
 use Rattle.index_worker.specs.Works.{IsWork, Works, outcome_of}
-use Rattle.index_worker.proofs.Entries.{Adds, quiet_trouble, arrival_trouble, take_adds, new_adds, already_adds, return_adds, work_later}
+use Rattle.index_worker.proofs.Entries.{Adds, arrival_trouble, take_adds, new_adds, already_adds, return_adds, work_later}
 
 module _ {E : Type 0} where
   -- nothing was added, seen from what is now
@@ -179,7 +179,7 @@ module _ (v w : Sight) where
 
   takes_works : (arrived : ℕ) (taken : Result (Option ℕ) NoMemory) → Takes arrived taken v w → Works 1 0 v w
   takes_works arrived taken takes = works_chain 1 0 0 0 v takes.middle w
-      (store_works v takes.middle (λ before entry. CountSays before arrived entry) (λ before e says. quiet_trouble e says.1) takes.count)
+      (store_works v takes.middle (λ before entry. CountSays before arrived entry) (λ before e says. absurd (cc says.1)) takes.count)
       (index_works takes.middle w 0 (λ before entry. TakeSays arrived before taken entry) (λ before entry says. take_adds (arrivals w.store.history) arrived before taken entry says) takes.take)
 
   module _ (tells : Bool) (n : ℕ) where
