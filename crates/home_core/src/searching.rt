@@ -11,10 +11,10 @@ use answer_text::search_text;
 use blobref::{NoMemory, Octets, Ref, RefList};
 use claim_index::FactList;
 use claim_verify::Verifier;
+use fact_search::answer_over;
 use schema_json::fact;
 use search_query::Query;
 use std::alloc::Global;
-use uncounted_search::answer_over;
 
 /// The bytes of the answer to a query over exactly the facts indexed. The session sees all indexed numbers.
 pub(crate) fn search<V: Verifier>(

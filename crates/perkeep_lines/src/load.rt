@@ -17,12 +17,12 @@ use edge_base::Steps;
 use index_look::Look;
 use schema_date::When;
 use schema_write::load_blobs;
+use search_eval::answer_of;
 use search_meets::live_permanodes;
 use search_query::Query;
 use std::alloc::Global;
 use std::marker::Brand;
 use std::sync::ledger::{Blank, Ledger};
-use uncounted_search::answer_of;
 
 /// What is told of the blobs of a generated store (`docs/formats/generated.md`), inserted in their order and in reverse
 /// order: a line for each order. The blobs are made (`schema_write::load_blobs`) and let go once their facts are read;

@@ -11,10 +11,10 @@ use answer_text::search_text;
 use blobref::{NoMemory, Octets, RefList};
 use claim_index::FactList;
 use claim_verify::Verifier;
+use fact_search::answer_over;
 use schema_date::When;
 use search_query::Query;
 use std::alloc::Global;
-use uncounted_search::answer_over;
 
 /// The line that answers a search for an attribute's value over the blobs of a pack (`pack_facts`), in the time of
 /// scanning it and of the search over its facts. `NoMemory` comes only where no memory is left.
@@ -51,7 +51,7 @@ pub fn search_line<V: Verifier>(
 }
 
 /// The line that answers a query over facts (`docs/search.md`). It takes the time of making an index of the facts, and
-/// then that of a search (`uncounted_search::answer_over`). `NoMemory` comes only where no memory is left.
+/// then that of a search (`fact_search::answer_over`). `NoMemory` comes only where no memory is left.
 pub fn query_line<V: Verifier>(
     alloc: Global,
     facts: FactList,

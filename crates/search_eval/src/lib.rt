@@ -4,6 +4,8 @@
 mod answering;
 mod laws;
 mod ordering;
+mod uncounted;
 
 pub use answering::answer;
 pub use laws::{answers_are_asked, same_answers};
+pub use uncounted::answer_of;

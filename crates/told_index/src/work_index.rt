@@ -18,10 +18,10 @@ use claim_index::Index;
 use claim_verify::Verifier;
 use edge_base::Inserted;
 use schema_fact::Fact;
+use search_eval::answer_of;
 use search_query::Query;
 use std::alloc::Global;
 use std::marker::Model;
-use uncounted_search::answer_of;
 
 /// An index of facts, with which numbers were inserted, and which are in hand: that value of which a lock hands out
 /// turns. A contract sees the facts, the numbers and the keys, and says for each history that the index may stand for

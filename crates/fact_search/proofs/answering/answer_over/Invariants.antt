@@ -1,4 +1,4 @@
-use Rattle.uncounted_search.proofs.answering.answer_over.Given as goal
+use Rattle.fact_search.proofs.answering.answer_over.Given as goal
 
 -- the ledger of the blank
 abbrev pub ghosts-index_of : goal.ghosts-index_of

@@ -1,4 +1,4 @@
-use Rattle.uncounted_search.proofs.answering.answer_of.Given as goal
+use Rattle.search_eval.proofs.uncounted.answer_of.Given as goal
 
 -- the ledger of the blank
 abbrev pub ghosts-counted : goal.ghosts-counted

@@ -1,6 +1,6 @@
 use Rattle.std.proofs.Common.{◌≡◌, IfOk, subst, List, ℕ}
 use Rattle.search_eval.specs.Answer.{answer}
-use Rattle.uncounted_search.proofs.answering.answer_over.Goals as goal
+use Rattle.fact_search.proofs.answering.answer_over.Goals as goal
 
 pub returns : goal.returns
 returns g c =

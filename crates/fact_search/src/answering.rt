@@ -1,4 +1,4 @@
-//! Answers to queries. The steps of each are counted in a ledger of its own, and told to nobody.
+//! Answers to queries over facts. The steps are counted in ledgers of their own, and told to nobody.
 ghost use Rattle.std.specs.Prelude.{◌≡◌, ◌<◌, IfOk};
 ghost use Rattle.std.specs.FinMap.{from_entries};
 ghost use Rattle.claim_model.specs.Facts.{AreValid};
@@ -8,8 +8,7 @@ use blobref::{NoMemory, RefList};
 use claim_index::{FactList, Index};
 use claim_verify::Verifier;
 use edge_base::Steps;
-use index_look::Look;
-use search_eval::answer;
+use search_eval::answer_of;
 use search_query::Query;
 use std::alloc::Global;
 use std::marker::Brand;
@@ -30,14 +29,6 @@ pub fn answer_over<V: Verifier>(
     answer_of(alloc, &index, query)
 }
 
-/// The answer to a query over an index, in the time of a search (`search_eval::answer`). `NoMemory` comes only where no
-/// memory is left.
-pub fn answer_of<K: Look>(alloc: Global, look: &K, query: &Query) -> Result<RefList, NoMemory>
-    ensures { IfOk result (λ refs. refs ≡ answer (K.facts look.now) (K.accepts look.now) query.now) }
-{
-    counted::<_, Brand>(alloc, look, query, Blank::new(1))
-}
-
 // An index of facts. The steps are counted in the blank ledger.
 fn index_of<V: Verifier, L: Ledger>(
     alloc: Global,
@@ -56,20 +47,4 @@ where
 {
     let mut steps = Steps::<L>::start(blank);
     Index::of(alloc, facts, keys, &mut steps)
-}
-
-// The answer, whose steps are counted likewise.
-fn counted<K: Look, L: Ledger>(
-    alloc: Global,
-    look: &K,
-    query: &Query,
-    blank: Blank,
-) -> Result<RefList, NoMemory>
-    requires name { blank.name ≡ L.name }
-    requires parts { blank.parts ≡ L.parts }
-    requires some { 0 < blank.parts }
-    ensures { IfOk result (λ refs. refs ≡ answer (K.facts look.now) (K.accepts look.now) query.now) }
-{
-    let mut steps = Steps::<L>::start(blank);
-    answer(alloc, look, query, &mut steps)
 }

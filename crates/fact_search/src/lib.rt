@@ -1,0 +1,6 @@
+//! Searches over a list of facts, for whoever has no index of them.
+#![tactic(auto)]
+
+mod answering;
+
+pub use answering::answer_over;
