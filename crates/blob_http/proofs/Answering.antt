@@ -25,8 +25,8 @@ use Rattle.histories.specs.StoreCalls.{IsQuiet, GetSays, GetFails, StatSays, Lis
 use Rattle.histories.proofs.Prefixes.{prefix_trans, prefix_length}
 use Rattle.histories.proofs.Growing.{has_rest}
 use Rattle.histories.proofs.Standing.{arrivals_append, arrivals_prefix, has_all_longer}
-use Rattle.home_core.specs.Passes.{Sight, IsSight, StoreCall, StoreTurned, Spends, Settles, Searches, Counts, Caused}
-use Rattle.home_core.specs.Searches.{SearchSays}
+use Rattle.home_places.specs.Passes.{Sight, IsSight, StoreCall, StoreTurned, Spends, Settles, Searches, Counts, Caused}
+use Rattle.home_places.specs.Searches.{SearchSays}
 use Rattle.blob_routes.specs.declared.routes.Allowed.{Allowed}
 use Rattle.blob_routes.specs.declared.pages.Page.{Page}
 use Rattle.blob_http.specs.declared.entries.Outcome.{Outcome}

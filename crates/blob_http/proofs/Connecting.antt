@@ -2,7 +2,7 @@
 use Rattle.std.proofs.Common.{◌≡◌, ℕ, List, [], ◌∷◌, ◌++◌, Bool, true, false, Option, refl, sym, ◌∙◌}
 use Rattle.edge_base.specs.Edge.{Took, TookFront}
 use Rattle.edge_base.proofs.Moves.{Took-chain}
-use Rattle.home_core.specs.Passes.{Sight}
+use Rattle.home_places.specs.Passes.{Sight}
 use Rattle.http_wire.specs.Stream.{Flow, stream}
 use Rattle.http_wire.specs.Wires.{WireView}
 use Rattle.blob_http.specs.declared.entries.Answered.{Answered}

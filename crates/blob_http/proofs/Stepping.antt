@@ -11,7 +11,7 @@ use Rattle.edge_base.proofs.Moves.{Took-chain}
 use Rattle.histories.specs.Stores.{arrivals}
 use Rattle.histories.proofs.Prefixes.{prefix_length}
 use Rattle.histories.proofs.Standing.{arrivals_prefix}
-use Rattle.home_core.specs.Passes.{Sight}
+use Rattle.home_places.specs.Passes.{Sight}
 use Rattle.blob_http.specs.declared.entries.Answered.{Answered}
 use Rattle.blob_http.specs.declared.serving.Ended.{Ended}
 use Rattle.blob_http.specs.declared.serving.Ended.TheVariants as ended

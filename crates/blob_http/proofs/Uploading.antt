@@ -13,7 +13,7 @@ use Rattle.histories.specs.StoreCalls.{sizes}
 use Rattle.histories.specs.Indexes.{Insertion}
 use Rattle.histories.proofs.Prefixes.{prefix_length}
 use Rattle.histories.proofs.Standing.{arrivals_prefix}
-use Rattle.home_core.specs.Passes.{Sight}
+use Rattle.home_places.specs.Passes.{Sight}
 use Rattle.http_wire.specs.declared.body.Body.{Body}
 use Rattle.http_wire.specs.declared.body.Body.TheVariants as body
 use Rattle.http_wire.specs.declared.head.Head.{Head}

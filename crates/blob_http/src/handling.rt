@@ -5,7 +5,7 @@ ghost use Rattle.blob_http.specs.Questions.{IsFew};
 ghost use Rattle.blob_http.specs.declared.questions.Question.{Question};
 ghost use Rattle.blob_http.specs.Answers.{outcome_of};
 ghost use Rattle.blob_http.specs.Handling.{Answers, Looks, entry_of};
-ghost use Rattle.home_core.specs.Passes.{Sight};
+ghost use Rattle.home_places.specs.Passes.{Sight};
 
 use crate::entries::{Answered, Outcome};
 use crate::questions::Question;
@@ -15,7 +15,7 @@ use crate::replies::{
 use answer_text::Refusal;
 use blob_routes::{Allowed, Page};
 use blobref::{Ref, RefList};
-use home_core::Home;
+use home_places::Home;
 use search_query::Query;
 use std::alloc::Global;
 use std::sync::Wait;

@@ -23,7 +23,7 @@ use answer_text::Refusal;
 use blob_routes::MOST_BODY;
 use blobref::NoMemory;
 use edge_base::Source;
-use home_core::Home;
+use home_places::Home;
 use http_wire::{Framing, Head, Wire, WireEnd};
 use std::alloc::Global;
 use std::sync::Wait;

@@ -1,7 +1,7 @@
 //! A connection, over any home.
 ghost use Rattle.std.specs.Prelude.{◌≡◌, ◌≤◌, ℕ, List, Option, Some, None};
 ghost use Rattle.edge_base.specs.Edge.{Took};
-ghost use Rattle.home_core.specs.Passes.{Sight};
+ghost use Rattle.home_places.specs.Passes.{Sight};
 ghost use Rattle.http_wire.specs.declared.body.Body.{Body};
 ghost use Rattle.blob_http.specs.Answers.{text_of};
 ghost use Rattle.blob_http.specs.Serving.{Serves, Notes, Open, Heard, fresh_flow, Wrote, EndCause, HeardBy, WroteBy};
@@ -11,7 +11,7 @@ use crate::answer_log::AnswerLog;
 use crate::replies::write_made;
 use crate::requests::reply_next;
 use edge_base::{Sink, Source};
-use home_core::Home;
+use home_places::Home;
 use http_wire::Wire;
 use std::alloc::Global;
 use std::sync::Wait;

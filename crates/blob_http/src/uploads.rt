@@ -24,7 +24,7 @@ use blob_routes::Route;
 use blob_upload::{Came, take_parts};
 use blobref::{Listing, NoMemory, Octets};
 use edge_base::Source;
-use home_core::Home;
+use home_places::Home;
 use http_wire::{Head, Wire, WireEnd};
 use multipart_read::boundary_of;
 use std::alloc::Global;

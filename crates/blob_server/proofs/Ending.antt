@@ -9,7 +9,7 @@ use Rattle.edge_base.specs.declared.answers.GetFault.TheVariants as unread
 use Rattle.histories.specs.Stores.{arrivals}
 use Rattle.histories.specs.Indexes.{inserts}
 use Rattle.histories.proofs.Standing.{inserts_prefix, has_all_longer}
-use Rattle.home_core.specs.Passes.{Sight, Settles}
+use Rattle.home_places.specs.Passes.{Sight, Settles}
 use Rattle.blob_http.specs.Serving.{Longer}
 use Rattle.blob_http.proofs.Staying.{longer_chain}
 use Rattle.blob_server.specs.declared.serving.Served.{Served}

@@ -2,7 +2,7 @@
 use Rattle.std.proofs.Common.{◌≡◌, ℕ, ◌+◌, ◌≤◌, ◌⊎◌, inl, inr, ⊎_elim, true, false, refl, ◌∙◌, arith, Option, Some, None}
 use Rattle.std.specs.Option.{option_map}
 use Rattle.edge_base.specs.Edge.{Rose, one_more}
-use Rattle.home_core.specs.Passes.{Sight}
+use Rattle.home_places.specs.Passes.{Sight}
 use Rattle.blob_http.specs.Serving.{Longer}
 use Rattle.index_worker.specs.Works.{Works}
 use Rattle.blob_server.specs.Stands.{Counts, Gives, GivesBy, IsGiven, last_count}

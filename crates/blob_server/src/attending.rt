@@ -10,7 +10,7 @@ use crate::desk_list::Desk;
 use crate::sharing::Attend;
 use blob_http::{NoLog, serve_connection};
 use edge_listen::Listener;
-use home_core::Home;
+use home_places::Home;
 use index_worker::{Gate, index_worker};
 use std::alloc::Global;
 use std::sync::atomic::{AtomicU64, Ordering};

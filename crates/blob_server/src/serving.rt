@@ -11,7 +11,7 @@ use crate::sharing::attend_all;
 use blobref::Ref;
 use edge_base::GetFault;
 use edge_listen::Listener;
-use home_core::Home;
+use home_places::Home;
 use index_worker::Gate;
 use std::alloc::Global;
 use std::marker::Brand;

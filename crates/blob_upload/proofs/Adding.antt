@@ -26,8 +26,8 @@ use Rattle.multipart_read.specs.declared.events.PartFault.{PartFault}
 use Rattle.multipart_read.specs.declared.events.PartFault.TheVariants as part_faults
 use Rattle.multipart_read.specs.PartLists.{Part}
 use Rattle.multipart_read.specs.Tokens.{Token}
-use Rattle.home_core.specs.Seats.{StoreGrew}
-use Rattle.home_core.specs.Passes.{Sight, StoreTurned, Spends}
+use Rattle.home_places.specs.Seats.{StoreGrew}
+use Rattle.home_places.specs.Passes.{Sight, StoreTurned, Spends}
 use Rattle.answer_text.specs.declared.refusal.Refusal.TheVariants.{BadRef, TooLong}
 use Rattle.blob_upload.specs.declared.came.Came.{Came}
 use Rattle.blob_upload.specs.declared.came.Came.TheVariants.{Whole, Refused, Full, Disk, Memory}

@@ -17,7 +17,7 @@ use Rattle.multipart_read.specs.declared.events.PartFault.TheVariants as part_fa
 use Rattle.multipart_read.specs.Tokens.{Token}
 use Rattle.multipart_read.specs.PartLists.{Part, part_tokens}
 use Rattle.multipart_read.proofs.BodyEnds.{bodies_end}
-use Rattle.home_core.specs.Passes.{Sight, StoreTurned, Spends}
+use Rattle.home_places.specs.Passes.{Sight, StoreTurned, Spends}
 use Rattle.answer_text.specs.declared.refusal.Refusal.TheVariants.{BadRef, BadDigest, TooLong}
 use Rattle.blob_upload.specs.declared.came.Came.{Came}
 use Rattle.blob_upload.specs.declared.came.Came.TheVariants.{Whole, Refused, Full, Disk, Memory}

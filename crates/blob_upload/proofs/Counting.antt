@@ -12,7 +12,7 @@ use Rattle.multipart_read.specs.Reader.{Reader, fresh, Tells, IsBody}
 use Rattle.multipart_read.specs.PartLists.{Part, part_tokens, cut_tokens}
 use Rattle.multipart_read.proofs.Existing.{some_reading}
 use Rattle.http_wire.specs.Wires.{WireView, to_come}
-use Rattle.home_core.specs.Passes.{Sight}
+use Rattle.home_places.specs.Passes.{Sight}
 use Rattle.blob_upload.specs.declared.came.Came.{Came}
 use Rattle.blob_upload.specs.Ends.{StopsIn, Ends}
 use Rattle.blob_upload.specs.Comes.{PartsAreFew}

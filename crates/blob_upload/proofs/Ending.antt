@@ -22,7 +22,7 @@ use Rattle.multipart_read.specs.Reader.{Reader, fresh, Gives, Tells, IsBody}
 use Rattle.multipart_read.specs.PartLists.{Part, between}
 use Rattle.multipart_read.proofs.Feeding.{fresh_waits}
 use Rattle.multipart_read.proofs.Unique.{whole_body}
-use Rattle.home_core.specs.Passes.{Sight}
+use Rattle.home_places.specs.Passes.{Sight}
 use Rattle.blob_upload.specs.declared.came.Came.{Came}
 use Rattle.blob_upload.specs.declared.came.Came.TheVariants.{Memory, Ended}
 use Rattle.blob_upload.specs.declared.uploading.Reading.{Reading}

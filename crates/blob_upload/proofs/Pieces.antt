@@ -13,7 +13,7 @@ use Rattle.multipart_read.specs.Reader.{Reader, fresh, Gives, Tells, IsBody}
 use Rattle.multipart_read.specs.PartLists.{Part, cut_tokens}
 use Rattle.multipart_read.proofs.Unique.{pieces_join}
 use Rattle.multipart_read.proofs.PartLaws.{told_in_order}
-use Rattle.home_core.specs.Passes.{Sight}
+use Rattle.home_places.specs.Passes.{Sight}
 use Rattle.answer_text.specs.declared.refusal.Refusal.TheVariants as refusal
 use Rattle.blob_upload.specs.declared.came.Came.{Came}
 use Rattle.blob_upload.specs.declared.came.Came.TheVariants.{Refused, Memory}

@@ -23,8 +23,8 @@ use Rattle.histories.specs.StoreCalls.{PutSays, PutAnswers, put_settled, sizes}
 use Rattle.histories.proofs.Growing.{grew_none, grew_chain, ran_grew}
 use Rattle.histories.proofs.Prefixes.{prefix_trans}
 use Rattle.histories.proofs.Standing.{arrivals_append, arrivals_prefix}
-use Rattle.home_core.specs.Seats.{StoreGrew}
-use Rattle.home_core.specs.Passes.{Sight, StoreTurned}
+use Rattle.home_places.specs.Seats.{StoreGrew}
+use Rattle.home_places.specs.Passes.{Sight, StoreTurned}
 use Rattle.answer_text.specs.declared.refusal.Refusal.{Refusal}
 use Rattle.answer_text.specs.declared.refusal.Refusal.TheVariants.{BadDigest, BadRef}
 use Rattle.multipart_read.specs.PartLists.{Part}

@@ -12,7 +12,7 @@ use Rattle.multipart_read.specs.declared.events.PartEvent.{PartEvent}
 use Rattle.multipart_read.specs.declared.events.PartEvent.TheVariants.{Name, Content, PartEnd}
 use Rattle.multipart_read.specs.Tokens.{Token, named, byte, ended, content, tokens_in, tokens_of}
 use Rattle.multipart_read.specs.PartLists.{Part, part_tokens, Cut, between, inside, cut_tokens, AreParts}
-use Rattle.home_core.specs.Passes.{Sight}
+use Rattle.home_places.specs.Passes.{Sight}
 use Rattle.answer_text.specs.declared.refusal.Refusal.TheVariants.{BadRef}
 use Rattle.blob_upload.specs.declared.came.Came.{Came}
 use Rattle.blob_upload.specs.declared.came.Came.TheVariants.{Refused, Memory}

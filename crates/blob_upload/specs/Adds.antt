@@ -7,8 +7,8 @@ use Rattle.histories.specs.declared.events.StoreEvent.TheVariants as store
 use Rattle.histories.specs.History.{stamp, has}
 use Rattle.histories.specs.Stores.{arrivals, has_ref}
 use Rattle.multipart_read.specs.PartLists.{Part}
-use Rattle.home_core.specs.Seats.{StoreGrew}
-use Rattle.home_core.specs.Passes.{Sight}
+use Rattle.home_places.specs.Seats.{StoreGrew}
+use Rattle.home_places.specs.Passes.{Sight}
 use Rattle.answer_text.specs.declared.refusal.Refusal.{Refusal}
 use Rattle.answer_text.specs.declared.refusal.Refusal.TheVariants.{BadDigest}
 use Rattle.blob_upload.specs.declared.came.Came.{Came}

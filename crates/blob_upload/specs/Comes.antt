@@ -9,7 +9,7 @@ use Rattle.multipart_read.specs.declared.events.PartFault.{PartFault}
 use Rattle.multipart_read.specs.declared.events.PartFault.TheVariants as part
 use Rattle.multipart_read.specs.Tokens.{Token, named}
 use Rattle.multipart_read.specs.PartLists.{Part, part_tokens, IsMultipart}
-use Rattle.home_core.specs.Passes.{Sight}
+use Rattle.home_places.specs.Passes.{Sight}
 use Rattle.answer_text.specs.declared.refusal.Refusal.{Refusal}
 use Rattle.answer_text.specs.declared.refusal.Refusal.TheVariants.{BadRef, BadDigest, BadMultipart, TooLong, BadLength}
 use Rattle.blob_upload.specs.declared.came.Came.{Came}

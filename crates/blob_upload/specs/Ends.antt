@@ -12,7 +12,7 @@ use Rattle.multipart_read.specs.Tokens.{Token, named}
 use Rattle.multipart_read.specs.Body.{Waits}
 use Rattle.multipart_read.specs.Reader.{Reader, fresh, Tells, IsBody}
 use Rattle.multipart_read.specs.PartLists.{Part, part_tokens, Cut, between, inside, cut_tokens, IsMultipart}
-use Rattle.home_core.specs.Passes.{Sight}
+use Rattle.home_places.specs.Passes.{Sight}
 use Rattle.answer_text.specs.declared.refusal.Refusal.TheVariants.{BadRef, TooLong}
 use Rattle.blob_upload.specs.declared.came.Came.{Came}
 use Rattle.blob_upload.specs.declared.came.Came.TheVariants.{Whole, Refused, Memory}

@@ -8,8 +8,8 @@ use Rattle.histories.specs.declared.events.StoreEvent.TheVariants as store
 use Rattle.histories.specs.Stores.{arrivals, has_ref}
 use Rattle.histories.specs.StoreCalls.{PutSays, sizes}
 use Rattle.multipart_read.specs.PartLists.{Part}
-use Rattle.home_core.specs.Seats.{StoreGrew}
-use Rattle.home_core.specs.Passes.{Sight, StoreCall}
+use Rattle.home_places.specs.Seats.{StoreGrew}
+use Rattle.home_places.specs.Passes.{Sight, StoreCall}
 use Rattle.blob_upload.specs.declared.came.Came.{Came}
 use Rattle.blob_upload.specs.declared.came.Came.TheVariants.{Memory}
 use Rattle.blob_upload.specs.Faults.{part_fault, came_of_put}

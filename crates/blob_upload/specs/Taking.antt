@@ -7,7 +7,7 @@ use Rattle.multipart_read.specs.Tokens.{Token}
 use Rattle.multipart_read.specs.Body.{End}
 use Rattle.multipart_read.specs.Reader.{Reader, fresh, Tells, IsBody}
 use Rattle.multipart_read.specs.PartLists.{Part, part_tokens, Cut, between, inside, AreParts}
-use Rattle.home_core.specs.Passes.{Sight, StoreTurned}
+use Rattle.home_places.specs.Passes.{Sight, StoreTurned}
 use Rattle.blob_upload.specs.declared.came.Came.{Came}
 use Rattle.blob_upload.specs.declared.came.Came.TheVariants.{Whole}
 use Rattle.blob_upload.specs.declared.opened.Opened.{Opened}

@@ -3,7 +3,7 @@ use Rattle.std.specs.Prelude.{ℕ, List, Option}
 use Rattle.http_wire.specs.Bodies.{Moves}
 use Rattle.http_wire.specs.Wires.{WireView, to_come}
 use Rattle.multipart_read.specs.PartLists.{Part}
-use Rattle.home_core.specs.Passes.{Sight}
+use Rattle.home_places.specs.Passes.{Sight}
 use Rattle.blob_upload.specs.declared.came.Came.{Came}
 use Rattle.blob_upload.specs.Puts.{Keeps}
 use Rattle.blob_upload.specs.Ends.{Ends}

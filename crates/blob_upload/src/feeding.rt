@@ -7,7 +7,7 @@ use crate::came::{Came, came_of_part};
 use crate::opened::Opened;
 use crate::parts::take_events;
 use blobref::Listing;
-use home_core::Home;
+use home_places::Home;
 use multipart_read::Parts;
 use std::alloc::Global;
 use std::sync::Wait;

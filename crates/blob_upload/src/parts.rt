@@ -7,7 +7,7 @@ ghost use Rattle.blob_upload.specs.Taking.{cut_of, PutsPart, PutsOpen, Takes};
 use crate::came::{Came, came_of_put};
 use crate::opened::{Opened, extend, open};
 use blobref::{Listing, NoMemory, Ref};
-use home_core::Home;
+use home_places::Home;
 use multipart_read::PartEvent;
 use std::alloc::Global;
 use std::sync::Wait;

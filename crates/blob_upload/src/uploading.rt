@@ -13,7 +13,7 @@ use crate::opened::Opened;
 use answer_text::Refusal;
 use blobref::Listing;
 use edge_base::Source;
-use home_core::Home;
+use home_places::Home;
 use http_wire::{Body, Wire, WireEnd};
 use multipart_read::Parts;
 use std::alloc::{AllocError, Global};

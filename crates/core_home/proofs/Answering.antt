@@ -14,7 +14,7 @@ use Rattle.histories.proofs.Prefixes.{prefix_self}
 use Rattle.histories.proofs.Growing.{grew_none}
 use Rattle.home_core.specs.State.{CoreState, IsSound}
 use Rattle.home_core.specs.Steps.{indexed_facts}
-use Rattle.home_core.specs.Passes.{Searches, Counts}
+use Rattle.home_places.specs.Passes.{Searches, Counts}
 use Rattle.core_home.specs.declared.turns.Turns.{Turns}
 use Rattle.core_home.specs.Keeping.{IsKept, upto, store_of, index_of}
 use Rattle.core_home.specs.Sights.{alone}

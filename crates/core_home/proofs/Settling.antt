@@ -22,9 +22,9 @@ use Rattle.histories.proofs.Standing.{inserts_prefix}
 use Rattle.home_core.specs.declared.events.Event.TheVariants as event
 use Rattle.home_core.specs.State.{CoreState, IsSound, has, times, numbers_below, without, seen_by}
 use Rattle.home_core.specs.Steps.{core_step, unindexed_below, settle_bound}
-use Rattle.home_core.specs.Passes.{Sight, IsTrouble, Agrees, Settles, Stays}
+use Rattle.home_places.specs.Passes.{Sight, IsTrouble, Agrees, Settles, Stays}
 use Rattle.home_core.proofs.Times.{times_less, below_none}
-use Rattle.home_core.proofs.Owning.{own_after}
+use Rattle.home_places.proofs.Owning.{own_after}
 use Rattle.home_core.proofs.Promised.{found_by}
 use Rattle.core_home.specs.declared.turns.Turns.{Turns}
 use Rattle.core_home.specs.Keeping.{IsKept, upto, is_within, store_of, blob_at, insert_of, index_of, inserted_from}

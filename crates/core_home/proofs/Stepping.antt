@@ -18,13 +18,13 @@ use Rattle.histories.specs.StoreCalls.{CountSays, ArrivalSays}
 use Rattle.histories.specs.Indexes.{is_inserted, waits_in}
 use Rattle.histories.specs.IndexCalls.{TakeSays, InsertSays, IsLeast, NonePasses}
 use Rattle.histories.proofs.Rising.{events_more}
-use Rattle.home_core.specs.declared.home.Indexed.{Indexed}
-use Rattle.home_core.specs.declared.home.Indexed.TheVariants.{New, Idle}
+use Rattle.home_places.specs.declared.home.Indexed.{Indexed}
+use Rattle.home_places.specs.declared.home.Indexed.TheVariants.{New, Idle}
 use Rattle.home_core.specs.declared.events.Event.TheVariants as event
 use Rattle.home_core.specs.State.{CoreState, IsSound, has, numbers_below, is_in_neither, without}
 use Rattle.home_core.specs.Steps.{core_step, least_waiting, waits, may_insert, with_indexed, insert_number}
-use Rattle.home_core.specs.Passes.{Sight, StoreTurned, IndexTurned, Agrees}
-use Rattle.home_core.specs.Working.{Takes, TakesAnd, Indexes, Refuses, IndexesNext}
+use Rattle.home_places.specs.Passes.{Sight, StoreTurned, IndexTurned, Agrees}
+use Rattle.home_places.specs.Working.{Takes, TakesAnd, Indexes, Refuses, IndexesNext}
 use Rattle.home_core.proofs.Counting.{find_last, find_front}
 use Rattle.core_home.specs.declared.turns.Turns.{Turns}
 use Rattle.core_home.specs.Keeping.{IsKept, no_limits, upto, is_within, store_of, blob_at, insert_of, index_of}

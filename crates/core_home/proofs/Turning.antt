@@ -12,8 +12,8 @@ use Rattle.histories.specs.Indexes.{inserts}
 use Rattle.histories.proofs.Prefixes.{prefix_self}
 use Rattle.histories.proofs.Rising.{own_turned, rises_more, drawn_append, within_append, within_stamped, within_more}
 use Rattle.histories.proofs.Standing.{inserts_prefix}
-use Rattle.home_core.specs.Showing.{shown_alone}
-use Rattle.home_core.specs.Passes.{Sight, StoreTurned, IndexTurned, StoreCall, Spends}
+use Rattle.home_places.specs.Showing.{shown_alone}
+use Rattle.home_places.specs.Passes.{Sight, StoreTurned, IndexTurned, StoreCall, Spends}
 use Rattle.home_core.specs.State.{CoreState}
 use Rattle.core_home.specs.declared.turns.Turns.{Turns}
 use Rattle.core_home.specs.Keeping.{IsKept, upto, is_within, store_of, index_of}

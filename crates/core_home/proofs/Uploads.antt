@@ -20,7 +20,7 @@ use Rattle.histories.specs.Indexes.{is_legal_index}
 use Rattle.home_core.specs.declared.events.Event.TheVariants as event
 use Rattle.home_core.specs.State.{CoreState, IsSound}
 use Rattle.home_core.specs.Steps.{core_step, put_blob}
-use Rattle.home_core.specs.Passes.{Sight, StoreTurned}
+use Rattle.home_places.specs.Passes.{Sight, StoreTurned}
 use Rattle.home_core.proofs.Putting.{put_blob_longer}
 use Rattle.core_home.specs.declared.turns.Turns.{Turns}
 use Rattle.core_home.specs.Keeping.{IsKept, is_within, store_of, index_of}

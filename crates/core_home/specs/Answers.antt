@@ -7,8 +7,8 @@ use Rattle.edge_base.specs.declared.answers.PutFault.TheVariants as fault
 use Rattle.edge_base.specs.declared.answers.GetFault.{GetFault}
 use Rattle.histories.specs.declared.events.StoreEvent.{StoreEvent}
 use Rattle.histories.specs.declared.events.StoreEvent.TheVariants as store
-use Rattle.home_core.specs.declared.home.Indexed.{Indexed}
-use Rattle.home_core.specs.declared.home.Indexed.TheVariants.{New, Already as Late, Idle}
+use Rattle.home_places.specs.declared.home.Indexed.{Indexed}
+use Rattle.home_places.specs.declared.home.Indexed.TheVariants.{New, Already as Late, Idle}
 use Rattle.home_core.specs.declared.events.Event.TheVariants as event
 use Rattle.home_core.specs.State.{CoreState}
 use Rattle.home_core.specs.Steps.{core_step, unindexed_below, least_waiting}

@@ -1,7 +1,7 @@
 -- What a pass has seen is legal.
 use Rattle.claim_verify.specs.Verifier.{Accepts}
-use Rattle.home_core.specs.Passes.{IsSight}
-use Rattle.home_core.specs.Showing.{IsIndexSight-shown_alone}
+use Rattle.home_places.specs.Passes.{IsSight}
+use Rattle.home_places.specs.Showing.{IsIndexSight-shown_alone}
 use Rattle.core_home.specs.declared.pass.CorePass.{CorePass}
 use Rattle.core_home.specs.Keeping.{upto, index_of}
 use Rattle.core_home.specs.Sights.{sight_of}

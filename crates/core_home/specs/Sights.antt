@@ -4,8 +4,8 @@ use Rattle.claim_verify.specs.Verifier.{Accepts}
 use Rattle.histories.specs.declared.stamped.Stamped.{Stamped}
 use Rattle.histories.specs.declared.events.StoreEvent.{StoreEvent}
 use Rattle.histories.specs.declared.events.IndexEvent.{IndexEvent}
-use Rattle.home_core.specs.Passes.{Sight}
-use Rattle.home_core.specs.Showing.{shown_alone}
+use Rattle.home_places.specs.Passes.{Sight}
+use Rattle.home_places.specs.Showing.{shown_alone}
 use Rattle.core_home.specs.declared.pass.CorePass.{CorePass}
 use Rattle.core_home.specs.Keeping.{upto, no_limits, store_of, index_of}
 

@@ -7,8 +7,8 @@ use Rattle.histories.specs.declared.events.IndexEvent.{IndexEvent}
 use Rattle.histories.specs.History.{stamp}
 use Rattle.histories.specs.Stores.{Blob}
 use Rattle.home_core.specs.State.{CoreState}
-use Rattle.home_core.specs.Passes.{Sight}
-use Rattle.home_core.specs.Showing.{shown_alone}
+use Rattle.home_places.specs.Passes.{Sight}
+use Rattle.home_places.specs.Showing.{shown_alone}
 use Rattle.core_home.specs.Keeping.{no_limits, insert_of}
 
 -- blobs as Puts, from number n on

@@ -4,7 +4,7 @@ use crate::pass::CorePass;
 use blobref::{Listing, NoMemory, Octets, Ref, RefList};
 use claim_verify::Verifier;
 use edge_base::{GetFault, Put, PutFault};
-use home_core::{Home, Indexed};
+use home_places::{Home, Indexed};
 use search_query::Query;
 use std::marker::PhantomData;
 use std::sync::Wait;

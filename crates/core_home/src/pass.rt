@@ -11,7 +11,8 @@ use crate::turns::{Turns, last_of, starts, zeros};
 use blobref::{Listing, NoMemory, Octets, Ref, RefList};
 use claim_verify::Verifier;
 use edge_base::{GetFault, Put, PutFault};
-use home_core::{Core, Indexed};
+use home_core::Core;
+use home_places::Indexed;
 use search_query::Query;
 use std::alloc::Global;
 
@@ -38,8 +39,8 @@ pub struct CorePass<V> {
 }
 
 impl<V: Verifier> CorePass<V> {
-    ghost use Rattle.home_core.specs.Passes.{StoreCall, Settles, Searches, Counts};
-    ghost use Rattle.home_core.specs.Working.{IndexesNext};
+    ghost use Rattle.home_places.specs.Passes.{StoreCall, Settles, Searches, Counts};
+    ghost use Rattle.home_places.specs.Working.{IndexesNext};
     ghost use Rattle.histories.specs.StoreCalls.{PutSays, GetSays, ListSays, StatSays};
     ghost use Rattle.core_home.specs.Sights.{sight_of};
     ghost use Rattle.core_home.specs.Starts.{first_sight};

@@ -2,6 +2,5 @@ pub mod Counting
 pub mod Putting
 pub mod Sights
 pub mod Times
-pub mod Owning
 pub mod Soundness
 pub mod Promised

@@ -1,8 +1,3 @@
 pub mod State
 pub mod Steps
 pub mod Promises
-pub mod Seats
-pub mod Searches
-pub mod Passes
-pub mod Working
-pub mod Showing

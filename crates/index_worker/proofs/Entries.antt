@@ -17,7 +17,7 @@ use Rattle.histories.specs.Indexes.{inserts, in_hand}
 use Rattle.histories.specs.StoreCalls.{IsQuiet, GetFails, ArrivalSays}
 use Rattle.histories.specs.IndexCalls.{TakeSays, InsertSays, ReturnSays}
 use Rattle.histories.proofs.Prefixes.{prefix_get}
-use Rattle.home_core.specs.Passes.{IsTrouble, Agrees}
+use Rattle.home_places.specs.Passes.{IsTrouble, Agrees}
 use Rattle.index_worker.specs.Works.{IsWork}
 
 quiet_trouble : (e : StoreEvent) → IsQuiet (Some e) → IsTrouble e

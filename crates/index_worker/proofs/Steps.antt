@@ -18,10 +18,10 @@ use Rattle.histories.specs.IndexCalls.{TakeSays, InsertSays, ReturnSays}
 use Rattle.histories.proofs.Prefixes.{prefix_self, prefix_trans}
 use Rattle.histories.proofs.Growing.{grew_none, grew_chain, ran_grew}
 use Rattle.histories.proofs.Standing.{arrivals_prefix, inserts_append}
-use Rattle.home_core.specs.Passes.{Sight, StoreTurned, IndexTurned, IsTrouble, Agrees, Spends}
-use Rattle.home_core.specs.declared.home.Indexed.{Indexed}
-use Rattle.home_core.specs.declared.home.Indexed.TheVariants.{New, Already, Idle}
-use Rattle.home_core.specs.Working.{IndexesNext, Takes, TakesAnd, Indexes, Fails, GivesBack, Refuses}
+use Rattle.home_places.specs.Passes.{Sight, StoreTurned, IndexTurned, IsTrouble, Agrees, Spends}
+use Rattle.home_places.specs.declared.home.Indexed.{Indexed}
+use Rattle.home_places.specs.declared.home.Indexed.TheVariants.{New, Already, Idle}
+use Rattle.home_places.specs.Working.{IndexesNext, Takes, TakesAnd, Indexes, Fails, GivesBack, Refuses}
 use Rattle.index_worker.specs.Works.{IsWork, Works, outcome_of}
 use Rattle.index_worker.proofs.Entries.{Adds, arrival_trouble, take_adds, new_adds, already_adds, return_adds, work_later}
 

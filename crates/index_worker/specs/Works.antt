@@ -6,10 +6,10 @@ use Rattle.histories.specs.declared.events.IndexEvent.{IndexEvent}
 use Rattle.histories.specs.declared.events.IndexEvent.TheVariants as index
 use Rattle.histories.specs.Stores.{Blob, arrivals}
 use Rattle.histories.specs.Indexes.{inserts}
-use Rattle.home_core.specs.Seats.{StoreGrew, IndexGrew}
-use Rattle.home_core.specs.Passes.{Sight, IsTrouble, Agrees}
-use Rattle.home_core.specs.declared.home.Indexed.{Indexed}
-use Rattle.home_core.specs.declared.home.Indexed.TheVariants.{New, Already, Idle}
+use Rattle.home_places.specs.Seats.{StoreGrew, IndexGrew}
+use Rattle.home_places.specs.Passes.{Sight, IsTrouble, Agrees}
+use Rattle.home_places.specs.declared.home.Indexed.{Indexed}
+use Rattle.home_places.specs.declared.home.Indexed.TheVariants.{New, Already, Idle}
 use Rattle.index_worker.specs.declared.gate.GatePlace.{GatePlace}
 use Rattle.index_worker.specs.declared.gate.GatePlace.TheVariants as place
 

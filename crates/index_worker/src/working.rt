@@ -4,7 +4,7 @@ ghost use Rattle.index_worker.specs.Works.{Works, outcome_of};
 
 use crate::gate::{Gate, GatePlace};
 use edge_base::GetFault;
-use home_core::{Home, Indexed};
+use home_places::{Home, Indexed};
 use std::sync::Wait;
 
 /// Makes so many steps of a worker, each a call of `Home::index_next`, and says how many numbers it inserted. A step

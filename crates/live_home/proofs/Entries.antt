@@ -16,7 +16,7 @@ use Rattle.histories.specs.Stores.{Blob}
 use Rattle.histories.specs.StoreCalls.{IsQuiet, GetFails, ArrivalSays}
 use Rattle.histories.proofs.Prefixes.{prefix_get}
 use Rattle.histories.proofs.Growing.{has_rest}
-use Rattle.home_core.specs.Passes.{IsTrouble, Caused, Agrees}
+use Rattle.home_places.specs.Passes.{IsTrouble, Caused, Agrees}
 
 quiet_trouble : (e : StoreEvent) → IsQuiet (Some e) → IsTrouble e
 quiet_trouble (store.Put n r b) q = absurd q

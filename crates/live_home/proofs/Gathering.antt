@@ -17,9 +17,9 @@ use Rattle.histories.proofs.Prefixes.{prefix_self, prefix_trans}
 use Rattle.histories.proofs.Growing.{grew_none, grew_chain, grew_weaker, ran_grew}
 use Rattle.histories.proofs.Standing.{arrivals_prefix, inserts_prefix, has_longer, inserted_is, insert_stands}
 use Rattle.schema_fact.specs.declared.kinds.Fact.{Fact}
-use Rattle.home_core.specs.Seats.{StoreSight, IndexSight, IndexTurn, StoreGrew, IndexGrew}
-use Rattle.home_core.specs.Passes.{Sight, Agrees, IsTrouble, Settles}
-use Rattle.home_core.specs.Working.{Indexes, Fails}
+use Rattle.home_places.specs.Seats.{StoreSight, IndexSight, IndexTurn, StoreGrew, IndexGrew}
+use Rattle.home_places.specs.Passes.{Sight, Agrees, IsTrouble, Settles}
+use Rattle.home_places.specs.Working.{Indexes, Fails}
 use Rattle.live_home.specs.Sights.{sight_at}
 use Rattle.live_home.proofs.Entries.{arrival_trouble, agrees_later, caused_rest}
 

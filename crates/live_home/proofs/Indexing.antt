@@ -16,9 +16,9 @@ use Rattle.histories.specs.IndexCalls.{InsertSays}
 use Rattle.histories.proofs.Prefixes.{prefix_get, prefix_length, prefix_self}
 use Rattle.histories.proofs.Growing.{grew_none, ran_grew}
 use Rattle.histories.proofs.Standing.{arrivals_prefix}
-use Rattle.home_core.specs.Seats.{StoreSight, IndexSight, IsStoreSight, StoreTurn, IndexTurn, StoreGrew, IndexGrew}
-use Rattle.home_core.specs.Passes.{IsTrouble, Caused, Agrees}
-use Rattle.home_core.specs.Working.{Indexes, Fails}
+use Rattle.home_places.specs.Seats.{StoreSight, IndexSight, IsStoreSight, StoreTurn, IndexTurn, StoreGrew, IndexGrew}
+use Rattle.home_places.specs.Passes.{IsTrouble, Caused, Agrees}
+use Rattle.home_places.specs.Working.{Indexes, Fails}
 use Rattle.live_home.specs.Sights.{sight_at}
 use Rattle.live_home.proofs.Owning.{arrival_own}
 use Rattle.live_home.proofs.Entries.{arrival_trouble, fails_caused}

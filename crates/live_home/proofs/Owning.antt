@@ -6,7 +6,7 @@ use Rattle.histories.specs.declared.stamped.Stamped.{Stamped}
 use Rattle.histories.specs.declared.events.StoreEvent.{StoreEvent}
 use Rattle.histories.specs.Stores.{StoreLimits, arrivals, is_legal_store}
 use Rattle.histories.proofs.Owning.{arrivals_are_own}
-use Rattle.home_core.proofs.Owning.{own_after}
+use Rattle.home_places.proofs.Owning.{own_after}
 
 pub arrival_own : (limits : StoreLimits) (h : List (Stamped StoreEvent)) (n : ℕ) (r bytes : List ℕ)
     → is_legal_store limits h ≡ true → slice_get (arrivals h) n ≡ Some (r, bytes) → IsOwnRef r bytes

@@ -9,9 +9,9 @@ use Rattle.histories.specs.StoreCalls.{CountSays}
 use Rattle.histories.specs.IndexCalls.{TakeSays, ReturnSays}
 use Rattle.histories.proofs.Prefixes.{prefix_length}
 use Rattle.histories.proofs.Standing.{arrivals_prefix}
-use Rattle.home_core.specs.Seats.{StoreSight, IndexSight, StoreTurn, IndexTurn}
-use Rattle.home_core.specs.Passes.{Sight}
-use Rattle.home_core.specs.Working.{Takes, TakesAnd, GivesBack, Fails, Refuses}
+use Rattle.home_places.specs.Seats.{StoreSight, IndexSight, StoreTurn, IndexTurn}
+use Rattle.home_places.specs.Passes.{Sight}
+use Rattle.home_places.specs.Working.{Takes, TakesAnd, GivesBack, Fails, Refuses}
 use Rattle.live_home.specs.Sights.{sight_at}
 
 -- what a take answered

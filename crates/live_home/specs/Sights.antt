@@ -2,9 +2,9 @@
 use Rattle.std.specs.Prelude.{ℕ, Bool, false, Result, Ok, Err}
 use Rattle.edge_base.specs.declared.answers.GetFault.{GetFault}
 use Rattle.edge_base.specs.declared.answers.Inserted.{Inserted}
-use Rattle.home_core.specs.Seats.{StoreSight, IndexSight}
-use Rattle.home_core.specs.Passes.{Sight}
-use Rattle.home_core.specs.Working.{Indexes, Fails}
+use Rattle.home_places.specs.Seats.{StoreSight, IndexSight}
+use Rattle.home_places.specs.Passes.{Sight}
+use Rattle.home_places.specs.Working.{Indexes, Fails}
 
 -- it is never spent
 abbrev pub sight_at : StoreSight → IndexSight → Sight

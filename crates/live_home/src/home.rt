@@ -1,12 +1,12 @@
 //! The home.
 ghost use Rattle.std.specs.Prelude.{◌≡◌, ◌<◌, length};
 ghost use Rattle.histories.specs.Stores.{arrivals};
-ghost use Rattle.home_core.specs.Seats.{StoreJoin, IndexJoin};
+ghost use Rattle.home_places.specs.Seats.{StoreJoin, IndexJoin};
 ghost use Rattle.live_home.specs.Sights.{sight_at, IndexesOne};
 
 use blobref::{Listing, NoMemory, Octets, Ref, RefList};
 use edge_base::{GetFault, Inserted, Put, PutFault};
-use home_core::{Home, IndexPlace, Indexed, StorePlace};
+use home_places::{Home, IndexPlace, Indexed, StorePlace};
 use schema_json::fact;
 use search_query::Query;
 use std::alloc::Global;

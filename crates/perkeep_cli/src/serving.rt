@@ -7,7 +7,7 @@ use blob_server::{Served, desks, serve_all};
 use blobref::NoMemory;
 use edge_os::{Readiness, TcpListenerOn, tell_person};
 use folder_disk::{Access, FolderDisk};
-use home_core::Home;
+use home_places::Home;
 use index_worker::{Gate, GatePlace};
 use perkeep_top::{LIMITS, Status};
 use perkeep_words::ServePlan;

@@ -10,8 +10,8 @@ use Rattle.pack_store.specs.declared.limits.Limits.{Limits}
 use Rattle.histories.specs.History.{stamp}
 use Rattle.histories.specs.Stores.{Blob}
 use Rattle.told_store.specs.Beginning.{puts_from}
-use Rattle.home_core.specs.Seats.{StoreSight, IndexSight}
-use Rattle.home_core.specs.Showing.{shown_alone}
+use Rattle.home_places.specs.Seats.{StoreSight, IndexSight}
+use Rattle.home_places.specs.Showing.{shown_alone}
 use Rattle.live_home.specs.declared.home.LiveHome.{LiveHome}
 use Rattle.live_home.specs.declared.home.LivePass.{LivePass}
 use Rattle.turn_home.specs.declared.store.TurnStore.{TurnStore}

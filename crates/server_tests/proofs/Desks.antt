@@ -6,8 +6,8 @@ use Rattle.blob_server.specs.Desks.{desks_of, desk}
 use Rattle.claim_verify.specs.Verifier.{Accepts}
 use Rattle.pack_disk.specs.declared.disk.Disk.{Ghosts}
 use Rattle.pack_store.specs.declared.limits.Limits.{Limits}
-use Rattle.home_core.specs.Seats.{StoreSight, IndexSight}
-use Rattle.home_core.specs.Showing.{shown_alone}
+use Rattle.home_places.specs.Seats.{StoreSight, IndexSight}
+use Rattle.home_places.specs.Showing.{shown_alone}
 use Rattle.live_home.specs.declared.home.LiveHome.{LiveHome}
 use Rattle.live_home.specs.declared.home.LivePass.{LivePass}
 use Rattle.turn_home.specs.declared.store.TurnStore.{TurnStore}

@@ -5,7 +5,7 @@ use blob_server::{Desk, Served, desks, serve_all};
 use blobref::NoMemory;
 use claim_verify::Keyring;
 use edge_listen::Listener;
-use home_core::{Home, IndexPlace, StorePlace};
+use home_places::{Home, IndexPlace, StorePlace};
 use index_worker::Gate;
 use live_home::{LiveHome, LivePass};
 use pack_disk::MemDisk;

@@ -7,7 +7,7 @@ ghost use Rattle.histories.specs.declared.events.IndexEvent.{IndexEvent};
 ghost use Rattle.histories.specs.History.{events, stamped};
 ghost use Rattle.histories.specs.Indexes.{inserts, in_hand};
 ghost use Rattle.histories.specs.IndexCalls.{TakeSays, InsertSays, ReturnSays, LackingSays};
-ghost use Rattle.home_core.specs.Searches.{SearchSays};
+ghost use Rattle.home_places.specs.Searches.{SearchSays};
 ghost use Rattle.told_index.specs.Working.{FindsBelow, FindsLeast, Reaches, Takes, has_inserted, in_either, is_back};
 ghost use Rattle.told_index.specs.Telling.{IndexTells, take_entry, insert_entry, return_entry};
 

@@ -12,9 +12,9 @@ use Rattle.histories.specs.Indexes.{inserts}
 use Rattle.histories.proofs.Prefixes.{prefix_self, prefix_trans}
 use Rattle.histories.proofs.Growing.{ran_grew}
 use Rattle.histories.proofs.Standing.{inserts_prefix}
-use Rattle.home_core.specs.Seats.{IndexTurn, IndexJoin}
-use Rattle.home_core.specs.Searches.{SearchSays, IndexSearch}
-use Rattle.home_core.specs.Showing.{shown_alone}
+use Rattle.home_places.specs.Seats.{IndexTurn, IndexJoin}
+use Rattle.home_places.specs.Searches.{SearchSays, IndexSearch}
+use Rattle.home_places.specs.Showing.{shown_alone}
 use Rattle.turn_home.specs.IndexSeats.{IndexRan}
 
 module _ (h k : List (Stamped IndexEvent)) (s t : List ℕ) (a b : Accepts) where

@@ -5,8 +5,8 @@ use Rattle.histories.specs.declared.stamped.Stamped.{Stamped}
 use Rattle.histories.specs.declared.events.IndexEvent.{IndexEvent}
 use Rattle.histories.specs.History.{Ran}
 use Rattle.turn_cell.specs.Seats.{IsSeatOf, about, seen, turns}
-use Rattle.home_core.specs.Seats.{IndexSight}
-use Rattle.home_core.specs.Showing.{shown_alone}
+use Rattle.home_places.specs.Seats.{IndexSight}
+use Rattle.home_places.specs.Showing.{shown_alone}
 use Rattle.turn_home.specs.declared.index.TurnIndex.{TurnIndex}
 use Rattle.turn_home.specs.declared.index.IndexSeat.{IndexSeat}
 

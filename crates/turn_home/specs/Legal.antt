@@ -2,8 +2,8 @@
 use Rattle.std.proofs.lemmas.Bool.{and_parts}
 use Rattle.claim_verify.specs.Verifier.{Accepts}
 use Rattle.turn_cell.specs.Seats.{about, seen, turns}
-use Rattle.home_core.specs.Seats.{IsStoreSight, IsIndexSight}
-use Rattle.home_core.specs.Showing.{IsIndexSight-shown_alone}
+use Rattle.home_places.specs.Seats.{IsStoreSight, IsIndexSight}
+use Rattle.home_places.specs.Showing.{IsIndexSight-shown_alone}
 use Rattle.turn_home.specs.declared.store.StoreSeat.{StoreSeat}
 use Rattle.turn_home.specs.declared.index.IndexSeat.{IndexSeat}
 use Rattle.turn_home.specs.StoreSeats.{store_sight}

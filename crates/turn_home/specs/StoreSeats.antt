@@ -3,7 +3,7 @@ use Rattle.std.specs.Prelude.{◌≡◌, Bool, Some}
 use Rattle.pack_disk.specs.declared.disk.Disk.{Ghosts}
 use Rattle.turn_cell.specs.Seats.{IsSeatOf, about, made_of, seen, turns}
 use Rattle.told_store.specs.Telling.{is_told}
-use Rattle.home_core.specs.Seats.{StoreSight}
+use Rattle.home_places.specs.Seats.{StoreSight}
 use Rattle.turn_home.specs.declared.store.StoreAbout.{StoreAbout}
 use Rattle.turn_home.specs.declared.store.TurnStore.{TurnStore}
 use Rattle.turn_home.specs.declared.store.StoreSeat.{StoreSeat}

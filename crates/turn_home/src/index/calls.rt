@@ -4,7 +4,7 @@ use super::{IndexSeat, TurnIndex};
 use blobref::{NoMemory, Ref, RefList};
 use claim_verify::Verifier;
 use edge_base::Inserted;
-use home_core::IndexPlace;
+use home_places::IndexPlace;
 use schema_fact::Fact;
 use search_query::Query;
 use std::sync::Wait;

@@ -110,7 +110,7 @@ pub struct Search<'a> {
 impl<'a, V: Verifier> IndexJob<V> for Search<'a> {
     ghost use Rattle.std.specs.Prelude.{◌≡◌, None};
     ghost use Rattle.histories.specs.Indexes.{inserts};
-    ghost use Rattle.home_core.specs.Searches.{SearchSays};
+    ghost use Rattle.home_places.specs.Searches.{SearchSays};
 
     type Out = Result<RefList, NoMemory>;
 

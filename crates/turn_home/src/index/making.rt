@@ -1,6 +1,6 @@
 //! How the place and its seats are made.
 ghost use Rattle.std.specs.Prelude.{◌≡◌, [], IfOk, IfErr};
-ghost use Rattle.home_core.specs.Showing.{shown_alone};
+ghost use Rattle.home_places.specs.Showing.{shown_alone};
 ghost use Rattle.turn_home.specs.IndexSeats.{IsOfIndex, index_sight};
 
 use super::{IndexSeat, KeptIndex, TurnIndex};

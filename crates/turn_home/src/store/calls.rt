@@ -8,7 +8,7 @@ use super::jobs::{Count, Find, FindNumber, Page, PutOwn, Sizes};
 use super::{StoreSeat, TurnStore};
 use blobref::{Listing, NoMemory, Octets, Ref, RefList};
 use edge_base::{GetFault, Put, PutFault};
-use home_core::StorePlace;
+use home_places::StorePlace;
 use pack_disk::Disk;
 use pack_format::MAX_SIZE;
 use std::sync::Wait;

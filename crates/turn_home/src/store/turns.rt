@@ -1,6 +1,6 @@
 //! One turn of the store.
 ghost use Rattle.turn_home.specs.StoreSeats.{IsOfStore, store_sight, place_about};
-ghost use Rattle.home_core.specs.Seats.{StoreTurn};
+ghost use Rattle.home_places.specs.Seats.{StoreTurn};
 
 use super::{KeptStore, StoreSeat, TurnStore};
 use crate::counted::Counted;

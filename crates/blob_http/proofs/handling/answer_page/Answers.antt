@@ -1,6 +1,6 @@
 use Rattle.std.proofs.Common.{ℕ, ◌+◌, List, Option, IsErr, sym, subst}
 use Rattle.histories.specs.StoreCalls.{ListSays}
-use Rattle.home_core.specs.Passes.{StoreCall}
+use Rattle.home_places.specs.Passes.{StoreCall}
 use Rattle.blob_http.specs.declared.questions.Question.TheVariants as question
 use Rattle.blob_http.specs.Handling.{Answers}
 use Rattle.blob_http.proofs.Answering.{page_answers}

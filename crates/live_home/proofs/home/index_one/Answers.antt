@@ -2,7 +2,7 @@ use Rattle.std.proofs.Common.{◌≡◌, ◌∙◌, ap, subst, ℕ, Bool, List, 
 use Rattle.edge_base.specs.declared.answers.GetFault.{GetFault}
 use Rattle.schema_json.specs.Facts.{fact_of}
 use Rattle.histories.specs.StoreCalls.{ArrivalSays}
-use Rattle.home_core.specs.Seats.{StoreSight, StoreTurn}
+use Rattle.home_places.specs.Seats.{StoreSight, StoreTurn}
 use Rattle.live_home.proofs.Indexing.{one_unread, one_unsaid, none_left, one_indexed}
 use Rattle.live_home.proofs.home.index_one.Goals as goal
 

@@ -1,7 +1,7 @@
 use Rattle.std.proofs.Common.{sym, subst, ◌∙◌, ap, []}
 use Rattle.std.specs.Option.{is_some}
 use Rattle.told_store.specs.Beginning.{blobs_told}
-use Rattle.home_core.specs.Showing.{shown_alone}
+use Rattle.home_places.specs.Showing.{shown_alone}
 use Rattle.turn_home.specs.StoreSeats.{store_sight, place_tells}
 use Rattle.server_home.specs.Opening.{ArePasses, arrived}
 use Rattle.server_home.proofs.opening.home_over.Goals as goal

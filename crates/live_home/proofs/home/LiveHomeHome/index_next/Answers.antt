@@ -1,8 +1,8 @@
 use Rattle.std.proofs.Common.{◌≡◌, ◌∙◌, ap, subst, ℕ, Bool, Some, None, Ok, Err}
 use Rattle.edge_base.specs.declared.answers.Inserted.{Inserted}
 use Rattle.edge_base.specs.declared.answers.Inserted.TheVariants as inserted
-use Rattle.home_core.specs.Passes.{Sight}
-use Rattle.home_core.specs.Working.{Indexes}
+use Rattle.home_places.specs.Passes.{Sight}
+use Rattle.home_places.specs.Working.{Indexes}
 use Rattle.live_home.specs.Sights.{sight_at}
 use Rattle.live_home.proofs.Stepping.{taken_as, took, taken_arrived, took_and, took_none, gave_back}
 use Rattle.live_home.proofs.home.LiveHomeHome.index_next.Goals as goal

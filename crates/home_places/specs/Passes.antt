@@ -16,8 +16,8 @@ use Rattle.histories.specs.declared.events.IndexEvent.TheVariants as index
 use Rattle.histories.specs.History.{stamp, has}
 use Rattle.histories.specs.Stores.{Blob, arrivals}
 use Rattle.histories.specs.Indexes.{inserts, HasAllBelow}
-use Rattle.home_core.specs.Seats.{StoreSight, IndexSight, IsStoreSight, IsIndexSight, StoreTurn, IndexTurn, StoreGrew, IndexGrew}
-use Rattle.home_core.specs.Searches.{IndexSearch}
+use Rattle.home_places.specs.Seats.{StoreSight, IndexSight, IsStoreSight, IsIndexSight, StoreTurn, IndexTurn, StoreGrew, IndexGrew}
+use Rattle.home_places.specs.Searches.{IndexSearch}
 
 -- what a seat of the store is seen as, and one of the index; and whether the pass has no turn left to draw
 pub record Sight : Type 0 where

@@ -4,9 +4,9 @@ ghost use Rattle.schema_fact.specs.Validity.{IsValid};
 ghost use Rattle.histories.specs.Stores.{arrivals};
 ghost use Rattle.histories.specs.StoreCalls.{PutSays, GetSays, ListSays, ArrivalSays, CountSays, StatSays};
 ghost use Rattle.histories.specs.IndexCalls.{TakeSays, InsertSays, ReturnSays, LackingSays};
-ghost use Rattle.home_core.specs.Seats.{StoreSight, StoreTurn, StoreJoin, IsStoreSight};
-ghost use Rattle.home_core.specs.Seats.{IndexSight, IndexTurn, IndexJoin, IsIndexSight};
-ghost use Rattle.home_core.specs.Searches.{IndexSearch};
+ghost use Rattle.home_places.specs.Seats.{StoreSight, StoreTurn, StoreJoin, IsStoreSight};
+ghost use Rattle.home_places.specs.Seats.{IndexSight, IndexTurn, IndexJoin, IsIndexSight};
+ghost use Rattle.home_places.specs.Searches.{IndexSearch};
 
 use blobref::{Listing, NoMemory, Octets, Ref, RefList};
 use edge_base::{GetFault, Inserted, Put, PutFault};

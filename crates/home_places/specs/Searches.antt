@@ -6,7 +6,7 @@ use Rattle.blobref.specs.declared.memory.NoMemory.{NoMemory}
 use Rattle.search_query.specs.declared.query.Query.{Query}
 use Rattle.search_eval.specs.Answer.{answer}
 use Rattle.histories.specs.Indexes.{Insertion, indexed}
-use Rattle.home_core.specs.Seats.{IndexSight, IndexGrew}
+use Rattle.home_places.specs.Seats.{IndexSight, IndexGrew}
 
 -- the refs are the query's answer over the facts that the Inserts have, each ref with its first
 abbrev pub SearchSays : Accepts → Query → List Insertion → Result (List (List ℕ)) NoMemory → Type 0

@@ -8,7 +8,7 @@ use Rattle.histories.specs.declared.events.IndexEvent.{IndexEvent}
 use Rattle.histories.specs.declared.events.IndexEvent.TheVariants.{Take, Insert, Return}
 use Rattle.histories.specs.History.{events, rises, is_legal_after}
 use Rattle.histories.specs.Indexes.{Insertion, insertion_of, inserts, is_inserted, may_join_index, is_legal_index}
-use Rattle.home_core.specs.Seats.{IndexSight, IsIndexSight, as_history}
+use Rattle.home_places.specs.Seats.{IndexSight, IsIndexSight, as_history}
 
 -- such a seat
 abbrev pub shown_alone : List (Stamped IndexEvent) → List ℕ → Accepts → IndexSight

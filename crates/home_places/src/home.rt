@@ -1,8 +1,8 @@
 //! Homes: a store with its index.
 ghost use Rattle.std.specs.Prelude.{◌≡◌, Bool, Err, IsErr, option_copied};
 ghost use Rattle.histories.specs.StoreCalls.{PutSays, GetSays, ListSays, StatSays};
-ghost use Rattle.home_core.specs.Passes.{Sight, StoreCall, Settles, Searches, Counts, IsSight};
-ghost use Rattle.home_core.specs.Working.{IndexesNext};
+ghost use Rattle.home_places.specs.Passes.{Sight, StoreCall, Settles, Searches, Counts, IsSight};
+ghost use Rattle.home_places.specs.Working.{IndexesNext};
 
 use blobref::{Listing, NoMemory, Octets, Ref, RefList};
 use edge_base::{GetFault, Put, PutFault};

@@ -12,10 +12,10 @@ use Rattle.histories.specs.declared.events.IndexEvent.TheVariants.{Insert}
 use Rattle.histories.specs.Stores.{arrivals}
 use Rattle.histories.specs.StoreCalls.{CountSays, ArrivalSays}
 use Rattle.histories.specs.IndexCalls.{TakeSays, InsertSays, ReturnSays}
-use Rattle.home_core.specs.declared.home.Indexed.{Indexed}
-use Rattle.home_core.specs.declared.home.Indexed.TheVariants.{New, Already, Idle}
-use Rattle.home_core.specs.Seats.{StoreGrew, IndexGrew}
-use Rattle.home_core.specs.Passes.{Sight, StoreTurned, IndexTurned, IsTrouble, Caused, Agrees, Spends}
+use Rattle.home_places.specs.declared.home.Indexed.{Indexed}
+use Rattle.home_places.specs.declared.home.Indexed.TheVariants.{New, Already, Idle}
+use Rattle.home_places.specs.Seats.{StoreGrew, IndexGrew}
+use Rattle.home_places.specs.Passes.{Sight, StoreTurned, IndexTurned, IsTrouble, Caused, Agrees, Spends}
 
 -- a turn of the store gave the count, and then a turn of the index answered the take below it
 pub record Takes (arrivals : ℕ) (taken : Result (Option ℕ) NoMemory) (v w : Sight) : Type 0 where

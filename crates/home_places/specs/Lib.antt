@@ -1,0 +1,5 @@
+pub mod Seats
+pub mod Searches
+pub mod Passes
+pub mod Working
+pub mod Showing
