@@ -15,7 +15,7 @@ TOP = pathlib.Path(__file__).resolve().parent.parent
 
 # The limits. All minutes are processor minutes of a machine that has other work beside the gate.
 EDITS, EDITS_A_CRATE, DEAREST_PROOF_WITH_EDITS = 16, 3, 4.0
-PATHS = 150_000
+PATHS, HEIGHT = 150_000, 12
 WHOLE, WHOLE_FOR_1_000_LINES, TESTS, EDITS_IN_ALL, CHAIN = 280, 5.2, 45, 30, 45
 PROOF, PROOF_AT_LEAST, PROOF_FOR_1_000_LINES, PROOF_WITH_TESTS, TEST_CRATE = 4.0, 0.5, 3.0, 0.5, 8.0
 # What figures are rounded to.
@@ -24,8 +24,11 @@ ROUNDING = 0.05
 OLDER_PROOFS = {
     "perkeep_lines": 7.7, "query_read": 7.2, "perkeep_top": 6.8, "lab": 6.6, "claim_index": 5.9, "search_meets": 5.5, "perkeep_cli": 5.3,
     "http_wire": 4.1, "folder_disk": 3.9, "core_home": 3.6, "schema_json": 3.4, "blob_server": 3.2, "schema_write": 2.7,
-    "query_text": 2.4, "server_home": 2.4, "file_tree": 1.9, "answer_text": 1.8, "json_laws": 1.1, "uncounted_search": 0.9,
+    "query_text": 2.4, "server_home": 2.4, "file_tree": 1.9, "answer_text": 1.8, "json_laws": 1.1,
 }
+# The crates of the wire and the server know a home alone, whatever it searches by.
+INDEX = "claim_index"
+ON_NO_INDEX = ("edge_listen", "http_wire", "multipart_read", "blob_routes", "blob_upload", "blob_http", "blob_server")
 
 KINDS = ("proof", "tests", "edits", "programs")
 TEST = re.compile(r"#\s*\[[^]]*\btest\b")
@@ -69,6 +72,25 @@ class Crates:
             return own(name) + join(map(whole, self.own[name]))
 
         return {name: whole(name) for name in self.used}
+
+    def chains(self, base=None):
+        """For each crate the longest chain of crates, each on the next one, from it down to `base`, or to any crate where that is None."""
+        @functools.cache
+        def chain(name):
+            longest = max(map(chain, self.own[name]), key=len, default=())
+            return (name, *longest) if longest or base in (None, name) else ()
+
+        return {name: chain(name) for name in self.used}
+
+
+def faults_of_chains(crates):
+    """What of the rules on crates that stand one above the other doesn't hold."""
+    highest = max(crates.chains().values(), key=len)
+    if len(highest) > HEIGHT:
+        yield f"{len(highest)} crates stand one above the other, at most {HEIGHT}: {' '.join(highest)}"
+    yield from (f"{name} is no crate" for name in (INDEX, *ON_NO_INDEX) if name not in crates.used)
+    down = crates.chains(INDEX)
+    yield from (f"{name} stands on {INDEX}: {' '.join(down[name])}" for name in ON_NO_INDEX if down.get(name))
 
 
 def faults_of_crates(crates):
@@ -131,7 +153,7 @@ def faults_of_costs(crates, costs):
 def main():
     crates = Crates()
     minutes = costs(TOP / (sys.argv[1] if sys.argv[1:] else "docs/gate.md"), crates)
-    found = [*faults_of_crates(crates), *faults_of_sums(crates, minutes), *faults_of_costs(crates, minutes)]
+    found = [*faults_of_crates(crates), *faults_of_chains(crates), *faults_of_sums(crates, minutes), *faults_of_costs(crates, minutes)]
     found += [f"{name}: the table of minutes has no row of it" for name in crates.used if name not in minutes]
     for line in found:
         print(f"FAILED budget {line}")
