@@ -122,10 +122,10 @@ module _ (p : List ℕ × ℕ → Bool) (limit : ℕ) where
 
 pub stat_says : (refs : List (List ℕ)) (blobs : List Blob) (result : Result (List (List ℕ × ℕ)) NoMemory)
     → IfOk result (λ found. found ≡ filter_map (sized blobs) (each_once [] refs)) → StatSays refs blobs result None
-stat_says refs blobs (Ok found) is = (is, tt)
-stat_says refs blobs (Err e) is = tt
+stat_says refs blobs (Ok found) is = (is, refl)
+stat_says refs blobs (Err e) is = refl
 
 pub list_says : (after : Option (List ℕ)) (limit : ℕ) (blobs : List Blob) (result : Result (List (List ℕ × ℕ)) NoMemory)
     → IfOk result (λ found. found ≡ page after limit blobs) → ListSays after limit blobs result None
-list_says after limit blobs (Ok found) is = (is, tt)
-list_says after limit blobs (Err e) is = tt
+list_says after limit blobs (Ok found) is = (is, refl)
+list_says after limit blobs (Err e) is = refl

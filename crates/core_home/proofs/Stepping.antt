@@ -96,7 +96,7 @@ module _ (a : Accepts) (bs : List Blob) (h : List (Stamped StoreEvent)) (are : a
   count_turn : (n : ℕ) (g : List (Stamped IndexEvent)) (i : ℕ) (spent : Bool) → is_within n h ≡ true → rises 0 h ≡ true
       → StoreTurned (λ before entry. CountSays before (length bs) entry) (alone a h n g i spent) (alone a h (n + 1) g i spent)
   count_turn n g i spent w r = store_turn a (λ before entry. CountSays before (length bs) entry) h h n (n + 1) None g g i spent spent w r
-      (sym (append-nil h)) refl refl refl (ap length (sym are), tt)
+      (sym (append-nil h)) refl refl refl (ap length (sym are), refl)
 
   arrival_turn : (k n : ℕ) (g : List (Stamped IndexEvent)) (i : ℕ) (spent : Bool) → k < length bs → is_within n h ≡ true → rises 0 h ≡ true
       → StoreTurned (λ before entry. ArrivalSays true k before (Ok (Some (blob_at bs k))) entry) (alone a h n g i spent) (alone a h (n + 1) g i spent)

@@ -23,7 +23,7 @@ use Rattle.home_core.specs.Steps.{core_step, put_blob}
 use Rattle.home_places.specs.Passes.{Sight, StoreTurned}
 use Rattle.home_core.proofs.Putting.{put_blob_longer}
 use Rattle.core_home.specs.declared.turns.Turns.{Turns}
-use Rattle.core_home.specs.Keeping.{IsKept, is_within, store_of, index_of}
+use Rattle.core_home.specs.Keeping.{IsKept, no_limits, is_within, store_of, index_of}
 use Rattle.core_home.specs.Answers.{is_stored, put_entry, after_put, after_upload, IsRefusal}
 use Rattle.core_home.specs.Sights.{alone}
 use Rattle.core_home.proofs.Turning.{turn_within, turn_rises, store_turn}
@@ -33,23 +33,23 @@ use Rattle.core_home.proofs.Numbers.{index_same}
 
 module _ (said bytes : List ℕ) where
   was_fresh : (blobs : List Blob) (n : ℕ) (o : Option (Result Put PutFault)) → put_settled said bytes blobs ≡ o
-      → PutAnswers said bytes blobs o (Ok (Stored n)) (Some (store.Put n said bytes)) → (put_settled said bytes blobs ≡ None) × (n ≡ length blobs)
+      → PutAnswers no_limits said bytes blobs o (Ok (Stored n)) (Some (store.Put n said bytes)) → (put_settled said bytes blobs ≡ None) × (n ≡ length blobs)
   was_fresh blobs n (Some a) is says = let never : Some (store.Put n said bytes) ≡ None = says.1 in absurd (cc never)
-  was_fresh blobs n None is says = (is, says.0)
+  was_fresh blobs n None is says = (is, says.1)
 
   module _ (t : ℕ) (ts : List ℕ) (us : List Turns) (s : CoreState) where
-    put_stands : (n : ℕ) → PutSays said bytes s.store (Ok (Stored n)) (Some (store.Put n said bytes)) → put_blob (said, bytes) s.store ≡ s.store ++ (said, bytes) ∷ []
+    put_stands : (n : ℕ) → PutSays no_limits said bytes s.store (Ok (Stored n)) (Some (store.Put n said bytes)) → put_blob (said, bytes) s.store ≡ s.store ++ (said, bytes) ∷ []
     put_stands n says = ap (λ (o : Option (Result Put PutFault)). cond (is_none o) (s.store ++ (said, bytes) ∷ []) s.store)
         (was_fresh s.store n (put_settled said bytes s.store) refl says).0
 
-    pub upload_adds : (r : Result Put PutFault) → length ts ≡ length s.store → PutSays said bytes s.store r (put_entry said bytes r)
+    pub upload_adds : (r : Result Put PutFault) → length ts ≡ length s.store → PutSays no_limits said bytes s.store r (put_entry said bytes r)
         → store_of (after_put t r ts) (after_upload said bytes r s).store ≡ store_of ts s.store ++ stamped t (put_entry said bytes r)
     upload_adds (Ok (Stored n)) e says = ap (store_of (ts ++ t ∷ [])) (put_stands n says)
         ∙ store_push ts s.store t (said, bytes) n e (was_fresh s.store n (put_settled said bytes s.store) refl says).1
     upload_adds (Ok (Already n)) e says = sym (append-nil (store_of ts s.store))
     upload_adds (Err f) e says = sym (append-nil (store_of ts s.store))
 
-    upload_lengths : (r : Result Put PutFault) → length ts ≡ length s.store → PutSays said bytes s.store r (put_entry said bytes r)
+    upload_lengths : (r : Result Put PutFault) → length ts ≡ length s.store → PutSays no_limits said bytes s.store r (put_entry said bytes r)
         → length (after_put t r ts) ≡ length (after_upload said bytes r s).store
     upload_lengths (Ok (Stored n)) e says =
         let one = length-append ts (t ∷ []) in
@@ -76,7 +76,7 @@ module _ (said bytes : List ℕ) where
     same_numbers (Err f) = refl
 
     module _ (stores indexes : ℕ) (r : Result Put PutFault) (kept : IsKept ts us s stores indexes) (sound : IsSound s)
-        (says : PutSays said bytes s.store r (put_entry said bytes r)) (ts' : List ℕ) (s' : CoreState)
+        (says : PutSays no_limits said bytes s.store r (put_entry said bytes r)) (ts' : List ℕ) (s' : CoreState)
         (put : ts' ≡ after_put t r ts) (step : s' ≡ after_upload said bytes r s) (next : t ≡ stores + 1) where
       adds : store_of ts' s'.store ≡ store_of ts s.store ++ stamped (stores + 1) (put_entry said bytes r)
       adds = (λ i. store_of (put i) (step i).store) ∙ (upload_adds r kept.each_put says
@@ -102,13 +102,13 @@ module _ (said bytes : List ℕ) where
 
       -- and it was one turn of the store
       pub upload_turn : (a a' : Accepts) (spent spent' : Bool) → a' ≡ a → spent' ≡ spent
-          → StoreTurned (λ before entry. PutSays said bytes before r entry)
+          → StoreTurned (λ before entry. PutSays no_limits said bytes before r entry)
           (alone a (store_of ts s.store) stores (index_of s.store us s.indexed) indexes spent)
           (alone a' (store_of ts' s'.store) t (index_of s'.store us s'.indexed) indexes spent')
       upload_turn a a' spent spent' keys stays =
-          subst (λ (x : Accepts). StoreTurned (λ before entry. PutSays said bytes before r entry)
+          subst (λ (x : Accepts). StoreTurned (λ before entry. PutSays no_limits said bytes before r entry)
           (alone a (store_of ts s.store) stores (index_of s.store us s.indexed) indexes spent)
           (alone x (store_of ts' s'.store) t (index_of s'.store us s'.indexed) indexes spent')) (sym keys)
-          (store_turn a (λ before entry. PutSays said bytes before r entry) (store_of ts s.store) (store_of ts' s'.store) stores t (put_entry said bytes r)
+          (store_turn a (λ before entry. PutSays no_limits said bytes before r entry) (store_of ts s.store) (store_of ts' s'.store) stores t (put_entry said bytes r)
           (index_of s.store us s.indexed) (index_of s'.store us s'.indexed) indexes spent spent' kept.store_within kept.store_rises adds next index stays
-          (subst (λ (b : List Blob). PutSays said bytes b r (put_entry said bytes r)) (sym (arrivals_of ts s.store kept.each_put)) says))
+          (subst (λ (b : List Blob). PutSays no_limits said bytes b r (put_entry said bytes r)) (sym (arrivals_of ts s.store kept.each_put)) says))

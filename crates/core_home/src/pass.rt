@@ -43,6 +43,7 @@ impl<V: Verifier> CorePass<V> {
     ghost use Rattle.home_places.specs.Working.{IndexesNext};
     ghost use Rattle.histories.specs.StoreCalls.{PutSays, GetSays, ListSays, StatSays};
     ghost use Rattle.core_home.specs.Sights.{sight_of};
+    ghost use Rattle.core_home.specs.Keeping.{no_limits};
     ghost use Rattle.core_home.specs.Starts.{first_sight};
     ghost use Rattle.core_home.specs.Answers.{IsRefusal, after_upload, after_settle, after_next, lacking_count, next_turns};
 
@@ -83,7 +84,7 @@ impl<V: Verifier> CorePass<V> {
     /// core is as it was. Of the errors `TooBig`, `BadDigest` and `NoMemory` come. It looks through the refs.
     pub fn upload(&mut self, said: &Ref, bytes: &[u8]) -> Result<Put, PutFault>
         ensures turn { StoreCall (result ≡ Err PutFault.NoMemory)
-            (λ before entry. PutSays said.now bytes.now before result entry)
+            (λ before entry. PutSays no_limits said.now bytes.now before result entry)
             (sight_of V.accepts self.old) (sight_of V.accepts self.new) }
         ensures core { self.new.core.state ≡ after_upload said.now bytes.now result self.old.core.state }
         ensures keys { self.new.core.keys ≡ self.old.core.keys }

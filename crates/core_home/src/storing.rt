@@ -1,10 +1,11 @@
 //! A blob is put.
 ghost use Rattle.std.specs.Prelude.{◌≡◌, ◌++◌, ◌∷◌, [], None, IfOk, IfErr, OnOk, OnErr, length};
-ghost use Rattle.histories.specs.StoreCalls.{PutSays, put_settled};
+ghost use Rattle.histories.specs.StoreCalls.{HasRoom, PutSays, put_settled};
 ghost use Rattle.home_core.specs.State.{IsSound};
 ghost use Rattle.home_core.specs.Steps.{core_step};
 ghost use Rattle.home_core.specs.declared.events.Event.TheVariants as event;
 ghost use Rattle.core_home.specs.Answers.{IsRefusal, after_put, after_upload, put_entry};
+ghost use Rattle.core_home.specs.Keeping.{no_limits};
 
 use blobref::{Octets, Ref};
 use claim_verify::Verifier;
@@ -21,7 +22,8 @@ pub(crate) fn put<V: Verifier>(
     said: &Ref,
     bytes: &[u8],
 ) -> Result<Put, PutFault>
-    ensures says { PutSays said.now bytes.now core.old.state.store result (put_entry said.now bytes.now result) }
+    ensures says { PutSays no_limits said.now bytes.now core.old.state.store result
+        (put_entry said.now bytes.now result) }
     ensures core { core.new.state ≡ after_upload said.now bytes.now result core.old.state }
     ensures puts { puts.new.items ≡ after_put turn result puts.old.items }
     ensures fault { IfErr result IsRefusal }
@@ -35,7 +37,8 @@ pub(crate) fn put<V: Verifier>(
     }
 }
 
-// Stores a blob of which nothing is settled under the next number.
+// Stores a blob of which nothing is settled under the next number. There is room for it: no list has as many
+// as 2^64 - 1 items.
 fn store<V: Verifier>(
     alloc: Global,
     core: &mut Core<V>,
@@ -45,6 +48,7 @@ fn store<V: Verifier>(
     bytes: &[u8],
 ) -> Result<Put, PutFault>
     requires { put_settled said.now bytes.now core.old.state.store ≡ None }
+    ensures room { HasRoom no_limits core.old.state.store }
     ensures answer { IfOk result (λ put. put ≡ Put.Stored (length core.old.state.store)) }
     ensures core { OnOk result (core.new.state ≡ core_step core.old.state (event.Put 0 said.now bytes.now)) }
     ensures puts { OnOk result (puts.new.items ≡ puts.old.items ++ turn ∷ []) }
