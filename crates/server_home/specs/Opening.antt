@@ -18,7 +18,7 @@ use Rattle.turn_home.specs.declared.store.TurnStore.{TurnStore}
 use Rattle.turn_home.specs.declared.store.StoreSeat.{StoreSeat}
 use Rattle.turn_home.specs.declared.index.TurnIndex.{TurnIndex}
 use Rattle.turn_home.specs.declared.index.IndexSeat.{IndexSeat}
-use Rattle.turn_home.specs.StoreSeats.{IsOfStore, store_sight, place_tells}
+use Rattle.turn_home.specs.StoreSeats.{IsOfStore, store_sight, place_limits, place_tells}
 use Rattle.turn_home.specs.IndexSeats.{IsOfIndex, index_sight}
 use Rattle.server_home.specs.declared.opening.HomeFault.{HomeFault}
 use Rattle.server_home.specs.declared.opening.HomeFault.TheVariants.{Disk, NoMemory}
@@ -52,13 +52,14 @@ arrived limits blobs = record {
   limits = record { blobs = limits.blobs; last_pack = limits.last_pack };
 }
 
--- The home is over the store that the disk held: where that told its packs, their arrivals, and elsewhere blobs of which
--- nothing more is said.
+-- The home is over the store that the disk held, opened with these limits: where the disk told its packs, over their
+-- arrivals, and elsewhere over blobs of which nothing more is said.
 pub record IsOpenHome {D V : Type 0} {b c : _} (g : Ghosts D) (accepts : V → Accepts) (disk : D) (limits : Limits)
     (keys : V) (count : ℕ) (home : LiveHome (TurnStore D) (TurnIndex V))
     (passes : List (LivePass (StoreSeat D b) (IndexSeat V c))) : Type 0 where
   pub blobs : List Blob
   pub told : ForSome (g.packs disk) (λ held. blobs ≡ arrivals (entries held))
+  pub limits_are : place_limits home.store ≡ limits
   pub tells : place_tells g home.store ≡ is_some (g.packs disk)
   pub passes_are : ArePasses g accepts home.store home.index (arrived limits blobs) (shown_alone [] [] (accepts keys))
       count passes

@@ -1,6 +1,7 @@
 -- What a seat of a store is seen as, and of which place it is.
 use Rattle.std.specs.Prelude.{◌≡◌, Bool, Some}
 use Rattle.pack_disk.specs.declared.disk.Disk.{Ghosts}
+use Rattle.pack_store.specs.declared.limits.Limits.{Limits}
 use Rattle.turn_cell.specs.Seats.{IsSeatOf, about, made_of, seen, turns}
 use Rattle.told_store.specs.Telling.{is_told}
 use Rattle.home_places.specs.Seats.{StoreSight}
@@ -19,6 +20,10 @@ place_about g p = about_of g (made_of p.turn).made (made_of p.turn).store
 -- the seat is one of this place's
 abbrev pub IsOfStore : {D : Type 0} {b : _} → Ghosts D → TurnStore D → StoreSeat D b → Type 0
 IsOfStore g p s = IsSeatOf p.turn s.seat × (about s.seat ≡ Some (place_about g p))
+
+-- the limits of the store that the place was made of
+abbrev pub place_limits : {D : Type 0} → TurnStore D → Limits
+place_limits p = (made_of p.turn).store.limits
 
 -- whether the place tells the bytes of its blobs
 abbrev pub place_tells : {D : Type 0} → Ghosts D → TurnStore D → Bool

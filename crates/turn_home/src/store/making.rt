@@ -4,7 +4,7 @@ ghost use Rattle.histories.specs.History.{stamp};
 ghost use Rattle.told_store.specs.Telling.{is_told, limits_of};
 ghost use Rattle.told_store.specs.Beginning.{begins};
 ghost use Rattle.turn_home.specs.StoreAbout.{about_of};
-ghost use Rattle.turn_home.specs.StoreSeats.{IsOfStore, store_sight, place_about, place_tells};
+ghost use Rattle.turn_home.specs.StoreSeats.{IsOfStore, store_sight, place_about, place_limits, place_tells};
 
 use super::{KeptStore, StoreSeat, TurnStore};
 use blobref::NoMemory;
@@ -25,6 +25,7 @@ impl<D: Disk> TurnStore<D> {
         ensures own { IfOk result (λ r. IsOfStore D.Disk r.0 r.1) }
         ensures tells { IfOk result (λ r. place_tells D.Disk r.0 ≡ is_told D.Disk store) }
         ensures about { IfOk result (λ r. place_about D.Disk r.0 ≡ about_of D.Disk (D.faults store.disk) store) }
+        ensures limits { IfOk result (λ r. place_limits r.0 ≡ store.limits) }
         ensures seat { IfOk result (λ r. store_sight r.1 ≡ record {
           history = map (stamp 0) (begins D.Disk store);
           turns = [];

@@ -2,7 +2,7 @@ use Rattle.std.proofs.Common.{sym, subst, ◌∙◌, ap, []}
 use Rattle.std.specs.Option.{is_some}
 use Rattle.told_store.specs.Beginning.{blobs_told}
 use Rattle.home_places.specs.Showing.{shown_alone}
-use Rattle.turn_home.specs.StoreSeats.{store_sight, place_tells}
+use Rattle.turn_home.specs.StoreSeats.{store_sight, place_limits, place_tells}
 use Rattle.server_home.specs.Opening.{ArePasses, arrived}
 use Rattle.server_home.proofs.opening.home_over.Goals as goal
 
@@ -21,6 +21,7 @@ returns-in-Ok-passes_of-clause-opened g c =
     record {
       blobs = blobs;
       told = λ held is. ap (blobs_told rows) (stays.told ∙ is) ∙ opened.arrived held is;
+      limits_are = ap place_limits home.ensures.store ∙ c.in-Ok-make.ensures.limits ∙ opened.limited;
       tells = ap (place_tells disk) home.ensures.store ∙ c.in-Ok-make.ensures.tells ∙ ap is_some stays.told;
       passes_are =
           let fresh = shown_alone [] [] (accepts c.args.keys) in
