@@ -1,5 +1,5 @@
 //! The changes of attributes that claims say.
-ghost use Rattle.std.specs.Prelude.{◌≡◌, ◌∷◌, [], ◌++◌, length, slice_get, option_map, IfOk, OnOk};
+ghost use Rattle.std.specs.Prelude.{◌≡◌, ◌∷◌, [], ◌++◌, length, slice_get, option_map, IfOk, OnErr, OnOk};
 ghost use Rattle.schema_fact.specs.Changes.{change_seen};
 
 use blobref::{ListOf, NoMemory, Ref, Text};
@@ -88,14 +88,15 @@ pub(crate) fn copied(alloc: Global, changes: &[Change]) -> Result<ChangeList, No
 {
     let mut copies = ChangeList::empty(alloc);
     for change in changes {
-        push(&mut copies, change.copy(alloc)?)?;
+        push_change(&mut copies, change.copy(alloc)?)?;
     }
     Ok(copies)
 }
 
-// Puts a change behind the others.
-fn push(changes: &mut ChangeList, change: Change) -> Result<(), NoMemory>
-    ensures { OnOk result (changes.new ≡ changes.old ++ change ∷ []) }
+/// Puts a change behind the others. The list is unchanged after a refusal.
+pub fn push_change(changes: &mut ChangeList, change: Change) -> Result<(), NoMemory>
+    ensures ok { OnOk result (changes.new ≡ changes.old ++ change ∷ []) }
+    ensures err { OnErr result (changes.new ≡ changes.old) }
 {
     let Change {
         on,

@@ -1,5 +1,5 @@
 //! Lists of changes.
-ghost use Rattle.std.specs.Prelude.{◌≡◌, ◌++◌, ◌∷◌, [], IfOk, IfSome, OnOk, length};
+ghost use Rattle.std.specs.Prelude.{◌≡◌, IfOk, IfSome, length};
 ghost use Rattle.serde_json.specs.View.{view, items_view};
 ghost use Rattle.schema_fact.specs.Limits.{is_change_count, IsChangeCount};
 ghost use Rattle.schema_json.specs.Facts.{change_in, change_typed, changes_in, change_list_in, change_list_of};
@@ -8,7 +8,7 @@ use crate::claims::{add_change, del_change, set_change};
 use crate::fields::text_at;
 use blobref::NoMemory;
 use json_laws::json_in;
-use schema_fact::{Change, ChangeList};
+use schema_fact::{Change, ChangeList, push_change};
 use serde_json::Value;
 use std::alloc::Global;
 
@@ -56,27 +56,9 @@ fn changes_in(alloc: Global, items: &[Value]) -> Result<Option<ChangeList>, NoMe
         let Some(change) = change_in(alloc, value)? else {
             return Ok(None);
         };
-        push(&mut changes, change)?;
+        push_change(&mut changes, change)?;
     }
     Ok(Some(changes))
-}
-
-// Puts a change behind the others.
-fn push(changes: &mut ChangeList, change: Change) -> Result<(), NoMemory>
-    ensures { OnOk result (changes.new ≡ changes.old ++ change ∷ []) }
-{
-    let Change {
-        on,
-        act,
-        attr,
-        value,
-    } = change;
-    changes.push(Change {
-        on,
-        act,
-        attr,
-        value,
-    })
 }
 
 fn change_in(alloc: Global, value: &Value) -> Result<Option<Change>, NoMemory>

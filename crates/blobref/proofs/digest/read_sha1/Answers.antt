@@ -10,14 +10,8 @@ returns-in_err-ok c =
     let read = read_digest sha1_name c.args.text.now 20 c.decode_to_slice.new.out _ whole c.decode_to_slice.ensures.value in
     absurd (not_none _ _ read.ok c.ok.ensures.variant c.in_err-ok.was)
 
-pub invariant_of-result : goal.invariant_of-result
-invariant_of-result c =
-    let whole : is_sha1_ref c.args.text.now ≡ true = sym c.is_sha1_ref.ensures ∙ c.if-not-is_sha1_ref.false in
-    let read = read_digest sha1_name c.args.text.now 20 c.decode_to_slice.new.out _ whole c.decode_to_slice.ensures.value in
-    (read.length, read.bytes)
-
 pub returns : goal.returns
 returns c =
     let whole : is_sha1_ref c.args.text.now ≡ true = sym c.is_sha1_ref.ensures ∙ c.if-not-is_sha1_ref.false in
     let read = read_digest sha1_name c.args.text.now 20 c.decode_to_slice.new.out _ whole c.decode_to_slice.ensures.value in
-    ap Some read.spelled ∙ sym (cond-true _ _ _ whole)
+    ap Some (c.sha1_ref.ensures ∙ read.spelled) ∙ sym (cond-true _ _ _ whole)

@@ -10,7 +10,7 @@ loop-value-preserved c =
     let n = c.loop-value.value-index in
     let value = c.value-item.result in
     let here = drop-cons items n value c.loop-value-test.true ∙ (λ i. sym c.value-item.is i ∷ drop (sym (add-one n) i) items) in
-    (λ i. option_map (λ more. c.in_ok-push.ensures i ++ more) (changes_in (items_view (drop (n + 1) items))))
+    (λ i. option_map (λ more. c.in_ok-push_change.ensures.ok i ++ more) (changes_in (items_view (drop (n + 1) items))))
     ∙ next_change c.loop-value.changes (view value) (items_view (drop (n + 1) items)) c.in-Some.change (sym c.in_ok-change.ensures ∙ c.in-Some.is)
     ∙ sym (λ i. option_map (λ more. c.loop-value.changes ++ more) (changes_in (items_view (here i))))
     ∙ c.loop-value.invariant

@@ -1,14 +1,13 @@
 use Rattle.std.proofs.Common.{sym, ap, ◌∙◌}
-use Rattle.blobref.specs.Blobref.{spelled, sha1_name, ref_like}
-use Rattle.blobref.proofs.Digests.{named_like, like_as_text}
+use Rattle.blobref.specs.Blobref.{spelled, sha1_name}
+use Rattle.blobref.proofs.Digests.{like_sha1, like_sha224}
 use Rattle.blobref.proofs.digest.Ref.like.Goals as goal
 
-pub returns-in-Sha1 : goal.returns-in-Sha1
-returns-in-Sha1 c =
-    ap (spelled sha1_name) c.digest.ensures ∙ ap (λ n. named_like n c.args.bytes.now) (sym c.in-Sha1.is)
-    ∙ like_as_text c.self.inside.named c.args.bytes.now ∙ ap (λ r. ref_like r c.args.bytes.now) c.self.view_is
+pub returns-then-is_sha1 : goal.returns-then-is_sha1
+returns-then-is_sha1 c =
+    c.sha1_ref.ensures ∙ ap (spelled sha1_name) c.digest.ensures
+    ∙ like_sha1 c.args.self.now c.args.bytes.now (sym c.is_sha1.ensures ∙ c.if-is_sha1.true)
 
-pub returns-in-Sha224 : goal.returns-in-Sha224
-returns-in-Sha224 c =
-    c.of.ensures ∙ ap (λ n. named_like n c.args.bytes.now) (sym c.in-Sha224.is)
-    ∙ like_as_text c.self.inside.named c.args.bytes.now ∙ ap (λ r. ref_like r c.args.bytes.now) c.self.view_is
+pub returns-else-is_sha1 : goal.returns-else-is_sha1
+returns-else-is_sha1 c =
+    c.of.ensures ∙ like_sha224 c.args.self.now c.args.bytes.now (sym c.is_sha1.ensures ∙ c.if-is_sha1.false)
