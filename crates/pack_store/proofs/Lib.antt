@@ -1,14 +1,16 @@
+pub mod Held
 pub mod Numbers
 pub mod Still
 pub mod Taking
 pub mod Buffers
+pub mod Piecewise
+pub mod RowTaking
 pub mod Walking
 pub mod Packing
 pub mod Looking
 pub mod Damage
 pub mod Finding
 pub mod Pages
-pub mod Held
 pub mod Moments
 pub mod Rowing
 pub mod Appending

@@ -6,6 +6,7 @@ pub mod Putting
 pub mod Walk
 pub mod Scan
 pub mod Opening
+pub mod Taking
 pub mod Reading
 pub mod Finding
 pub mod PutsLast

@@ -1,5 +1,5 @@
 -- A store as a shelf (docs/store.md).
-use Rattle.std.specs.Prelude.{◌≡◌, ℕ, List, Option}
+use Rattle.std.specs.Prelude.{◌≡◌, List, Option}
 use Rattle.std.specs.FinMap.{from_entries}
 use Rattle.std.specs.Option.{option_map}
 use Rattle.blobref.specs.Blobref.{ref_cmp}

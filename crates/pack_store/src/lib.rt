@@ -7,6 +7,7 @@ mod limits;
 mod listing;
 mod opened_laws;
 mod opening;
+mod pack_rows;
 mod places;
 mod putting;
 mod reading;

@@ -12,10 +12,10 @@ ghost use Rattle.pack_store.specs.Archive.{Archive, AreLimits, IsSound};
 ghost use Rattle.pack_store.specs.Opening.{IsOpened, IsPlaced, current_if_clean, current_by, row_of_found, take_row, take_rows, take_pack};
 
 use crate::limits::Limits;
+use crate::pack_rows::take_pieces;
 use crate::places::Places;
 use crate::rows::{Current, Row};
 use crate::store::Store;
-use crate::whole::scan_pack;
 use blobref::NoMemory;
 use pack_disk::Disk;
 use salvage_scan::{Clean, Found};
@@ -150,13 +150,12 @@ fn take_pack<D: Disk>(
     if disk.sync(pack).is_err() {
         return Err(OpenFault::Disk);
     }
-    let scan = scan_pack(alloc, disk, pack)?;
-    take_findings(pack, scan.found.as_slice(), rows, places)?;
-    Ok(current_by(scan.clean, pack, scan.size))
+    let taken = take_pieces(alloc, disk, pack, rows, places)?;
+    Ok(current_by(taken.clean, pack, taken.size))
 }
 
 // Takes up the findings of a pack in turn.
-fn take_findings(
+pub(crate) fn take_findings(
     pack: u32,
     found: &[Found],
     rows: &mut Vec<Row>,

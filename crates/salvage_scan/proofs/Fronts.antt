@@ -126,7 +126,7 @@ IsWhole (Blob r size len) x = len + size ≤ length x
 IsWhole (Gone size len) x = len + size ≤ length x
 IsWhole Missing x = Unit {0}
 
-settled_by : (h : HeaderAt) (x y : List ℕ) → IsWhole h x → front_by h (x ++ y) ≡ front_by h x
+pub settled_by : (h : HeaderAt) (x y : List ℕ) → IsWhole h x → front_by h (x ++ y) ≡ front_by h x
 settled_by (Blob r size len) x y fits =
     let same : take size (drop len (x ++ y)) ≡ take size (drop len x) =
     ap (take size) (drop-append-le len x y (omega arith)) ∙ take-append-le size (drop len x) y (omega (arith, length-drop len x)) in

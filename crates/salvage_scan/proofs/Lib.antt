@@ -1,7 +1,9 @@
 pub mod Fronts
 pub mod Cuts
-pub mod Steps
+pub mod Open
+pub mod Telling
 pub mod Cases
 pub mod Slices
 pub mod Packs
 pub mod Arriving
+pub mod Cutting

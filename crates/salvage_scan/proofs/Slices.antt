@@ -68,7 +68,7 @@ in_front place x (Kept r start bytes) e = All-one (LiesAt place x) _ (lies_here 
 in_front place x (Passed n) e = All-nil (LiesAt place x)
 in_front place x Junk e = All-nil (LiesAt place x)
 
-lie_past : (place skip : ℕ) (x : List ℕ) → All (LiesAt place x) (salvage_past place skip x)
+pub lie_past : (place skip : ℕ) (x : List ℕ) → All (LiesAt place x) (salvage_past place skip x)
 unfolding salvage_past
 lie_past place skip [] k d lt = All-nil (LiesAt place []) k d lt
 lie_past place zero (b ∷ x) k d lt =

@@ -3,3 +3,4 @@ pub mod Rules
 pub mod Scan
 pub mod Arrivals
 pub mod Clean
+pub mod Pieces

@@ -1,6 +1,7 @@
 //! Laws of salvage.
 ghost use Rattle.salvage_scan.specs.Arrivals.{ArrivalsAreFirsts};
 ghost use Rattle.salvage_scan.specs.Clean.{CleanPacks};
+ghost use Rattle.salvage_scan.specs.Pieces.{Cuttings};
 ghost use Rattle.salvage_scan.specs.Rules.{SalvageIsOne};
 
 /// What `scan` finds is the one salvage of a pack by the four cases of docs/formats/packs.md, and the place that it
@@ -19,4 +20,10 @@ pub fn clean_rules()
 /// docs/formats/packs.md.
 pub fn arrival_rules()
     ensures { ArrivalsAreFirsts }
+{}
+
+/// However a pack is cut into pieces, a `Scanner` that is fed them tells what `scan` tells of the whole: see
+/// docs/formats/packs.md.
+pub fn cutting_rules()
+    ensures { Cuttings }
 {}

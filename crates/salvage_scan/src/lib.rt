@@ -3,8 +3,10 @@
 
 mod found;
 mod laws;
+mod scanner;
 mod scanning;
 
 pub use found::{Clean, Found, FoundList};
-pub use laws::{arrival_rules, clean_rules, salvage_rules};
+pub use laws::{arrival_rules, clean_rules, cutting_rules, salvage_rules};
+pub use scanner::Scanner;
 pub use scanning::scan;

@@ -1,12 +1,16 @@
 //! Goes through a pack once.
-ghost use Rattle.std.specs.Prelude.{◌≡◌, map, All, IfOk, Some};
-ghost use Rattle.salvage_scan.specs.Salvage.{front, salvage, broken};
-ghost use Rattle.salvage_scan.specs.Scan.{place_of, clean_of, joined, shown, LiesIn};
+ghost use Rattle.std.specs.Prelude.{◌≡◌, ◌+◌, ◌≤◌, ◌<◌, ◌^◌, length, drop, map, nat_le, All, IfOk, Some};
+ghost use Rattle.salvage_scan.specs.Salvage.{salvage, broken};
+ghost use Rattle.salvage_scan.specs.Scan.{place_of, clean_of, joined, LiesIn};
+ghost use Rattle.salvage_scan.specs.Pieces.{seen, undecided, Leads, Waits};
 
 use crate::found::{Clean, Found, FoundList};
 use blobref::{NoMemory, Ref};
 use pack_format::{HeaderAt, read_header};
 use std::alloc::Global;
+
+// No header is longer.
+const HEADER_MAX: usize = 156;
 
 /// The blobs of a pack in order, by the four cases of docs/formats/packs.md, and whether it is clean. Each finding lies
 /// in the pack, and its ref is its bytes' own. A blob is hashed only where a header stands before it.
@@ -15,15 +19,44 @@ pub fn scan(alloc: Global, pack: &[u8]) -> Result<(FoundList, Clean), NoMemory>
     ensures clean { IfOk result (λ scanned. scanned.1 ≡ clean_of (broken pack.now)) }
     ensures within { IfOk result (λ scanned. All (LiesIn pack.now) scanned.0) }
 {
+    let told = tell(alloc, 0, Clean::Yes, pack, true)?;
+    Ok((told.found, told.clean))
+}
+
+// What was told of some bytes: what was found, the first broken place, how many bytes were used, and how many the next
+// ones must be for more to be told.
+#[derive(Drop)]
+pub(crate) struct Told {
+    pub(crate) found: FoundList,
+    pub(crate) clean: Clean,
+    pub(crate) used: usize,
+    pub(crate) wants: usize,
+}
+
+// Tells what is found in bytes at a place, as far as it doesn't depend on bytes that follow. Behind the last bytes none
+// follow.
+pub(crate) fn tell(
+    alloc: Global,
+    place: u64,
+    clean: Clean,
+    bytes: &[u8],
+    last: bool,
+) -> Result<Told, NoMemory>
+    requires { place + length bytes.now < 2 ^ 64 }
+    ensures used { IfOk result (λ told. told.used ≤ length bytes.now) }
+    ensures leads { IfOk result (λ told. Leads last place clean bytes.now told.found
+        (place + told.used) told.clean (drop told.used bytes.now)) }
+    ensures waits { IfOk result (λ told. Waits last (drop told.used bytes.now)) }
+{
     let mut found = FoundList::empty(alloc);
-    let mut clean = Clean::Yes;
+    let mut clean = clean;
     let mut at = 0;
-    'places: while at < pack.len() {
-        match front_at(&pack[at..]) {
+    'places: while at < bytes.len() {
+        match front_at(&bytes[at..], last) {
             FrontAt::Kept { r, start, size } => {
                 found.push(Found {
                     r,
-                    at: (at + start) as u64,
+                    at: place + (at + start) as u64,
                     size: size as u64,
                 })?;
                 at += start + size;
@@ -32,12 +65,25 @@ pub fn scan(alloc: Global, pack: &[u8]) -> Result<(FoundList, Clean), NoMemory>
                 at += len;
             }
             FrontAt::Junk => {
-                clean = broken_at(clean, at as u64);
+                clean = broken_at(clean, place + at as u64);
                 at += 1;
+            }
+            FrontAt::Open { wants } => {
+                return Ok(Told {
+                    found,
+                    clean,
+                    used: at,
+                    wants,
+                });
             }
         }
     }
-    Ok((found, clean))
+    Ok(Told {
+        found,
+        clean,
+        used: at,
+        wants: 0,
+    })
 }
 
 // What stands at the front of some bytes.
@@ -45,37 +91,64 @@ enum FrontAt {
     Kept { r: Ref, start: usize, size: usize },
     Passed { len: usize },
     Junk,
+    // Bytes that follow may decide, once there are so many.
+    Open { wants: usize },
 }
 
-#[tactic(auto, unfolding(crate::specs::Salvage::front))]
-fn front_at(bytes: &[u8]) -> FrontAt
-    ensures { result ≡ shown (front bytes.now) }
+#[tactic(auto, unfolding(crate::specs::Salvage::front, crate::specs::Pieces::is_open))]
+fn front_at(bytes: &[u8], last: bool) -> FrontAt
+    ensures { result ≡ seen last bytes.now }
 {
     match read_header(bytes) {
         HeaderAt::Blob { r, size, len } => {
             let size = size as usize;
-            if len <= bytes.len()
-                && size <= bytes.len() - len
-                && r.like(&bytes[len..len + size]) == r
-            {
-                FrontAt::Kept {
-                    r,
-                    start: len,
-                    size,
+            if holds(bytes, len, size) {
+                if r.like(&bytes[len..len + size]) == r {
+                    FrontAt::Kept {
+                        r,
+                        start: len,
+                        size,
+                    }
+                } else {
+                    FrontAt::Junk
                 }
             } else {
-                FrontAt::Junk
+                undecided(last, len + size)
             }
         }
         HeaderAt::Gone { size, len } => {
             let size = size as usize;
-            if len <= bytes.len() && size <= bytes.len() - len {
+            if holds(bytes, len, size) {
                 FrontAt::Passed { len: len + size }
+            } else {
+                undecided(last, len + size)
+            }
+        }
+        HeaderAt::Missing => {
+            if bytes.len() < HEADER_MAX {
+                undecided(last, HEADER_MAX)
             } else {
                 FrontAt::Junk
             }
         }
-        HeaderAt::Missing => FrontAt::Junk,
+    }
+}
+
+// Whether the bytes are so many and so many more.
+fn holds(bytes: &[u8], len: usize, size: usize) -> bool
+    ensures { result ≡ nat_le (len + size) (length bytes.now) }
+{
+    len <= bytes.len() && size <= bytes.len() - len
+}
+
+// What is said where so many bytes would decide.
+fn undecided(last: bool, wants: usize) -> FrontAt
+    ensures { result ≡ undecided last wants }
+{
+    if last {
+        FrontAt::Junk
+    } else {
+        FrontAt::Open { wants }
     }
 }
 

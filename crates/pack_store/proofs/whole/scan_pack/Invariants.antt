@@ -1,0 +1,19 @@
+use Rattle.std.proofs.Common.{◌≡◌, ◌≤◌, ◌-◌}
+use Rattle.pack_disk.specs.Runs.{Stays}
+use Rattle.pack_store.specs.Scan.{TookFront}
+use Rattle.pack_store.proofs.whole.scan_pack.Given as goal
+
+-- what was read so far
+abbrev pub invariant-pieces : goal.invariant-pieces
+invariant-pieces g l =
+    let disk = g.D.Disk in
+    record {
+      within : l.at ≤ l.size;
+      took : TookFront (disk.packs l.fn.disk) l.pack l.at l.scanner l.found;
+      stays : Stays disk l.fn.disk l.disk;
+      still : disk.moment l.disk ≡ disk.moment l.fn.disk;
+      later : disk.faults l.fn.disk ≤ disk.faults l.disk;
+    }
+
+abbrev pub decreases-pieces : goal.decreases-pieces
+decreases-pieces g l = l.size - l.at
