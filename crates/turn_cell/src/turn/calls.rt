@@ -1,6 +1,8 @@
 //! How a lock is made, how its seats are split and joined, and how a job is run.
-ghost use Rattle.std.specs.Prelude.{◌≡◌, ◌++◌, [], ◌∷◌, map, true, IfOk, IfErr, IsOk, Some};
+ghost use Rattle.std.specs.Prelude.{◌≡◌, ◌++◌, [], ◌∷◌, ℕ, List, map, true, IfOk, IfErr, IsOk, Some};
+ghost use Rattle.histories.specs.declared.stamped.Stamped.{Stamped};
 ghost use Rattle.histories.specs.History.{stamp, own, IsLonger, Ran};
+ghost use Rattle.turn_cell.specs.Line.{Caught};
 ghost use Rattle.turn_cell.specs.Seats.{IsSeatOf, about, made_of, seen, turns};
 
 use super::taking::TICKET;
@@ -110,6 +112,21 @@ impl<T: Told> Turn<T> {
         let answer = job.go(ticket + 1, &mut value);
         self.pass_on::<J, Brand>(&mut seat.seat, value, job, &answer);
         answer
+    }
+
+    /// Ends the lock and hands its value back, which needn't be `Drop`. The value stands for a history that begins with
+    /// what the seat has seen, and in which nothing further stands under the turns of the seat. It draws a turn for it,
+    /// and like `run` doesn't return once 2^63 were drawn.
+    pub fn into_inner<R: Wait>(self, rt: &R, seat: TurnSeat<T, T::Entry, T::About>) -> T
+        requires { IsSeatOf self seat }
+        ensures about { about seat ≡ Some (T.about result) }
+        ensures told { (n : ℕ) × (history : List (Stamped T.Entry)) × T.tells result history
+            × Caught (seen seat) (turns seat) n history }
+    {
+        let TurnSeat { mut seat } = seat;
+        let (value, _) = self.take_up(rt, &mut seat);
+        self.end(seat);
+        value
     }
 }
 
