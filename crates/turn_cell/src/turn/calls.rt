@@ -83,8 +83,9 @@ impl<T: Told> Turn<T> {
         ensures about { about into.new ≡ about into.old }
         ensures same { about other ≡ about into.old }
     {
-        let TurnSeat { seat } = other;
-        self.table.shared.join_seat::<Merge>(&mut into.seat, seat);
+        self.table
+            .shared
+            .join_seat::<Merge>(&mut into.seat, other.into_seat());
         // The look at the line tells what the two knew of one another.
         self.table.shared.load::<Read>(&mut into.seat, TICKET);
     }
@@ -123,7 +124,7 @@ impl<T: Told> Turn<T> {
         ensures told { (n : ℕ) × (history : List (Stamped T.Entry)) × T.tells result history
             × Caught (seen seat) (turns seat) n history }
     {
-        let TurnSeat { mut seat } = seat;
+        let mut seat = seat.into_seat();
         let (value, _) = self.take_up(rt, &mut seat);
         self.end(seat);
         value
