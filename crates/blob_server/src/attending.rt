@@ -31,8 +31,11 @@ pub struct Server<'a, H, G, J: Connections> {
     pub workers: AtomicU64,
 }
 
-impl<'a, H: Home, G: Gate, L: Listener, J: Connections, R: Wait> Attend<Desk<H::Pass, L>, J, R>
-    for Server<'a, H, G, J> {
+impl<'a, H: Home, G, L: Listener, J: Connections, R: Wait> Attend<Desk<H::Pass, L>, J, R>
+    for Server<'a, H, G, J>
+where
+    G: Gate + Copy,
+{
     ghost use Rattle.blob_server.specs.Stands.{Attends, stand_of};
 
     ghost may = { λ s d. H.belongs s.home.now d.pass };
@@ -52,7 +55,7 @@ impl<'a, H: Home, G: Gate, L: Listener, J: Connections, R: Wait> Attend<Desk<H::
                 self.workers.fetch_sub(1, Ordering::SeqCst);
             }
             None => {
-                index_on(rt, self.home, pass, self.gate, &self.workers);
+                index_on(rt, self.home, pass, *self.gate, &self.workers);
                 *failed = false;
             }
         }
@@ -112,23 +115,24 @@ fn serve_next<H: Home, L: Listener, R: Wait>(
     true
 }
 
-// Indexes until no worker is left.
-fn index_on<H: Home, G: Gate, R: Wait>(
+// Indexes until no worker is left, and asks a gate of its own.
+fn index_on<H: Home, G: Gate + Copy, R: Wait>(
     rt: &R,
     home: &H,
     pass: &mut H::Pass,
-    gate: &G,
+    gate: G,
     workers: &AtomicU64,
 )
     requires { H.belongs home.now pass.old }
     ensures own { H.belongs home.now pass.new }
     ensures longer { Longer (H.sight pass.old) (H.sight pass.new) }
 {
+    let mut gate = gate;
     'rounds: for _ in rt.forever() {
         if workers.load(Ordering::SeqCst) == 0 {
             return;
         }
-        index_worker(rt, home, pass, gate, STEPS);
+        index_worker(rt, home, pass, &mut gate, STEPS);
     }
     unreachable!()
 }

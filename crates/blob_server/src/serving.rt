@@ -38,7 +38,8 @@ pub enum Served {
 /// Serves so many connections over a home, and indexes what arrives meanwhile. First the first desk's pass is settled;
 /// where that is refused nothing else is done. Then the desks serve, each in a thread of its own. Those with a listener
 /// are workers: each takes one of the connections that are left, accepts it and serves it (`docs/http.md`), until none
-/// is left or an accept fails. The others are indexers, and go on until every worker has ended; the gate is theirs.
+/// is left or an accept fails. The others are indexers, and go on until every worker has ended. Each of them asks a copy
+/// of the gate.
 ///
 /// At `Done` the listeners gave so many connections together, unless the count of one stands at the last value of its
 /// type. Without a worker none is accepted, and the indexers end at once; without desks nothing is done.
@@ -49,7 +50,7 @@ pub enum Served {
 pub fn serve_all<
     L: Listener + Drop + Send,
     H: Home + Sync,
-    G: Gate + Sync,
+    G: Gate + Copy + Sync,
     R: Threads + Wait + Sync,
 >(
     rt: &R,
@@ -121,7 +122,7 @@ fn serve_settled<
     J: Connections + Send + Sync,
     L: Listener + Drop + Send,
     H: Home + Sync,
-    G: Gate + Sync,
+    G: Gate + Copy + Sync,
     R: Threads + Wait + Sync,
 >(
     rt: &R,

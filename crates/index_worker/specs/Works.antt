@@ -13,7 +13,7 @@ use Rattle.home_places.specs.declared.home.Indexed.TheVariants.{New, Already, Id
 use Rattle.index_worker.specs.declared.gate.GatePlace.{GatePlace}
 use Rattle.index_worker.specs.declared.gate.GatePlace.TheVariants as place
 
--- at which place the gate is passed behind a step, and how many numbers the step inserted
+-- at which place the gate is asked behind a step, and how many numbers the step inserted
 abbrev pub outcome_of : Result Indexed GetFault → GatePlace × ℕ
 outcome_of (Ok (New n)) = (place.After, 1)
 outcome_of (Ok (Already n)) = (place.After, 0)

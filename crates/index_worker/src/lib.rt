@@ -4,5 +4,5 @@
 mod gate;
 mod working;
 
-pub use gate::{Gate, GatePlace};
+pub use gate::{Gate, GateLog, GatePlace};
 pub use working::index_worker;

@@ -110,7 +110,7 @@ fn listeners<'a>(
 }
 
 // The gate of the indexers: they pause where there is nothing to do, and give way to uploads.
-#[derive(Drop)]
+#[derive(Clone, Copy)]
 struct Pauses<'a> {
     rt: &'a HostRuntime,
     // How often something was appended to a pack.
@@ -137,7 +137,9 @@ impl<'a> Pauses<'a> {
 }
 
 impl<'a> Gate for Pauses<'a> {
-    fn wait_at<R: Wait>(&self, _rt: &R, place: GatePlace) {
+    ghost tells = { λ gate asked. Unit {0} };
+
+    fn wait_at<R: Wait>(&mut self, _rt: &R, place: GatePlace) {
         match place {
             GatePlace::Before | GatePlace::After => {}
             GatePlace::Idle => self.give_way(),

@@ -166,15 +166,17 @@ impl<'a> Listener for NotedListener<'a> {
 
 /// A gate that holds each worker ahead of its steps until a number is at least so much, and notes where it doesn't
 /// become that in time.
-#[derive(Drop)]
+#[derive(Clone, Copy)]
 pub(crate) struct HeldGate<'a> {
     pub(crate) until: &'a AtomicU64,
     pub(crate) least: u64,
-    pub(crate) late: AtomicBool,
+    pub(crate) late: &'a AtomicBool,
 }
 
 impl<'a> Gate for HeldGate<'a> {
-    fn wait_at<R: Wait>(&self, _rt: &R, place: GatePlace) {
+    ghost tells = { λ gate asked. Unit {0} };
+
+    fn wait_at<R: Wait>(&mut self, _rt: &R, place: GatePlace) {
         if place == GatePlace::Before && !comes(self.until, self.least) {
             self.late.store(true, Ordering::SeqCst);
         }

@@ -95,12 +95,8 @@ fn push_line<'a>(
 }
 
 // A gate that is held until a number is at least so much.
-fn gate(until: &AtomicU64, least: u64) -> HeldGate<'_> {
-    HeldGate {
-        until,
-        least,
-        late: AtomicBool::new(false),
-    }
+fn gate<'a>(until: &'a AtomicU64, least: u64, late: &'a AtomicBool) -> HeldGate<'a> {
+    HeldGate { until, least, late }
 }
 
 // Whether all was served, and all passes together have seen so many blobs, of which so many are inserted.
@@ -130,7 +126,8 @@ fn serves_two<R: Threads + Wait + Sync>(
     second: &Talk,
 ) -> Result<bool, NoMemory> {
     let lines = two_lines(alloc, first, second)?;
-    let gate = gate(&first.told, 0);
+    let late = AtomicBool::new(false);
+    let gate = gate(&first.told, 0, &late);
     let ending = served(rt, alloc, archive(alloc, 100), lines, 0, 2, &gate)?;
     Ok(is_done(&ending, (2, 2)) && first.is_told() && second.is_told())
 }
@@ -161,9 +158,10 @@ fn finds_uploaded<R: Threads + Wait + Sync>(
     let connection = talk.connection(alloc, UPLOAD_TAGGED_AND_SEARCH, "", &talk.told, 0)?;
     let mut lines = Vec::new(alloc);
     push_line(alloc, &mut lines, connection)?;
-    let gate = gate(&talk.told, talk.wanted.as_slice().len() as u64);
+    let late = AtomicBool::new(false);
+    let gate = gate(&talk.told, talk.wanted.as_slice().len() as u64, &late);
     let ending = served(rt, alloc, signed_archive(alloc), lines, 2, 1, &gate)?;
-    Ok(is_done(&ending, (3, 3)) && talk.is_told() && !gate.late.load(Ordering::SeqCst))
+    Ok(is_done(&ending, (3, 3)) && talk.is_told() && !late.load(Ordering::SeqCst))
 }
 
 #[test]
@@ -198,7 +196,8 @@ fn refuses_when_full<R: Threads + Wait + Sync>(
 ) -> Result<bool, NoMemory> {
     let mut lines = Vec::new(alloc);
     lines.push(uploads(alloc, first, second, third)?)?;
-    let gate = gate(&first.told, 0);
+    let late = AtomicBool::new(false);
+    let gate = gate(&first.told, 0, &late);
     let ending = served(rt, alloc, archive(alloc, 1), lines, 0, 3, &gate)?;
     Ok(is_done(&ending, (1, 0)) && first.is_told() && second.is_told() && third.is_told())
 }
@@ -249,7 +248,8 @@ fn tells_failure<R: Threads + Wait + Sync>(
     failed: &AtomicU64,
 ) -> Result<bool, NoMemory> {
     let lines = failing_lines(alloc, talk, failed)?;
-    let gate = gate(failed, 0);
+    let late = AtomicBool::new(false);
+    let gate = gate(failed, 0, &late);
     let ending = served(rt, alloc, archive(alloc, 100), lines, 1, 2, &gate)?;
     Ok(
         matches!(ending.served, Served::ListenerFault)

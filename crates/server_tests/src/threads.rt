@@ -33,7 +33,7 @@ pub(crate) struct Archive {
 }
 
 /// Serves so many connections by a desk for each listener, and so many indexers behind them.
-pub(crate) fn served<L: Listener + Drop + Send, G: Gate + Sync, R: Threads + Wait + Sync>(
+pub(crate) fn served<L: Listener + Drop + Send, G: Gate + Copy + Sync, R: Threads + Wait + Sync>(
     rt: &R,
     alloc: Global,
     archive: Archive,
@@ -67,7 +67,7 @@ fn served_over<
     S: StorePlace + Sync,
     I: IndexPlace + Sync,
     L: Listener + Drop + Send,
-    G: Gate + Sync,
+    G: Gate + Copy + Sync,
     R: Threads + Wait + Sync,
 >(
     rt: &R,
