@@ -50,6 +50,19 @@ impl<S: StorePlace, I: IndexPlace> LiveHome<S, I> {
         }
     }
 
+    /// Ends the home and hands its two places back, which needn't be `Drop`.
+    pub fn into_places(self) -> (S, I)
+        ensures store { result.0 ≡ self.store }
+        ensures index { result.1 ≡ self.index }
+    {
+        let LiveHome {
+            alloc: _alloc,
+            store,
+            index,
+        } = self;
+        (store, index)
+    }
+
     /// Joins a pass to another one: the seats of both places are joined.
     pub fn join<R: Wait>(
         &self,
