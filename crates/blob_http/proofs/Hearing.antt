@@ -11,7 +11,7 @@ use Rattle.http_wire.specs.declared.ends.WireEnd.TheVariants as ends
 use Rattle.http_wire.specs.Stream.{Flow, Passed, stream}
 use Rattle.http_wire.specs.Wires.{HeadEnds}
 use Rattle.http_wire.specs.Speaking.{Request, IsRequest, Speaks, Nothing, Refused, Unfinished, IsOpen, HasNoRequest}
-use Rattle.http_wire.specs.Speaking.{place_behind, text_of}
+use Rattle.http_wire.specs.Speaking.{ClosesAtLast, place_behind, text_of}
 use Rattle.http_wire.proofs.Passing.{Passed-chain}
 use Rattle.http_wire.proofs.Speaking.{texts_push}
 use Rattle.http_wire.proofs.Refusals.{no_request}
@@ -74,8 +74,9 @@ cut_no_request place n rest cut =
 pub heard_none : (x0 now : Option (List ℕ)) (flow : Flow) (asked : List Asked) (end : Ended)
     → Open x0 now fresh_flow flow asked → NoneComes (stream flow.bytes now) flow.taken end → Heard x0 end asked
 heard_none x0 now flow asked ended.Closed o none = stands x0 now flow asked ended.Closed o
-    (λ rest rs is place still. inl
-    (still, no_request rest 0 ends.Closed (told_rest _ (stream flow.bytes now) rest none is) closed_not_fault))
+    (λ rest rs is place still.
+    let all : rest ≡ [] = told_rest (λ (bytes : List ℕ). bytes ≡ []) (stream flow.bytes now) rest none is in
+    (inl (still, no_request rest 0 ends.Closed all closed_not_fault), inl ((still, refl), all)))
 heard_none x0 now flow asked (ended.Cut n) o none = stands x0 now flow asked (ended.Cut n) o
     (λ rest rs is place still.
     let cut : IsCut flow.taken n rest = told_rest (IsCut flow.taken n) (stream flow.bytes now) rest none is in
@@ -103,7 +104,7 @@ closed_broken (Some x) asked h = record {
   rest = h.rest;
   speaks = h.speaks;
   answers = h.answers;
-  follows = inr h.follows;
+  follows = inr h.follows.0;
 }
 
 passed_push : (a b c : Option (List ℕ)) (u v w : Flow) (rs : List Request) (r : Request)
@@ -146,6 +147,8 @@ heard_last (Some x) mid now flow next before (Whole r) o c closes =
     let rs = o.requests ++ r ∷ [] in
     let s = spoken x now next rs (All-push IsRequest o.requests r o.stays.are c.0)
     (passed_push (Some x) mid now fresh_flow flow next o.requests r o.passed c.1) in
+    let last : ClosesAtLast rs =
+    record { before = o.requests; last = r; parts = refl; stay = o.stays.stay; closes = closes } in
     record {
       requests = rs;
       last = Nothing;
@@ -153,7 +156,7 @@ heard_last (Some x) mid now flow next before (Whole r) o c closes =
       speaks = s.2;
       answers = ap (λ (z : List Asked). z ++ Whole r ∷ []) o.stays.answered
           ∙ sym (map-append Whole o.requests (r ∷ []));
-      follows = inr (record { before = o.requests; last = r; parts = refl; stay = o.stays.stay; closes = closes });
+      follows = (inr last, inr last);
     }
 heard_last (Some x) mid now flow next before (Front b after) o c closes =
     let s = spoken x mid flow o.requests o.stays.are o.passed in
@@ -171,7 +174,7 @@ heard_last (Some x) mid now flow next before (Front b after) o c closes =
             ∙ ap (λ (z : Option (List ℕ)). map Whole o.requests ++ Front b z ∷ []) (c.2 ∙ g.1),
         parts,
       );
-      follows = (o.stays.stay, c.0, (g.0, parts));
+      follows = ((o.stays.stay, c.0, (g.0, parts)), inr tt);
     }
 heard_last (Some x) mid now flow next before (Head end) o c closes =
     let s = spoken x mid flow o.requests o.stays.are o.passed in
@@ -186,7 +189,10 @@ heard_last (Some x) mid now flow next before (Head end) o c closes =
       rest = s.0;
       speaks = s.2;
       answers = ap (λ (z : List Asked). z ++ Head end ∷ []) o.stays.answered;
-      follows = (o.stays.stay, here, no_request s.0 (place_behind o.requests) end here (not_fault end c.0.0 c.0.1));
+      follows = (
+        (o.stays.stay, here, no_request s.0 (place_behind o.requests) end here (not_fault end c.0.0 c.0.1)),
+        inr tt,
+      );
     }
   where
     not_fault : (end : WireEnd) (why : Refusal) → head_says end ≡ Ok why → end ≡ ends.ReadFault → ⊥

@@ -21,7 +21,7 @@ use Rattle.http_wire.specs.Stream.{Flow, Passed}
 use Rattle.http_wire.specs.Bodies.{Stops, Breaks}
 use Rattle.http_wire.specs.Wires.{WireView, HeadEnds}
 use Rattle.http_wire.specs.Speaking.{Request, IsRequest, Speaks, Begun, IsBegun, Last, Nothing, Refused, Unfinished}
-use Rattle.http_wire.specs.Speaking.{IsOpen, GoesOn, HasNoRequest, place_behind, text_of}
+use Rattle.http_wire.specs.Speaking.{IsOpen, GoesOn, HasNoRequest, ClosesAtLast, place_behind, text_of}
 use Rattle.blob_http.specs.declared.entries.Outcome.{Outcome}
 use Rattle.blob_http.specs.declared.entries.Outcome.TheVariants.{Defined, Memory, Disk, Full, Damaged}
 use Rattle.blob_http.specs.declared.entries.Answered.{Answered}
@@ -214,16 +214,24 @@ IsCut place n rest = HeadEnds (Some rest) place (ends.Cut n)
 abbrev pub StoodOpen : List Request → Last → Type 0
 StoodOpen requests last = All IsOpen requests × (last ≡ Nothing)
 
+-- the connection closes behind the last reply: its request says so, or isn't a whole one
+abbrev pub ClosesBehind : List Request → Last → Type 0
+ClosesBehind requests Nothing = ClosesAtLast requests
+ClosesBehind requests (Refused end) = Unit {0}
+ClosesBehind requests (Unfinished b) = Unit {0}
+
 -- what follows the requests that were answered
 abbrev pub Follows : Ended → ℕ → List Request → Last → List ℕ → Type 0
-Follows ended.Closed place requests last rest = GoesOn place requests last rest
+Follows ended.Closed place requests last rest =
+    GoesOn place requests last rest × ((StoodOpen requests last × (rest ≡ [])) ⊎ ClosesBehind requests last)
 Follows (ended.Cut n) place requests last rest = StoodOpen requests last × HasNoRequest rest × IsCut place n rest
 Follows ended.ReadFault place requests last rest = StoodOpen requests last
 Follows ended.WriteFault place requests last rest = StoodOpen requests last ⊎ GoesOn place requests last rest
 Follows ended.NoMemory place requests last rest = StoodOpen requests last
 
 -- the stream is these requests, of which each was answered, and what follows them. Where the connection was closed,
--- `speaks` and `follows` are that the stream speaks to the requests and the last
+-- `speaks` and `follows` are that the stream speaks to the requests and the last, and that nothing follows them or the
+-- last reply closes
 pub record Hears (x : List ℕ) (asked : List Asked) (end : Ended) : Type 0 where
   pub requests : List Request
   pub last : Last
