@@ -23,7 +23,7 @@ pub passed_none : (x : Option (List ℕ)) (flow : Flow) → Passed x x flow flow
 passed_none x flow = none_passed x x flow flow ([], sym (append-nil flow.bytes), gave_none x) refl
 
 -- nothing is taken
-pub moves_none : (x : Option (List ℕ)) (flow : Flow) (at : Body) → Moves x x flow flow at at []
+abbrev pub moves_none : (x : Option (List ℕ)) (flow : Flow) (at : Body) → Moves x x flow flow at at []
 moves_none x flow at = ([], passed_none x flow, Leads-none at)
 
 -- what was given before, and then

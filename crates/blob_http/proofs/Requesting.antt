@@ -283,6 +283,12 @@ read_done Empty e = refl
 read_done (Length n) e = ap (λ (b : Bool). if b then body.Done else body.Exactly n) e
 read_done Chunked e = absurd (true_not (sym e))
 
+not_done : (f : Framing) → is_read f ≡ false → body_of f ≡ body.Done → ⊥
+not_done Empty e done = true_not e
+not_done (Length n) e done =
+    absurd (cc (sym (ap (λ (b : Bool). if b then body.Done else body.Exactly n) e) ∙ done))
+not_done Chunked e done = absurd (cc done)
+
 -- a request that is refused before its body is read
 pub early_replies : (x0 x1 : Option (List ℕ)) (flow : Flow) (mid : WireView) (says : Head)
     → ReadsHead x0 x1 flow mid says
@@ -294,9 +300,6 @@ pub early_replies : (x0 x1 : Option (List ℕ)) (flow : Flow) (mid : WireView) (
 early_replies x0 x1 flow mid says head tells v w entry m before closes q first is a closing = by_read
     (is_read says.framing) refl
   where
-    moved : Moves x1 x1 mid.flow mid.flow mid.body mid.body []
-    moved = moves_none x1 mid.flow mid.body
-
     or_false : (b : Bool) → (b || false) ≡ b
     or_false true = refl
     or_false false = refl
@@ -308,28 +311,33 @@ early_replies x0 x1 flow mid says head tells v w entry m before closes q first i
     refused_q : (why : Refusal) × (allow : Option Allowed) × (q ≡ question.Refused why allow)
     refused_q = first_refused mid.head says q first
 
-    asked : IsAsked mid.head says [] q
-    asked = subst (λ (z : Result Route Question). IsAskedBy z (piece mid.head says.query) [] q) (sym first) refl
+    asked : body_of says.framing ≡ body.Done → IsAsked mid.head says [] q
+    asked done = subst (λ (z : Result Route Question). IsAskedBy z says.framing (piece mid.head says.query) [] q)
+        (sym first) (refl, done)
 
-    defined : (b : Begun) (after : Option (List ℕ))
+    defined : (b : Begun) (after : Option (List ℕ)) → b.framed ≡ [] → (body_of b.says.framing ≡ body.Done → ⊥)
         → IsFrontDefined b after (first_of mid.head says) (refused_reply true (allow_text refused_q.1) refused_q.0)
-    defined b after =
+    defined b after none some =
         subst (λ (z : Result Route Question). IsFrontDefined b after z
-        (refused_reply true (allow_text refused_q.1) refused_q.0)) (sym (first ∙ ap Err refused_q.2)) refl
+        (refused_reply true (allow_text refused_q.1) refused_q.0)) (sym (first ∙ ap Err refused_q.2))
+        (refl, none, some)
 
     by_read : (b : Bool) → is_read says.framing ≡ b → Replies x0 x1 flow mid tells v w entry m closes
     by_read true read =
+        let moved : Moves x1 x1 mid.flow mid.flow mid.body mid.body [] = moves_none x1 mid.flow mid.body in
         let same : before ≡ says.closes = is ∙ ap (λ (b : Bool). says.closes || not b) read ∙ or_false says.closes in
         whole_replies x0 x1 x1 flow mid mid says head [] moved tells v w entry m closes q
-        (head.ready ∙ read_done says.framing read) asked
+        (head.ready ∙ read_done says.framing read) (asked (read_done says.framing read))
         (subst (λ (b : Bool). Answers tells b q v w entry m) same a)
         (closing ∙ ap (λ (b : Bool). b || is_memory m) same)
     by_read false read =
+        let moved : Moves x1 x1 mid.flow mid.flow mid.body mid.body [] = moves_none x1 mid.flow mid.body in
         let same : before ≡ true = is ∙ ap (λ (b : Bool). says.closes || not b) read ∙ or_true says.closes in
         refused_replies x0 x1 x1 flow mid mid says head [] moved tells v w entry m closes refused_q.0 refused_q.1
         (subst (λ (z : Question). Answers tells true z v w entry m) refused_q.2
         (subst (λ (b : Bool). Answers tells b q v w entry m) same a))
-        (defined (begun x0 x1 x1 flow mid mid says head [] moved) (stream mid.flow.bytes x1))
+        (defined (begun x0 x1 x1 flow mid mid says head [] moved) (stream mid.flow.bytes x1) refl
+        (not_done says.framing read))
         (closing ∙ ap (λ (b : Bool). b || is_memory m) same)
 
 -- there was no memory before anything of the body was read
@@ -354,7 +362,8 @@ along_replies x0 x1 x2 flow mid new says head bytes gathered tells v w entry m c
     let moved : Moves x1 x2 mid.flow new.flow mid.body new.body bytes =
     subst (λ (z : List ℕ). Moves x1 x2 mid.flow new.flow mid.body new.body z) gathered.says.0 gathered.moved in
     whole_replies x0 x1 x2 flow mid new says head bytes moved tells v w entry m closes q gathered.says.2
-    (subst (λ (z : Result Route Question). IsAskedBy z (piece mid.head says.query) bytes q) (sym first) at) a closing
+    (subst (λ (z : Result Route Question). IsAskedBy z says.framing (piece mid.head says.query) bytes q) (sym first) at)
+    a closing
 along_replies x0 x1 x2 flow mid new says head bytes gathered tells v w entry m closes r (Err e) first at a closing =
     memory_replies x0 x1 x2 flow mid new says head gathered.given gathered.moved tells v w entry m closes says.closes
     (refused refusal.Memory) (a.1 _) a.0

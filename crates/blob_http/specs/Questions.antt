@@ -3,7 +3,9 @@ use Rattle.std.specs.Prelude.{◌≡◌, ◌≤◌, ℕ, List, slice_range, Bool
 use Rattle.std.specs.Prelude.{option_map, Result, Ok, Err}
 use Rattle.answer_text.specs.declared.refusal.Refusal.{Refusal}
 use Rattle.answer_text.specs.declared.refusal.Refusal.TheVariants as refusal
+use Rattle.http_wire.specs.declared.body.Body.TheVariants.{Done}
 use Rattle.http_wire.specs.declared.head.Head.{Head}
+use Rattle.http_wire.specs.declared.head.Framing.{Framing}
 use Rattle.http_wire.specs.declared.head.Piece.{Piece}
 use Rattle.blob_routes.specs.declared.routes.Route.{Route}
 use Rattle.blob_routes.specs.declared.routes.Route.TheVariants as route
@@ -17,6 +19,7 @@ use Rattle.blob_routes.specs.Pages.{page_of, most_page}
 use Rattle.blob_routes.specs.Queries.{question_of}
 use Rattle.search_query.specs.View.{question}
 use Rattle.http_wire.specs.Heads.{IsPlaceIn}
+use Rattle.http_wire.specs.Wires.{body_of}
 use Rattle.blob_http.specs.declared.questions.Question.{Question}
 use Rattle.blob_http.specs.declared.questions.Question.TheVariants.{Refused, Blob, Stat, Refs, Search}
 
@@ -94,10 +97,11 @@ IsAskedAt route.Page query body q = q ≡ refs_asked (page_of query)
 IsAskedAt route.Search query body q = IsSearch body q
 IsAskedAt route.Upload query body q = ⊥
 
-abbrev pub IsAskedBy : Result Route Question → List ℕ → List ℕ → Question → Type 0
-IsAskedBy (Ok r) query body q = IsAskedAt r query body q
-IsAskedBy (Err first) query body q = q ≡ first
+-- a request that is refused before its body is read has no body to read
+abbrev pub IsAskedBy : Result Route Question → Framing → List ℕ → List ℕ → Question → Type 0
+IsAskedBy (Ok r) framing query body q = IsAskedAt r query body q
+IsAskedBy (Err first) framing query body q = (q ≡ first) × (body_of framing ≡ Done)
 
--- what a request of this head and this body asks
+-- what a request of this head and this body asks, as it was read to its end
 abbrev pub IsAsked : List ℕ → Head → List ℕ → Question → Type 0
-IsAsked head says body q = IsAskedBy (first_of head says) (piece head says.query) body q
+IsAsked head says body q = IsAskedBy (first_of head says) says.framing (piece head says.query) body q

@@ -15,11 +15,12 @@ use Rattle.histories.specs.History.{stamp, has}
 use Rattle.histories.specs.Stores.{Blob, arrivals}
 use Rattle.histories.specs.Indexes.{Insertion}
 use Rattle.home_places.specs.Passes.{Sight, Caused}
+use Rattle.http_wire.specs.declared.body.Body.TheVariants.{Done}
 use Rattle.http_wire.specs.declared.ends.WireEnd.{WireEnd}
 use Rattle.http_wire.specs.declared.ends.WireEnd.TheVariants as ends
 use Rattle.http_wire.specs.Stream.{Flow, Passed}
 use Rattle.http_wire.specs.Bodies.{Stops, Breaks}
-use Rattle.http_wire.specs.Wires.{WireView, HeadEnds}
+use Rattle.http_wire.specs.Wires.{WireView, HeadEnds, body_of}
 use Rattle.http_wire.specs.Speaking.{Request, IsRequest, Speaks, Begun, IsBegun, Last, Nothing, Refused, Unfinished}
 use Rattle.http_wire.specs.Speaking.{IsOpen, GoesOn, HasNoRequest, ClosesAtLast, place_behind, text_of}
 use Rattle.blob_http.specs.declared.entries.Outcome.{Outcome}
@@ -52,9 +53,11 @@ IsBodyRefusal b after r =
     ((r ≡ refusal.TooLong most_body) × (most_body < length b.given))
     ⊎ ((r ≡ refusal.BadLength) × IfSome after (Breaks b.at))
 
--- a reply that keeps nothing: the request is refused before its body is read, or by that
+-- a reply that keeps nothing: the request is refused by its body as that is read, or before anything of it is read,
+-- where there is a body to read
 abbrev pub IsFrontDefined : Begun → Option (List ℕ) → Result Route Question → List ℕ → Type 0
-IsFrontDefined b after (Err (question.Refused why allow)) text = text ≡ refused_reply true (allow_text allow) why
+IsFrontDefined b after (Err (question.Refused why allow)) text =
+    (text ≡ refused_reply true (allow_text allow) why) × (b.framed ≡ []) × (body_of b.says.framing ≡ Done → ⊥)
 IsFrontDefined b after (Err (question.Blob r)) text = ⊥
 IsFrontDefined b after (Err (question.Stat refs)) text = ⊥
 IsFrontDefined b after (Err (question.Refs page)) text = ⊥
