@@ -30,13 +30,13 @@ moves_none x flow at = ([], passed_none x flow, Leads-none at)
 pub gathered : (p q r : Option (List ℕ)) (u v w : WireView) (all given : List ℕ) (result : Result (List ℕ) Stopped)
     → Moves p q u.flow v.flow u.body v.body all → v.head ≡ u.head → v.begun ≡ u.begun
     → Moves q r v.flow w.flow v.body w.body given → (w.head ≡ v.head) × (w.begun ≡ v.begun)
-    → GatherSays (to_come w r) w.body v.begun (all ++ given) result → Gathers p r u w result
+    → GatherSays (to_come w r) w.flow.bytes w.body v.begun (all ++ given) result → Gathers p r u w result
 gathered p q r u v w all given result before head begun then kept says = record {
   given = all ++ given;
   moved = Moves-chain p q r u.flow v.flow w.flow u.body v.body w.body all given before then;
   head = kept.0 ∙ head;
   begun = kept.1 ∙ begun;
-  says = subst (λ (n : ℕ). GatherSays (to_come w r) w.body n (all ++ given) result) begun says;
+  says = subst (λ (n : ℕ). GatherSays (to_come w r) w.flow.bytes w.body n (all ++ given) result) begun says;
 }
 
 pub can_stop : (x : Option (List ℕ)) (at : Body) (place : ℕ) (end : WireEnd) → BodyEnds x at place end → CanStop end
@@ -47,13 +47,13 @@ can_stop x at place (ends.BadLength n) h = tt
 can_stop x at place (ends.TooLong n) h = h
 can_stop x at place ends.ReadFault h = tt
 
-pub stop_says : (x : Option (List ℕ)) (at : Body) (place : ℕ) (given : List ℕ) (why : Stopped)
-    → StopSays x at place why → GatherSays x at place given (Err why)
-stop_says x at place given stopped.Long h = absurd h
-stop_says x at place given stopped.Broken h = h
-stop_says x at place given stopped.Memory h = tt
-stop_says x at place given (stopped.Cut n) h = h
-stop_says x at place given stopped.ReadFault h = tt
+pub stop_says : (x : Option (List ℕ)) (ahead : List ℕ) (at : Body) (place : ℕ) (given : List ℕ) (why : Stopped)
+    → StopSays x ahead at place why → GatherSays x ahead at place given (Err why)
+stop_says x ahead at place given stopped.Long h = absurd h
+stop_says x ahead at place given stopped.Broken h = h
+stop_says x ahead at place given stopped.Memory h = tt
+stop_says x ahead at place given (stopped.Cut n) h = h
+stop_says x ahead at place given stopped.ReadFault h = h
 
 -- a piece that is too long for what is left
 pub too_long : (all buf : List ℕ) (n most : ℕ) → n ≤ length buf → most - length all < n

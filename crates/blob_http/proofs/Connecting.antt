@@ -43,9 +43,9 @@ module _ (tells : Bool) (v w : Sight) (noted noted' : List Answered → Type 0) 
   pub step_closes : (x : Sight) (entry : Answered) (m : Made) (x2 w2 : Option (List ℕ)) (new : WireView) (closes : Bool)
       → Adds entry → Replies x1 x2 flow new tells w x entry m closes → closes ≡ true
       → Took w1 w2 (text_of m)
-      → Serves tells v x noted' (Heard x0 ended.Closed) (Wrote w0 w2 ended.Closed) (IsRest ended.Closed)
+      → Serves tells v x noted' (Heard x0 x2 ended.Closed) (Wrote w0 w2 ended.Closed) (IsRest ended.Closed)
   step_closes x entry m x2 w2 new closes adds r closed took =
-      serves_more tells v w x noted noted' (Open x0 x1 fresh_flow flow) (Heard x0 ended.Closed) (Took w0 w1)
+      serves_more tells v w x noted noted' (Open x0 x1 fresh_flow flow) (Heard x0 x2 ended.Closed) (Took w0 w1)
       (Wrote w0 w2 ended.Closed) r.asked entry (text_of m) s r.handles adds
       (λ before o. heard_last x0 x1 x2 flow new.flow before r.asked o r.comes (sym r.closing ∙ closed))
       (λ texts t. Took-chain w0 w1 w2 texts (text_of m) t took)
@@ -53,24 +53,27 @@ module _ (tells : Bool) (v w : Sight) (noted noted' : List Answered → Type 0) 
   -- the reply wasn't written whole
   pub step_breaks : (x : Sight) (entry : Answered) (m : Made) (x2 w2 : Option (List ℕ)) (new : WireView) (closes : Bool)
       → Adds entry → Replies x1 x2 flow new tells w x entry m closes → TookFront w1 w2 (text_of m)
-      → Serves tells v x noted' (Heard x0 ended.WriteFault) (Wrote w0 w2 ended.WriteFault)
+      → Serves tells v x noted' (Heard x0 x2 ended.WriteFault) (Wrote w0 w2 ended.WriteFault)
       (IsRest ended.WriteFault)
   step_breaks x entry m x2 w2 new closes adds r took =
-      serves_more tells v w x noted noted' (Open x0 x1 fresh_flow flow) (Heard x0 ended.WriteFault) (Took w0 w1)
+      serves_more tells v w x noted noted' (Open x0 x1 fresh_flow flow) (Heard x0 x2 ended.WriteFault) (Took w0 w1)
       (Wrote w0 w2 ended.WriteFault) r.asked entry (text_of m) s r.handles adds
       (λ before o. heard_breaks x0 x1 x2 flow new.flow before r.asked closes o r.comes (sym r.closing))
       (λ texts t. TookFront-chain w0 w1 w2 texts (text_of m) t took)
 
   -- no request came, or one that has no answer
-  pub step_ends : (x : Sight) (end : Ended) → Same → NoneComes (stream flow.bytes x1) flow.taken end
+  pub step_ends : (x : Sight) (x2 : Option (List ℕ)) (end : Ended) → Same
+      → NoneComes (stream flow.bytes x1) x2 flow.taken end
       → Passes end w x
-      → Serves tells v x noted' (Heard x0 end) (Wrote w0 w1 end) (IsRest end)
-  step_ends x end same none passes =
-      serves_ends tells v w x noted noted' (Open x0 x1 fresh_flow flow) (Heard x0 end) (Took w0 w1) (Wrote w0 w1 end)
-      (IsRest end) passes.turns s same
-      (λ asked o. heard_none x0 x1 flow asked end o none) (written end none) passes.drawn passes.rest passes.longer
+      → Serves tells v x noted' (Heard x0 x2 end) (Wrote w0 w1 end) (IsRest end)
+  step_ends x x2 end same none passes =
+      serves_ends tells v w x noted noted' (Open x0 x1 fresh_flow flow) (Heard x0 x2 end) (Took w0 w1)
+      (Wrote w0 w1 end) (IsRest end) passes.turns s same
+      (λ asked o. heard_none x0 x1 x2 flow asked end o none) (written end none) passes.drawn passes.rest
+      passes.longer
     where
-      written : (end : Ended) → NoneComes (stream flow.bytes x1) flow.taken end → (texts : List ℕ) → Took w0 w1 texts
+      written : (end : Ended) → NoneComes (stream flow.bytes x1) x2 flow.taken end → (texts : List ℕ)
+          → Took w0 w1 texts
           → Wrote w0 w1 end texts
       written ended.Closed none texts t = t
       written (ended.Cut n) none texts t = t
@@ -80,15 +83,15 @@ module _ (tells : Bool) (v w : Sight) (noted noted' : List Answered → Type 0) 
 
   -- there was no memory for an entry, and nothing was read
   pub step_full : Same
-      → Serves tells v w noted' (Heard x0 ended.NoMemory) (Wrote w0 w1 ended.NoMemory) (IsRest ended.NoMemory)
+      → Serves tells v w noted' (Heard x0 x1 ended.NoMemory) (Wrote w0 w1 ended.NoMemory) (IsRest ended.NoMemory)
   step_full same =
-      serves_ends tells v w w noted noted' (Open x0 x1 fresh_flow flow) (Heard x0 ended.NoMemory) (Took w0 w1)
+      serves_ends tells v w w noted noted' (Open x0 x1 fresh_flow flow) (Heard x0 x1 ended.NoMemory) (Took w0 w1)
       (Wrote w0 w1 ended.NoMemory) (IsRest ended.NoMemory) [] s same
       (λ asked o. heard_full x0 x1 flow asked o) (λ texts t. t) (sym (append-nil w.store.turns)) refl (longer_none w)
 
 -- a connection for which there was no memory
 pub no_memory : (tells : Bool) (v : Sight) (noted : List Answered → Type 0) (x w : Option (List ℕ)) → noted []
-    → Serves tells v v noted (Heard x ended.NoMemory) (Wrote w w ended.NoMemory) (IsRest ended.NoMemory)
+    → Serves tells v v noted (Heard x x ended.NoMemory) (Wrote w w ended.NoMemory) (IsRest ended.NoMemory)
 no_memory tells v noted x w none =
     step_full tells v v noted noted x x w w fresh_flow
     (serves_none tells v noted (Open x x fresh_flow fresh_flow) (Took w w) none (open_none x) (took_none w))

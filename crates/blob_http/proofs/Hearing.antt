@@ -21,7 +21,7 @@ use Rattle.blob_http.specs.declared.serving.Ended.TheVariants as ended
 use Rattle.answer_text.specs.declared.refusal.Refusal.{Refusal}
 use Rattle.blob_http.specs.Asked.{Asked, Whole, Front, Head, Comes, closes_of, head_says}
 use Rattle.blob_http.specs.Handling.{NoneComes}
-use Rattle.blob_http.specs.Serving.{Stays, Open, IsCut, Follows, Heard, fresh_flow}
+use Rattle.blob_http.specs.Serving.{Stays, Open, IsCut, IsReadShort, Follows, Heard, fresh_flow}
 use Rattle.blob_http.proofs.Bodies.{passed_none}
 
 -- nothing was taken yet
@@ -39,13 +39,14 @@ spoken : (x : List ℕ) (now : Option (List ℕ)) (flow : Flow) (rs : List Reque
 spoken x now flow rs are p = (p.gave.0, p.gave.1, record { whole = p.gave.2; each = are }, p.taken)
 
 -- no further request was taken
-stands : (x0 now : Option (List ℕ)) (flow : Flow) (asked : List Asked) (end : Ended) → Open x0 now fresh_flow flow asked
+stands : (x0 now left : Option (List ℕ)) (flow : Flow) (asked : List Asked) (end : Ended)
+    → Open x0 now fresh_flow flow asked
     → ((rest : List ℕ) (rs : List Request) → stream flow.bytes now ≡ Some rest → flow.taken ≡ place_behind rs
     → All IsOpen rs
-    → Follows end (place_behind rs) rs Nothing rest)
-    → Heard x0 end asked
-stands None now flow asked end o follows = tt
-stands (Some x) now flow asked end o follows =
+    → Follows end (place_behind rs) rs Nothing rest left)
+    → Heard x0 left end asked
+stands None now left flow asked end o follows = tt
+stands (Some x) now left flow asked end o follows =
     let s = spoken x now flow o.requests o.stays.are o.passed in
     record {
       requests = o.requests;
@@ -71,34 +72,36 @@ cut_no_request place n rest cut =
     ⊎_elim (λ head. no_request rest place (ends.Cut n) head (cut_not_fault n))
     (λ body. no_whole_request rest body.1.1 body.1.0 body.1.2 body.1.3 (inl body.1.4)) cut
 
-pub heard_none : (x0 now : Option (List ℕ)) (flow : Flow) (asked : List Asked) (end : Ended)
-    → Open x0 now fresh_flow flow asked → NoneComes (stream flow.bytes now) flow.taken end → Heard x0 end asked
-heard_none x0 now flow asked ended.Closed o none = stands x0 now flow asked ended.Closed o
+pub heard_none : (x0 now left : Option (List ℕ)) (flow : Flow) (asked : List Asked) (end : Ended)
+    → Open x0 now fresh_flow flow asked → NoneComes (stream flow.bytes now) left flow.taken end
+    → Heard x0 left end asked
+heard_none x0 now left flow asked ended.Closed o none = stands x0 now left flow asked ended.Closed o
     (λ rest rs is place still.
     let all : rest ≡ [] = told_rest (λ (bytes : List ℕ). bytes ≡ []) (stream flow.bytes now) rest none is in
     (inl (still, no_request rest 0 ends.Closed all closed_not_fault), inl ((still, refl), all)))
-heard_none x0 now flow asked (ended.Cut n) o none = stands x0 now flow asked (ended.Cut n) o
+heard_none x0 now left flow asked (ended.Cut n) o none = stands x0 now left flow asked (ended.Cut n) o
     (λ rest rs is place still.
     let cut : IsCut flow.taken n rest = told_rest (IsCut flow.taken n) (stream flow.bytes now) rest none is in
     ((still, refl), cut_no_request flow.taken n rest cut, subst (λ (k : ℕ). IsCut k n rest) place cut))
-heard_none x0 now flow asked ended.ReadFault o none = stands x0 now flow asked ended.ReadFault o
-    (λ rest rs is place still. (still, refl))
-heard_none x0 now flow asked ended.WriteFault o none = absurd none
-heard_none x0 now flow asked ended.NoMemory o none = absurd none
+heard_none x0 now left flow asked ended.ReadFault o none = stands x0 now left flow asked ended.ReadFault o
+    (λ rest rs is place still. ((still, refl), told_rest (IsReadShort left) (stream flow.bytes now) rest none is))
+heard_none x0 now left flow asked ended.WriteFault o none = absurd none
+heard_none x0 now left flow asked ended.NoMemory o none = absurd none
 
 pub heard_full : (x0 now : Option (List ℕ)) (flow : Flow) (asked : List Asked)
-    → Open x0 now fresh_flow flow asked → Heard x0 ended.NoMemory asked
-heard_full x0 now flow asked o = stands x0 now flow asked ended.NoMemory o (λ rest rs is place still. (still, refl))
+    → Open x0 now fresh_flow flow asked → Heard x0 now ended.NoMemory asked
+heard_full x0 now flow asked o = stands x0 now now flow asked ended.NoMemory o
+    (λ rest rs is place still. (still, refl))
 
 heard_broken : (x0 now : Option (List ℕ)) (flow : Flow) (asked : List Asked)
-    → Open x0 now fresh_flow flow asked → Heard x0 ended.WriteFault asked
-heard_broken x0 now flow asked o = stands x0 now flow asked ended.WriteFault o
+    → Open x0 now fresh_flow flow asked → Heard x0 now ended.WriteFault asked
+heard_broken x0 now flow asked o = stands x0 now now flow asked ended.WriteFault o
     (λ rest rs is place still. inl (still, refl))
 
-closed_broken : (x0 : Option (List ℕ)) (asked : List Asked) → Heard x0 ended.Closed asked
-    → Heard x0 ended.WriteFault asked
-closed_broken None asked h = tt
-closed_broken (Some x) asked h = record {
+closed_broken : (x0 now : Option (List ℕ)) (asked : List Asked) → Heard x0 now ended.Closed asked
+    → Heard x0 now ended.WriteFault asked
+closed_broken None now asked h = tt
+closed_broken (Some x) now asked h = record {
   requests = h.requests;
   last = h.last;
   rest = h.rest;
@@ -141,7 +144,7 @@ heard_more x0 mid now flow next before (Head end) o c still = absurd (not_true s
 -- one more, and it closes
 pub heard_last : (x0 mid now : Option (List ℕ)) (flow next : Flow) (before : List Asked) (asked : Asked)
     → Open x0 mid fresh_flow flow before → Comes mid now flow next asked → closes_of asked ≡ true
-    → Heard x0 ended.Closed (before ++ asked ∷ [])
+    → Heard x0 now ended.Closed (before ++ asked ∷ [])
 heard_last None mid now flow next before asked o c closes = tt
 heard_last (Some x) mid now flow next before (Whole r) o c closes =
     let rs = o.requests ++ r ∷ [] in
@@ -203,8 +206,8 @@ heard_last (Some x) mid now flow next before (Head end) o c closes =
 pub heard_breaks : (x0 mid now : Option (List ℕ)) (flow next : Flow) (before : List Asked) (asked : Asked)
     (closes : Bool)
     → Open x0 mid fresh_flow flow before → Comes mid now flow next asked → closes_of asked ≡ closes
-    → Heard x0 ended.WriteFault (before ++ asked ∷ [])
+    → Heard x0 now ended.WriteFault (before ++ asked ∷ [])
 heard_breaks x0 mid now flow next before asked false o c closes =
     heard_broken x0 now next (before ++ asked ∷ []) (heard_more x0 mid now flow next before asked o c closes)
 heard_breaks x0 mid now flow next before asked true o c closes =
-    closed_broken x0 (before ++ asked ∷ []) (heard_last x0 mid now flow next before asked o c closes)
+    closed_broken x0 now (before ++ asked ∷ []) (heard_last x0 mid now flow next before asked o c closes)

@@ -21,9 +21,11 @@ use Rattle.http_wire.specs.declared.ends.WireEnd.TheVariants as ends
 use Rattle.http_wire.specs.Stream.{Flow, Passed, stream}
 use Rattle.http_wire.specs.Heads.{HeadSays, IsFirstOf, IsPlaceIn}
 use Rattle.http_wire.specs.Bodies.{Moves, Leads, Stops}
-use Rattle.http_wire.specs.Wires.{WireView, body_of, HeadEnds, to_come}
+use Rattle.http_wire.specs.Wires.{WireView, body_of, HeadEnds, LacksHead, to_come}
 use Rattle.http_wire.specs.Speaking.{Request, Begun, IsBegun}
 use Rattle.http_wire.proofs.Passing.{Passed-chain}
+use Rattle.http_wire.proofs.Refusals.{short_head}
+use Rattle.http_wire.proofs.Unfinished.{no_whole_request}
 use Rattle.http_wire.proofs.Speaking.{request_read}
 use Rattle.edge_base.specs.Edge.{Gave}
 use Rattle.blob_routes.specs.declared.routes.Route.{Route}
@@ -51,6 +53,7 @@ use Rattle.blob_http.specs.Questions.{IsAskedAt, IsAskedBy, IsAsked}
 use Rattle.blob_http.specs.Replies.{refused_reply, memory_reply}
 use Rattle.blob_http.specs.Answers.{allow_text, outcome_of, text_of}
 use Rattle.blob_http.specs.Serving.{HasCauseIn, IsRest, Passes, IsReply, IsFrontDefined, IsBodyRefusal, Handles, IsCut}
+use Rattle.blob_http.specs.Serving.{IsReadShort}
 use Rattle.blob_http.specs.Handling.{IsMade, Looked, is_memory, is_read, Answers, ReadsHead, Replies, AlongSays, StopReplies}
 use Rattle.blob_http.specs.Handling.{StopEnds, NoneComes}
 use Rattle.blob_http.proofs.Staying.{longer_none}
@@ -151,25 +154,40 @@ cut_head : (o : Option (List ℕ)) (place n : ℕ) → HeadEnds o place (ends.Cu
 cut_head None place n h = tt
 cut_head (Some x) place n h = inl h
 
+-- the bytes that were read ahead of the source
+gave_ahead : (left : Option (List ℕ)) (ahead x : List ℕ) → stream ahead left ≡ Some x → Gave (Some x) left ahead
+gave_ahead None ahead x is = absurd (cc is)
+gave_ahead (Some rest) ahead x is = (rest, refl, sym (cc is))
+
+read_short_of_head : (o left : Option (List ℕ)) (ahead : List ℕ) → stream ahead left ≡ o → LacksHead ahead
+    → IfSome o (IsReadShort left)
+read_short_of_head None left ahead is lacks = tt
+read_short_of_head (Some x) left ahead is lacks =
+    (ahead, gave_ahead left ahead x is, short_head ahead lacks, inl lacks)
+
 -- no head came
 pub head_none : (x0 x1 : Option (List ℕ)) (flow : Flow) (new : WireView) (end : WireEnd) (ends_so : Ended)
     → head_says end ≡ Err ends_so
     → Passed x0 x1 flow new.flow [] → HeadEnds (to_come new x1) flow.taken end
-    → NoneComes (stream flow.bytes x0) flow.taken ends_so
-head_none x0 x1 flow new end ends_so says passed stood =
+    → (end ≡ ends.ReadFault → LacksHead new.flow.bytes)
+    → NoneComes (stream flow.bytes x0) x1 flow.taken ends_so
+head_none x0 x1 flow new end ends_so says passed stood short =
     let same : to_come new x1 ≡ stream flow.bytes x0 = gave_same (stream flow.bytes x0) (to_come new x1) passed.gave in
     none_at (stream flow.bytes x0) flow.taken end ends_so says
     (subst (λ (z : Option (List ℕ)). HeadEnds z flow.taken end) same stood)
+    (λ is. read_short_of_head (stream flow.bytes x0) x1 new.flow.bytes same (short is))
   where
     none_at : (o : Option (List ℕ)) (place : ℕ) (end : WireEnd) (e : Ended) → head_says end ≡ Err e
-        → HeadEnds o place end → NoneComes o place e
-    none_at o place ends.Closed e says h = let is : ended.Closed ≡ e = cc says in subst (NoneComes o place) is h
-    none_at o place (ends.Cut n) e says h = let is : ended.Cut n ≡ e = cc says in subst (NoneComes o place) is
-        (cut_head o place n h)
-    none_at o place (ends.BadHead n) e says h = absurd (cc says)
-    none_at o place (ends.BadLength n) e says h = absurd (cc says)
-    none_at o place (ends.TooLong limit) e says h = absurd (cc says)
-    none_at o place ends.ReadFault e says h = let is : ended.ReadFault ≡ e = cc says in subst (NoneComes o place) is tt
+        → HeadEnds o place end → (end ≡ ends.ReadFault → IfSome o (IsReadShort x1)) → NoneComes o x1 place e
+    none_at o place ends.Closed e says h s =
+        let is : ended.Closed ≡ e = cc says in subst (NoneComes o x1 place) is h
+    none_at o place (ends.Cut n) e says h s =
+        let is : ended.Cut n ≡ e = cc says in subst (NoneComes o x1 place) is (cut_head o place n h)
+    none_at o place (ends.BadHead n) e says h s = absurd (cc says)
+    none_at o place (ends.BadLength n) e says h s = absurd (cc says)
+    none_at o place (ends.TooLong limit) e says h s = absurd (cc says)
+    none_at o place ends.ReadFault e says h s =
+        let is : ended.ReadFault ≡ e = cc says in subst (NoneComes o x1 place) is (s refl)
 
 -- ---- a request, as far as it was read
 
@@ -448,22 +466,38 @@ cut_body (Some x) now place n b is gave at stops =
       ),
     )
 
+-- a read failed inside the body
+pub read_short_of_body : (before left : Option (List ℕ)) (ahead : List ℕ) (b : Begun) → IsBegun b
+    → Gave before (stream ahead left) (b.head ++ b.framed) → Stops b.at ahead → IfSome before (IsReadShort left)
+read_short_of_body None left ahead b is gave stops = tt
+read_short_of_body (Some x) left ahead b is gave stops =
+    let all : List ℕ = b.head ++ (b.framed ++ ahead) in
+    let more : Gave (Some gave.0) left ahead = gave_ahead left ahead gave.0 gave.1 in
+    let whole : x ≡ all ++ more.0 = gave.2 ∙ ap (λ (z : List ℕ). (b.head ++ b.framed) ++ z) more.2
+    ∙ sym (append_assoc (b.head ++ b.framed) ahead more.0)
+    ∙ ap (λ (z : List ℕ). z ++ more.0) (append_assoc b.head b.framed ahead) in
+    (all, (more.0, more.1, whole), no_whole_request all ahead b is refl (inl stops), inr (b, ahead, is, refl, stops))
+
 pub stop_none : (x0 x1 x2 : Option (List ℕ)) (flow : Flow) (mid new : WireView) (says : Head)
     → ReadsHead x0 x1 flow mid says
     → (why : Stopped) → Gathers x1 x2 mid new (Err why) → (end : Ended) → StopEnds why end
-    → NoneComes (stream flow.bytes x0) flow.taken end
+    → NoneComes (stream flow.bytes x0) x2 flow.taken end
 stop_none x0 x1 x2 flow mid new says head stopped.Long gathered end is = absurd is
 stop_none x0 x1 x2 flow mid new says head stopped.Broken gathered end is = absurd is
 stop_none x0 x1 x2 flow mid new says head stopped.Memory gathered end is = absurd is
 stop_none x0 x1 x2 flow mid new says head (stopped.Cut n) gathered end is =
-    subst (NoneComes (stream flow.bytes x0) flow.taken) (sym is)
+    subst (NoneComes (stream flow.bytes x0) x2 flow.taken) (sym is)
     (cut_body (stream flow.bytes x0) (stream new.flow.bytes x2) flow.taken n
     (begun x0 x1 x2 flow mid new says head gathered.given gathered.moved)
     (is_begun x0 x1 x2 flow mid new says head gathered.given gathered.moved)
     (passed x0 x1 x2 flow mid new says head gathered.given gathered.moved).gave
     (gathered.says.0 ∙ head.begun) gathered.says.1)
-stop_none x0 x1 x2 flow mid new says head stopped.ReadFault gathered end is = subst
-    (NoneComes (stream flow.bytes x0) flow.taken) (sym is) tt
+stop_none x0 x1 x2 flow mid new says head stopped.ReadFault gathered end is =
+    subst (NoneComes (stream flow.bytes x0) x2 flow.taken) (sym is)
+    (read_short_of_body (stream flow.bytes x0) x2 new.flow.bytes
+    (begun x0 x1 x2 flow mid new says head gathered.given gathered.moved)
+    (is_begun x0 x1 x2 flow mid new says head gathered.given gathered.moved)
+    (passed x0 x1 x2 flow mid new says head gathered.given gathered.moved).gave gathered.says)
 
 pub passes_same : (end : Ended) (v w : Sight) → w ≡ v → Passes end v w
 passes_same end v w same = subst (λ (z : Sight). Passes end v z) (sym same) (passes_none end v)

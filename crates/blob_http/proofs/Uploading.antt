@@ -51,7 +51,7 @@ use Rattle.blob_http.specs.Answers.{outcome_of, text_of, IsTold}
 use Rattle.blob_http.specs.Keeping.{boundary_at, Kept, IsUploadReply, UploadMade, is_whole}
 use Rattle.blob_http.specs.Serving.{HasCauseIn, IsRest, Passes, IsReply, Longer, Handles}
 use Rattle.blob_http.specs.Handling.{is_memory, ReadsHead, Replies, NoneComes, IsUploadEntry}
-use Rattle.blob_http.proofs.Requesting.{begun, is_begun, passed, cut_body, true_not}
+use Rattle.blob_http.proofs.Requesting.{begun, is_begun, passed, cut_body, read_short_of_body, true_not}
 
 -- ---- the boundary
 
@@ -371,12 +371,12 @@ module _ (x0 x1 x2 : Option (List ℕ)) (flow : Flow) (mid new : WireView) (says
           (closing ∙ ap (λ (b : Bool). (says.closes || not b) || false) part ∙ or_true says.closes)
 
   pub upload_none : (new.begun ≡ mid.begun) → (end : Ended) → UploadMade says.closes listed c (Err end)
-      → NoneComes (stream flow.bytes x0) flow.taken end
+      → NoneComes (stream flow.bytes x0) x2 flow.taken end
   upload_none same end is = by_came c end is comes
     where
       by_came : (d : Came) (end : Ended) → UploadMade says.closes listed d (Err end)
           → Comes boundary u.given u.parts new (to_come new x2) d
-          → NoneComes (stream flow.bytes x0) flow.taken end
+          → NoneComes (stream flow.bytes x0) x2 flow.taken end
       by_came came.Whole end is said = absurd is
       by_came (came.Refused why) end is said = absurd is
       by_came (came.Full n pack) end is said = absurd is
@@ -384,7 +384,7 @@ module _ (x0 x1 x2 : Option (List ℕ)) (flow : Flow) (mid new : WireView) (says
       by_came came.Memory end is said = absurd is
       by_came (came.Ended ends.Closed) end is said = absurd is
       by_came (came.Ended (ends.Cut n)) end is said =
-          subst (NoneComes (stream flow.bytes x0) flow.taken) (sym is)
+          subst (NoneComes (stream flow.bytes x0) x2 flow.taken) (sym is)
           (cut_body (stream flow.bytes x0) (stream new.flow.bytes x2) flow.taken n
           (begun x0 x1 x2 flow mid new says head u.given u.moved)
           (is_begun x0 x1 x2 flow mid new says head u.given u.moved)
@@ -393,7 +393,12 @@ module _ (x0 x1 x2 : Option (List ℕ)) (flow : Flow) (mid new : WireView) (says
       by_came (came.Ended (ends.BadHead n)) end is said = absurd is
       by_came (came.Ended (ends.BadLength n)) end is said = absurd is
       by_came (came.Ended (ends.TooLong n)) end is said = absurd is
-      by_came (came.Ended ends.ReadFault) end is said = subst (NoneComes (stream flow.bytes x0) flow.taken) (sym is) tt
+      by_came (came.Ended ends.ReadFault) end is said =
+          subst (NoneComes (stream flow.bytes x0) x2 flow.taken) (sym is)
+          (read_short_of_body (stream flow.bytes x0) x2 new.flow.bytes
+          (begun x0 x1 x2 flow mid new says head u.given u.moved)
+          (is_begun x0 x1 x2 flow mid new says head u.given u.moved)
+          (passed x0 x1 x2 flow mid new says head u.given u.moved).gave (said.2 refl))
 
 -- where the connection ends with a failed read, that is what the upload ended with
 pub ended_so : (closes : Bool) (kept : List (List ℕ × ℕ)) (c : Came) → UploadMade closes kept c (Err ended.ReadFault)

@@ -26,7 +26,7 @@ use Rattle.blob_http.specs.declared.serving.Ended.{Ended}
 use Rattle.blob_http.specs.declared.serving.Ended.TheVariants as ended
 use Rattle.blob_http.specs.Asked.{Asked, Comes, closes_of}
 use Rattle.blob_http.specs.Answers.{IsAnswer, outcome_of, text_of}
-use Rattle.blob_http.specs.Serving.{HasCauseIn, LooksAt, Longer, Handles, IsCut}
+use Rattle.blob_http.specs.Serving.{HasCauseIn, LooksAt, Longer, Handles, IsCut, IsReadShort}
 
 abbrev pub IsMade : Bool → Accepts → List Blob → List Insertion → Bool → Question → Made → Type 0
 IsMade tells accepts blobs g closes q (made.Told o head body) = IsAnswer tells accepts blobs g closes q o (head ++ body)
@@ -118,10 +118,10 @@ StopEnds stopped.Memory end = ⊥
 StopEnds (stopped.Cut n) end = end ≡ ended.Cut n
 StopEnds stopped.ReadFault end = end ≡ ended.ReadFault
 
--- why nothing was answered, of the stream before, which is at this place
-abbrev pub NoneComes : Option (List ℕ) → ℕ → Ended → Type 0
-NoneComes x place ended.Closed = IfSome x (λ bytes. bytes ≡ [])
-NoneComes x place (ended.Cut n) = IfSome x (IsCut place n)
-NoneComes x place ended.ReadFault = Unit {0}
-NoneComes x place ended.WriteFault = ⊥
-NoneComes x place ended.NoMemory = ⊥
+-- why nothing was answered, of the stream before, of which this is left in the source, and which is at this place
+abbrev pub NoneComes : Option (List ℕ) → Option (List ℕ) → ℕ → Ended → Type 0
+NoneComes x left place ended.Closed = IfSome x (λ bytes. bytes ≡ [])
+NoneComes x left place (ended.Cut n) = IfSome x (IsCut place n)
+NoneComes x left place ended.ReadFault = IfSome x (IsReadShort left)
+NoneComes x left place ended.WriteFault = ⊥
+NoneComes x left place ended.NoMemory = ⊥

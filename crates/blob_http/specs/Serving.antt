@@ -3,7 +3,7 @@ use Rattle.std.specs.Prelude.{◌≡◌, ◌≤◌, ◌<◌, ◌⊎◌, ℕ, Lis
 use Rattle.std.specs.Prelude.{None, IfSome, Result, Ok, Err, true, Contains}
 use Rattle.std.specs.List.{flat_map}
 use mathlib.Core.List.{IsPrefix}
-use Rattle.edge_base.specs.Edge.{Took, TookFront, Rose}
+use Rattle.edge_base.specs.Edge.{Gave, Took, TookFront, Rose}
 use Rattle.edge_base.specs.declared.answers.GetFault.TheVariants as unread
 use Rattle.claim_verify.specs.Verifier.{Accepts}
 use Rattle.answer_text.specs.declared.refusal.Refusal.{Refusal}
@@ -20,7 +20,7 @@ use Rattle.http_wire.specs.declared.ends.WireEnd.{WireEnd}
 use Rattle.http_wire.specs.declared.ends.WireEnd.TheVariants as ends
 use Rattle.http_wire.specs.Stream.{Flow, Passed}
 use Rattle.http_wire.specs.Bodies.{Stops, Breaks}
-use Rattle.http_wire.specs.Wires.{WireView, HeadEnds, body_of}
+use Rattle.http_wire.specs.Wires.{WireView, HeadEnds, LacksHead, body_of}
 use Rattle.http_wire.specs.Speaking.{Request, IsRequest, Speaks, Begun, IsBegun, Last, Nothing, Refused, Unfinished}
 use Rattle.http_wire.specs.Speaking.{IsOpen, GoesOn, HasNoRequest, ClosesAtLast, place_behind, text_of}
 use Rattle.blob_http.specs.declared.entries.Outcome.{Outcome}
@@ -213,6 +213,15 @@ IsCut place n rest = HeadEnds (Some rest) place (ends.Cut n)
     ⊎ ((n ≡ place) × ((b : Begun) × (after : List ℕ) × IsBegun b × (rest ≡ b.head ++ (b.framed ++ after))
     × Stops b.at after))
 
+-- these bytes end before a request does: before or inside its head, or inside its body
+abbrev pub EndsShort : List ℕ → Type 0
+EndsShort bytes = LacksHead bytes ⊎ ((b : Begun) × (after : List ℕ) × IsBegun b
+    × (bytes ≡ b.head ++ (b.framed ++ after)) × Stops b.at after)
+
+-- what was read of these bytes, of which this is left in the source, ends before a request does
+abbrev pub IsReadShort : Option (List ℕ) → List ℕ → Type 0
+IsReadShort left rest = (ahead : List ℕ) × Gave (Some rest) left ahead × HasNoRequest ahead × EndsShort ahead
+
 -- no further request was taken, and the connection was open
 abbrev pub StoodOpen : List Request → Last → Type 0
 StoodOpen requests last = All IsOpen requests × (last ≡ Nothing)
@@ -223,28 +232,28 @@ ClosesBehind requests Nothing = ClosesAtLast requests
 ClosesBehind requests (Refused end) = Unit {0}
 ClosesBehind requests (Unfinished b) = Unit {0}
 
--- what follows the requests that were answered
-abbrev pub Follows : Ended → ℕ → List Request → Last → List ℕ → Type 0
-Follows ended.Closed place requests last rest =
+-- what follows the requests that were answered, and what is left of that in the source
+abbrev pub Follows : Ended → ℕ → List Request → Last → List ℕ → Option (List ℕ) → Type 0
+Follows ended.Closed place requests last rest left =
     GoesOn place requests last rest × ((StoodOpen requests last × (rest ≡ [])) ⊎ ClosesBehind requests last)
-Follows (ended.Cut n) place requests last rest = StoodOpen requests last × HasNoRequest rest × IsCut place n rest
-Follows ended.ReadFault place requests last rest = StoodOpen requests last
-Follows ended.WriteFault place requests last rest = StoodOpen requests last ⊎ GoesOn place requests last rest
-Follows ended.NoMemory place requests last rest = StoodOpen requests last
+Follows (ended.Cut n) place requests last rest left = StoodOpen requests last × HasNoRequest rest × IsCut place n rest
+Follows ended.ReadFault place requests last rest left = StoodOpen requests last × IsReadShort left rest
+Follows ended.WriteFault place requests last rest left = StoodOpen requests last ⊎ GoesOn place requests last rest
+Follows ended.NoMemory place requests last rest left = StoodOpen requests last
 
 -- the stream is these requests, of which each was answered, and what follows them. Where the connection was closed,
 -- `speaks` and `follows` are that the stream speaks to the requests and the last, and that nothing follows them or the
 -- last reply closes
-pub record Hears (x : List ℕ) (asked : List Asked) (end : Ended) : Type 0 where
+pub record Hears (x : List ℕ) (left : Option (List ℕ)) (asked : List Asked) (end : Ended) : Type 0 where
   pub requests : List Request
   pub last : Last
   pub rest : List ℕ
   pub speaks : Speaks x requests rest
   pub answers : AreAnswers asked requests last rest
-  pub follows : Follows end (place_behind requests) requests last rest
+  pub follows : Follows end (place_behind requests) requests last rest left
 
-abbrev pub Heard : Option (List ℕ) → Ended → List Asked → Type 0
-Heard x end asked = IfSome x (λ bytes. Hears bytes asked end)
+abbrev pub Heard : Option (List ℕ) → Option (List ℕ) → Ended → List Asked → Type 0
+Heard x left end asked = IfSome x (λ bytes. Hears bytes left asked end)
 
 -- what the sink got: the replies, and at a failed write a front of them
 abbrev pub Wrote : Option (List ℕ) → Option (List ℕ) → Ended → List ℕ → Type 0
@@ -284,7 +293,7 @@ EndCause read read' wrote wrote' ended.NoMemory = Unit {0}
 
 abbrev pub HeardBy : Option (List ℕ) → Option (List ℕ) → Flow → Flow → Option Ended → List Asked → Type 0
 HeardBy before now old new None asked = Open before now old new asked
-HeardBy before now old new (Some end) asked = Heard before end asked
+HeardBy before now old new (Some end) asked = Heard before now end asked
 
 abbrev pub WroteBy : Option (List ℕ) → Option (List ℕ) → Option Ended → List ℕ → Type 0
 WroteBy before now None texts = Took before now texts

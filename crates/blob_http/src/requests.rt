@@ -51,7 +51,8 @@ pub(crate) fn reply_next<H: Home, S: Source, R: Wait>(
     ensures replies { IfOk result (λ replied. Replies (S.left source.old) (S.left source.new) wire.old.flow wire.new
         (H.tells home.now) (H.sight pass.old) (H.sight pass.new) replied.entry replied.made replied.closes) }
     ensures passes { IfErr result (λ ended. Passes ended (H.sight pass.old) (H.sight pass.new)) }
-    ensures none { IfErr result (NoneComes (stream wire.old.flow.bytes (S.left source.old)) wire.old.flow.taken) }
+    ensures none { IfErr result (NoneComes (stream wire.old.flow.bytes (S.left source.old)) (S.left source.new)
+        wire.old.flow.taken) }
     ensures fault { IsErrOf result Ended.ReadFault → Rose (S.faults source.old) (S.faults source.new) }
     ensures later { S.faults source.old ≤ S.faults source.new }
 {
@@ -98,7 +99,7 @@ fn reply_to<H: Home, S: Source, R: Wait>(
         (H.sight pass.new) replied.entry replied.made replied.closes) }
     ensures passes { IfErr result (λ ended. Passes ended (H.sight pass.old) (H.sight pass.new)) }
     ensures none { (x0 : Option (List ℕ)) (flow : Flow) → ReadsHead x0 (S.left source.old) flow wire.old head.now
-        → IfErr result (NoneComes (stream flow.bytes x0) flow.taken) }
+        → IfErr result (NoneComes (stream flow.bytes x0) (S.left source.new) flow.taken) }
     ensures fault { IsErrOf result Ended.ReadFault → Rose (S.faults source.old) (S.faults source.new) }
     ensures later { S.faults source.old ≤ S.faults source.new }
 {

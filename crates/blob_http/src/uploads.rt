@@ -50,7 +50,7 @@ pub(crate) fn reply_to_upload<H: Home, S: Source, R: Wait>(
         (H.sight pass.new) replied.entry replied.made replied.closes) }
     ensures passes { IfErr result (λ ended. Passes ended (H.sight pass.old) (H.sight pass.new)) }
     ensures none { (x0 : Option (List ℕ)) (flow : Flow) → ReadsHead x0 (S.left source.old) flow wire.old head.now
-        → IfErr result (NoneComes (stream flow.bytes x0) flow.taken) }
+        → IfErr result (NoneComes (stream flow.bytes x0) (S.left source.new) flow.taken) }
     ensures fault { IsErrOf result Ended.ReadFault → Rose (S.faults source.old) (S.faults source.new) }
     ensures later { S.faults source.old ≤ S.faults source.new }
 {

@@ -285,7 +285,7 @@ module _ (parts : List Part) (came : Came) (v m w : Sight) (puts : Puts parts v 
       adds_quiet parts v m w puts came Whole (λ n. refl, λ turns h. tt) ends same
   adds_ends boundary given wire x (Ends.AtEnd fault done all ends same) =
       adds_quiet parts v m w puts came (came_of_part fault) (quiet_part fault) ends same
-  adds_ends boundary given wire x (Ends.AtBreak end reads says ends same) =
+  adds_ends boundary given wire x (Ends.AtBreak end reads says short ends same) =
       adds_quiet parts v m w puts came (came_of_wire end) (quiet_wire end) ends same
 
 pub uploads_add : UploadsAdd

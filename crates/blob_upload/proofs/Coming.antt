@@ -23,7 +23,7 @@ use Rattle.blob_upload.specs.declared.came.Came.{Came}
 use Rattle.blob_upload.specs.declared.came.Came.TheVariants.{Whole, Refused, Full, Disk, Memory}
 use Rattle.blob_upload.specs.Faults.{most_bytes, part_fault, came_of_part, came_of_wire}
 use Rattle.blob_upload.specs.Puts.{EndsBy}
-use Rattle.blob_upload.specs.Ends.{StopsAt, Told, Reads, StopsIn, Ends}
+use Rattle.blob_upload.specs.Ends.{StopsAt, Told, Reads, StopsIn, EndsShort, Ends}
 use Rattle.blob_upload.specs.Comes.{HasFault, Comes, UploadsCome}
 use Rattle.blob_upload.proofs.Putting.{settled_by}
 use Rattle.blob_upload.proofs.Fitting.{contents_fit}
@@ -110,13 +110,13 @@ module _ (boundary given : List ℕ) (parts : List Part) (wire : WireView) (x : 
   at_fault part_faults.NoMemory has = absurd (no_memory has)
 
   at_break : (end : WireEnd) → Reads boundary given parts → BodyEnds x wire.body wire.begun end
-      → comes (came_of_wire end)
-  at_break ends.Closed reads says = absurd says
-  at_break (ends.Cut at) reads says = (reads, says)
-  at_break (ends.BadHead at) reads says = absurd says
-  at_break (ends.BadLength at) reads says = (reads, says.1)
-  at_break (ends.TooLong limit) reads says = absurd says
-  at_break ends.ReadFault reads says = (reads, says)
+      → EndsShort wire end → comes (came_of_wire end)
+  at_break ends.Closed reads says short = absurd says
+  at_break (ends.Cut at) reads says short = (reads, says, short)
+  at_break (ends.BadHead at) reads says short = absurd says
+  at_break (ends.BadLength at) reads says short = (reads, says.1)
+  at_break (ends.TooLong limit) reads says short = absurd says
+  at_break ends.ReadFault reads says short = (reads, says, short)
 
   module _ (part : Part) (later : List Token) (told : Told boundary given parts (part_tokens part ++ later))
       (named : is_blobref part.0 ≡ true) where
@@ -169,7 +169,8 @@ module _ (boundary given : List ℕ) (parts : List Part) (wire : WireView) (x : 
   at_last came v w (Ends.AtClose done short is by same) = as_told came Whole (done, short, is) by
   at_last came v w (Ends.AtEnd fault done all by same) =
       as_told came (came_of_part fault) (at_fault fault (inr (done, all))) by
-  at_last came v w (Ends.AtBreak end reads says by same) = as_told came (came_of_wire end) (at_break end reads says) by
+  at_last came v w (Ends.AtBreak end reads says short by same) =
+      as_told came (came_of_wire end) (at_break end reads says short) by
 
 pub uploads_come : UploadsCome
 uploads_come boundary left left' wire wire' v w kept kept' came u =

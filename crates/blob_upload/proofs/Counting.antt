@@ -154,7 +154,7 @@ ends_few boundary given parts wire x came v w (Ends.AtClose done short is ends s
     parts_in parts (cut_tokens (is.1)) (is.0) (is.3) (body_few boundary given (is.0) (Ok tt) (is.2))
 ends_few boundary given parts wire x came v w (Ends.AtEnd fault done all ends same) =
     parts_of_body boundary given parts (cut_tokens all.cut) (Err fault) all.tells
-ends_few boundary given parts wire x came v w (Ends.AtBreak end reads says ends same) =
+ends_few boundary given parts wire x came v w (Ends.AtBreak end reads says short ends same) =
     parts_told boundary given parts (cut_tokens reads.cut) reads.reader reads.tells
 
 pub parts_are_few : PartsAreFew

@@ -28,7 +28,7 @@ use Rattle.blob_upload.specs.declared.came.Came.TheVariants.{Memory, Ended}
 use Rattle.blob_upload.specs.declared.uploading.Reading.{Reading}
 use Rattle.blob_upload.specs.Faults.{most_bytes, came_of_put, came_of_part, came_of_wire}
 use Rattle.blob_upload.specs.Puts.{EndsBy}
-use Rattle.blob_upload.specs.Ends.{StopsAt, IsSound, Reads, StopsIn, Ends}
+use Rattle.blob_upload.specs.Ends.{StopsAt, IsSound, Reads, StopsIn, EndsShort, Ends}
 use Rattle.blob_upload.specs.Uploads.{Uploads}
 use Rattle.blob_upload.specs.Taking.{cut_of, Going, TakesPiece, came_of_end, Finishes}
 use Rattle.blob_upload.proofs.Putting.{keeps_none}
@@ -219,14 +219,14 @@ module _ (boundary : List ℕ) (left left' left'' : Option (List ℕ)) (wire wir
 
   -- no more of the body is read
   pub uploading_breaks : (end : WireEnd) → moves [] → BodyEnds (to_come wire'' left'') wire''.body wire''.begun end
-      → Uploads boundary left left'' wire wire'' v w kept kept' (came_of_wire end)
-  uploading_breaks end moved says = record {
+      → EndsShort wire'' end → Uploads boundary left left'' wire wire'' v w kept kept' (came_of_wire end)
+  uploading_breaks end moved says short = record {
     given = so_far.given;
     moved = no_further moved;
     parts = so_far.going.took.parts;
     middle = w;
     keeps = so_far.going.took.keeps;
-    ends = Ends.AtBreak end reads_given says refl refl;
+    ends = Ends.AtBreak end reads_given says short refl refl;
   }
 
   ends_by : (end : End) (came : Came) → wire''.body ≡ Done → IsBody boundary so_far.given so_far.going.tokens end

@@ -15,7 +15,7 @@ use Rattle.answer_text.specs.declared.refusal.Refusal.TheVariants.{BadRef, BadDi
 use Rattle.blob_upload.specs.declared.came.Came.{Came}
 use Rattle.blob_upload.specs.declared.came.Came.TheVariants.{Whole, Refused, Full, Disk, Memory, Ended}
 use Rattle.blob_upload.specs.Faults.{most_bytes, part_fault}
-use Rattle.blob_upload.specs.Ends.{Told, Reads, Faulty, IsAll}
+use Rattle.blob_upload.specs.Ends.{Told, Reads, Faulty, IsAll, EndsShort}
 use Rattle.blob_upload.specs.Uploads.{Uploads}
 
 -- `wire` is the reader of the connection in the end, and `x` what is then still to come on the connection
@@ -52,7 +52,7 @@ module _ (boundary given : List ℕ) (parts : List Part) (wire : WireView) (x : 
   Comes (Full blobs pack) = (p : Part) × TellsPart p × (part_fault p ≡ None)
   Comes Disk = (p : Part) × TellsPart p × (part_fault p ≡ None)
   Comes Memory = (after : List Token) × Told boundary given parts after
-  Comes (Ended end) = Reads boundary given parts × BodyEnds x wire.body wire.begun end
+  Comes (Ended end) = Reads boundary given parts × BodyEnds x wire.body wire.begun end × EndsShort wire end
 
 -- each upload came to this
 abbrev pub UploadsCome : Type 0

@@ -5,6 +5,8 @@ use Rattle.std.specs.Prelude.{Err, flat_map}
 use Rattle.blobref.specs.Blobref.{is_blobref}
 use Rattle.http_wire.specs.declared.body.Body.TheVariants.{Done}
 use Rattle.http_wire.specs.declared.ends.WireEnd.{WireEnd}
+use Rattle.http_wire.specs.declared.ends.WireEnd.TheVariants as wire_ends
+use Rattle.http_wire.specs.Bodies.{Stops}
 use Rattle.http_wire.specs.Wires.{WireView, BodyEnds}
 use Rattle.multipart_read.specs.declared.events.PartFault.{PartFault}
 use Rattle.multipart_read.specs.declared.steps.Stage.TheVariants as stages
@@ -95,6 +97,10 @@ pub record IsNotOver (boundary given : List ℕ) : Type 0 where
   pub sound : All (λ (part : Part). part_fault part ≡ None) parts
   pub reads : Reads boundary given parts
 
+-- where a read failed, what was read ahead ends inside the body
+abbrev pub EndsShort : WireView → WireEnd → Type 0
+EndsShort wire end = end ≡ wire_ends.ReadFault → Stops wire.body wire.flow.bytes
+
 -- Inside the body: in the last piece that was read, of at most 64 KiB. At its close, at its end where its parts aren't
 -- closed, or at a break of what carries it.
 -- `wire` is the reader of the connection in the end, and `x` what is then still to come on the connection
@@ -107,4 +113,4 @@ pub data Ends (boundary given : List ℕ) (parts : List Part) (wire : WireView) 
   AtEnd : (fault : PartFault) → wire.body ≡ Done → IsAll boundary given parts (Err fault) → came ≡ came_of_part fault
       → w ≡ v → Ends boundary given parts wire x came v w
   AtBreak : (end : WireEnd) → Reads boundary given parts → BodyEnds x wire.body wire.begun end
-      → came ≡ came_of_wire end → w ≡ v → Ends boundary given parts wire x came v w
+      → EndsShort wire end → came ≡ came_of_wire end → w ≡ v → Ends boundary given parts wire x came v w

@@ -12,7 +12,8 @@ pub fn uploads_add()
 {}
 
 /// What an upload came to, said of the bytes that came of its body alone: behind the parts that were kept, what ended
-/// it. A refusal is the first fault in these bytes. No upload keeps more than 1,000 parts.
+/// it. A refusal is the first fault in these bytes. Where a read failed, what was read ahead ends inside the body. No
+/// upload keeps more than 1,000 parts.
 pub fn uploads_come()
     ensures come { UploadsCome }
     ensures few { PartsAreFew }

@@ -11,8 +11,10 @@ returns-in-Err-clause-gathers g c =
     let i = c.reads.invariant in
     gathered _ _ _ c.args.wire.now c.reads.wire c.body.new.self c.reads.bytes.items []
     (Err c.stopped_by.result) i.moved i.head i.begun c.in-Err.ensures.moved c.in-Err.ensures.kept
-    (stop_says _ c.body.new.self.body c.reads.wire.begun (c.reads.bytes.items ++ []) c.stopped_by.result
-    (c.stopped_by.ensures.says _ c.body.new.self.body c.reads.wire.begun c.in-Err.ensures.err))
+    (stop_says _ c.body.new.self.flow.bytes c.body.new.self.body c.reads.wire.begun (c.reads.bytes.items ++ [])
+    c.stopped_by.result
+    (c.stopped_by.ensures.says _ c.body.new.self.flow.bytes c.body.new.self.body c.reads.wire.begun
+    c.in-Err.ensures.err (λ is. c.in-Err.ensures.short (ap Err is))))
 
 pub returns-then-n-eq0-clause-gathers : goal.returns-then-n-eq0-clause-gathers
 returns-then-n-eq0-clause-gathers g c =

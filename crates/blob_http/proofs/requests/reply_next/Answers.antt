@@ -1,4 +1,4 @@
-use Rattle.std.proofs.Common.{true, sym, subst}
+use Rattle.std.proofs.Common.{true, Err, sym, ap, subst}
 use Rattle.blob_http.specs.declared.questions.Question.{Question}
 use Rattle.blob_http.specs.Handling.{Answers}
 use Rattle.blob_http.proofs.Requesting.{head_replies, head_none, passes_none}
@@ -23,6 +23,7 @@ returns-in-Err-head_says-clause-none g c =
     head_none (g.S.Source.left c.args.source.now)
     (g.S.Source.left c.next_head.new.source) c.args.wire.now.flow c.next_head.new.self
     c.in-Err.end c.in-Err-head_says.ended (sym c.in-Err-head_says.ensures) c.in-Err.ensures.same.0 c.in-Err.ensures.err
+    (λ is. c.in-Err.ensures.short (ap Err is))
 
 pub returns-in-Err-head_says-clause-passes : goal.returns-in-Err-head_says-clause-passes
 returns-in-Err-head_says-clause-passes g c = passes_none c.in-Err-head_says.ended (g.H.Home.sight c.args.pass.now)

@@ -18,7 +18,7 @@ returns-in-Err-clause-serves g c v log0 x0 w0 before =
     step_ends (g.H.Home.tells c.args.home.now) v
     (g.H.Home.sight c.args.pass.now) (Notes notes log0 c.args.log.now) (Notes notes log0 c.make_room.new.self)
     x0 (g.S.Source.left c.args.source.now) w0 (g.K.Sink.written c.args.sink.now) c.args.wire.now.flow before
-    (g.H.Home.sight c.reply_next.new.pass) c.in-Err.ended
+    (g.H.Home.sight c.reply_next.new.pass) (g.S.Source.left c.reply_next.new.source) c.in-Err.ended
     (notes_same notes log0 c.args.log.now c.make_room.new.self c.make_room.ensures.same) c.in-Err.ensures.none
     c.in-Err.ensures.passes
 

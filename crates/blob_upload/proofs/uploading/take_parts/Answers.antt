@@ -1,4 +1,4 @@
-use Rattle.std.proofs.Common.{ℕ, length, take, refl, sym, subst, ap, arith, ◌∙◌}
+use Rattle.std.proofs.Common.{ℕ, length, take, refl, sym, subst, ap, arith, ◌∙◌, Err}
 use Rattle.std.proofs.lemmas.List.{length-take}
 use Rattle.http_wire.specs.Bodies.{Moves}
 use Rattle.http_wire.specs.Wires.{to_come, BodyEnds}
@@ -35,7 +35,8 @@ returns-in-Err-clause-uploads g c =
     let Q : ℕ → Type 0 = λ begun. BodyEnds (to_come c.body.new.self left) c.body.new.self.body begun c.in-Err.end in
     subst P (sym c.came_of_wire.ensures)
     (uploading_breaks _ _ _ _ _ _ _ _ _ _ _ _ c.pieces.invariant.so_far c.in-Err.end c.in-Err.ensures.moved
-    (subst Q (sym c.body.ensures.kept.1) c.in-Err.ensures.err))
+    (subst Q (sym c.body.ensures.kept.1) c.in-Err.ensures.err)
+    (λ is. c.in-Err.ensures.short (ap Err is)))
 
 pub returns-then-n-eq0-clause-uploads : goal.returns-then-n-eq0-clause-uploads
 returns-then-n-eq0-clause-uploads g c =
