@@ -11,6 +11,7 @@ use Rattle.http_wire.specs.Wires.{WireView, to_come, BodyEnds}
 use Rattle.http_wire.proofs.Passing.{none_passed}
 use Rattle.http_wire.proofs.Leading.{Leads-none, Moves-chain}
 use Rattle.edge_base.specs.Edge.{Gave}
+use Rattle.blob_routes.specs.Before.{most_body}
 use Rattle.blob_http.specs.declared.gathering.Stopped.{Stopped}
 use Rattle.blob_http.specs.declared.gathering.Stopped.TheVariants as stopped
 use Rattle.blob_http.specs.Gathering.{Gathers, GatherSays, CanStop, StopSays}
@@ -48,12 +49,12 @@ can_stop x at place (ends.TooLong n) h = h
 can_stop x at place ends.ReadFault h = tt
 
 pub stop_says : (x : Option (List ℕ)) (ahead : List ℕ) (at : Body) (place : ℕ) (given : List ℕ) (why : Stopped)
-    → StopSays x ahead at place why → GatherSays x ahead at place given (Err why)
-stop_says x ahead at place given stopped.Long h = absurd h
-stop_says x ahead at place given stopped.Broken h = h
-stop_says x ahead at place given stopped.Memory h = tt
-stop_says x ahead at place given (stopped.Cut n) h = h
-stop_says x ahead at place given stopped.ReadFault h = h
+    → length given ≤ most_body → StopSays x ahead at place why → GatherSays x ahead at place given (Err why)
+stop_says x ahead at place given stopped.Long few h = absurd h
+stop_says x ahead at place given stopped.Broken few h = h
+stop_says x ahead at place given stopped.Memory few h = tt
+stop_says x ahead at place given (stopped.Cut n) few h = (few, h)
+stop_says x ahead at place given stopped.ReadFault few h = h
 
 -- a piece that is too long for what is left
 pub too_long : (all buf : List ℕ) (n most : ℕ) → n ≤ length buf → most - length all < n

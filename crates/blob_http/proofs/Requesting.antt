@@ -1,6 +1,7 @@
 -- What one request comes to, from its head to its reply.
 use Rattle.std.proofs.Common.{◌≡◌, ℕ, if◌then◌else◌, List, [], ◌++◌, take, Bool, true, false, ◌||◌, not, Option, Some}
 use Rattle.std.proofs.Common.{None, Result, Ok, Err, IfOk, refl, ap, sym, subst, ◌∙◌, inl, inr, append_assoc}
+use Rattle.std.proofs.Common.{◌≤◌, length}
 use Rattle.std.specs.Option.{IfSome, option_map}
 use Rattle.std.proofs.lemmas.List.{append-nil}
 use Rattle.blobref.specs.declared.memory.NoMemory.{NoMemory}
@@ -53,7 +54,7 @@ use Rattle.blob_http.specs.Questions.{IsAskedAt, IsAskedBy, IsAsked}
 use Rattle.blob_http.specs.Replies.{refused_reply, memory_reply}
 use Rattle.blob_http.specs.Answers.{allow_text, outcome_of, text_of}
 use Rattle.blob_http.specs.Serving.{HasCauseIn, IsRest, Passes, IsReply, IsFrontDefined, IsBodyRefusal, Handles, IsCut}
-use Rattle.blob_http.specs.Serving.{IsReadShort}
+use Rattle.blob_http.specs.Serving.{IsReadShort, HadNoRefusal}
 use Rattle.blob_http.specs.Handling.{IsMade, Looked, is_memory, is_read, Answers, ReadsHead, Replies, AlongSays, StopReplies}
 use Rattle.blob_http.specs.Handling.{StopEnds, NoneComes}
 use Rattle.blob_http.proofs.Staying.{longer_none}
@@ -451,9 +452,9 @@ passes_none end v = record
 
 pub cut_body : (before now : Option (List ℕ)) (place n : ℕ) (b : Begun) → IsBegun b
     → Gave before now (b.head ++ b.framed) → n ≡ place
-    → IfSome now (Stops b.at) → IfSome before (IsCut place n)
-cut_body None now place n b is gave at stops = tt
-cut_body (Some x) now place n b is gave at stops =
+    → IfSome now (Stops b.at) → HadNoRefusal b (first_of b.head b.says) → IfSome before (IsCut place n)
+cut_body None now place n b is gave at stops due = tt
+cut_body (Some x) now place n b is gave at stops due =
     inr (
       at,
       (
@@ -463,6 +464,7 @@ cut_body (Some x) now place n b is gave at stops =
         gave.2
             ∙ append_assoc b.head b.framed gave.0,
         subst (λ (z : Option (List ℕ)). IfSome z (Stops b.at)) gave.1 stops,
+        due,
       ),
     )
 
@@ -478,21 +480,36 @@ read_short_of_body (Some x) left ahead b is gave stops =
     ∙ ap (λ (z : List ℕ). z ++ more.0) (append_assoc b.head b.framed ahead) in
     (all, (more.0, more.1, whole), no_whole_request all ahead b is refl (inl stops), inr (b, ahead, is, refl, stops))
 
+-- a body that is read as a whole was within its limit
+none_due : (b : Begun) (first : Result Route Question) (r : Route) → first ≡ Ok r → is_upload r ≡ false
+    → length b.given ≤ most_body → HadNoRefusal b first
+none_due b first r is other few = subst (HadNoRefusal b) (sym is) (by_route r other)
+  where
+    by_route : (r : Route) → is_upload r ≡ false → HadNoRefusal b (Ok r)
+    by_route (route.Blob x) other = few
+    by_route (route.Stat posted) other = few
+    by_route route.Upload other = absurd (true_not other)
+    by_route route.Page other = few
+    by_route route.Search other = few
+
 pub stop_none : (x0 x1 x2 : Option (List ℕ)) (flow : Flow) (mid new : WireView) (says : Head)
     → ReadsHead x0 x1 flow mid says
-    → (why : Stopped) → Gathers x1 x2 mid new (Err why) → (end : Ended) → StopEnds why end
+    → (why : Stopped) → Gathers x1 x2 mid new (Err why) → (r : Route) → first_of mid.head says ≡ Ok r
+    → is_upload r ≡ false → (end : Ended) → StopEnds why end
     → NoneComes (stream flow.bytes x0) x2 flow.taken end
-stop_none x0 x1 x2 flow mid new says head stopped.Long gathered end is = absurd is
-stop_none x0 x1 x2 flow mid new says head stopped.Broken gathered end is = absurd is
-stop_none x0 x1 x2 flow mid new says head stopped.Memory gathered end is = absurd is
-stop_none x0 x1 x2 flow mid new says head (stopped.Cut n) gathered end is =
+stop_none x0 x1 x2 flow mid new says head stopped.Long gathered r first other end is = absurd is
+stop_none x0 x1 x2 flow mid new says head stopped.Broken gathered r first other end is = absurd is
+stop_none x0 x1 x2 flow mid new says head stopped.Memory gathered r first other end is = absurd is
+stop_none x0 x1 x2 flow mid new says head (stopped.Cut n) gathered r first other end is =
     subst (NoneComes (stream flow.bytes x0) x2 flow.taken) (sym is)
     (cut_body (stream flow.bytes x0) (stream new.flow.bytes x2) flow.taken n
     (begun x0 x1 x2 flow mid new says head gathered.given gathered.moved)
     (is_begun x0 x1 x2 flow mid new says head gathered.given gathered.moved)
     (passed x0 x1 x2 flow mid new says head gathered.given gathered.moved).gave
-    (gathered.says.0 ∙ head.begun) gathered.says.1)
-stop_none x0 x1 x2 flow mid new says head stopped.ReadFault gathered end is =
+    (gathered.says.1.0 ∙ head.begun) gathered.says.1.1
+    (none_due (begun x0 x1 x2 flow mid new says head gathered.given gathered.moved) (first_of mid.head says) r first
+    other gathered.says.0))
+stop_none x0 x1 x2 flow mid new says head stopped.ReadFault gathered r first other end is =
     subst (NoneComes (stream flow.bytes x0) x2 flow.taken) (sym is)
     (read_short_of_body (stream flow.bytes x0) x2 new.flow.bytes
     (begun x0 x1 x2 flow mid new says head gathered.given gathered.moved)

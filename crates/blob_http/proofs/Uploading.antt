@@ -49,7 +49,7 @@ use Rattle.blob_http.specs.Asked.{Asked, Whole, Front}
 use Rattle.blob_http.specs.Questions.{piece, first_of, first_by, early_by}
 use Rattle.blob_http.specs.Answers.{outcome_of, text_of, IsTold}
 use Rattle.blob_http.specs.Keeping.{boundary_at, Kept, IsUploadReply, UploadMade, is_whole}
-use Rattle.blob_http.specs.Serving.{HasCauseIn, IsRest, Passes, IsReply, Longer, Handles}
+use Rattle.blob_http.specs.Serving.{HasCauseIn, IsRest, Passes, IsReply, Longer, Handles, HadNoRefusal}
 use Rattle.blob_http.specs.Handling.{is_memory, ReadsHead, Replies, NoneComes, IsUploadEntry}
 use Rattle.blob_http.proofs.Requesting.{begun, is_begun, passed, cut_body, read_short_of_body, true_not}
 
@@ -389,7 +389,12 @@ module _ (x0 x1 x2 : Option (List ℕ)) (flow : Flow) (mid new : WireView) (says
           (begun x0 x1 x2 flow mid new says head u.given u.moved)
           (is_begun x0 x1 x2 flow mid new says head u.given u.moved)
           (passed x0 x1 x2 flow mid new says head u.given u.moved).gave
-          (said.1.0 ∙ same ∙ head.begun) said.1.1)
+          (said.1.0 ∙ same ∙ head.begun) said.1.1
+          (subst (HadNoRefusal (begun x0 x1 x2 flow mid new says head u.given u.moved)) (sym first) (
+            boundary,
+            bounds,
+            record { parts = u.parts; sound = u.keeps.sound; reads = said.0 },
+          )))
       by_came (came.Ended (ends.BadHead n)) end is said = absurd is
       by_came (came.Ended (ends.BadLength n)) end is said = absurd is
       by_came (came.Ended (ends.TooLong n)) end is said = absurd is

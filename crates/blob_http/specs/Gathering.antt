@@ -34,7 +34,7 @@ GatherSays x ahead at place given (Ok bytes) = (given ≡ bytes) × (length byte
 GatherSays x ahead at place given (Err Long) = most_body < length given
 GatherSays x ahead at place given (Err Broken) = StopSays x ahead at place Broken
 GatherSays x ahead at place given (Err Memory) = Unit {0}
-GatherSays x ahead at place given (Err (Cut n)) = StopSays x ahead at place (Cut n)
+GatherSays x ahead at place given (Err (Cut n)) = (length given ≤ most_body) × StopSays x ahead at place (Cut n)
 GatherSays x ahead at place given (Err ReadFault) = StopSays x ahead at place ReadFault
 
 -- a body is read to its end, or up to what ends the reading

@@ -36,12 +36,13 @@ use Rattle.blob_routes.specs.Before.{most_body}
 use Rattle.blob_http.specs.Questions.{IsAsked, first_of}
 use Rattle.blob_http.specs.Answers.{IsAnswer, allow_text}
 use Rattle.blob_http.specs.Replies.{json_reply, refused_reply, memory_reply}
-use Rattle.blob_http.specs.Keeping.{Kept, IsUploadReply}
+use Rattle.blob_http.specs.Keeping.{boundary_at, Kept, IsUploadReply}
 use Rattle.answer_text.specs.Listings.{upload_text}
 use Rattle.histories.specs.StoreCalls.{sizes}
 use Rattle.multipart_read.specs.PartLists.{IsMultipart}
 use Rattle.blob_routes.specs.declared.routes.Route.TheVariants as route
 use Rattle.blob_upload.specs.declared.came.Came.{Came}
+use Rattle.blob_upload.specs.Ends.{IsNotOver}
 use Rattle.blob_upload.specs.Comes.{Comes}
 use Rattle.blob_upload.specs.Adds.{Turns}
 
@@ -207,11 +208,22 @@ AreAnswers asked requests (Unfinished b) rest =
     (after : List ℕ) × (asked ≡ map Whole requests ++ Front b (Some after) ∷ [])
     × (rest ≡ b.head ++ (b.framed ++ after))
 
--- the source ended inside the request at this place: inside its head, or inside its body
+-- no refusal was due by what came of the request: its head has none; a body that is read as a whole was within its limit;
+-- the parts of an upload that came have no fault, and neither has the text between them
+abbrev pub HadNoRefusal : Begun → Result Route Question → Type 0
+HadNoRefusal b (Err refused) = ⊥
+HadNoRefusal b (Ok route.Upload) =
+    (boundary : List ℕ) × (boundary_at b.head b.says ≡ Some boundary) × IsNotOver boundary b.given
+HadNoRefusal b (Ok (route.Blob r)) = length b.given ≤ most_body
+HadNoRefusal b (Ok (route.Stat posted)) = length b.given ≤ most_body
+HadNoRefusal b (Ok route.Page) = length b.given ≤ most_body
+HadNoRefusal b (Ok route.Search) = length b.given ≤ most_body
+
+-- The source ended inside the request at this place: inside its head; or inside its body, and no refusal was due by then.
 abbrev pub IsCut : ℕ → ℕ → List ℕ → Type 0
 IsCut place n rest = HeadEnds (Some rest) place (ends.Cut n)
     ⊎ ((n ≡ place) × ((b : Begun) × (after : List ℕ) × IsBegun b × (rest ≡ b.head ++ (b.framed ++ after))
-    × Stops b.at after))
+    × Stops b.at after × HadNoRefusal b (first_of b.head b.says)))
 
 -- these bytes end before a request does: before or inside its head, or inside its body
 abbrev pub EndsShort : List ℕ → Type 0

@@ -13,6 +13,7 @@ returns-in-Err-clause-gathers g c =
     (Err c.stopped_by.result) i.moved i.head i.begun c.in-Err.ensures.moved c.in-Err.ensures.kept
     (stop_says _ c.body.new.self.flow.bytes c.body.new.self.body c.reads.wire.begun (c.reads.bytes.items ++ [])
     c.stopped_by.result
+    (subst (λ (xs : List ℕ). length xs ≤ 1048576) (sym (append-nil c.reads.bytes.items)) i.few)
     (c.stopped_by.ensures.says _ c.body.new.self.flow.bytes c.body.new.self.body c.reads.wire.begun
     c.in-Err.ensures.err (λ is. c.in-Err.ensures.short (ap Err is))))
 

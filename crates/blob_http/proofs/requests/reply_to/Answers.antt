@@ -34,7 +34,8 @@ returns-in-Err-gather-clause-none g c x0 flow read =
     IfErr-weaker c.reply_to_stop.result (StopEnds c.in-Err-gather.stopped) _
     (λ end h. stop_none x0 (g.S.Source.left c.args.source.now)
     (g.S.Source.left c.gather.new.source) flow c.args.wire.now c.gather.new.wire c.args.head.now read
-    c.in-Err-gather.stopped c.in-Err-gather.ensures.gathers end h)
+    c.in-Err-gather.stopped c.in-Err-gather.ensures.gathers c.in-Ok.found (sym c.in-Ok.ensures.first)
+    (sym c.is_upload.ensures ∙ c.if-is_upload.false) end h)
     c.reply_to_stop.ensures.ends
 
 pub returns-clause-replies : goal.returns-clause-replies
