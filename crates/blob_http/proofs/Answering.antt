@@ -1,9 +1,9 @@
 -- What a call of the home answered is the answer over what the pass has then seen.
 use Rattle.std.proofs.Common.{◌≡◌, ℕ, ◌+◌, ◌≤◌, ⊎_elim, List, [], ◌∷◌, ◌++◌, length, take, Bool, true, false, ◌||◌, eqb}
-use Rattle.std.proofs.Common.{Contains, refl, ap, sym, subst, ◌∙◌, arith, append_assoc, Option, Some, None, Result, Ok, Err, IsErr}
+use Rattle.std.proofs.Common.{All, Contains, refl, ap, sym, subst, ◌∙◌, arith, append_assoc, Option, Some, None, Result, Ok, Err, IsErr}
 use Rattle.std.specs.List.{filter_map}
 use Rattle.std.proofs.lemmas.List.{append-nil, take_all, take-take, length-take-le}
-use Rattle.std.proofs.lemmas.List.Elements.{Contains-append_right}
+use Rattle.std.proofs.lemmas.List.Elements.{Contains-append_right, All-nil, All-weaker}
 use Rattle.std.proofs.lemmas.Bool.{eq-eqb}
 use mathlib.Core.List.{IsPrefix}
 use Rattle.blobref.specs.declared.memory.NoMemory.{NoMemory}
@@ -18,14 +18,15 @@ use Rattle.answer_text.specs.Search.{search_text}
 use Rattle.histories.specs.declared.stamped.Stamped.{Stamped}
 use Rattle.histories.specs.declared.events.StoreEvent.{StoreEvent}
 use Rattle.histories.specs.declared.events.StoreEvent.TheVariants as store
-use Rattle.histories.specs.History.{stamp, stamped, has}
+use Rattle.histories.specs.History.{stamp, stamped, has, own}
 use Rattle.histories.specs.Stores.{Blob, arrivals, bytes_of}
 use Rattle.histories.specs.Indexes.{Insertion, HasAllBelow, inserts}
 use Rattle.histories.specs.StoreCalls.{IsQuiet, GetSays, GetFails, StatSays, ListSays, page, sized, each_once}
 use Rattle.histories.proofs.Prefixes.{prefix_trans, prefix_length}
-use Rattle.histories.proofs.Growing.{has_rest}
+use Rattle.histories.proofs.Growing.{has_rest, each_stamped, placed_stamped}
 use Rattle.histories.proofs.Standing.{arrivals_append, arrivals_prefix, has_all_longer}
 use Rattle.home_places.specs.Passes.{Sight, IsSight, StoreCall, StoreTurned, Spends, Settles, Searches, Counts, Caused}
+use Rattle.home_places.specs.Passes.{IsTrouble}
 use Rattle.home_places.specs.Searches.{SearchSays}
 use Rattle.blob_routes.specs.declared.routes.Allowed.{Allowed}
 use Rattle.blob_routes.specs.declared.pages.Page.{Page}
@@ -38,9 +39,9 @@ use Rattle.blob_http.specs.declared.replies.Made.TheVariants as made
 use Rattle.blob_http.specs.Replies.{json_reply, blob_reply, refused_reply}
 use Rattle.blob_http.specs.Answers.{IsAnswer, IsBlobReply, IsDefined, reads_blobs, allow_text, outcome_of, IsTold}
 use Rattle.blob_http.specs.Answers.{IsMemory, FaultMade, BlobMade, TextMade, page_answer, cut_page, more_after}
-use Rattle.blob_http.specs.Serving.{HasCauseIn, LooksAt, Longer}
+use Rattle.blob_http.specs.Serving.{HasCauseIn, LooksAt, Longer, PutsNothing}
 use Rattle.blob_http.specs.Handling.{IsMade, Looked, Looks, Answers, entry_of}
-use Rattle.blob_http.proofs.Staying.{longer_none, longer_chain}
+use Rattle.blob_http.proofs.Staying.{longer_none, longer_chain, owns_none, owns_chain}
 
 -- a turn that put nothing leaves the arrivals
 quiet_stays : (before : List (Stamped StoreEvent)) (n : ℕ) (e : Option StoreEvent) → IsQuiet e
@@ -55,6 +56,48 @@ quiet_stays before n (Some (store.Full b p)) q = absurd q
 -- a turn that added nothing put nothing
 none_quiet : (e : Option StoreEvent) → e ≡ None → IsQuiet e
 none_quiet e none = subst IsQuiet (sym none) tt
+
+-- ---- what a call added
+
+none_placed : All (λ (s : Stamped StoreEvent). has [] s.turn ≡ true) []
+none_placed = All-nil (λ (s : Stamped StoreEvent). has [] s.turn ≡ true)
+
+none_put : PutsNothing []
+none_put = All-nil (λ (s : Stamped StoreEvent). IsTrouble s.entry)
+
+quiet_trouble : (e : StoreEvent) → IsQuiet (Some e) → IsTrouble e
+quiet_trouble (store.Put n r bytes) q = absurd q
+quiet_trouble (store.Fault f) q = tt
+quiet_trouble (store.Damage want is) q = absurd q
+quiet_trouble (store.Full blobs pack) q = absurd q
+
+fails_trouble : (tells : Bool) (asked : Option (List ℕ)) (f : GetFault) (e : StoreEvent)
+    → GetFails tells asked f (Some e) → IsTrouble e
+fails_trouble tells asked unread.Disk e c =
+    let is : e ≡ store.Fault c.0 = cc c.1 in subst IsTrouble (sym is) tt
+fails_trouble tells asked (unread.Damaged a b) e c =
+    let is : e ≡ store.Damage a b = cc c.2 in subst IsTrouble (sym is) tt
+fails_trouble tells asked unread.NoMemory e c = quiet_trouble e c
+
+get_troubles : (tells : Bool) (r : List ℕ) (result : Result (Option (List ℕ)) GetFault) (before : List Blob)
+    (e : StoreEvent) → GetSays tells r before result (Some e) → IsTrouble e
+get_troubles tells r (Ok None) before e said = quiet_trouble e said.1
+get_troubles tells r (Ok (Some bytes)) before e said = quiet_trouble e said.1
+get_troubles tells r (Err f) before e said = fails_trouble tells _ f e said
+
+pub stat_none : (refs : List (List ℕ)) (result : Result (List (List ℕ × ℕ)) NoMemory) (before : List Blob)
+    (e : Option StoreEvent) → StatSays refs before result e → e ≡ None
+stat_none refs (Ok found) before e said = said.1
+stat_none refs (Err f) before e said = said
+
+list_none : (after : Option (List ℕ)) (limit : ℕ) (result : Result (List (List ℕ × ℕ)) NoMemory)
+    (before : List Blob) (e : Option StoreEvent) → ListSays after limit before result e → e ≡ None
+list_none after limit (Ok found) before e said = said.1
+list_none after limit (Err f) before e said = said
+
+-- nothing was added
+none_trouble : (e : StoreEvent) → Some e ≡ None → IsTrouble e
+none_trouble e none = absurd (cc none)
 
 has_one : (t : ℕ) → has (t ∷ []) t ≡ true
 has_one t = or_left (eqb t t) (eq-eqb t t refl)
@@ -79,6 +122,10 @@ pub refused_answers : (tells closes : Bool) (why : Refusal) (allow : Option Allo
 refused_answers tells closes why allow m v counts is count = record {
   turns = [];
   drawn = sym (append-nil v.store.turns);
+  added = [];
+  owned = owns_none v;
+  placed = none_placed;
+  nothing = none_put;
   store_within = let p = count.puts in omega arith;
   index_within = let p = count.inserts in omega arith;
   made = refused_made m is (take counts.0 (arrivals v.store.history)) (take counts.1 v.index.shown);
@@ -114,6 +161,10 @@ pub memory_answers : (tells closes : Bool) (q : Question) (v : Sight) (counts : 
 memory_answers tells closes q v counts count = record {
   turns = [];
   drawn = sym (append-nil v.store.turns);
+  added = [];
+  owned = owns_none v;
+  placed = none_placed;
+  nothing = none_put;
   store_within = let p = count.puts in omega arith;
   index_within = let p = count.inserts in omega arith;
   made = tt;
@@ -161,6 +212,10 @@ module _ (tells closes : Bool) (q : Question) (m : Made) where
       record {
         turns = [];
         drawn = ap (λ s. s.turns) spent.store ∙ sym (append-nil v.store.turns);
+        added = [];
+        owned = ap (λ s. own s.turns s.history) spent.store ∙ owns_none v;
+        placed = none_placed;
+        nothing = none_put;
         store_within = let p = count.puts in omega arith;
         index_within = let p = count.inserts in omega arith;
         made = memory_made tells w.index.accepts (take counts.0 (arrivals w.store.history))
@@ -184,7 +239,8 @@ module _ (tells closes : Bool) (q : Question) (m : Made) where
       (replied : (accepts : Accepts) (before blobs : List Blob) (g : List Insertion) (e : Option StoreEvent)
       → (IsQuiet e → blobs ≡ before) → says before e → IsMade tells accepts blobs g closes q m)
       (caused : (before : List Blob) (h : List (Stamped StoreEvent)) (t : ℕ) (e : Option StoreEvent)
-      → says before e → HasCauseIn (t ∷ []) (h ++ stamped t e) (outcome_of m)) where
+      → says before e → HasCauseIn (t ∷ []) (h ++ stamped t e) (outcome_of m))
+      (troubles : (before : List Blob) (e : StoreEvent) → says before (Some e) → IsTrouble e) where
     turned_answers : (v w : Sight) (counts : ℕ × ℕ) → StoreTurned says v w → Counts w counts
         → Answers tells closes q v w (entry_of counts.0 counts.1 0 m) m
     turned_answers v w counts turned count =
@@ -202,6 +258,11 @@ module _ (tells closes : Bool) (q : Question) (m : Made) where
         record {
           turns = t ∷ [];
           drawn = ran.drawn;
+          added = stamped t ran.entry;
+          owned = ran.owned;
+          placed = placed_stamped t ran.entry;
+          nothing = each_stamped IsTrouble t ran.entry
+              (λ e is. troubles (arrivals ran.before) e (subst (says (arrivals ran.before)) is ran.said));
           store_within = let p = count.puts in omega arith;
           index_within = let p = count.inserts in omega arith;
           made = replied w.index.accepts (arrivals ran.before) (take counts.0 (arrivals w.store.history))
@@ -304,7 +365,7 @@ module _ (tells closes : Bool) (r : List ℕ) where
       → Answers tells closes (question.Blob r) v w (entry_of counts.0 counts.1 0 m) m
   blob_answers result m v w counts is call count =
       call_answers tells closes (question.Blob r) m (λ before e. GetSays tells r before result e)
-      (blob_made result m is) (blob_cause result m is)
+      (blob_made result m is) (blob_cause result m is) (get_troubles tells r result)
       (result ≡ Err unread.NoMemory) v w counts (blob_memory result m is) call count
 
 -- ---- stats and pages
@@ -342,6 +403,7 @@ module _ (tells closes : Bool) where
       call_answers tells closes (question.Stat refs) m (λ before e. StatSays refs before result e)
       (stat_made refs result m is)
       (λ before h t e says. text_cause closes stat_text result m (t ∷ []) (h ++ stamped t e) is)
+      (λ before e says. none_trouble e (stat_none refs result before (Some e) says))
       (IsErr result) v w counts (text_memory closes stat_text result m is) call count
 
   -- a page is a front of one that is longer by one
@@ -372,18 +434,22 @@ module _ (tells closes : Bool) where
       call_answers tells closes (question.Refs p) m (λ before e. ListSays p.after (p.limit + 1) before result e)
       (page_made p result m is)
       (λ before h t e says. text_cause closes (cut_page p.limit) result m (t ∷ []) (h ++ stamped t e) is)
+      (λ before e says. none_trouble e (list_none p.after (p.limit + 1) result before (Some e) says))
       (IsErr result) v w counts (text_memory closes (cut_page p.limit) result m is) call count
 
   -- ---- a search
 
   -- a stat of nothing shows what had arrived
-  looks_turned : (v w : Sight) (says : List Blob → Option StoreEvent → Type 0) → StoreTurned says v w → Looks v w
-  looks_turned v w says turned =
+  looks_turned : (v w : Sight) (says : List Blob → Option StoreEvent → Type 0) → StoreTurned says v w
+      → ((before : List Blob) (e : Option StoreEvent) → says before e → e ≡ None) → Looks v w
+  looks_turned v w says turned none =
       let ran = turned.turn.ran in
       let t = ran.ticket + 1 in
       record {
         turn = t;
         drawn = ran.drawn;
+        owned = ran.owned ∙ ap (λ (e : Option StoreEvent). own v.store.turns v.store.history ++ stamped t e)
+            (none (arrivals ran.before) ran.entry ran.said);
         longer = record {
           store = prefix_trans v.store.history ran.before w.store.history ran.longer (stamped t ran.entry, sym ran.added);
           index = same_prefix v.index.history w.index.history (ap (λ s. s.history) turned.index);
@@ -395,9 +461,10 @@ module _ (tells closes : Bool) where
 
   pub looks : (found : List (List ℕ × ℕ)) (result : Result (List (List ℕ × ℕ)) NoMemory)
       (says : List Blob → Option StoreEvent → Type 0) (v w : Sight) → result ≡ Ok found
-      → StoreCall (IsErr result) says v w → Looks v w
-  looks found result says v w is call =
-      ⊎_elim (λ (a : StoreTurned says v w). looks_turned v w says a)
+      → StoreCall (IsErr result) says v w
+      → ((before : List Blob) (e : Option StoreEvent) → says before e → e ≡ None) → Looks v w
+  looks found result says v w is call none =
+      ⊎_elim (λ (a : StoreTurned says v w). looks_turned v w says a none)
       (λ (b : IsErr result × Spends v w). not_both result is b.0) call
     where
       not_both : (r : Result (List (List ℕ × ℕ)) NoMemory) → r ≡ Ok found → IsErr r → Looks v w
@@ -407,10 +474,12 @@ module _ (tells closes : Bool) where
   -- it wasn't shown
   pub not_looked : (query : Query) (refused : Type 0) (says : List Blob → Option StoreEvent → Type 0) (v w : Sight)
       (counts : ℕ × ℕ) → StoreCall refused says v w → Counts w counts
+      → ((before : List Blob) (e : Option StoreEvent) → says before e → e ≡ None)
       → Answers tells closes (question.Search query) v w (entry_of counts.0 counts.1 0 made.Memory) made.Memory
-  not_looked query refused says v w counts call count =
+  not_looked query refused says v w counts call count none =
       call_answers tells closes (question.Search query) made.Memory says (λ accepts before blobs g e same said. tt)
-      (λ before h t e said. tt) refused v w counts (λ _. tt) call count
+      (λ before h t e said. tt) (λ before e said. none_trouble e (none before (Some e) said)) refused v w counts
+      (λ _. tt) call count
 
   cause_behind : (t : ℕ) (turns : List ℕ) (h : List (Stamped StoreEvent)) (o : Outcome) → HasCauseIn turns h o
       → HasCauseIn (t ∷ turns) h o
@@ -423,6 +492,12 @@ module _ (tells closes : Bool) where
   drawn_behind : (ts us vs further : List ℕ) (t : ℕ) → us ≡ ts ++ t ∷ [] → vs ≡ us ++ further → vs ≡ ts ++ t ∷ further
   drawn_behind ts us vs further t first then =
       then ∙ ap (λ (z : List ℕ). z ++ further) first ∙ append_assoc ts (t ∷ []) further
+
+  placed_behind : (t : ℕ) (turns : List ℕ) (added : List (Stamped StoreEvent))
+      → All (λ (s : Stamped StoreEvent). has turns s.turn ≡ true) added
+      → All (λ (s : Stamped StoreEvent). has (t ∷ turns) s.turn ≡ true) added
+  placed_behind t turns added all = All-weaker (λ (s : Stamped StoreEvent). has turns s.turn ≡ true)
+      (λ (s : Stamped StoreEvent). has (t ∷ turns) s.turn ≡ true) (λ s e. has_rest (t ∷ []) turns s.turn e) added all
 
   arrived_before : (o v : Sight) → Longer o v → length (arrivals o.store.history) ≤ length (arrivals v.store.history)
   arrived_before o v longer = prefix_length (arrivals o.store.history) (arrivals v.store.history)
@@ -441,6 +516,10 @@ module _ (tells closes : Bool) where
         turns = look.turn ∷ s.store.further;
         drawn = drawn_behind o.store.turns v.store.turns w.store.turns s.store.further look.turn look.drawn
             s.store.drawn;
+        added = s.store.added;
+        owned = owns_chain o v w [] s.store.added look.owned s.store.owned;
+        placed = placed_behind look.turn s.store.further s.store.added s.store.placed;
+        nothing = s.store.each_is;
         store_within = let p = first.puts in omega arith;
         index_within = let p = last.inserts in omega arith;
         made = fault_made tells w.index.accepts (take before.0 (arrivals w.store.history))
@@ -502,6 +581,10 @@ module _ (tells closes : Bool) where
         turns = look.turn ∷ s.store.further;
         drawn = drawn_behind o.store.turns v.store.turns w.store.turns s.store.further look.turn look.drawn
             (ap (λ y. y.turns) a.store ∙ s.store.drawn);
+        added = s.store.added;
+        owned = ap (λ y. own y.turns y.history) a.store ∙ owns_chain o v x [] s.store.added look.owned s.store.owned;
+        placed = placed_behind look.turn s.store.further s.store.added s.store.placed;
+        nothing = s.store.each_is;
         store_within = let p = first.puts in omega arith;
         index_within = let p = last.inserts in omega arith;
         made = search_made query found m is w.index.accepts (take before.0 (arrivals w.store.history))

@@ -8,6 +8,8 @@ use Rattle.blobref.specs.declared.memory.NoMemory.{NoMemory}
 use Rattle.claim_verify.specs.Verifier.{Accepts}
 use Rattle.answer_text.specs.declared.refusal.Refusal.{Refusal}
 use Rattle.answer_text.specs.declared.refusal.Refusal.TheVariants as refusal
+use Rattle.histories.specs.declared.stamped.Stamped.{Stamped}
+use Rattle.histories.specs.declared.events.StoreEvent.{StoreEvent}
 use Rattle.histories.specs.Stores.{Blob, arrivals}
 use Rattle.histories.specs.Indexes.{Insertion}
 use Rattle.home_places.specs.Passes.{Sight}
@@ -54,10 +56,10 @@ use Rattle.blob_http.specs.Questions.{IsAskedAt, IsAskedBy, IsAsked}
 use Rattle.blob_http.specs.Replies.{refused_reply, memory_reply}
 use Rattle.blob_http.specs.Answers.{allow_text, outcome_of, text_of}
 use Rattle.blob_http.specs.Serving.{HasCauseIn, IsRest, Passes, IsReply, IsFrontDefined, IsBodyRefusal, Handles, IsCut}
-use Rattle.blob_http.specs.Serving.{IsReadShort, HadNoRefusal}
+use Rattle.blob_http.specs.Serving.{IsReadShort, HadNoRefusal, PutsNothing}
 use Rattle.blob_http.specs.Handling.{IsMade, Looked, is_memory, is_read, Answers, ReadsHead, Replies, AlongSays, StopReplies}
 use Rattle.blob_http.specs.Handling.{StopEnds, NoneComes}
-use Rattle.blob_http.proofs.Staying.{longer_none}
+use Rattle.blob_http.proofs.Staying.{longer_none, owns_none}
 use Rattle.blob_http.proofs.Bodies.{moves_none}
 
 pub true_not : true ≡ false → ⊥
@@ -84,22 +86,25 @@ has_pieces text says h =
 
 pub handles_of : (tells closes : Bool) (q : Question) (v w : Sight) (entry : Answered) (m : Made) (asked : Asked)
     → Answers tells closes q v w entry m
-    → ((accepts : Accepts) (blobs : List Blob) (g : List Insertion) (turns : List ℕ)
-    → IsMade tells accepts blobs g closes q m → Looked q m turns
-    → IsReply tells accepts blobs g asked 0 turns (outcome_of m) (text_of m))
+    → ((accepts : Accepts) (blobs : List Blob) (g : List Insertion) (turns : List ℕ) (added : List (Stamped StoreEvent))
+    → IsMade tells accepts blobs g closes q m → Looked q m turns → PutsNothing added
+    → IsReply tells accepts blobs g asked 0 turns added (outcome_of m) (text_of m))
     → Handles tells asked v w entry (text_of m)
 handles_of tells closes q v w entry m asked a replied = record {
   turns = a.turns;
   drawn = a.drawn;
+  added = a.added;
+  owned = a.owned;
   answered = record {
     store_within = a.store_within;
     index_within = a.index_within;
     replied = reply_at tells w.index.accepts (take entry.store_count (arrivals w.store.history))
         (take entry.index_count w.index.shown) asked
-        entry.kept a.turns entry.outcome m a.kept a.outcome
+        entry.kept a.turns a.added entry.outcome m a.kept a.outcome
         (replied w.index.accepts (take entry.store_count (arrivals w.store.history))
-        (take entry.index_count w.index.shown) a.turns a.made a.looked);
+        (take entry.index_count w.index.shown) a.turns a.added a.made a.looked a.nothing);
     cause = subst (λ (o : Outcome). HasCauseIn a.turns w.store.history o) (sym a.outcome) a.cause;
+    placed = a.placed;
   };
   store_low = a.store_low;
   index_low = a.index_low;
@@ -107,12 +112,12 @@ handles_of tells closes q v w entry m asked a replied = record {
 }
   where
     reply_at : (tells : Bool) (accepts : Accepts) (blobs : List Blob) (g : List Insertion) (asked : Asked) (kept : ℕ)
-        (turns : List ℕ) (o : Outcome) (m : Made)
-        → kept ≡ 0 → o ≡ outcome_of m → IsReply tells accepts blobs g asked 0 turns (outcome_of m) (text_of m)
-        → IsReply tells accepts blobs g asked kept turns o (text_of m)
-    reply_at tells accepts blobs g asked kept turns o m none same h =
-        subst (λ (k : ℕ). IsReply tells accepts blobs g asked k turns o (text_of m)) (sym none)
-        (subst (λ (z : Outcome). IsReply tells accepts blobs g asked 0 turns z (text_of m)) (sym same) h)
+        (turns : List ℕ) (added : List (Stamped StoreEvent)) (o : Outcome) (m : Made)
+        → kept ≡ 0 → o ≡ outcome_of m → IsReply tells accepts blobs g asked 0 turns added (outcome_of m) (text_of m)
+        → IsReply tells accepts blobs g asked kept turns added o (text_of m)
+    reply_at tells accepts blobs g asked kept turns added o m none same h =
+        subst (λ (k : ℕ). IsReply tells accepts blobs g asked k turns added o (text_of m)) (sym none)
+        (subst (λ (z : Outcome). IsReply tells accepts blobs g asked 0 turns added z (text_of m)) (sym same) h)
 
 -- a refusal by a head or by a body that isn't read to its end: only its own text, or want of memory
 refused_says : (tells : Bool) (accepts : Accepts) (blobs : List Blob) (g : List Insertion) (why : Refusal)
@@ -140,9 +145,9 @@ head_replies x0 x1 flow new tells v w entry m end why closes says passed stands 
   asked = Refused end;
   comes = ((why, says), passed, stands);
   handles = handles_of tells true (refused why) v w entry m (Refused end) a
-      (λ accepts blobs g turns is looked. refused_says tells accepts blobs g why None
-      (λ o text. IsReply tells accepts blobs g (Refused end) 0 turns o text) (refl, (why, says, refl))
-      (refl, refl) m is);
+      (λ accepts blobs g turns added is looked nothing. refused_says tells accepts blobs g why None
+      (λ o text. IsReply tells accepts blobs g (Refused end) 0 turns added o text)
+      (refl, nothing, (why, says, refl)) (refl, nothing, refl) m is);
   closing = closing;
   ready = λ open_still. absurd (true_not (sym closing ∙ open_still));
 }
@@ -218,8 +223,9 @@ module _ (x0 x1 x2 : Option (List ℕ)) (flow : Flow) (mid new : WireView) (says
     -- the connection closes in any case
     front_replies : (closes with_closes : Bool) (q : Question) → Answers tells with_closes q v w entry m
         → ((accepts : Accepts) (blobs : List Blob) (g : List Insertion) (turns : List ℕ)
-        → IsMade tells accepts blobs g with_closes q m → Looked q m turns
-        → IsReply tells accepts blobs g front 0 turns (outcome_of m) (text_of m))
+        (added : List (Stamped StoreEvent))
+        → IsMade tells accepts blobs g with_closes q m → Looked q m turns → PutsNothing added
+        → IsReply tells accepts blobs g front 0 turns added (outcome_of m) (text_of m))
         → closes ≡ true → Replies x0 x2 flow new tells v w entry m closes
     front_replies closes with_closes q a replied closing = record {
       asked = front;
@@ -233,9 +239,9 @@ module _ (x0 x1 x2 : Option (List ℕ)) (flow : Flow) (mid new : WireView) (says
         → m ≡ made.Memory
         → closes ≡ true → Replies x0 x2 flow new tells v w entry m closes
     memory_replies closes with_closes q a none closing = front_replies closes with_closes q a
-        (λ accepts blobs g turns is looked. subst
-        (λ (z : Made). IsReply tells accepts blobs g front 0 turns (outcome_of z) (text_of z)) (sym none)
-        (inr (refl, refl))) closing
+        (λ accepts blobs g turns added is looked nothing. subst
+        (λ (z : Made). IsReply tells accepts blobs g front 0 turns added (outcome_of z) (text_of z)) (sym none)
+        (inr (refl, nothing, refl))) closing
 
     refused_replies : (closes : Bool) (why : Refusal) (allow : Option Allowed)
         → Answers tells true (question.Refused why allow) v w entry m
@@ -243,9 +249,9 @@ module _ (x0 x1 x2 : Option (List ℕ)) (flow : Flow) (mid new : WireView) (says
         (refused_reply true (allow_text allow) why)
         → closes ≡ true → Replies x0 x2 flow new tells v w entry m closes
     refused_replies closes why allow a defined closing = front_replies closes true (question.Refused why allow) a
-        (λ accepts blobs g turns is looked. refused_says tells accepts blobs g why allow
-        (λ o text. IsReply tells accepts blobs g front 0 turns o text) (inr (refl, defined))
-        (inr (refl, refl)) m is) closing
+        (λ accepts blobs g turns added is looked nothing. refused_says tells accepts blobs g why allow
+        (λ o text. IsReply tells accepts blobs g front 0 turns added o text) (inr (refl, nothing, defined))
+        (inr (refl, nothing, refl)) m is) closing
 
   -- the whole body was read
   module _ (tells : Bool) (v w : Sight) (entry : Answered) where
@@ -262,7 +268,7 @@ module _ (x0 x1 x2 : Option (List ℕ)) (flow : Flow) (mid new : WireView) (says
       asked = Whole request;
       comes = (request_read mid.head moved.0 given says head.lines head.read leads, passed);
       handles = handles_of tells says.closes q v w entry (made.Told o text rest) (Whole request) a
-          (λ accepts blobs g turns is looked. inr (refl, (q, asked, is, looked)));
+          (λ accepts blobs g turns added is looked nothing. inr (refl, nothing, (q, asked, is, looked)));
       closing = closing ∙ or_false says.closes;
       ready = λ still. done;
     }
@@ -438,17 +444,23 @@ stop_replies x0 x1 x2 flow mid new says head stopped.ReadFault gathered tells v 
 
 -- ---- the source ended inside a body, or a read failed
 
-no_rest : (end : Ended) → IsRest end []
-no_rest ended.Closed = refl
-no_rest (ended.Cut n) = tt
-no_rest ended.ReadFault = tt
-no_rest ended.WriteFault = refl
-no_rest ended.NoMemory = refl
+no_rest : (x : Option (List ℕ)) (end : Ended) → IsRest x end [] []
+no_rest x ended.Closed = (refl, refl)
+no_rest x (ended.Cut n) = inl (refl, refl)
+no_rest x ended.ReadFault = inl (refl, refl)
+no_rest x ended.WriteFault = (refl, refl)
+no_rest x ended.NoMemory = (refl, refl)
 
 -- nothing was done
-pub passes_none : (end : Ended) (v : Sight) → Passes end v v
-passes_none end v = record
-    { turns = []; drawn = sym (append-nil v.store.turns); rest = no_rest end; longer = longer_none v }
+pub passes_none : (x : Option (List ℕ)) (end : Ended) (v : Sight) → Passes x end v v
+passes_none x end v = record {
+  turns = [];
+  drawn = sym (append-nil v.store.turns);
+  added = [];
+  owned = owns_none v;
+  rest = no_rest x end;
+  longer = longer_none v;
+}
 
 pub cut_body : (before now : Option (List ℕ)) (place n : ℕ) (b : Begun) → IsBegun b
     → Gave before now (b.head ++ b.framed) → n ≡ place
@@ -516,5 +528,5 @@ stop_none x0 x1 x2 flow mid new says head stopped.ReadFault gathered r first oth
     (is_begun x0 x1 x2 flow mid new says head gathered.given gathered.moved)
     (passed x0 x1 x2 flow mid new says head gathered.given gathered.moved).gave gathered.says)
 
-pub passes_same : (end : Ended) (v w : Sight) → w ≡ v → Passes end v w
-passes_same end v w same = subst (λ (z : Sight). Passes end v z) (sym same) (passes_none end v)
+pub passes_same : (x : Option (List ℕ)) (end : Ended) (v w : Sight) → w ≡ v → Passes x end v w
+passes_same x end v w same = subst (λ (z : Sight). Passes x end v z) (sym same) (passes_none x end v)

@@ -1,10 +1,13 @@
 -- What was answered stays so as the histories grow.
-use Rattle.std.proofs.Common.{◌≡◌, ℕ, ◌≤◌, List, [], ◌∷◌, ◌++◌, take, Bool, Contains, refl, sym, subst, ◌∙◌, arith}
+use Rattle.std.proofs.Common.{◌≡◌, ℕ, ◌≤◌, List, [], ◌∷◌, ◌++◌, take, Bool, Contains, refl, ap, sym, subst, ◌∙◌, arith}
+use Rattle.std.proofs.Common.{append_assoc}
+use Rattle.std.proofs.lemmas.List.{append-nil}
 use Rattle.std.proofs.lemmas.List.Elements.{Contains-append_left}
 use mathlib.Core.List.{IsPrefix}
 use Rattle.claim_verify.specs.Verifier.{Accepts}
 use Rattle.histories.specs.declared.stamped.Stamped.{Stamped}
 use Rattle.histories.specs.declared.events.StoreEvent.{StoreEvent}
+use Rattle.histories.specs.History.{own}
 use Rattle.histories.specs.Stores.{Blob, arrivals}
 use Rattle.histories.specs.Indexes.{Insertion}
 use Rattle.histories.proofs.Prefixes.{prefix_self, prefix_trans, prefix_length}
@@ -14,7 +17,7 @@ use Rattle.blob_http.specs.declared.entries.Answered.{Answered}
 use Rattle.blob_http.specs.declared.entries.Outcome.{Outcome}
 use Rattle.blob_http.specs.declared.entries.Outcome.TheVariants.{Defined, Memory, Disk, Full, Damaged}
 use Rattle.blob_http.specs.Asked.{Asked}
-use Rattle.blob_http.specs.Serving.{IsReply, HasCauseIn, IsAnswered, Longer, Answer, AnswerHolds, Climbs}
+use Rattle.blob_http.specs.Serving.{IsReply, HasCauseIn, IsAnswered, Longer, Answer, AnswerHolds, Climbs, Owns}
 
 contains_stays : {A : Type 0} (xs ys : List A) (x : A) → IsPrefix xs ys → Contains xs x → Contains ys x
 contains_stays xs ys x p c = subst (λ (z : List _). Contains z x) p.1 (Contains-append_left xs p.0 x c)
@@ -29,10 +32,10 @@ cause_stays turns h k (Damaged want is) p c = (c.0, c.1, contains_stays h k _ p 
 
 -- the lemma that the loop rests on
 pub answered_stays : (tells : Bool) (accepts : Accepts) (h k : List (Stamped StoreEvent)) (f g : List Insertion)
-    (asked : Asked) (entry : Answered) (text turns : List ℕ)
-    → IsPrefix h k → IsPrefix f g → IsAnswered tells accepts h f asked entry text turns
-    → IsAnswered tells accepts k g asked entry text turns
-answered_stays tells accepts h k f g asked entry text turns p q a =
+    (asked : Asked) (entry : Answered) (text turns : List ℕ) (added : List (Stamped StoreEvent))
+    → IsPrefix h k → IsPrefix f g → IsAnswered tells accepts h f asked entry text turns added
+    → IsAnswered tells accepts k g asked entry text turns added
+answered_stays tells accepts h k f g asked entry text turns added p q a =
     let n = entry.store_count in
     let m = entry.index_count in
     let blobs : take n (arrivals k) ≡ take n (arrivals h) =
@@ -43,16 +46,18 @@ answered_stays tells accepts h k f g asked entry text turns p q a =
           (arrivals_prefix h k p) in let s = a.store_within in omega arith;
       index_within = let l = prefix_length f g q in let s = a.index_within in omega arith;
       replied = subst (λ (z : List Blob). IsReply tells accepts z
-          (take m g) asked entry.kept turns entry.outcome text) (sym blobs)
+          (take m g) asked entry.kept turns added entry.outcome text) (sym blobs)
           (subst (λ (z : List Insertion). IsReply tells accepts
-          (take n (arrivals h)) z asked entry.kept turns entry.outcome text) (sym rows) a.replied);
+          (take n (arrivals h)) z asked entry.kept turns added entry.outcome text) (sym rows) a.replied);
       cause = cause_stays turns h k entry.outcome p a.cause;
+      placed = a.placed;
     }
 
 pub holds_stays : (tells : Bool) (accepts : Accepts) (h k : List (Stamped StoreEvent)) (f g : List Insertion)
     (a : Answer)
     → IsPrefix h k → IsPrefix f g → AnswerHolds tells accepts h f a → AnswerHolds tells accepts k g a
-holds_stays tells accepts h k f g a p q is = answered_stays tells accepts h k f g a.asked a.entry a.text a.turns p q is
+holds_stays tells accepts h k f g a p q is =
+    answered_stays tells accepts h k f g a.asked a.entry a.text a.turns a.added p q is
 
 pub longer_none : (v : Sight) → Longer v v
 longer_none v = record {
@@ -71,6 +76,15 @@ longer_chain v w x p q = record {
   limits = q.limits ∙ p.limits;
   accepts = q.accepts ∙ p.accepts;
 }
+
+-- nothing was added
+pub owns_none : (v : Sight) → Owns v v []
+owns_none v = sym (append-nil (own v.store.turns v.store.history))
+
+-- what was added, and what was added then
+pub owns_chain : (v w x : Sight) (xs ys : List (Stamped StoreEvent)) → Owns v w xs → Owns w x ys → Owns v x (xs ++ ys)
+owns_chain v w x xs ys p q =
+    q ∙ ap (λ (z : List (Stamped StoreEvent)). z ++ ys) p ∙ append_assoc (own v.store.turns v.store.history) xs ys
 
 -- one more entry, whose counts are at or above what was seen before it
 pub climbs_more : (m n : ℕ) (rest : List Answer) (p q : ℕ) (a : Answer) (r s : ℕ) → Climbs m n rest p q

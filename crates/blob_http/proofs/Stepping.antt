@@ -8,6 +8,8 @@ use Rattle.std.proofs.lemmas.List.Elements.{All-push, All-weaker, All-nil}
 use mathlib.Core.List.{map-append}
 use Rattle.edge_base.specs.Edge.{Took, TookFront, Rose, one_more}
 use Rattle.edge_base.proofs.Moves.{Took-chain}
+use Rattle.histories.specs.declared.stamped.Stamped.{Stamped}
+use Rattle.histories.specs.declared.events.StoreEvent.{StoreEvent}
 use Rattle.histories.specs.Stores.{arrivals}
 use Rattle.histories.proofs.Prefixes.{prefix_length}
 use Rattle.histories.proofs.Standing.{arrivals_prefix}
@@ -16,8 +18,9 @@ use Rattle.blob_http.specs.declared.entries.Answered.{Answered}
 use Rattle.blob_http.specs.declared.serving.Ended.{Ended}
 use Rattle.blob_http.specs.declared.serving.Ended.TheVariants as ended
 use Rattle.blob_http.specs.Asked.{Asked}
-use Rattle.blob_http.specs.Serving.{IsAnswered, Handles, Longer, Answer, AnswerHolds, Serves, HasNone, EndCause}
-use Rattle.blob_http.proofs.Staying.{holds_stays, longer_none, longer_chain, climbs_more, climbs_stay}
+use Rattle.blob_http.specs.Serving.{IsAnswered, Handles, Longer, Answer, AnswerHolds, Serves, HasNone, EndCause, Owns}
+use Rattle.blob_http.proofs.Staying.{holds_stays, longer_none, longer_chain, climbs_more, climbs_stay, owns_none}
+use Rattle.blob_http.proofs.Staying.{owns_chain}
 
 pub took_none : (w : Option (List ℕ)) → Took w w []
 took_none None = refl
@@ -45,6 +48,15 @@ drawn_more v w before rest turns all drawn none push =
     ap (λ (z : List ℕ). z ++ turns) plain ∙ append_assoc v before turns
     ∙ ap (λ (z : List ℕ). v ++ z) (sym push ∙ sym (append-nil all))
 
+-- what one more answer added
+owns_more : (v w x : Sight) (before rest more all : List (Stamped StoreEvent)) → Owns v w (before ++ rest)
+    → rest ≡ [] → Owns w x more → all ≡ before ++ more → Owns v x (all ++ [])
+owns_more v w x before rest more all owned none then push =
+    let plain : before ++ rest ≡ before = ap (λ (z : List (Stamped StoreEvent)). before ++ z) none
+    ∙ append-nil before in
+    subst (Owns v x) (sym push ∙ sym (append-nil all))
+    (owns_chain v w x before more (subst (Owns v w) plain owned) then)
+
 module _ (tells : Bool) where
   -- nothing was served yet
   pub serves_none : (v : Sight) (noted : List Answered → Type 0) (heard : List Asked → Type 0)
@@ -58,7 +70,9 @@ module _ (tells : Bool) where
     climbs = (omega arith, omega arith);
     rest = [];
     turns = sym (append-nil v.store.turns);
-    rests = refl;
+    rest_added = [];
+    owned = owns_none v;
+    rests = (refl, refl);
     longer = longer_none v;
   }
 
@@ -71,7 +85,7 @@ module _ (tells : Bool) where
       → ((texts : List ℕ) → wrote texts → wrote' (texts ++ text))
       → Serves tells v x noted' heard' wrote' HasNone
   serves_more v w x noted noted' heard heard' wrote wrote' asked entry text s h more_noted more_heard more_text =
-      let a : Answer = record { asked = asked; entry = entry; text = text; turns = h.turns } in
+      let a : Answer = record { asked = asked; entry = entry; text = text; turns = h.turns; added = h.added } in
       let same : x.index.accepts ≡ v.index.accepts = h.longer.accepts ∙ s.longer.accepts in
       record {
         answers = s.answers ++ a ∷ [];
@@ -83,7 +97,7 @@ module _ (tells : Bool) where
             (AnswerHolds tells v.index.accepts x.store.history x.index.shown)
             (λ b p. holds_stays tells v.index.accepts w.store.history x.store.history w.index.shown x.index.shown b
             h.longer.store h.longer.shown p) s.answers s.each)
-            (subst (λ acc. IsAnswered tells acc x.store.history x.index.shown asked entry text h.turns) same
+            (subst (λ acc. IsAnswered tells acc x.store.history x.index.shown asked entry text h.turns h.added) same
             h.answered);
         climbs = climbs_more (length (arrivals v.store.history)) (length v.index.shown) s.answers
             (length (arrivals w.store.history)) (length w.index.shown) a
@@ -92,21 +106,26 @@ module _ (tells : Bool) where
         rest = [];
         turns = h.drawn ∙ drawn_more v.store.turns w.store.turns
             (flat_map (λ (b : Answer). b.turns) s.answers) s.rest h.turns
-            (flat_map (λ (b : Answer). b.turns) (s.answers ++ a ∷ [])) s.turns s.rests
+            (flat_map (λ (b : Answer). b.turns) (s.answers ++ a ∷ [])) s.turns s.rests.0
             (flat_push (λ (b : Answer). b.turns) s.answers a);
-        rests = refl;
+        rest_added = [];
+        owned = owns_more v w x (flat_map (λ (b : Answer). b.added) s.answers) s.rest_added h.added
+            (flat_map (λ (b : Answer). b.added) (s.answers ++ a ∷ [])) s.owned s.rests.1 h.owned
+            (flat_push (λ (b : Answer). b.added) s.answers a);
+        rests = (refl, refl);
         longer = longer_chain v w x s.longer h.longer;
       }
 
   -- no further answer, where the pass has maybe seen more, and drawn turns that belong to no answer
   pub serves_ends : (v w x : Sight) (noted noted' : List Answered → Type 0) (heard heard' : List Asked → Type 0)
       (wrote wrote' : List ℕ → Type 0)
-      (rests : List ℕ → Type 0) (turns : List ℕ) → Serves tells v w noted heard wrote HasNone
+      (rests : List ℕ → List (Stamped StoreEvent) → Type 0) (turns : List ℕ) (added : List (Stamped StoreEvent))
+      → Serves tells v w noted heard wrote HasNone
       → ((entries : List Answered) → noted entries → noted' entries)
       → ((asked : List Asked) → heard asked → heard' asked) → ((texts : List ℕ) → wrote texts → wrote' texts)
-      → x.store.turns ≡ w.store.turns ++ turns → rests turns → Longer w x
+      → x.store.turns ≡ w.store.turns ++ turns → Owns w x added → rests turns added → Longer w x
       → Serves tells v x noted' heard' wrote' rests
-  serves_ends v w x noted noted' heard heard' wrote wrote' rests turns s e f g drawn r longer = record {
+  serves_ends v w x noted noted' heard heard' wrote wrote' rests turns added s e f g drawn owned r longer = record {
     answers = s.answers;
     noted = e _ s.noted;
     heard = f _ s.heard;
@@ -123,7 +142,11 @@ module _ (tells : Bool) where
         (prefix_length w.index.shown x.index.shown longer.shown);
     rest = turns;
     turns = drawn ∙ drawn_rest v.store.turns w.store.turns
-        (flat_map (λ (b : Answer). b.turns) s.answers) s.rest turns s.turns s.rests;
+        (flat_map (λ (b : Answer). b.turns) s.answers) s.rest turns s.turns s.rests.0;
+    rest_added = added;
+    owned = owns_chain v w x (flat_map (λ (b : Answer). b.added) s.answers) added
+        (subst (Owns v w) (ap (λ (z : List (Stamped StoreEvent)). flat_map (λ (b : Answer). b.added) s.answers ++ z)
+        s.rests.1 ∙ append-nil (flat_map (λ (b : Answer). b.added) s.answers)) s.owned) owned;
     rests = r;
     longer = longer_chain v w x s.longer longer;
   }

@@ -1,13 +1,16 @@
 -- What an upload comes to, from its body to its reply.
 use Rattle.std.proofs.Common.{◌≡◌, ℕ, List, [], ◌++◌, length, take, Bool, true, false, ◌||◌, not, Option, Some, None}
 use Rattle.std.proofs.Common.{Result, Ok, Err, IfOk, IfErr, IsErrOf, refl, ap, sym, subst, ◌∙◌, inl, inr, ◌⊎◌, arith}
-use Rattle.std.proofs.Common.{if◌then◌else◌, codes}
-use Rattle.std.specs.Option.{option_map}
+use Rattle.std.proofs.Common.{if◌then◌else◌, codes, All, append_assoc}
+use Rattle.std.specs.Option.{option_map, IfSome}
+use Rattle.edge_base.specs.Edge.{Gave}
 use Rattle.std.proofs.lemmas.List.{append-nil, take_all, length-map}
+use Rattle.std.proofs.lemmas.List.Elements.{All-weaker}
 use Rattle.answer_text.specs.declared.refusal.Refusal.{Refusal}
 use Rattle.answer_text.specs.declared.refusal.Refusal.TheVariants as refusal
 use Rattle.histories.specs.declared.stamped.Stamped.{Stamped}
 use Rattle.histories.specs.declared.events.StoreEvent.{StoreEvent}
+use Rattle.histories.specs.declared.events.StoreEvent.TheVariants as store
 use Rattle.histories.specs.Stores.{Blob, arrivals}
 use Rattle.histories.specs.StoreCalls.{sizes}
 use Rattle.histories.specs.Indexes.{Insertion}
@@ -18,6 +21,7 @@ use Rattle.http_wire.specs.declared.body.Body.{Body}
 use Rattle.http_wire.specs.declared.body.Body.TheVariants as body
 use Rattle.http_wire.specs.declared.head.Head.{Head}
 use Rattle.http_wire.specs.declared.head.Framing.{Framing}
+use Rattle.http_wire.specs.declared.ends.WireEnd.{WireEnd}
 use Rattle.http_wire.specs.declared.ends.WireEnd.TheVariants as ends
 use Rattle.http_wire.specs.Stream.{Flow, stream}
 use Rattle.http_wire.specs.Bodies.{Leads}
@@ -34,7 +38,8 @@ use Rattle.blob_routes.specs.Before.{early_of, upload_of, boundary_in}
 use Rattle.blob_upload.specs.declared.came.Came.{Came}
 use Rattle.blob_upload.specs.declared.came.Came.TheVariants as came
 use Rattle.blob_upload.specs.Comes.{Comes}
-use Rattle.blob_upload.specs.Adds.{Adds, Turns, ShowsWhy}
+use Rattle.blob_upload.specs.Adds.{Adds, Turns, ShowsWhy, IsAddedBy, IsNext}
+use Rattle.blob_upload.specs.Puts.{IsArrivalOf}
 use Rattle.blob_upload.specs.Uploads.{Uploads}
 use Rattle.blob_upload.proofs.Adding.{uploads_add}
 use Rattle.blob_upload.proofs.Coming.{uploads_come}
@@ -49,7 +54,8 @@ use Rattle.blob_http.specs.Asked.{Asked, Whole, Front}
 use Rattle.blob_http.specs.Questions.{piece, first_of, first_by, early_by}
 use Rattle.blob_http.specs.Answers.{outcome_of, text_of, IsTold}
 use Rattle.blob_http.specs.Keeping.{boundary_at, Kept, IsUploadReply, UploadMade, is_whole}
-use Rattle.blob_http.specs.Serving.{HasCauseIn, IsRest, Passes, IsReply, Longer, Handles, HadNoRefusal}
+use Rattle.blob_http.specs.Serving.{HasCauseIn, IsRest, Passes, IsReply, Longer, Handles, HadNoRefusal, AddsParts}
+use Rattle.blob_http.specs.Serving.{CutUpload}
 use Rattle.blob_http.specs.Handling.{is_memory, ReadsHead, Replies, NoneComes, IsUploadEntry}
 use Rattle.blob_http.proofs.Requesting.{begun, is_begun, passed, cut_body, read_short_of_body, true_not}
 
@@ -133,57 +139,95 @@ upload_cause closes kept (came.Ended ends.ReadFault) (made.Told o head rest) tur
 not_whole : is_whole came.Whole ≡ false → ⊥
 not_whole e = true_not e
 
+-- ---- what was added
+
+-- an upload that ends where no more of its body is read added Puts of its parts alone
+arrival_of : (parts : List Part) (next : Part → Type 0) (end : WireEnd) (e : StoreEvent)
+    → IsAddedBy parts next (came.Ended end) e → IsArrivalOf parts e
+arrival_of parts next end (store.Put n r bytes) is = elim is [ inl stands ↦ stands | inr other ↦ absurd (cc other.0) ]
+arrival_of parts next end (store.Fault f) is = absurd (cc is)
+arrival_of parts next end (store.Damage want other) is = absurd is
+arrival_of parts next end (store.Full blobs pack) is = absurd (cc is)
+
+-- which every upload may add
+added_by : (parts : List Part) (next : Part → Type 0) (c : Came) (e : StoreEvent) → IsArrivalOf parts e
+    → IsAddedBy parts next c e
+added_by parts next c (store.Put n r bytes) is = inl is
+added_by parts next c (store.Fault f) is = absurd is
+added_by parts next c (store.Damage want other) is = absurd is
+added_by parts next c (store.Full blobs pack) is = absurd is
+
+module _ (boundary given : List ℕ) (parts : List Part) (end : WireEnd) (added : List (Stamped StoreEvent))
+    (all : AddsParts boundary given parts (came.Ended end) added) where
+  abbrev IsAdded : Stamped StoreEvent → Type 0
+  IsAdded s = IsAddedBy parts (IsNext boundary given parts) (came.Ended end) s.entry
+
+  arrivals_alone : All (λ (s : Stamped StoreEvent). IsArrivalOf parts s.entry) added
+  arrivals_alone = All-weaker IsAdded (λ (s : Stamped StoreEvent). IsArrivalOf parts s.entry)
+      (λ s is. arrival_of parts (IsNext boundary given parts) end s.entry is) added all
+
+  broken_adds : (c : Came) → AddsParts boundary given parts c added
+  broken_adds c = All-weaker IsAdded
+      (λ (s : Stamped StoreEvent). IsAddedBy parts (IsNext boundary given parts) c s.entry)
+      (λ s is. added_by parts (IsNext boundary given parts) c s.entry
+      (arrival_of parts (IsNext boundary given parts) end s.entry is)) added all
+
 -- what an upload that isn't whole came to, and its reply
 upload_said : (boundary given : List ℕ) (parts : List Part) (wire : WireView) (x : Option (List ℕ)) (closes : Bool)
-    (c : Came) (m : Made) (n t : ℕ)
+    (c : Came) (m : Made) (n t : ℕ) (added : List (Stamped StoreEvent))
     → UploadMade closes (sizes parts) c (Ok m) → Comes boundary given parts wire x c → Turns c n t
-    → (is_whole c ≡ false) ⊎ (m ≡ made.Memory)
+    → (is_whole c ≡ false) ⊎ (m ≡ made.Memory) → AddsParts boundary given parts c added
     → (d : Came) × Comes boundary given parts wire x d × Turns d n t × IsUploadReply parts d (outcome_of m) (text_of m)
-upload_said boundary given parts wire x closes c made.Memory n t is comes turns part = (c, comes, turns, refl)
-upload_said boundary given parts wire x closes came.Whole (made.Told o head rest) n t is comes turns part =
+    × AddsParts boundary given parts d added
+upload_said boundary given parts wire x closes c made.Memory n t added is comes turns part adds = (c, comes, turns, refl, adds)
+upload_said boundary given parts wire x closes came.Whole (made.Told o head rest) n t added is comes turns part adds =
     absurd (elim part [ inl e ↦ not_whole e | inr e ↦ cc e ])
-upload_said boundary given parts wire x closes (came.Refused why) (made.Told o head rest) n t is comes turns part = (
+upload_said boundary given parts wire x closes (came.Refused why) (made.Told o head rest) n t added is comes turns part adds = (
   came.Refused why,
   comes,
   turns,
   subst (λ (z : Outcome). IsUploadReply parts (came.Refused why) z (head ++ rest))
       (sym is.0) is.1,
+  adds,
 )
-upload_said boundary given parts wire x closes (came.Full k pack) (made.Told o head rest) n t is comes turns part = (
+upload_said boundary given parts wire x closes (came.Full k pack) (made.Told o head rest) n t added is comes turns part adds = (
   came.Full k pack,
   comes,
   turns,
   subst (λ (z : Outcome). IsUploadReply parts (came.Full k pack) z (head ++ rest))
       (sym is.0) (refl, is.1),
+  adds,
 )
-upload_said boundary given parts wire x closes came.Disk (made.Told o head rest) n t is comes turns part = (
+upload_said boundary given parts wire x closes came.Disk (made.Told o head rest) n t added is comes turns part adds = (
   came.Disk,
   comes,
   turns,
   subst (λ (z : Outcome). IsUploadReply parts came.Disk z (head ++ rest)) (sym is.0)
       (refl, is.1),
+  adds,
 )
-upload_said boundary given parts wire x closes came.Memory (made.Told o head rest) n t is comes turns part = absurd is
+upload_said boundary given parts wire x closes came.Memory (made.Told o head rest) n t added is comes turns part adds = absurd is
 upload_said boundary given parts wire x closes (came.Ended ends.Closed)
-    (made.Told o head rest) n t is comes turns part = absurd comes.1
+    (made.Told o head rest) n t added is comes turns part adds = absurd comes.1
 upload_said boundary given parts wire x closes (came.Ended (ends.Cut k))
-    (made.Told o head rest) n t is comes turns part = absurd is
+    (made.Told o head rest) n t added is comes turns part adds = absurd is
 upload_said boundary given parts wire x closes (came.Ended (ends.BadHead k))
-    (made.Told o head rest) n t is comes turns part = absurd comes.1
+    (made.Told o head rest) n t added is comes turns part adds = absurd comes.1
 upload_said boundary given parts wire x closes (came.Ended (ends.BadLength k))
-    (made.Told o head rest) n t is comes turns part = (
+    (made.Told o head rest) n t added is comes turns part adds = (
       came.Refused refusal.BadLength,
       (comes.0, comes.1.1),
       turns,
       subst (λ (z : Outcome). IsUploadReply parts (came.Refused refusal.BadLength) z (head ++ rest)) (sym is.0) is.1,
+      broken_adds boundary given parts (ends.BadLength k) added adds (came.Refused refusal.BadLength),
     )
 upload_said boundary given parts wire x closes (came.Ended (ends.TooLong k))
-    (made.Told o head rest) n t is comes turns part = absurd comes.1
+    (made.Told o head rest) n t added is comes turns part adds = absurd comes.1
 upload_said boundary given parts wire x closes (came.Ended ends.ReadFault)
-    (made.Told o head rest) n t is comes turns part = absurd is
+    (made.Told o head rest) n t added is comes turns part adds = absurd is
 
-added_longer : (parts : List Part) (c : Came) (v w : Sight) → Adds parts c v w → Longer v w
-added_longer parts c v w adds = record {
+added_longer : (parts : List Part) (next : Part → Type 0) (c : Came) (v w : Sight) → Adds parts next c v w → Longer v w
+added_longer parts next c v w adds = record {
   store = adds.grew.longer;
   index = ([], append-nil v.index.history ∙ sym (ap (λ i. i.history) adds.index));
   shown = ([], append-nil v.index.shown ∙ sym (ap (λ i. i.shown) adds.index));
@@ -191,33 +235,11 @@ added_longer parts c v w adds = record {
   accepts = ap (λ i. i.accepts) adds.index;
 }
 
--- an upload in which the connection ends leaves the turns that it drew
-pub upload_passes : (boundary : List ℕ) (x1 x2 : Option (List ℕ)) (mid new : WireView) (v w : Sight)
-    (listed : List (List ℕ × ℕ)) (c : Came)
-    (closes : Bool) → Uploads boundary x1 x2 mid new v w [] listed c → (end : Ended)
-    → UploadMade closes listed c (Err end) → Passes end v w
-upload_passes boundary x1 x2 mid new v w listed c closes u end is =
-    let adds = uploads_add boundary x1 x2 mid new v w [] listed c u in
-    record {
-      turns = adds.grew.further;
-      drawn = adds.grew.drawn;
-      rest = may_rest c end adds.grew.further is;
-      longer =
-          added_longer u.parts c v w adds;
-    }
-  where
-    may_rest : (d : Came) (end : Ended) (turns : List ℕ) → UploadMade closes listed d (Err end) → IsRest end turns
-    may_rest came.Whole end turns is = absurd is
-    may_rest (came.Refused why) end turns is = absurd is
-    may_rest (came.Full n pack) end turns is = absurd is
-    may_rest came.Disk end turns is = absurd is
-    may_rest came.Memory end turns is = absurd is
-    may_rest (came.Ended ends.Closed) end turns is = absurd is
-    may_rest (came.Ended (ends.Cut n)) end turns is = subst (λ (e : Ended). IsRest e turns) (sym is) tt
-    may_rest (came.Ended (ends.BadHead n)) end turns is = absurd is
-    may_rest (came.Ended (ends.BadLength n)) end turns is = absurd is
-    may_rest (came.Ended (ends.TooLong n)) end turns is = absurd is
-    may_rest (came.Ended ends.ReadFault) end turns is = subst (λ (e : Ended). IsRest e turns) (sym is) tt
+-- what was taken of a stream stands in it
+gave_stands : (o now : Option (List ℕ)) (head framed : List ℕ) → Gave o now (head ++ framed)
+    → IfSome o (λ bytes. (before after : List ℕ) × (bytes ≡ before ++ (head ++ (framed ++ after))))
+gave_stands None now head framed gave = tt
+gave_stands (Some x) now head framed gave = ([], gave.0, gave.2 ∙ append_assoc head framed gave.0)
 
 module _ (x0 x1 x2 : Option (List ℕ)) (flow : Flow) (mid new : WireView) (says : Head)
     (head : ReadsHead x0 x1 flow mid says)
@@ -225,7 +247,7 @@ module _ (x0 x1 x2 : Option (List ℕ)) (flow : Flow) (mid new : WireView) (says
     (bounds : boundary_at mid.head says ≡ Some boundary)
     (tells : Bool) (v w : Sight) (listed : List (List ℕ × ℕ)) (c : Came)
     (u : Uploads boundary x1 x2 mid new v w [] listed c) where
-  adds : Adds u.parts c v w
+  adds : Adds u.parts (IsNext boundary u.given u.parts) c v w
   adds = uploads_add boundary x1 x2 mid new v w [] listed c u
 
   comes : Comes boundary u.given u.parts new (to_come new x2) c
@@ -252,12 +274,13 @@ module _ (x0 x1 x2 : Option (List ℕ)) (flow : Flow) (mid new : WireView) (says
   }
 
   longer : Longer v w
-  longer = added_longer u.parts c v w adds
+  longer = added_longer u.parts (IsNext boundary u.given u.parts) c v w adds
 
   handles : (asked : Asked) (entry : Answered) (m : Made) → UploadMade says.closes listed c (Ok m)
       → IsUploadEntry w (length listed) m entry
       → ((g : List Insertion)
-      → IsReply tells w.index.accepts (arrivals w.store.history) g asked entry.kept turns (outcome_of m) (text_of m))
+      → IsReply tells w.index.accepts (arrivals w.store.history) g asked entry.kept turns adds.grew.added (outcome_of m)
+      (text_of m))
       → Handles tells asked v w entry (text_of m)
   handles asked entry m is e replied =
       let all : take entry.store_count
@@ -266,18 +289,21 @@ module _ (x0 x1 x2 : Option (List ℕ)) (flow : Flow) (mid new : WireView) (says
       record {
         turns = turns;
         drawn = adds.grew.drawn;
+        added = adds.grew.added;
+        owned = adds.grew.owned;
         answered = record {
           store_within = let p = e.store in omega arith;
           index_within = let p = e.index in omega arith;
           replied = subst (λ (o : Outcome). IsReply tells w.index.accepts
               (take entry.store_count (arrivals w.store.history))
-              (take entry.index_count w.index.shown) asked entry.kept turns o (text_of m))
+              (take entry.index_count w.index.shown) asked entry.kept turns adds.grew.added o (text_of m))
               (sym e.outcome)
               (subst (λ (b : List Blob). IsReply tells w.index.accepts b
-              (take entry.index_count w.index.shown) asked entry.kept turns (outcome_of m) (text_of m)) (sym all)
-              (replied (take entry.index_count w.index.shown)));
+              (take entry.index_count w.index.shown) asked entry.kept turns adds.grew.added (outcome_of m) (text_of m))
+              (sym all) (replied (take entry.index_count w.index.shown)));
           cause = subst (λ (o : Outcome). HasCauseIn turns w.store.history o) (sym e.outcome)
               (upload_cause says.closes listed c m turns w.store.history is adds.why);
+          placed = adds.grew.placed;
         };
         store_low = let p = e.store in let l = prefix_length (arrivals v.store.history) (arrivals w.store.history)
             (arrivals_prefix v.store.history w.store.history adds.grew.longer) in omega arith;
@@ -294,8 +320,8 @@ module _ (x0 x1 x2 : Option (List ℕ)) (flow : Flow) (mid new : WireView) (says
       let after = stream new.flow.bytes x2 in
       let n : entry.kept ≡ length u.parts = counted entry.kept e.kept in
       let said = upload_said boundary u.given u.parts new (to_come new x2) says.closes c m entry.kept (length turns)
-      (made_so m is) comes
-      (subst (λ (k : ℕ). Turns c k (length turns)) (sym n) adds.turns) part in
+      adds.grew.added (made_so m is) comes
+      (subst (λ (k : ℕ). Turns c k (length turns)) (sym n) adds.turns) part adds.grew.each_is in
       record {
         asked = Front b after;
         comes = (
@@ -305,7 +331,7 @@ module _ (x0 x1 x2 : Option (List ℕ)) (flow : Flow) (mid new : WireView) (says
           refl,
         );
         handles = handles (Front b after) entry m is e
-            (λ g. inl (kept entry.kept e.kept, (said.0, new, refl, said.1, said.2, said.3)));
+            (λ g. inl (kept entry.kept e.kept, (said.0, new, refl, said.1, said.2, said.3, said.4)));
         closing = closing;
         ready = λ still. absurd (true_not (sym closing ∙ still));
       }
@@ -332,7 +358,14 @@ module _ (x0 x1 x2 : Option (List ℕ)) (flow : Flow) (mid new : WireView) (says
               says head u.given u.moved,
         );
         handles = handles (Whole r) entry (made.Told o text rest) is e
-            (λ g. inl (kept entry.kept e.kept, done.2, count ∙ sym (counted entry.kept e.kept), told.0, told.1));
+            (λ g. inl (
+              kept entry.kept e.kept,
+              done.2,
+              count ∙ sym (counted entry.kept e.kept),
+              told.0,
+              told.1,
+              subst (λ (z : Came). AddsParts boundary u.given u.parts z adds.grew.added) whole adds.grew.each_is,
+            ));
         closing = closing;
         ready = λ still. done.0;
       }
@@ -369,6 +402,52 @@ module _ (x0 x1 x2 : Option (List ℕ)) (flow : Flow) (mid new : WireView) (says
           (closing ∙ ap (λ (b : Bool). (says.closes || not b) || false) whole ∙ or_false says.closes)
       by_whole false part = part_replies entry (made.Told o text rest) closes is e (inl part)
           (closing ∙ ap (λ (b : Bool). (says.closes || not b) || false) part ∙ or_true says.closes)
+
+  -- an upload in which the connection ends leaves the turns that it drew, and what they added
+  cut_upload : (end : WireEnd) → c ≡ came.Ended end → CutUpload (stream flow.bytes x0) turns adds.grew.added
+  cut_upload end ends_so = record {
+    begun = begun x0 x1 x2 flow mid new says head u.given u.moved;
+    is_begun = is_begun x0 x1 x2 flow mid new says head u.given u.moved;
+    stands = gave_stands (stream flow.bytes x0) (stream new.flow.bytes x2) mid.head u.moved.0
+        (passed x0 x1 x2 flow mid new says head u.given u.moved).gave;
+    upload = first;
+    boundary = boundary;
+    bounds = bounds;
+    parts = u.parts;
+    reads = (subst (λ (z : Came). Comes boundary u.given u.parts new (to_come new x2) z) ends_so comes).0;
+    count = subst (λ (z : Came). Turns z (length u.parts) (length turns)) ends_so adds.turns;
+    placed = adds.grew.placed;
+    adds = arrivals_alone boundary u.given u.parts end adds.grew.added
+        (subst (λ (z : Came). AddsParts boundary u.given u.parts z adds.grew.added) ends_so adds.grew.each_is);
+  }
+
+  pub upload_passes : (end : Ended) → UploadMade says.closes listed c (Err end) → Passes (stream flow.bytes x0) end v w
+  upload_passes end is = record {
+    turns = turns;
+    drawn = adds.grew.drawn;
+    added = adds.grew.added;
+    owned = adds.grew.owned;
+    rest = may_rest c end refl is;
+    longer = longer;
+  }
+    where
+      may_rest : (d : Came) (end : Ended) → c ≡ d → UploadMade says.closes listed d (Err end)
+          → IsRest (stream flow.bytes x0) end turns adds.grew.added
+      may_rest came.Whole end same is = absurd is
+      may_rest (came.Refused why) end same is = absurd is
+      may_rest (came.Full n pack) end same is = absurd is
+      may_rest came.Disk end same is = absurd is
+      may_rest came.Memory end same is = absurd is
+      may_rest (came.Ended ends.Closed) end same is = absurd is
+      may_rest (came.Ended (ends.Cut n)) end same is =
+          subst (λ (e : Ended). IsRest (stream flow.bytes x0) e turns adds.grew.added) (sym is)
+          (inr (cut_upload (ends.Cut n) same))
+      may_rest (came.Ended (ends.BadHead n)) end same is = absurd is
+      may_rest (came.Ended (ends.BadLength n)) end same is = absurd is
+      may_rest (came.Ended (ends.TooLong n)) end same is = absurd is
+      may_rest (came.Ended ends.ReadFault) end same is =
+          subst (λ (e : Ended). IsRest (stream flow.bytes x0) e turns adds.grew.added) (sym is)
+          (inr (cut_upload ends.ReadFault same))
 
   pub upload_none : (new.begun ≡ mid.begun) → (end : Ended) → UploadMade says.closes listed c (Err end)
       → NoneComes (stream flow.bytes x0) x2 flow.taken end

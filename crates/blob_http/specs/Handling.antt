@@ -1,7 +1,10 @@
 -- What one request comes to.
 use Rattle.std.specs.Prelude.{◌≡◌, ◌≤◌, ℕ, List, [], ◌∷◌, ◌++◌, length, take, Bool, true, false, Option, IfSome, Result}
-use Rattle.std.specs.Prelude.{Ok, Err, ◌==◌}
+use Rattle.std.specs.Prelude.{Ok, Err, ◌==◌, All}
 use Rattle.claim_verify.specs.Verifier.{Accepts}
+use Rattle.histories.specs.declared.stamped.Stamped.{Stamped}
+use Rattle.histories.specs.declared.events.StoreEvent.{StoreEvent}
+use Rattle.histories.specs.History.{has}
 use Rattle.histories.specs.Stores.{Blob, arrivals}
 use Rattle.histories.specs.Indexes.{Insertion}
 use Rattle.home_places.specs.Passes.{Sight}
@@ -26,7 +29,7 @@ use Rattle.blob_http.specs.declared.serving.Ended.{Ended}
 use Rattle.blob_http.specs.declared.serving.Ended.TheVariants as ended
 use Rattle.blob_http.specs.Asked.{Asked, Comes, closes_of}
 use Rattle.blob_http.specs.Answers.{IsAnswer, outcome_of, text_of}
-use Rattle.blob_http.specs.Serving.{HasCauseIn, LooksAt, Longer, Handles, IsCut, IsReadShort}
+use Rattle.blob_http.specs.Serving.{HasCauseIn, LooksAt, Longer, Handles, IsCut, IsReadShort, Owns, PutsNothing}
 
 abbrev pub IsMade : Bool → Accepts → List Blob → List Insertion → Bool → Question → Made → Type 0
 IsMade tells accepts blobs g closes q (made.Told o head body) = IsAnswer tells accepts blobs g closes q o (head ++ body)
@@ -41,16 +44,21 @@ abbrev pub Looked : Question → Made → List ℕ → Type 0
 Looked q made.Memory turns = Unit {0}
 Looked q (made.Told o head body) turns = LooksAt q turns
 
--- a turn of the store was drawn, which shows what had arrived
+-- a turn of the store was drawn, which shows what had arrived, and added nothing
 pub record Looks (v w : Sight) : Type 0 where
   pub turn : ℕ
   pub drawn : w.store.turns ≡ v.store.turns ++ turn ∷ []
+  pub owned : Owns v w []
   pub longer : Longer v w
 
--- a question was answered, or there was no memory for that
+-- a question was answered, or there was no memory for that; no blob was put
 pub record Answers (tells closes : Bool) (q : Question) (v w : Sight) (entry : Answered) (m : Made) : Type 0 where
   pub turns : List ℕ
   pub drawn : w.store.turns ≡ v.store.turns ++ turns
+  pub added : List (Stamped StoreEvent)
+  pub owned : Owns v w added
+  pub placed : All (λ (s : Stamped StoreEvent). has turns s.turn ≡ true) added
+  pub nothing : PutsNothing added
   pub store_within : entry.store_count ≤ length (arrivals w.store.history)
   pub index_within : entry.index_count ≤ length w.index.shown
   pub made : IsMade tells w.index.accepts (take entry.store_count (arrivals w.store.history))

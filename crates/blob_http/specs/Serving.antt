@@ -11,10 +11,10 @@ use Rattle.answer_text.specs.declared.refusal.Refusal.TheVariants as refusal
 use Rattle.histories.specs.declared.stamped.Stamped.{Stamped}
 use Rattle.histories.specs.declared.events.StoreEvent.{StoreEvent}
 use Rattle.histories.specs.declared.events.StoreEvent.TheVariants as store
-use Rattle.histories.specs.History.{stamp, has}
+use Rattle.histories.specs.History.{stamp, has, own}
 use Rattle.histories.specs.Stores.{Blob, arrivals}
 use Rattle.histories.specs.Indexes.{Insertion}
-use Rattle.home_places.specs.Passes.{Sight, Caused}
+use Rattle.home_places.specs.Passes.{Sight, Caused, IsTrouble}
 use Rattle.http_wire.specs.declared.body.Body.TheVariants.{Done}
 use Rattle.http_wire.specs.declared.ends.WireEnd.{WireEnd}
 use Rattle.http_wire.specs.declared.ends.WireEnd.TheVariants as ends
@@ -42,9 +42,13 @@ use Rattle.histories.specs.StoreCalls.{sizes}
 use Rattle.multipart_read.specs.PartLists.{IsMultipart}
 use Rattle.blob_routes.specs.declared.routes.Route.TheVariants as route
 use Rattle.blob_upload.specs.declared.came.Came.{Came}
+use Rattle.blob_upload.specs.declared.came.Came.TheVariants as came
 use Rattle.blob_upload.specs.Ends.{IsNotOver}
 use Rattle.blob_upload.specs.Comes.{Comes}
-use Rattle.blob_upload.specs.Adds.{Turns}
+use Rattle.blob_upload.specs.Adds.{Turns, IsAddedBy, IsNext}
+use Rattle.blob_upload.specs.Ends.{Reads}
+use Rattle.blob_upload.specs.Puts.{IsArrivalOf}
+use Rattle.multipart_read.specs.PartLists.{Part}
 
 -- ---- replies
 
@@ -80,17 +84,30 @@ IsHeadReply end Disk text = ⊥
 IsHeadReply end (Full blobs pack) text = ⊥
 IsHeadReply end (Damaged want is) text = ⊥
 
+-- An upload of which these bytes came, and these parts were kept, has added these entries to the store: Puts of its
+-- parts, and what shows why it ended.
+abbrev pub AddsParts : List ℕ → List ℕ → List Part → Came → List (Stamped StoreEvent) → Type 0
+AddsParts boundary given parts came =
+    All (λ (s : Stamped StoreEvent). IsAddedBy parts (IsNext boundary given parts) came s.entry)
+
+-- no Put is among these entries: they show why a blob couldn't be read
+abbrev pub PutsNothing : List (Stamped StoreEvent) → Type 0
+PutsNothing = All (λ (s : Stamped StoreEvent). IsTrouble s.entry)
+
 -- the reply to an upload that was whole
-abbrev pub IsWholeUpload : List Blob → Request → ℕ → List ℕ → Outcome → List ℕ → Type 0
-IsWholeUpload blobs r kept turns outcome text = (u : Kept r.head r.says blobs kept)
+abbrev pub IsWholeUpload : List Blob → Request → ℕ → List ℕ → List (Stamped StoreEvent) → Outcome → List ℕ → Type 0
+IsWholeUpload blobs r kept turns added outcome text = (u : Kept r.head r.says blobs kept)
     × IsMultipart u.boundary r.body u.parts (Ok tt) × (length turns ≡ kept) × (outcome ≡ Defined)
     × (text ≡ json_reply r.says.closes (upload_text (sizes u.parts) None))
+    × AddsParts u.boundary r.body u.parts came.Whole added
 
 -- the reply to an upload that ended before it was whole, or for which there was no memory to reply
-abbrev pub IsFrontUpload : List Blob → Begun → Option (List ℕ) → ℕ → List ℕ → Outcome → List ℕ → Type 0
-IsFrontUpload blobs b after kept turns outcome text = (u : Kept b.head b.says blobs kept)
+abbrev pub IsFrontUpload : List Blob → Begun → Option (List ℕ) → ℕ → List ℕ → List (Stamped StoreEvent) → Outcome
+    → List ℕ → Type 0
+IsFrontUpload blobs b after kept turns added outcome text = (u : Kept b.head b.says blobs kept)
     × ((came : Came) × (wire : WireView) × (wire.body ≡ b.at) × Comes u.boundary b.given u.parts wire after came
-    × Turns came kept (length turns) × IsUploadReply u.parts came outcome text)
+    × Turns came kept (length turns) × IsUploadReply u.parts came outcome text
+    × AddsParts u.boundary b.given u.parts came added)
 
 -- what is answered from the store draws a turn of it, and so does a search
 abbrev pub LooksAt : Question → List ℕ → Type 0
@@ -100,14 +117,18 @@ LooksAt (question.Stat refs) turns = 0 < length turns
 LooksAt (question.Refs page) turns = 0 < length turns
 LooksAt (question.Search query) turns = 0 < length turns
 
--- the reply over the blobs that arrived and the Inserts; an upload alone keeps parts
-abbrev pub IsReply : Bool → Accepts → List Blob → List Insertion → Asked → ℕ → List ℕ → Outcome → List ℕ → Type 0
-IsReply tells accepts blobs g (Whole r) kept turns outcome text = IsWholeUpload blobs r kept turns outcome text
-    ⊎ ((kept ≡ 0) × ((q : Question) × IsAsked r.head r.says r.body q
+-- the reply over the blobs that arrived and the Inserts; an upload alone keeps parts, and nothing else puts a blob
+abbrev pub IsReply : Bool → Accepts → List Blob → List Insertion → Asked → ℕ → List ℕ → List (Stamped StoreEvent)
+    → Outcome → List ℕ → Type 0
+IsReply tells accepts blobs g (Whole r) kept turns added outcome text =
+    IsWholeUpload blobs r kept turns added outcome text
+    ⊎ ((kept ≡ 0) × PutsNothing added × ((q : Question) × IsAsked r.head r.says r.body q
     × IsAnswer tells accepts blobs g r.says.closes q outcome text × LooksAt q turns))
-IsReply tells accepts blobs g (Front b after) kept turns outcome text =
-    IsFrontUpload blobs b after kept turns outcome text ⊎ ((kept ≡ 0) × IsFrontReply b after outcome text)
-IsReply tells accepts blobs g (Head end) kept turns outcome text = (kept ≡ 0) × IsHeadReply end outcome text
+IsReply tells accepts blobs g (Front b after) kept turns added outcome text =
+    IsFrontUpload blobs b after kept turns added outcome text
+    ⊎ ((kept ≡ 0) × PutsNothing added × IsFrontReply b after outcome text)
+IsReply tells accepts blobs g (Head end) kept turns added outcome text =
+    (kept ≡ 0) × PutsNothing added × IsHeadReply end outcome text
 
 -- ---- what was answered
 
@@ -119,14 +140,16 @@ HasCauseIn turns h Disk = Caused unread.Disk turns h
 HasCauseIn turns h (Full blobs pack) = (t : ℕ) × (has turns t ≡ true) × Contains h (stamp t (store.Full blobs pack))
 HasCauseIn turns h (Damaged want is) = Caused (unread.Damaged want is) turns h
 
--- the request was answered over the first Puts and the first Inserts, as many as its entry says
+-- the request was answered over the first Puts and the first Inserts, as many as its entry says; what it added to the
+-- store stands under turns that it drew
 pub record IsAnswered (tells : Bool) (accepts : Accepts) (h : List (Stamped StoreEvent)) (g : List Insertion)
-    (asked : Asked) (entry : Answered) (text turns : List ℕ) : Type 0 where
+    (asked : Asked) (entry : Answered) (text turns : List ℕ) (added : List (Stamped StoreEvent)) : Type 0 where
   pub store_within : entry.store_count ≤ length (arrivals h)
   pub index_within : entry.index_count ≤ length g
   pub replied : IsReply tells accepts (take entry.store_count (arrivals h)) (take entry.index_count g) asked
-      entry.kept turns entry.outcome text
+      entry.kept turns added entry.outcome text
   pub cause : HasCauseIn turns h entry.outcome
+  pub placed : All (λ (s : Stamped StoreEvent). has turns s.turn ≡ true) added
 
 -- what a pass has seen grows
 pub record Longer (v w : Sight) : Type 0 where
@@ -136,24 +159,31 @@ pub record Longer (v w : Sight) : Type 0 where
   pub limits : w.store.limits ≡ v.store.limits
   pub accepts : w.index.accepts ≡ v.index.accepts
 
+-- these entries were added under the pass's own turns
+abbrev pub Owns : Sight → Sight → List (Stamped StoreEvent) → Type 0
+Owns v w added = own w.store.turns w.store.history ≡ own v.store.turns v.store.history ++ added
+
 -- one request was answered
 pub record Handles (tells : Bool) (asked : Asked) (v w : Sight) (entry : Answered) (text : List ℕ) : Type 0 where
   pub turns : List ℕ
   pub drawn : w.store.turns ≡ v.store.turns ++ turns
-  pub answered : IsAnswered tells w.index.accepts w.store.history w.index.shown asked entry text turns
+  pub added : List (Stamped StoreEvent)
+  pub owned : Owns v w added
+  pub answered : IsAnswered tells w.index.accepts w.store.history w.index.shown asked entry text turns added
   pub store_low : length (arrivals v.store.history) ≤ entry.store_count
   pub index_low : length v.index.shown ≤ entry.index_count
   pub longer : Longer v w
 
--- what was answered, its entry, its reply, and the turns of the store that it drew
+-- what was answered, its entry, its reply, the turns of the store that it drew, and the entries that these added
 pub record Answer : Type 0 where
   pub asked : Asked
   pub entry : Answered
   pub text : List ℕ
   pub turns : List ℕ
+  pub added : List (Stamped StoreEvent)
 
 abbrev pub AnswerHolds : Bool → Accepts → List (Stamped StoreEvent) → List Insertion → Answer → Type 0
-AnswerHolds tells accepts h g a = IsAnswered tells accepts h g a.asked a.entry a.text a.turns
+AnswerHolds tells accepts h g a = IsAnswered tells accepts h g a.asked a.entry a.text a.turns a.added
 
 -- the counts never fall, from the first pair to the last
 abbrev pub Climbs : ℕ → ℕ → List Answer → ℕ → ℕ → Type 0
@@ -167,9 +197,10 @@ Notes tells old new entries = (before : List Answered) → tells old before → 
 
 -- What was served, over the histories that the pass has seen by now: the entries, in order, what was asked, and what
 -- was written are as is said; each reply is the one that is defined; the counts never fall; and the turns of the store
--- that were drawn are those of the requests, and then such as are said.
+-- that were drawn are those of the requests, and then such as are said. Under the turns that the pass has drawn stand
+-- the entries that it had, and then those that each answer added, and the rest.
 pub record Serves (tells : Bool) (v w : Sight) (notes : List Answered → Type 0) (hears : List Asked → Type 0)
-    (wrote : List ℕ → Type 0) (rest_is : List ℕ → Type 0) : Type 0 where
+    (wrote : List ℕ → Type 0) (rest_is : List ℕ → List (Stamped StoreEvent) → Type 0) : Type 0 where
   pub answers : List Answer
   pub noted : notes (map (λ (a : Answer). a.entry) answers)
   pub heard : hears (map (λ (a : Answer). a.asked) answers)
@@ -179,7 +210,9 @@ pub record Serves (tells : Bool) (v w : Sight) (notes : List Answered → Type 0
       (length (arrivals w.store.history)) (length w.index.shown)
   pub rest : List ℕ
   pub turns : w.store.turns ≡ v.store.turns ++ (flat_map (λ (a : Answer). a.turns) answers ++ rest)
-  pub rests : rest_is rest
+  pub rest_added : List (Stamped StoreEvent)
+  pub owned : Owns v w (flat_map (λ (a : Answer). a.added) answers ++ rest_added)
+  pub rests : rest_is rest rest_added
   pub longer : Longer v w
 
 -- ---- the stream
@@ -275,22 +308,41 @@ Wrote before now (ended.Cut n) texts = Took before now texts
 Wrote before now ended.ReadFault texts = Took before now texts
 Wrote before now ended.NoMemory texts = Took before now texts
 
--- the turns of the store that belong to no answer: those of an upload that was cut, or in which a read failed
-abbrev pub IsRest : Ended → List ℕ → Type 0
-IsRest ended.Closed turns = turns ≡ []
-IsRest (ended.Cut n) turns = Unit {0}
-IsRest ended.ReadFault turns = Unit {0}
-IsRest ended.WriteFault turns = turns ≡ []
-IsRest ended.NoMemory turns = turns ≡ []
+-- An upload that the stream begins, or that stands in it, was read so far. It drew a turn for each of its parts that
+-- were told, and under these stand Puts of such parts alone.
+pub record CutUpload (x : Option (List ℕ)) (turns : List ℕ) (added : List (Stamped StoreEvent)) : Type 0 where
+  pub begun : Begun
+  pub is_begun : IsBegun begun
+  pub stands : IfSome x (λ bytes. (before after : List ℕ)
+      × (bytes ≡ before ++ (begun.head ++ (begun.framed ++ after))))
+  pub upload : first_of begun.head begun.says ≡ Ok route.Upload
+  pub boundary : List ℕ
+  pub bounds : boundary_at begun.head begun.says ≡ Some boundary
+  pub parts : List Part
+  pub reads : Reads boundary begun.given parts
+  pub count : length turns ≡ length parts
+  pub placed : All (λ (s : Stamped StoreEvent). has turns s.turn ≡ true) added
+  pub adds : All (λ (s : Stamped StoreEvent). IsArrivalOf parts s.entry) added
 
-abbrev pub HasNone : List ℕ → Type 0
-HasNone turns = turns ≡ []
+abbrev pub HasNone : List ℕ → List (Stamped StoreEvent) → Type 0
+HasNone turns added = (turns ≡ []) × (added ≡ [])
 
--- a request without an answer: the turns that it drew, where the connection ends so
-pub record Passes (end : Ended) (v w : Sight) : Type 0 where
+-- the turns of the store that belong to no answer, and what they added: those of an upload that was cut, or in which a
+-- read failed
+abbrev pub IsRest : Option (List ℕ) → Ended → List ℕ → List (Stamped StoreEvent) → Type 0
+IsRest x ended.Closed turns added = HasNone turns added
+IsRest x (ended.Cut n) turns added = HasNone turns added ⊎ CutUpload x turns added
+IsRest x ended.ReadFault turns added = HasNone turns added ⊎ CutUpload x turns added
+IsRest x ended.WriteFault turns added = HasNone turns added
+IsRest x ended.NoMemory turns added = HasNone turns added
+
+-- a request without an answer: the turns that it drew, where the connection ends so, and what they added
+pub record Passes (x : Option (List ℕ)) (end : Ended) (v w : Sight) : Type 0 where
   pub turns : List ℕ
   pub drawn : w.store.turns ≡ v.store.turns ++ turns
-  pub rest : IsRest end turns
+  pub added : List (Stamped StoreEvent)
+  pub owned : Owns v w added
+  pub rest : IsRest x end turns added
   pub longer : Longer v w
 
 -- why it ended
@@ -311,9 +363,9 @@ abbrev pub WroteBy : Option (List ℕ) → Option (List ℕ) → Option Ended �
 WroteBy before now None texts = Took before now texts
 WroteBy before now (Some end) texts = Wrote before now end texts
 
-abbrev pub RestBy : Option Ended → List ℕ → Type 0
-RestBy None turns = turns ≡ []
-RestBy (Some end) turns = IsRest end turns
+abbrev pub RestBy : Option (List ℕ) → Option Ended → List ℕ → List (Stamped StoreEvent) → Type 0
+RestBy x None turns added = HasNone turns added
+RestBy x (Some end) turns added = IsRest x end turns added
 
 abbrev pub StepCause : ℕ → ℕ → ℕ → ℕ → Option Ended → Type 0
 StepCause read read' wrote wrote' None = Unit {0}

@@ -53,7 +53,7 @@ pub fn serve_connection<H: Home, S: Source, K: Sink, L: AnswerLog, R: Wait>(
     ensures own { H.belongs home.now pass.new }
     ensures serves { Serves (H.tells home.now) (H.sight pass.old) (H.sight pass.new) (Notes L.tells log.old log.new)
         (Heard (S.left source.old) (S.left source.new) result)
-        (Wrote (K.written sink.old) (K.written sink.new) result) (IsRest result) }
+        (Wrote (K.written sink.old) (K.written sink.new) result) (IsRest (S.left source.old) result) }
     ensures cause { EndCause (S.faults source.old) (S.faults source.new) (K.faults sink.old) (K.faults sink.new)
         result }
 {
@@ -88,7 +88,7 @@ fn serve_one<H: Home, S: Source, K: Sink, L: AnswerLog, R: Wait>(
         (Open x0 (S.left source.old) fresh_flow wire.old.flow) (Took w0 (K.written sink.old)) HasNone
         → Serves (H.tells home.now) v (H.sight pass.new) (Notes L.tells log0 log.new)
         (HeardBy x0 (S.left source.new) fresh_flow wire.new.flow result) (WroteBy w0 (K.written sink.new) result)
-        (RestBy result) }
+        (RestBy x0 result) }
     ensures read { S.faults source.old ≤ S.faults source.new }
     ensures wrote { K.faults sink.old ≤ K.faults sink.new }
     ensures cause { StepCause (S.faults source.old) (S.faults source.new) (K.faults sink.old) (K.faults sink.new)

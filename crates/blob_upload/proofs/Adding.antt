@@ -34,7 +34,7 @@ use Rattle.blob_upload.specs.declared.came.Came.TheVariants.{Whole, Refused, Ful
 use Rattle.blob_upload.specs.Faults.{most_bytes, came_of_part, came_of_wire, came_of_put}
 use Rattle.blob_upload.specs.Puts.{IsArrivalOf, Puts, EndsBy, LastPut}
 use Rattle.blob_upload.specs.Ends.{StopsAt, Told, StopsIn, Ends}
-use Rattle.blob_upload.specs.Adds.{IsAddedBy, Turns, ShowsWhy, Adds, UploadsAdd}
+use Rattle.blob_upload.specs.Adds.{IsAddedBy, Turns, ShowsWhy, IsNext, Adds, UploadsAdd}
 use Rattle.blob_upload.proofs.Fitting.{contents_fit}
 use Rattle.blob_upload.proofs.Putting.{stands, stands_longer, settled_by}
 
@@ -59,29 +59,29 @@ quiet_wire (ends.TooLong limit) = (λ n. refl, λ turns h. tt)
 quiet_wire ends.ReadFault = (λ n. refl, λ turns h. tt)
 
 -- what was put, said of how the upload ended
-abbrev wider : (parts : List Part) (came : Came) (v w : Sight) → StoreGrew (IsArrivalOf parts) v.store w.store
-    → StoreGrew (IsAddedBy parts came) v.store w.store
-wider parts came v w g = record {
+abbrev wider : (parts : List Part) (next : Part → Type 0) (came : Came) (v w : Sight)
+    → StoreGrew (IsArrivalOf parts) v.store w.store → StoreGrew (IsAddedBy parts next came) v.store w.store
+wider parts next came v w g = record {
   longer = g.longer;
   further = g.further;
   drawn = g.drawn;
   added = g.added;
   owned = g.owned;
   each_is = All-weaker (λ (s : Stamped StoreEvent). IsArrivalOf parts s.entry)
-      (λ (s : Stamped StoreEvent). IsAddedBy parts came s.entry) (λ s is. arrived s.entry is) g.added g.each_is;
+      (λ (s : Stamped StoreEvent). IsAddedBy parts next came s.entry) (λ s is. arrived s.entry is) g.added g.each_is;
   placed = g.placed;
 }
   where
-    arrived : (e : StoreEvent) → IsArrivalOf parts e → IsAddedBy parts came e
+    arrived : (e : StoreEvent) → IsArrivalOf parts e → IsAddedBy parts next came e
     arrived (store.Put n r bytes) is = inl is
     arrived (store.Fault f) is = absurd is
     arrived (store.Damage want other) is = absurd is
     arrived (store.Full blobs pack) is = absurd is
 
-module _ (parts : List Part) (v m w : Sight) (puts : Puts parts v m) where
-  adds_same : (came : Came) → Quiet came → Adds parts came v m
+module _ (parts : List Part) (next : Part → Type 0) (v m w : Sight) (puts : Puts parts v m) where
+  adds_same : (came : Came) → Quiet came → Adds parts next came v m
   adds_same came quiet = record {
-    grew = wider parts came v m puts.grew;
+    grew = wider parts next came v m puts.grew;
     turns = subst (λ n. Turns came (length parts) n) (sym puts.turns) (quiet.0 (length parts));
     why = quiet.1 puts.grew.further m.store.history;
     stand = puts.stand;
@@ -90,9 +90,10 @@ module _ (parts : List Part) (v m w : Sight) (puts : Puts parts v m) where
     spent = inl puts.spent;
   }
 
-  adds_quiet : (came is : Came) → Quiet is → came ≡ is → w ≡ m → Adds parts came v w
+  adds_quiet : (came is : Came) → Quiet is → came ≡ is → w ≡ m → Adds parts next came v w
   adds_quiet came is quiet ends same =
-      subst (λ x. Adds parts came v x) (sym same) (subst (λ c. Adds parts c v m) (sym ends) (adds_same is quiet))
+      subst (λ x. Adds parts next came v x) (sym same)
+      (subst (λ c. Adds parts next c v m) (sym ends) (adds_same is quiet))
 
 -- ---- an upload that ends with a put
 
@@ -106,20 +107,20 @@ stamped_stands h t entry e is =
     (Contains-append_right h (stamp t e ∷ []) (stamp t e) (0, omega arith, refl))
 
 -- the entry that a put adds
-put_adds : (limits : StoreLimits) (parts : List Part) (part : Part) (before : List Blob)
-    (o : Option (Result Put PutFault)) (answer : Result Put PutFault) (came : Came) (e : StoreEvent)
-    → EndsBy answer came → PutAnswers limits part.0 part.1 before o answer (Some e) → IsAddedBy parts came e
-put_adds limits parts part before (Some settled) answer came e ends said = absurd (cc (said.1))
-put_adds limits parts part before None (Ok (Stored n)) came e ends said =
-    let is : e ≡ store.Put n part.0 part.1 = cc (said.2) in subst (IsAddedBy parts came) (sym is) (inr ends)
-put_adds limits parts part before None (Ok (Already n)) came e ends said = absurd said
-put_adds limits parts part before None (Err (put.TooBig size)) came e ends said = absurd said
-put_adds limits parts part before None (Err (put.BadDigest a b)) came e ends said = absurd said
-put_adds limits parts part before None (Err (put.Full blobs pack)) came e ends said =
-    let is : e ≡ store.Full blobs pack = cc (said.1) in subst (IsAddedBy parts came) (sym is) ends
-put_adds limits parts part before None (Err put.Disk) came e ends said =
-    let is : e ≡ store.Fault (said.1.0) = cc (said.1.1) in subst (IsAddedBy parts came) (sym is) ends
-put_adds limits parts part before None (Err put.NoMemory) came e ends said = absurd (cc (said.1))
+put_adds : (limits : StoreLimits) (parts : List Part) (next : Part → Type 0) (part : Part) (before : List Blob)
+    (o : Option (Result Put PutFault)) (answer : Result Put PutFault) (came : Came) (e : StoreEvent) → next part
+    → EndsBy answer came → PutAnswers limits part.0 part.1 before o answer (Some e) → IsAddedBy parts next came e
+put_adds limits parts next part before (Some settled) answer came e told ends said = absurd (cc (said.1))
+put_adds limits parts next part before None (Ok (Stored n)) came e told ends said =
+    let is : e ≡ store.Put n part.0 part.1 = cc (said.2) in subst (IsAddedBy parts next came) (sym is) (inr (ends, told))
+put_adds limits parts next part before None (Ok (Already n)) came e told ends said = absurd said
+put_adds limits parts next part before None (Err (put.TooBig size)) came e told ends said = absurd said
+put_adds limits parts next part before None (Err (put.BadDigest a b)) came e told ends said = absurd said
+put_adds limits parts next part before None (Err (put.Full blobs pack)) came e told ends said =
+    let is : e ≡ store.Full blobs pack = cc (said.1) in subst (IsAddedBy parts next came) (sym is) ends
+put_adds limits parts next part before None (Err put.Disk) came e told ends said =
+    let is : e ≡ store.Fault (said.1.0) = cc (said.1.1) in subst (IsAddedBy parts next came) (sym is) ends
+put_adds limits parts next part before None (Err put.NoMemory) came e told ends said = absurd (cc (said.1))
 
 -- a part that is told of a body isn't too big
 big_by : (limits : StoreLimits) (part : Part) (before : List Blob) (long other : Bool) (place : Option ℕ) (size : ℕ)
@@ -202,11 +203,11 @@ shows_why limits part answer came h turns t entry ends said = by answer ends sai
         at Disk (t, is.0, has_rest turns (t ∷ []) t (has_one t), stands) ends
     by (Err put.NoMemory) ends said = at Memory tt ends
 
-module _ (parts : List Part) (part : Part) (came : Came) (v m w : Sight) (puts : Puts parts v m)
-    (few : length part.1 ≤ max_size) where
+module _ (parts : List Part) (next : Part → Type 0) (part : Part) (came : Came) (v m w : Sight) (puts : Puts parts v m)
+    (told : next part) (few : length part.1 ≤ max_size) where
   adds_turned : (answer : Result Put PutFault) → EndsBy answer came
       → StoreTurned (λ before entry. PutSays m.store.limits part.0 part.1 before answer entry) m w
-      → Adds parts came v w
+      → Adds parts next came v w
   adds_turned answer ends t =
       let r = t.turn.ran in
       let longer : IsPrefix m.store.history w.store.history =
@@ -214,15 +215,15 @@ module _ (parts : List Part) (part : Part) (came : Came) (v m w : Sight) (puts :
       let count : length (puts.grew.further ++ (r.ticket + 1) ∷ []) ≡ length parts + 1 =
       length-append puts.grew.further ((r.ticket + 1) ∷ []) ∙ ap (λ n. n + 1) puts.turns in
       record {
-        grew = grew_chain (IsAddedBy parts came) v.store.history m.store.history w.store.history v.store.turns
+        grew = grew_chain (IsAddedBy parts next came) v.store.history m.store.history w.store.history v.store.turns
             m.store.turns
-            w.store.turns (wider parts came v m puts.grew)
+            w.store.turns (wider parts next came v m puts.grew)
             (ran_grew (λ before turn entry. PutSays m.store.limits part.0 part.1 (arrivals before) answer entry)
-            (IsAddedBy parts came)
+            (IsAddedBy parts next came)
             m.store.history w.store.history m.store.turns w.store.turns
             (λ h n e said.
-            put_adds m.store.limits parts part (arrivals h) (put_settled part.0 part.1 (arrivals h)) answer came e ends
-            said) r);
+            put_adds m.store.limits parts next part (arrivals h) (put_settled part.0 part.1 (arrivals h)) answer came e told
+            ends said) r);
         turns = subst (λ n. Turns came (length parts) n) (sym count)
             (turned m.store.limits part (arrivals r.before) answer r.entry came (length parts) few r.said ends);
         why = subst (λ h. ShowsWhy came (puts.grew.further ++ (r.ticket + 1) ∷ []) h) (sym r.added)
@@ -233,12 +234,12 @@ module _ (parts : List Part) (part : Part) (came : Came) (v m w : Sight) (puts :
         spent = inl (t.spent ∙ puts.spent);
       }
 
-  adds_spent : came ≡ Memory → Spends m w → Adds parts came v w
+  adds_spent : came ≡ Memory → Spends m w → Adds parts next came v w
   adds_spent ends s =
       let left : Sight = record { store = m.store; index = m.index; spent = true } in
       let same : w ≡ left = λ i. record { store = s.store i; index = s.index i; spent = s.spent i } in
-      let adds : Adds parts Memory v left = record {
-        grew = wider parts Memory v m puts.grew;
+      let adds : Adds parts next Memory v left = record {
+        grew = wider parts next Memory v m puts.grew;
         turns = inl puts.turns;
         why = tt;
         stand = puts.stand;
@@ -246,47 +247,49 @@ module _ (parts : List Part) (part : Part) (came : Came) (v m w : Sight) (puts :
         limits = puts.limits;
         spent = inr (refl, refl);
       } in
-      subst (λ x. Adds parts came v x) (sym same) (subst (λ c. Adds parts c v left) (sym ends) adds)
+      subst (λ x. Adds parts next came v x) (sym same) (subst (λ c. Adds parts next c v left) (sym ends) adds)
 
-  adds_last : LastPut part came m w → Adds parts came v w
+  adds_last : LastPut part came m w → Adds parts next came v w
   adds_last last = by last.call
     where
       memory : (answer : Result Put PutFault) → answer ≡ Err put.NoMemory → EndsBy answer came → came ≡ Memory
       memory answer is ends = subst (λ a. EndsBy a came) is ends
 
       by : StoreTurned (λ before entry. PutSays m.store.limits part.0 part.1 before last.answer entry) m w
-          ⊎ ((last.answer ≡ Err put.NoMemory) × Spends m w) → Adds parts came v w
+          ⊎ ((last.answer ≡ Err put.NoMemory) × Spends m w) → Adds parts next came v w
       by (inl turn) = adds_turned last.answer last.ends turn
       by (inr spent) = adds_spent (memory last.answer (spent.0) last.ends) (spent.1)
 
 module _ (parts : List Part) (came : Came) (v m w : Sight) (puts : Puts parts v m) where
   adds_at : (boundary given : List ℕ) (after : List Token) → Told boundary given parts after → StopsAt after came m w
-      → Adds parts came v w
+      → Adds parts (IsNext boundary given parts) came v w
   adds_at boundary given after front (StopsAt.AtName name later told bad ends same) =
-      adds_quiet parts v m w puts came (Refused BadRef) (λ n. refl, λ turns h. tt) ends same
+      adds_quiet parts (IsNext boundary given parts) v m w puts came (Refused BadRef) (λ n. refl, λ turns h. tt) ends same
   adds_at boundary given after front (StopsAt.AtPart part later told good last) =
-      let few = contents_fit boundary given parts part later (subst (λ ts. Told boundary given parts ts) told front) in
-      adds_last parts part came v m w puts few last
+      let whole = subst (λ ts. Told boundary given parts ts) told front in
+      adds_last parts (IsNext boundary given parts) part came v m w puts (later, whole)
+      (contents_fit boundary given parts part later whole) last
   adds_at boundary given after front (StopsAt.ForMemory ends same) =
-      adds_quiet parts v m w puts came Memory (λ n. inl refl, λ turns h. tt) ends same
+      adds_quiet parts (IsNext boundary given parts) v m w puts came Memory (λ n. inl refl, λ turns h. tt) ends same
 
-  adds_in : (boundary given : List ℕ) → StopsIn boundary given parts came m w → Adds parts came v w
+  adds_in : (boundary given : List ℕ) → StopsIn boundary given parts came m w
+      → Adds parts (IsNext boundary given parts) came v w
   adds_in boundary given (StopsIn.AtToken after told stops) = adds_at boundary given after told stops
   adds_in boundary given (StopsIn.AtFault fault faulty ends same) =
-      adds_quiet parts v m w puts came (came_of_part fault) (quiet_part fault) ends same
+      adds_quiet parts (IsNext boundary given parts) v m w puts came (came_of_part fault) (quiet_part fault) ends same
   adds_in boundary given (StopsIn.AtLimit front rest whole full some reads ends same) =
-      adds_quiet parts v m w puts came (Refused (TooLong most_bytes)) (λ n. refl, λ turns h. tt) ends same
+      adds_quiet parts (IsNext boundary given parts) v m w puts came (Refused (TooLong most_bytes)) (λ n. refl, λ turns h. tt) ends same
 
   adds_ends : (boundary given : List ℕ) (wire : WireView) (x : Option (List ℕ))
       → Ends boundary given parts wire x came m w
-      → Adds parts came v w
+      → Adds parts (IsNext boundary given parts) came v w
   adds_ends boundary given wire x (Ends.Inside front piece whole few over stops) = adds_in boundary given stops
   adds_ends boundary given wire x (Ends.AtClose done short is ends same) =
-      adds_quiet parts v m w puts came Whole (λ n. refl, λ turns h. tt) ends same
+      adds_quiet parts (IsNext boundary given parts) v m w puts came Whole (λ n. refl, λ turns h. tt) ends same
   adds_ends boundary given wire x (Ends.AtEnd fault done all ends same) =
-      adds_quiet parts v m w puts came (came_of_part fault) (quiet_part fault) ends same
+      adds_quiet parts (IsNext boundary given parts) v m w puts came (came_of_part fault) (quiet_part fault) ends same
   adds_ends boundary given wire x (Ends.AtBreak end reads says short ends same) =
-      adds_quiet parts v m w puts came (came_of_wire end) (quiet_wire end) ends same
+      adds_quiet parts (IsNext boundary given parts) v m w puts came (came_of_wire end) (quiet_wire end) ends same
 
 pub uploads_add : UploadsAdd
 uploads_add boundary left left' wire wire' v w kept kept' came u =

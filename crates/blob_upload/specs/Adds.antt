@@ -1,27 +1,29 @@
 -- What an upload has added to the store, all told.
-use Rattle.std.specs.Prelude.{◌≡◌, ◌⊎◌, ◌+◌, ℕ, List, true, length, All, Contains, Option}
+use Rattle.std.specs.Prelude.{◌≡◌, ◌⊎◌, ◌+◌, ◌++◌, ℕ, List, true, length, All, Contains, Option}
 use Rattle.http_wire.specs.Wires.{WireView}
 use Rattle.histories.specs.declared.stamped.Stamped.{Stamped}
 use Rattle.histories.specs.declared.events.StoreEvent.{StoreEvent}
 use Rattle.histories.specs.declared.events.StoreEvent.TheVariants as store
 use Rattle.histories.specs.History.{stamp, has}
 use Rattle.histories.specs.Stores.{arrivals, has_ref}
-use Rattle.multipart_read.specs.PartLists.{Part}
+use Rattle.multipart_read.specs.Tokens.{Token}
+use Rattle.multipart_read.specs.PartLists.{Part, part_tokens}
 use Rattle.home_places.specs.Seats.{StoreGrew}
 use Rattle.home_places.specs.Passes.{Sight}
 use Rattle.answer_text.specs.declared.refusal.Refusal.{Refusal}
 use Rattle.answer_text.specs.declared.refusal.Refusal.TheVariants.{BadDigest}
 use Rattle.blob_upload.specs.declared.came.Came.{Came}
 use Rattle.blob_upload.specs.declared.came.Came.TheVariants.{Whole, Refused, Full, Disk, Memory, Ended}
+use Rattle.blob_upload.specs.Ends.{Told}
 use Rattle.blob_upload.specs.Uploads.{Uploads}
 
--- Arrivals of parts that were kept, and where memory was wanting of one that wasn't. And why the upload ended, where
--- the store or the disk is why.
-abbrev pub IsAddedBy : List Part → Came → StoreEvent → Type 0
-IsAddedBy parts came (store.Put n r bytes) = Contains parts (r, bytes) ⊎ (came ≡ Memory)
-IsAddedBy parts came (store.Fault f) = came ≡ Disk
-IsAddedBy parts came (store.Damage want is) = ⊥
-IsAddedBy parts came (store.Full blobs pack) = came ≡ Full blobs pack
+-- Arrivals of parts that were kept, and where memory was wanting of one that wasn't, as is said of the next. And why
+-- the upload ended, where the store or the disk is why.
+abbrev pub IsAddedBy : List Part → (Part → Type 0) → Came → StoreEvent → Type 0
+IsAddedBy parts next came (store.Put n r bytes) = Contains parts (r, bytes) ⊎ ((came ≡ Memory) × next (r, bytes))
+IsAddedBy parts next came (store.Fault f) = came ≡ Disk
+IsAddedBy parts next came (store.Damage want is) = ⊥
+IsAddedBy parts next came (store.Full blobs pack) = came ≡ Full blobs pack
 
 -- how many turns of the store are drawn where a body is refused behind so many parts that were kept
 abbrev pub TurnsRefused : Refusal → ℕ → ℕ → Type 0
@@ -46,9 +48,13 @@ ShowsWhy Disk turns h = (t f : ℕ) × (has turns t ≡ true) × Contains h (sta
 ShowsWhy Memory turns h = Unit {0}
 ShowsWhy (Ended end) turns h = Unit {0}
 
--- `parts` are those that were kept, and the pass was `v` before and is `w`
-pub record Adds (parts : List Part) (came : Came) (v w : Sight) : Type 0 where
-  pub grew : StoreGrew (IsAddedBy parts came) v.store w.store
+-- behind these parts the body tells this one whole
+abbrev pub IsNext : List ℕ → List ℕ → List Part → Part → Type 0
+IsNext boundary given parts part = (later : List Token) × Told boundary given parts (part_tokens part ++ later)
+
+-- `parts` are those that were kept, `next` says what may come next, and the pass was `v` before and is `w`
+pub record Adds (parts : List Part) (next : Part → Type 0) (came : Came) (v w : Sight) : Type 0 where
+  pub grew : StoreGrew (IsAddedBy parts next came) v.store w.store
   pub turns : Turns came (length parts) (length grew.further)
   pub why : ShowsWhy came grew.further w.store.history
   pub stand : All (λ (part : Part). has_ref part.0 (arrivals w.store.history) ≡ true) parts
@@ -56,8 +62,9 @@ pub record Adds (parts : List Part) (came : Came) (v w : Sight) : Type 0 where
   pub limits : w.store.limits ≡ v.store.limits
   pub spent : (w.spent ≡ v.spent) ⊎ ((came ≡ Memory) × (w.spent ≡ true))
 
--- each upload has added this
+-- each upload has added this; next is the part that its body tells behind those that were kept
 abbrev pub UploadsAdd : Type 0
 UploadsAdd = (boundary : List ℕ) (left left' : Option (List ℕ)) (wire wire' : WireView) (v w : Sight)
     (kept kept' : List (List ℕ × ℕ)) (came : Came)
-    → (upload : Uploads boundary left left' wire wire' v w kept kept' came) → Adds upload.parts came v w
+    → (upload : Uploads boundary left left' wire wire' v w kept kept' came)
+    → Adds upload.parts (IsNext boundary upload.given upload.parts) came v w

@@ -1,4 +1,5 @@
 use Rattle.std.proofs.Common.{true, Err, sym, ap, subst}
+use Rattle.http_wire.specs.Stream.{stream}
 use Rattle.blob_http.specs.declared.questions.Question.{Question}
 use Rattle.blob_http.specs.Handling.{Answers}
 use Rattle.blob_http.proofs.Requesting.{head_replies, head_none, passes_none}
@@ -26,4 +27,6 @@ returns-in-Err-head_says-clause-none g c =
     (λ is. c.in-Err.ensures.short (ap Err is))
 
 pub returns-in-Err-head_says-clause-passes : goal.returns-in-Err-head_says-clause-passes
-returns-in-Err-head_says-clause-passes g c = passes_none c.in-Err-head_says.ended (g.H.Home.sight c.args.pass.now)
+returns-in-Err-head_says-clause-passes g c =
+    passes_none (stream c.args.wire.now.flow.bytes (g.S.Source.left c.args.source.now)) c.in-Err-head_says.ended
+    (g.H.Home.sight c.args.pass.now)

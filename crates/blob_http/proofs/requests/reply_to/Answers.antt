@@ -1,5 +1,6 @@
 use Rattle.std.proofs.Common.{◌≡◌, ℕ, List, true, Ok, IfOk, sym, ap, subst, ◌∙◌}
 use Rattle.std.proofs.lemmas.Result.{IfOk-weaker, IfErr-weaker}
+use Rattle.http_wire.specs.Stream.{stream}
 use Rattle.blob_http.specs.Questions.{piece, IsAskedAt}
 use Rattle.blob_http.specs.Handling.{StopReplies, StopEnds}
 use Rattle.blob_http.proofs.Requesting.{upload_is, passes_same, early_replies, along_replies, stop_replies, stop_none}
@@ -57,8 +58,8 @@ reply_to_upload-requires-clause-upload g c =
     sym c.in-Ok.ensures.first ∙ ap Ok (upload_is c.in-Ok.found (sym c.is_upload.ensures ∙ c.if-is_upload.true))
 
 pub returns-in-Err-gather-clause-passes : goal.returns-in-Err-gather-clause-passes
-returns-in-Err-gather-clause-passes g c =
+returns-in-Err-gather-clause-passes g c x0 flow read =
     let v = g.H.Home.sight c.args.pass.now in
     let w = g.H.Home.sight c.reply_to_stop.new.pass in
     IfErr-weaker c.reply_to_stop.result (λ end. w ≡ v) _
-    (λ end same. passes_same end v w same) c.reply_to_stop.ensures.same
+    (λ end same. passes_same (stream flow.bytes x0) end v w same) c.reply_to_stop.ensures.same

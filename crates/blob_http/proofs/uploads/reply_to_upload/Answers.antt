@@ -45,7 +45,7 @@ returns-clause-replies g c x0 flow read =
     c.reply_to_came.ensures.made c.reply_to_came.ensures.entry c.reply_to_came.ensures.closes
 
 pub returns-clause-passes : goal.returns-clause-passes
-returns-clause-passes g c =
+returns-clause-passes g c x0 flow read =
     let v = g.H.Home.sight c.args.pass.now in
     let w = g.H.Home.sight c.take_parts-came.new.pass in
     let x1 = g.S.Source.left c.args.source.now in
@@ -53,8 +53,9 @@ returns-clause-passes g c =
     let kept = c.take_parts-came.new.kept in
     let came = c.take_parts-came.result in
     IfErr-weaker c.reply_to_came.result (λ e. UploadMade c.args.head.now.closes kept came (Err e)) _
-    (upload_passes c.as_slice.result.now x1 x2 c.args.wire.now c.take_parts-came.new.wire v w kept came
-    c.args.head.now.closes
+    (upload_passes x0 x1 x2 flow c.args.wire.now c.take_parts-came.new.wire c.args.head.now read
+    c.requires.upload c.as_slice.result.now
+    (c.in-Ok.ensures ∙ ap Some (sym c.as_slice.ensures)) (g.H.Home.tells c.args.home.now) v w kept came
     (subst (λ (k : List (List ℕ × ℕ)). Uploads c.as_slice.result.now x1 x2 c.args.wire.now c.take_parts-came.new.wire
     v w k kept came) c.empty-kept.ensures c.take_parts-came.ensures.uploads))
     c.reply_to_came.ensures.ends
