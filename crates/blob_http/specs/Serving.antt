@@ -241,8 +241,8 @@ AreAnswers asked requests (Unfinished b) rest =
     (after : List ℕ) × (asked ≡ map Whole requests ++ Front b (Some after) ∷ [])
     × (rest ≡ b.head ++ (b.framed ++ after))
 
--- no refusal was due by what came of the request: its head has none; a body that is read as a whole was within its limit;
--- the parts of an upload that came have no fault, and neither has the text between them
+-- No refusal was due by what came of the request: its head has none; a body that is read as a whole was within its
+-- limit; the whole parts of an upload have no fault, and neither has its multipart body so far.
 abbrev pub HadNoRefusal : Begun → Result Route Question → Type 0
 HadNoRefusal b (Err refused) = ⊥
 HadNoRefusal b (Ok route.Upload) =
@@ -252,7 +252,7 @@ HadNoRefusal b (Ok (route.Stat posted)) = length b.given ≤ most_body
 HadNoRefusal b (Ok route.Page) = length b.given ≤ most_body
 HadNoRefusal b (Ok route.Search) = length b.given ≤ most_body
 
--- The source ended inside the request at this place: inside its head; or inside its body, and no refusal was due by then.
+-- The source ended inside the request at this place: inside its head; or inside its body, where no refusal was due.
 abbrev pub IsCut : ℕ → ℕ → List ℕ → Type 0
 IsCut place n rest = HeadEnds (Some rest) place (ends.Cut n)
     ⊎ ((n ≡ place) × ((b : Begun) × (after : List ℕ) × IsBegun b × (rest ≡ b.head ++ (b.framed ++ after))
