@@ -1,6 +1,7 @@
 -- What a call of the home answered is the answer over what the pass has then seen.
 use Rattle.std.proofs.Common.{◌≡◌, ℕ, ◌+◌, ◌≤◌, ⊎_elim, List, [], ◌∷◌, ◌++◌, length, take, Bool, true, false, ◌||◌, eqb}
-use Rattle.std.proofs.Common.{All, Contains, refl, ap, sym, subst, ◌∙◌, arith, append_assoc, Option, Some, None, Result, Ok, Err, IsErr}
+use Rattle.std.proofs.Common.{All, Contains, refl, ap, sym, subst, ◌∙◌, arith, append_assoc, Option, Some, None}
+use Rattle.std.proofs.Common.{Result, Ok, Err, IsErr}
 use Rattle.std.specs.List.{filter_map}
 use Rattle.std.proofs.lemmas.List.{append-nil, take_all, take-take, length-take-le}
 use Rattle.std.proofs.lemmas.List.Elements.{Contains-append_right, All-nil, All-weaker}
@@ -18,13 +19,14 @@ use Rattle.answer_text.specs.Search.{search_text}
 use Rattle.histories.specs.declared.stamped.Stamped.{Stamped}
 use Rattle.histories.specs.declared.events.StoreEvent.{StoreEvent}
 use Rattle.histories.specs.declared.events.StoreEvent.TheVariants as store
-use Rattle.histories.specs.History.{stamp, stamped, has, own}
+use Rattle.histories.specs.History.{stamp, stamped, has, own, Before}
 use Rattle.histories.specs.Stores.{Blob, arrivals, bytes_of}
 use Rattle.histories.specs.Indexes.{Insertion, HasAllBelow, inserts}
 use Rattle.histories.specs.StoreCalls.{IsQuiet, GetSays, GetFails, StatSays, ListSays, page, sized, each_once}
 use Rattle.histories.proofs.Prefixes.{prefix_trans, prefix_length}
 use Rattle.histories.proofs.Growing.{has_rest, each_stamped, placed_stamped}
-use Rattle.histories.proofs.Standing.{arrivals_append, arrivals_prefix, has_all_longer}
+use Rattle.histories.proofs.Rising.{before_within}
+use Rattle.histories.proofs.Standing.{arrivals_append, arrivals_prefix, has_all_longer, take_stays}
 use Rattle.home_places.specs.Passes.{Sight, IsSight, StoreCall, StoreTurned, Spends, Settles, Searches, Counts, Caused}
 use Rattle.home_places.specs.Passes.{IsTrouble}
 use Rattle.home_places.specs.Searches.{SearchSays}
@@ -39,7 +41,7 @@ use Rattle.blob_http.specs.declared.replies.Made.TheVariants as made
 use Rattle.blob_http.specs.Replies.{json_reply, blob_reply, refused_reply}
 use Rattle.blob_http.specs.Answers.{IsAnswer, IsBlobReply, IsDefined, reads_blobs, allow_text, outcome_of, IsTold}
 use Rattle.blob_http.specs.Answers.{IsMemory, FaultMade, BlobMade, TextMade, page_answer, cut_page, more_after}
-use Rattle.blob_http.specs.Serving.{HasCauseIn, LooksAt, Longer, PutsNothing}
+use Rattle.blob_http.specs.Serving.{HasCauseIn, LooksAt, Longer, PutsNothing, IsShown}
 use Rattle.blob_http.specs.Handling.{IsMade, Looked, Looks, Answers, entry_of}
 use Rattle.blob_http.proofs.Staying.{longer_none, longer_chain, owns_none, owns_chain}
 
@@ -56,6 +58,17 @@ quiet_stays before n (Some (store.Full b p)) q = absurd q
 -- a turn that added nothing put nothing
 none_quiet : (e : Option StoreEvent) → e ≡ None → IsQuiet e
 none_quiet e none = subst IsQuiet (sym none) tt
+
+-- a turn that showed why a blob couldn't be read, or added nothing, leaves the arrivals
+trouble_stays : (before : List (Stamped StoreEvent)) (n : ℕ) (o : Option StoreEvent)
+    → ((e : StoreEvent) → o ≡ Some e → IsTrouble e) → arrivals (before ++ stamped n o) ≡ arrivals before
+trouble_stays before n None f = ap arrivals (append-nil before)
+trouble_stays before n (Some (store.Put k r b)) f = absurd (f (store.Put k r b) refl)
+trouble_stays before n (Some (store.Fault g)) f =
+    arrivals_append before (stamp n (store.Fault g) ∷ []) ∙ append-nil (arrivals before)
+trouble_stays before n (Some (store.Damage want is)) f =
+    arrivals_append before (stamp n (store.Damage want is) ∷ []) ∙ append-nil (arrivals before)
+trouble_stays before n (Some (store.Full b p)) f = absurd (f (store.Full b p) refl)
 
 -- ---- what a call added
 
@@ -138,7 +151,8 @@ refused_answers tells closes why allow m v counts is count = record {
   looked = refused_looked m;
 }
   where
-    refused_looked : (m : Made) → Looked (question.Refused why allow) m []
+    refused_looked : (m : Made)
+        → Looked v.store.history (take counts.0 (arrivals v.store.history)) (question.Refused why allow) m []
     refused_looked made.Memory = tt
     refused_looked (made.Told o head body) = tt
 
@@ -188,20 +202,39 @@ memory_cause : (turns : List ℕ) (h : List (Stamped StoreEvent)) (m : Made) →
 memory_cause turns h made.Memory is = tt
 memory_cause turns h (made.Told o head body) is = absurd is
 
-memory_looked : (q : Question) (turns : List ℕ) (m : Made) → IsMemory m → Looked q m turns
-memory_looked q turns made.Memory is = tt
-memory_looked q turns (made.Told o head body) is = absurd is
+memory_looked : (h : List (Stamped StoreEvent)) (blobs : List Blob) (q : Question) (turns : List ℕ) (m : Made)
+    → IsMemory m → Looked h blobs q m turns
+memory_looked h blobs q turns made.Memory is = tt
+memory_looked h blobs q turns (made.Told o head body) is = absurd is
 
-looks_at : (q : Question) (t : ℕ) (ts : List ℕ) → LooksAt q (t ∷ ts)
-looks_at (question.Refused why allow) t ts = tt
-looks_at (question.Blob r) t ts = omega arith
-looks_at (question.Stat refs) t ts = omega arith
-looks_at (question.Refs p) t ts = omega arith
-looks_at (question.Search query) t ts = omega arith
+looks_at : (h : List (Stamped StoreEvent)) (blobs : List Blob) (q : Question) (turns : List ℕ)
+    → IsShown h blobs turns → LooksAt h blobs q turns
+looks_at h blobs (question.Refused why allow) turns is = tt
+looks_at h blobs (question.Blob r) turns is = is
+looks_at h blobs (question.Stat refs) turns is = is
+looks_at h blobs (question.Refs p) turns is = is
+looks_at h blobs (question.Search query) turns is = is
 
-looked_at : (q : Question) (m : Made) (t : ℕ) (ts : List ℕ) → Looked q m (t ∷ ts)
-looked_at q made.Memory t ts = tt
-looked_at q (made.Told o head body) t ts = looks_at q t ts
+looked_at : (h : List (Stamped StoreEvent)) (blobs : List Blob) (q : Question) (m : Made) (turns : List ℕ)
+    → IsShown h blobs turns → Looked h blobs q m turns
+looked_at h blobs q made.Memory turns is = tt
+looked_at h blobs q (made.Told o head body) turns is = looks_at h blobs q turns is
+
+-- what a look has shown is what is counted before anything else is done
+shown_by : (o v w : Sight) (n : ℕ) (further : List ℕ) (look : Looks o v) → n ≡ length (arrivals v.store.history)
+    → IsPrefix v.store.history w.store.history
+    → IsShown w.store.history (take n (arrivals w.store.history)) (look.turn ∷ further)
+shown_by o v w n further look count longer = record {
+  turn = look.turn;
+  further = further;
+  first = refl;
+  seen = v.store.history;
+  begins = longer;
+  before = look.before;
+  arrived = take_stays (arrivals v.store.history) (arrivals w.store.history) n
+      (arrivals_prefix v.store.history w.store.history longer) (omega (arith, count))
+      ∙ take_all n (arrivals v.store.history) (omega (arith, count));
+}
 
 module _ (tells closes : Bool) (q : Question) (m : Made) where
   spent_answers : (v w : Sight) (counts : ℕ × ℕ) → IsMemory m → Spends v w → Counts w counts
@@ -232,7 +265,7 @@ module _ (tells closes : Bool) (q : Question) (m : Made) where
           limits = ap (λ s. s.limits) spent.store;
           accepts = ap (λ s. s.accepts) spent.index;
         };
-        looked = memory_looked q [] m is;
+        looked = memory_looked w.store.history (take counts.0 (arrivals w.store.history)) q [] m is;
       }
 
   module _ (says : List Blob → Option StoreEvent → Type 0)
@@ -280,7 +313,16 @@ module _ (tells closes : Bool) (q : Question) (m : Made) where
             limits = turned.turn.limits;
             accepts = ap (λ s. s.accepts) turned.index;
           };
-          looked = looked_at q m t [];
+          looked = looked_at w.store.history (take counts.0 (arrivals w.store.history)) q m (t ∷ []) (record {
+            turn = t;
+            further = [];
+            first = refl;
+            seen = ran.before;
+            begins = (stamped t ran.entry, sym ran.added);
+            before = before_within ran.ticket ran.before ran.within.0;
+            arrived = all ∙ ap arrivals ran.added ∙ trouble_stays ran.before t ran.entry
+                (λ e is. troubles (arrivals ran.before) e (subst (says (arrivals ran.before)) is ran.said));
+          });
         }
 
     pub call_answers : (refused : Type 0) (v w : Sight) (counts : ℕ × ℕ) → (refused → IsMemory m)
@@ -450,6 +492,9 @@ module _ (tells closes : Bool) where
         drawn = ran.drawn;
         owned = ran.owned ∙ ap (λ (e : Option StoreEvent). own v.store.turns v.store.history ++ stamped t e)
             (none (arrivals ran.before) ran.entry ran.said);
+        before = subst (Before t) (sym (ran.added
+            ∙ ap (λ (e : Option StoreEvent). ran.before ++ stamped t e) (none (arrivals ran.before) ran.entry ran.said)
+            ∙ append-nil ran.before)) (before_within ran.ticket ran.before ran.within.0);
         longer = record {
           store = prefix_trans v.store.history ran.before w.store.history ran.longer (stamped t ran.entry, sym ran.added);
           index = same_prefix v.index.history w.index.history (ap (λ s. s.history) turned.index);
@@ -537,7 +582,9 @@ module _ (tells closes : Bool) where
           limits = s.limits;
           accepts = s.accepts;
         });
-        looked = looked_at (question.Search query) m look.turn s.store.further;
+        looked = looked_at w.store.history (take before.0 (arrivals w.store.history)) (question.Search query) m
+            (look.turn ∷ s.store.further)
+            (shown_by o v w before.0 s.store.further look first.puts s.store.longer);
       }
 
   search_made : (query : Query) (found : Result (List (List ℕ)) NoMemory) (m : Made)
@@ -604,5 +651,6 @@ module _ (tells closes : Bool) where
           limits = ap (λ y. y.limits) a.store ∙ s.limits;
           accepts = a.search.accepts ∙ s.accepts;
         });
-        looked = looked_at (question.Search query) m look.turn s.store.further;
+        looked = looked_at w.store.history (take before.0 (arrivals w.store.history)) (question.Search query) m
+            (look.turn ∷ s.store.further) (shown_by o v w before.0 s.store.further look first.puts grown);
       }

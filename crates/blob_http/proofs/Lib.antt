@@ -9,3 +9,4 @@ pub mod Requesting
 pub mod Pages
 pub mod Connecting
 pub mod Uploading
+pub mod Finds

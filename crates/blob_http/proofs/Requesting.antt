@@ -86,9 +86,10 @@ has_pieces text says h =
 
 pub handles_of : (tells closes : Bool) (q : Question) (v w : Sight) (entry : Answered) (m : Made) (asked : Asked)
     → Answers tells closes q v w entry m
-    → ((accepts : Accepts) (blobs : List Blob) (g : List Insertion) (turns : List ℕ) (added : List (Stamped StoreEvent))
-    → IsMade tells accepts blobs g closes q m → Looked q m turns → PutsNothing added
-    → IsReply tells accepts blobs g asked 0 turns added (outcome_of m) (text_of m))
+    → ((accepts : Accepts) (h : List (Stamped StoreEvent)) (blobs : List Blob) (g : List Insertion) (turns : List ℕ)
+    (added : List (Stamped StoreEvent))
+    → IsMade tells accepts blobs g closes q m → Looked h blobs q m turns → PutsNothing added
+    → IsReply tells accepts h blobs g asked 0 turns added (outcome_of m) (text_of m))
     → Handles tells asked v w entry (text_of m)
 handles_of tells closes q v w entry m asked a replied = record {
   turns = a.turns;
@@ -98,10 +99,10 @@ handles_of tells closes q v w entry m asked a replied = record {
   answered = record {
     store_within = a.store_within;
     index_within = a.index_within;
-    replied = reply_at tells w.index.accepts (take entry.store_count (arrivals w.store.history))
+    replied = reply_at tells w.index.accepts w.store.history (take entry.store_count (arrivals w.store.history))
         (take entry.index_count w.index.shown) asked
         entry.kept a.turns a.added entry.outcome m a.kept a.outcome
-        (replied w.index.accepts (take entry.store_count (arrivals w.store.history))
+        (replied w.index.accepts w.store.history (take entry.store_count (arrivals w.store.history))
         (take entry.index_count w.index.shown) a.turns a.added a.made a.looked a.nothing);
     cause = subst (λ (o : Outcome). HasCauseIn a.turns w.store.history o) (sym a.outcome) a.cause;
     placed = a.placed;
@@ -111,13 +112,13 @@ handles_of tells closes q v w entry m asked a replied = record {
   longer = a.longer;
 }
   where
-    reply_at : (tells : Bool) (accepts : Accepts) (blobs : List Blob) (g : List Insertion) (asked : Asked) (kept : ℕ)
+    reply_at : (tells : Bool) (accepts : Accepts) (h : List (Stamped StoreEvent)) (blobs : List Blob) (g : List Insertion) (asked : Asked) (kept : ℕ)
         (turns : List ℕ) (added : List (Stamped StoreEvent)) (o : Outcome) (m : Made)
-        → kept ≡ 0 → o ≡ outcome_of m → IsReply tells accepts blobs g asked 0 turns added (outcome_of m) (text_of m)
-        → IsReply tells accepts blobs g asked kept turns added o (text_of m)
-    reply_at tells accepts blobs g asked kept turns added o m none same h =
-        subst (λ (k : ℕ). IsReply tells accepts blobs g asked k turns added o (text_of m)) (sym none)
-        (subst (λ (z : Outcome). IsReply tells accepts blobs g asked 0 turns added z (text_of m)) (sym same) h)
+        → kept ≡ 0 → o ≡ outcome_of m → IsReply tells accepts h blobs g asked 0 turns added (outcome_of m) (text_of m)
+        → IsReply tells accepts h blobs g asked kept turns added o (text_of m)
+    reply_at tells accepts h blobs g asked kept turns added o m none same is =
+        subst (λ (k : ℕ). IsReply tells accepts h blobs g asked k turns added o (text_of m)) (sym none)
+        (subst (λ (z : Outcome). IsReply tells accepts h blobs g asked 0 turns added z (text_of m)) (sym same) is)
 
 -- a refusal by a head or by a body that isn't read to its end: only its own text, or want of memory
 refused_says : (tells : Bool) (accepts : Accepts) (blobs : List Blob) (g : List Insertion) (why : Refusal)
@@ -145,8 +146,8 @@ head_replies x0 x1 flow new tells v w entry m end why closes says passed stands 
   asked = Refused end;
   comes = ((why, says), passed, stands);
   handles = handles_of tells true (refused why) v w entry m (Refused end) a
-      (λ accepts blobs g turns added is looked nothing. refused_says tells accepts blobs g why None
-      (λ o text. IsReply tells accepts blobs g (Refused end) 0 turns added o text)
+      (λ accepts h blobs g turns added is looked nothing. refused_says tells accepts blobs g why None
+      (λ o text. IsReply tells accepts h blobs g (Refused end) 0 turns added o text)
       (refl, nothing, (why, says, refl)) (refl, nothing, refl) m is);
   closing = closing;
   ready = λ open_still. absurd (true_not (sym closing ∙ open_still));
@@ -222,10 +223,10 @@ module _ (x0 x1 x2 : Option (List ℕ)) (flow : Flow) (mid new : WireView) (says
   module _ (tells : Bool) (v w : Sight) (entry : Answered) (m : Made) where
     -- the connection closes in any case
     front_replies : (closes with_closes : Bool) (q : Question) → Answers tells with_closes q v w entry m
-        → ((accepts : Accepts) (blobs : List Blob) (g : List Insertion) (turns : List ℕ)
-        (added : List (Stamped StoreEvent))
-        → IsMade tells accepts blobs g with_closes q m → Looked q m turns → PutsNothing added
-        → IsReply tells accepts blobs g front 0 turns added (outcome_of m) (text_of m))
+        → ((accepts : Accepts) (h : List (Stamped StoreEvent)) (blobs : List Blob) (g : List Insertion)
+        (turns : List ℕ) (added : List (Stamped StoreEvent))
+        → IsMade tells accepts blobs g with_closes q m → Looked h blobs q m turns → PutsNothing added
+        → IsReply tells accepts h blobs g front 0 turns added (outcome_of m) (text_of m))
         → closes ≡ true → Replies x0 x2 flow new tells v w entry m closes
     front_replies closes with_closes q a replied closing = record {
       asked = front;
@@ -239,8 +240,8 @@ module _ (x0 x1 x2 : Option (List ℕ)) (flow : Flow) (mid new : WireView) (says
         → m ≡ made.Memory
         → closes ≡ true → Replies x0 x2 flow new tells v w entry m closes
     memory_replies closes with_closes q a none closing = front_replies closes with_closes q a
-        (λ accepts blobs g turns added is looked nothing. subst
-        (λ (z : Made). IsReply tells accepts blobs g front 0 turns added (outcome_of z) (text_of z)) (sym none)
+        (λ accepts h blobs g turns added is looked nothing. subst
+        (λ (z : Made). IsReply tells accepts h blobs g front 0 turns added (outcome_of z) (text_of z)) (sym none)
         (inr (refl, nothing, refl))) closing
 
     refused_replies : (closes : Bool) (why : Refusal) (allow : Option Allowed)
@@ -249,8 +250,8 @@ module _ (x0 x1 x2 : Option (List ℕ)) (flow : Flow) (mid new : WireView) (says
         (refused_reply true (allow_text allow) why)
         → closes ≡ true → Replies x0 x2 flow new tells v w entry m closes
     refused_replies closes why allow a defined closing = front_replies closes true (question.Refused why allow) a
-        (λ accepts blobs g turns added is looked nothing. refused_says tells accepts blobs g why allow
-        (λ o text. IsReply tells accepts blobs g front 0 turns added o text) (inr (refl, nothing, defined))
+        (λ accepts h blobs g turns added is looked nothing. refused_says tells accepts blobs g why allow
+        (λ o text. IsReply tells accepts h blobs g front 0 turns added o text) (inr (refl, nothing, defined))
         (inr (refl, nothing, refl)) m is) closing
 
   -- the whole body was read
@@ -268,7 +269,7 @@ module _ (x0 x1 x2 : Option (List ℕ)) (flow : Flow) (mid new : WireView) (says
       asked = Whole request;
       comes = (request_read mid.head moved.0 given says head.lines head.read leads, passed);
       handles = handles_of tells says.closes q v w entry (made.Told o text rest) (Whole request) a
-          (λ accepts blobs g turns added is looked nothing. inr (refl, nothing, (q, asked, is, looked)));
+          (λ accepts h blobs g turns added is looked nothing. inr (refl, nothing, (q, asked, is, looked)));
       closing = closing ∙ or_false says.closes;
       ready = λ still. done;
     }

@@ -1,6 +1,6 @@
 -- What was answered stays so as the histories grow.
 use Rattle.std.proofs.Common.{◌≡◌, ℕ, ◌≤◌, List, [], ◌∷◌, ◌++◌, take, Bool, Contains, refl, ap, sym, subst, ◌∙◌, arith}
-use Rattle.std.proofs.Common.{append_assoc}
+use Rattle.std.proofs.Common.{append_assoc, inl, inr}
 use Rattle.std.proofs.lemmas.List.{append-nil}
 use Rattle.std.proofs.lemmas.List.Elements.{Contains-append_left}
 use mathlib.Core.List.{IsPrefix}
@@ -16,7 +16,10 @@ use Rattle.home_places.specs.Passes.{Sight}
 use Rattle.blob_http.specs.declared.entries.Answered.{Answered}
 use Rattle.blob_http.specs.declared.entries.Outcome.{Outcome}
 use Rattle.blob_http.specs.declared.entries.Outcome.TheVariants.{Defined, Memory, Disk, Full, Damaged}
-use Rattle.blob_http.specs.Asked.{Asked}
+use Rattle.blob_http.specs.declared.questions.Question.{Question}
+use Rattle.blob_http.specs.declared.questions.Question.TheVariants as question
+use Rattle.blob_http.specs.Asked.{Asked, Whole, Front, Head}
+use Rattle.blob_http.specs.Serving.{IsShown, LooksAt}
 use Rattle.blob_http.specs.Serving.{IsReply, HasCauseIn, IsAnswered, Longer, Answer, AnswerHolds, Climbs, Owns}
 
 contains_stays : {A : Type 0} (xs ys : List A) (x : A) → IsPrefix xs ys → Contains xs x → Contains ys x
@@ -29,6 +32,38 @@ cause_stays turns h k Memory p c = tt
 cause_stays turns h k Disk p c = (c.0, c.1, c.2, contains_stays h k _ p c.3)
 cause_stays turns h k (Full blobs pack) p c = (c.0, c.1, contains_stays h k _ p c.2)
 cause_stays turns h k (Damaged want is) p c = (c.0, c.1, contains_stays h k _ p c.2)
+
+-- what was shown begins the longer history too
+shown_stays : (h k : List (Stamped StoreEvent)) (blobs : List Blob) (turns : List ℕ) → IsPrefix h k
+    → IsShown h blobs turns → IsShown k blobs turns
+shown_stays h k blobs turns p is = record {
+  turn = is.turn;
+  further = is.further;
+  first = is.first;
+  seen = is.seen;
+  begins = prefix_trans is.seen h k is.begins p;
+  before = is.before;
+  arrived = is.arrived;
+}
+
+looks_stay : (h k : List (Stamped StoreEvent)) (blobs : List Blob) (q : Question) (turns : List ℕ) → IsPrefix h k
+    → LooksAt h blobs q turns → LooksAt k blobs q turns
+looks_stay h k blobs (question.Refused why allow) turns p is = tt
+looks_stay h k blobs (question.Blob r) turns p is = shown_stays h k blobs turns p is
+looks_stay h k blobs (question.Stat refs) turns p is = shown_stays h k blobs turns p is
+looks_stay h k blobs (question.Refs page) turns p is = shown_stays h k blobs turns p is
+looks_stay h k blobs (question.Search query) turns p is = shown_stays h k blobs turns p is
+
+reply_stays : (tells : Bool) (accepts : Accepts) (h k : List (Stamped StoreEvent)) (blobs : List Blob)
+    (g : List Insertion) (asked : Asked) (kept : ℕ) (turns : List ℕ) (added : List (Stamped StoreEvent))
+    (outcome : Outcome) (text : List ℕ) → IsPrefix h k
+    → IsReply tells accepts h blobs g asked kept turns added outcome text
+    → IsReply tells accepts k blobs g asked kept turns added outcome text
+reply_stays tells accepts h k blobs g (Whole r) kept turns added outcome text p (inl upload) = inl upload
+reply_stays tells accepts h k blobs g (Whole r) kept turns added outcome text p (inr is) =
+    let q = is.2 in inr (is.0, is.1, (q.0, q.1, q.2, looks_stay h k blobs q.0 turns p q.3))
+reply_stays tells accepts h k blobs g (Front b after) kept turns added outcome text p is = is
+reply_stays tells accepts h k blobs g (Head end) kept turns added outcome text p is = is
 
 -- the lemma that the loop rests on
 pub answered_stays : (tells : Bool) (accepts : Accepts) (h k : List (Stamped StoreEvent)) (f g : List Insertion)
@@ -45,10 +80,12 @@ answered_stays tells accepts h k f g asked entry text turns added p q a =
       store_within = let l = prefix_length (arrivals h) (arrivals k)
           (arrivals_prefix h k p) in let s = a.store_within in omega arith;
       index_within = let l = prefix_length f g q in let s = a.index_within in omega arith;
-      replied = subst (λ (z : List Blob). IsReply tells accepts z
+      replied = subst (λ (z : List Blob). IsReply tells accepts k z
           (take m g) asked entry.kept turns added entry.outcome text) (sym blobs)
-          (subst (λ (z : List Insertion). IsReply tells accepts
-          (take n (arrivals h)) z asked entry.kept turns added entry.outcome text) (sym rows) a.replied);
+          (subst (λ (z : List Insertion). IsReply tells accepts k
+          (take n (arrivals h)) z asked entry.kept turns added entry.outcome text) (sym rows)
+          (reply_stays tells accepts h k (take n (arrivals h)) (take m f) asked entry.kept turns added entry.outcome
+          text p a.replied));
       cause = cause_stays turns h k entry.outcome p a.cause;
       placed = a.placed;
     }

@@ -279,7 +279,7 @@ module _ (x0 x1 x2 : Option (List ℕ)) (flow : Flow) (mid new : WireView) (says
   handles : (asked : Asked) (entry : Answered) (m : Made) → UploadMade says.closes listed c (Ok m)
       → IsUploadEntry w (length listed) m entry
       → ((g : List Insertion)
-      → IsReply tells w.index.accepts (arrivals w.store.history) g asked entry.kept turns adds.grew.added (outcome_of m)
+      → IsReply tells w.index.accepts w.store.history (arrivals w.store.history) g asked entry.kept turns adds.grew.added (outcome_of m)
       (text_of m))
       → Handles tells asked v w entry (text_of m)
   handles asked entry m is e replied =
@@ -294,11 +294,11 @@ module _ (x0 x1 x2 : Option (List ℕ)) (flow : Flow) (mid new : WireView) (says
         answered = record {
           store_within = let p = e.store in omega arith;
           index_within = let p = e.index in omega arith;
-          replied = subst (λ (o : Outcome). IsReply tells w.index.accepts
+          replied = subst (λ (o : Outcome). IsReply tells w.index.accepts w.store.history
               (take entry.store_count (arrivals w.store.history))
               (take entry.index_count w.index.shown) asked entry.kept turns adds.grew.added o (text_of m))
               (sym e.outcome)
-              (subst (λ (b : List Blob). IsReply tells w.index.accepts b
+              (subst (λ (b : List Blob). IsReply tells w.index.accepts w.store.history b
               (take entry.index_count w.index.shown) asked entry.kept turns adds.grew.added (outcome_of m) (text_of m))
               (sym all) (replied (take entry.index_count w.index.shown)));
           cause = subst (λ (o : Outcome). HasCauseIn turns w.store.history o) (sym e.outcome)

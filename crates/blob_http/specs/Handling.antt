@@ -4,7 +4,7 @@ use Rattle.std.specs.Prelude.{Ok, Err, ◌==◌, All}
 use Rattle.claim_verify.specs.Verifier.{Accepts}
 use Rattle.histories.specs.declared.stamped.Stamped.{Stamped}
 use Rattle.histories.specs.declared.events.StoreEvent.{StoreEvent}
-use Rattle.histories.specs.History.{has}
+use Rattle.histories.specs.History.{has, Before}
 use Rattle.histories.specs.Stores.{Blob, arrivals}
 use Rattle.histories.specs.Indexes.{Insertion}
 use Rattle.home_places.specs.Passes.{Sight}
@@ -39,16 +39,17 @@ abbrev pub is_memory : Made → Bool
 is_memory (made.Told o head body) = false
 is_memory made.Memory = true
 
--- what was answered from the store drew a turn of it, and so did a search
-abbrev pub Looked : Question → Made → List ℕ → Type 0
-Looked q made.Memory turns = Unit {0}
-Looked q (made.Told o head body) turns = LooksAt q turns
+-- what was answered from the store drew a turn of it first, and so did a search
+abbrev pub Looked : List (Stamped StoreEvent) → List Blob → Question → Made → List ℕ → Type 0
+Looked h blobs q made.Memory turns = Unit {0}
+Looked h blobs q (made.Told o head body) turns = LooksAt h blobs q turns
 
 -- a turn of the store was drawn, which shows what had arrived, and added nothing
 pub record Looks (v w : Sight) : Type 0 where
   pub turn : ℕ
   pub drawn : w.store.turns ≡ v.store.turns ++ turn ∷ []
   pub owned : Owns v w []
+  pub before : Before turn w.store.history
   pub longer : Longer v w
 
 -- a question was answered, or there was no memory for that; no blob was put
@@ -69,7 +70,7 @@ pub record Answers (tells closes : Bool) (q : Question) (v w : Sight) (entry : A
   pub store_low : length (arrivals v.store.history) ≤ entry.store_count
   pub index_low : length v.index.shown ≤ entry.index_count
   pub longer : Longer v w
-  pub looked : Looked q m turns
+  pub looked : Looked w.store.history (take entry.store_count (arrivals w.store.history)) q m turns
 
 -- an entry for a reply
 abbrev pub entry_of : ℕ → ℕ → ℕ → Made → Answered

@@ -6,3 +6,4 @@ pub mod Answers
 pub mod Keeping
 pub mod Serving
 pub mod Handling
+pub mod Finding

@@ -11,7 +11,7 @@ use Rattle.answer_text.specs.declared.refusal.Refusal.TheVariants as refusal
 use Rattle.histories.specs.declared.stamped.Stamped.{Stamped}
 use Rattle.histories.specs.declared.events.StoreEvent.{StoreEvent}
 use Rattle.histories.specs.declared.events.StoreEvent.TheVariants as store
-use Rattle.histories.specs.History.{stamp, has, own}
+use Rattle.histories.specs.History.{stamp, has, own, Before}
 use Rattle.histories.specs.Stores.{Blob, arrivals}
 use Rattle.histories.specs.Indexes.{Insertion}
 use Rattle.home_places.specs.Passes.{Sight, Caused, IsTrouble}
@@ -109,25 +109,36 @@ IsFrontUpload blobs b after kept turns added outcome text = (u : Kept b.head b.s
     × Turns came kept (length turns) × IsUploadReply u.parts came outcome text
     × AddsParts u.boundary b.given u.parts came added)
 
--- what is answered from the store draws a turn of it, and so does a search
-abbrev pub LooksAt : Question → List ℕ → Type 0
-LooksAt (question.Refused why allow) turns = Unit {0}
-LooksAt (question.Blob r) turns = 0 < length turns
-LooksAt (question.Stat refs) turns = 0 < length turns
-LooksAt (question.Refs page) turns = 0 < length turns
-LooksAt (question.Search query) turns = 0 < length turns
+-- The first turn shows what has arrived: these blobs are the arrivals of the history before it, which begins what is
+-- seen in the end, and has smaller turns alone.
+pub record IsShown (h : List (Stamped StoreEvent)) (blobs : List Blob) (turns : List ℕ) : Type 0 where
+  pub turn : ℕ
+  pub further : List ℕ
+  pub first : turns ≡ turn ∷ further
+  pub seen : List (Stamped StoreEvent)
+  pub begins : IsPrefix seen h
+  pub before : Before turn seen
+  pub arrived : blobs ≡ arrivals seen
+
+-- what is answered from the store draws a turn of it first, and so does a search; it is over the blobs that this shows
+abbrev pub LooksAt : List (Stamped StoreEvent) → List Blob → Question → List ℕ → Type 0
+LooksAt h blobs (question.Refused why allow) turns = Unit {0}
+LooksAt h blobs (question.Blob r) turns = IsShown h blobs turns
+LooksAt h blobs (question.Stat refs) turns = IsShown h blobs turns
+LooksAt h blobs (question.Refs page) turns = IsShown h blobs turns
+LooksAt h blobs (question.Search query) turns = IsShown h blobs turns
 
 -- the reply over the blobs that arrived and the Inserts; an upload alone keeps parts, and nothing else puts a blob
-abbrev pub IsReply : Bool → Accepts → List Blob → List Insertion → Asked → ℕ → List ℕ → List (Stamped StoreEvent)
-    → Outcome → List ℕ → Type 0
-IsReply tells accepts blobs g (Whole r) kept turns added outcome text =
+abbrev pub IsReply : Bool → Accepts → List (Stamped StoreEvent) → List Blob → List Insertion → Asked → ℕ → List ℕ
+    → List (Stamped StoreEvent) → Outcome → List ℕ → Type 0
+IsReply tells accepts h blobs g (Whole r) kept turns added outcome text =
     IsWholeUpload blobs r kept turns added outcome text
     ⊎ ((kept ≡ 0) × PutsNothing added × ((q : Question) × IsAsked r.head r.says r.body q
-    × IsAnswer tells accepts blobs g r.says.closes q outcome text × LooksAt q turns))
-IsReply tells accepts blobs g (Front b after) kept turns added outcome text =
+    × IsAnswer tells accepts blobs g r.says.closes q outcome text × LooksAt h blobs q turns))
+IsReply tells accepts h blobs g (Front b after) kept turns added outcome text =
     IsFrontUpload blobs b after kept turns added outcome text
     ⊎ ((kept ≡ 0) × PutsNothing added × IsFrontReply b after outcome text)
-IsReply tells accepts blobs g (Head end) kept turns added outcome text =
+IsReply tells accepts h blobs g (Head end) kept turns added outcome text =
     (kept ≡ 0) × PutsNothing added × IsHeadReply end outcome text
 
 -- ---- what was answered
@@ -146,7 +157,7 @@ pub record IsAnswered (tells : Bool) (accepts : Accepts) (h : List (Stamped Stor
     (asked : Asked) (entry : Answered) (text turns : List ℕ) (added : List (Stamped StoreEvent)) : Type 0 where
   pub store_within : entry.store_count ≤ length (arrivals h)
   pub index_within : entry.index_count ≤ length g
-  pub replied : IsReply tells accepts (take entry.store_count (arrivals h)) (take entry.index_count g) asked
+  pub replied : IsReply tells accepts h (take entry.store_count (arrivals h)) (take entry.index_count g) asked
       entry.kept turns added entry.outcome text
   pub cause : HasCauseIn turns h entry.outcome
   pub placed : All (λ (s : Stamped StoreEvent). has turns s.turn ≡ true) added
