@@ -10,3 +10,4 @@ pub mod Pages
 pub mod Connecting
 pub mod Uploading
 pub mod Finds
+pub mod Completing

@@ -7,3 +7,4 @@ pub mod Keeping
 pub mod Serving
 pub mod Handling
 pub mod Finding
+pub mod Complete

@@ -15,7 +15,7 @@ mod uploads;
 pub use answer_log::{AnswerLog, NoLog};
 pub use entries::{Answered, Outcome};
 pub use gathering::Stopped;
-pub use laws::searches_find;
+pub use laws::{searches_find, valid_requests_are_served};
 pub use questions::Question;
 pub use replies::{Kind, Made};
 pub use serving::{Ended, serve_connection};
