@@ -17,7 +17,7 @@ import inputs
 import older as older_store
 import reference
 import writing
-from harness import Difference, check, compare, compare_ending, finish, limited_to
+from harness import Difference, chance, check, compare, compare_ending, finish, limited_to
 from reference import older_ref_of, ref_of
 from stores import Store, check_search
 from writing import keyring_line, pack, record
@@ -309,7 +309,8 @@ def with_broken_source(program, what, line, front, **streams):
 
 
 def limits():
-    """A pack of the greatest length, and a longer one, of which the rest isn't read; one that doesn't fit into memory."""
+    """A pack of the greatest length, and a longer one, of which the rest isn't read; one for whose last bytes there is no memory, and a
+    longer one for whose last bytes there is."""
 
     def greatest(program):
         poured(program, "a pack of the greatest length", reference.LARGEST_PACK, 0)
@@ -325,9 +326,12 @@ def limits():
             raise Difference(f"a longer pack: {taken} bytes were taken, at most {most} should be")
 
     def no_memory(program):
-        poured(program, "a pack that doesn't fit into memory", 128 * PIECE, 1, front=limited_to(64))
+        poured(program, "a pack whose last bytes don't fit into memory", 128 * PIECE, 1, front=limited_to(32))
 
-    return [greatest, one_byte_longer, longer, no_memory]
+    def little_memory(program):
+        poured(program, "a pack of 512 MiB within 128 MiB", 512 * PIECE, 0, front=limited_to(128))
+
+    return [greatest, one_byte_longer, longer, no_memory, little_memory]
 
 
 PIECE = 1_048_576
@@ -383,15 +387,15 @@ def ends_soon(program, what, blobs, attribute, value, found):
 
 
 def poured(program, what, length, status, **streams):
-    """Pours zeros into the program until it ends or all are taken; answers how many were."""
+    """Pours zeros into the program, in pieces of any size, until it ends or all are taken; answers how many were."""
     folder = program.working_folder(inputs.KEYRING)
     streams |= {"stdin": subprocess.PIPE, "stdout": subprocess.PIPE, "bufsize": 0}
     process = program.start(("search-pack", "tag", "a"), folder, **streams)
-    taken = 0
-    zeros = bytes(PIECE)
+    taken, sizes = 0, chance(what)
+    zeros = memoryview(bytes(PIECE))
     try:
         while taken < length:
-            taken += process.stdin.write(zeros[: length - taken])
+            taken += process.stdin.write(zeros[: min(length - taken, sizes.randint(1, PIECE))])
     except BrokenPipeError:
         pass
     out, err = finish(what, process)

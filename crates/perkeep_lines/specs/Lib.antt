@@ -1,4 +1,5 @@
 pub mod Blobs
+pub mod Incoming
 pub mod Outputs
 pub mod Search
 pub mod Load

@@ -119,7 +119,7 @@ fn add_first(
 }
 
 // Adds the fact of a blob, unless its ref was seen.
-fn add_blob(
+pub(crate) fn add_blob(
     alloc: Global,
     r: Ref,
     bytes: &[u8],

@@ -3,12 +3,14 @@
 #![tactic(auto)]
 
 mod blobs;
+mod incoming;
 mod lines;
 mod load;
 mod notes;
 mod search;
 
 pub use blobs::{pack_facts, store_facts};
+pub use incoming::{IncomingFault, source_facts};
 pub use lines::{ref_line, report_of, size_line, size_lines};
 pub use load::load_text;
 pub use notes::{Note, date_of, is_held, permanode_note, random_of, signed_note};

@@ -5,15 +5,19 @@ ghost use Rattle.pack_format.specs.Header.{max_size};
 ghost use Rattle.pack_disk.specs.Runs.{Stays};
 ghost use Rattle.pack_store.specs.Packs.{KeepsAll};
 ghost use Rattle.pack_store.specs.Puts.{Stands, PutLeaves};
+ghost use Rattle.claim_model.specs.Facts.{AreValid};
+ghost use Rattle.perkeep_lines.specs.Incoming.{GaveFacts};
 ghost use Rattle.perkeep_top.specs.Frame.{GaveWhole};
 ghost use Rattle.perkeep_top.specs.Limits.{limits};
 ghost use Rattle.perkeep_top.specs.Steps.{RefusesInput, too_long_status, Finds, NeverRefuses, Writes};
 
 use crate::status::{InputFault, Status};
 use blobref::Ref;
+use claim_index::FactList;
 use edge_base::{Failed, Put, PutFault, ReadAllError, Sink, Source, read_all, write_all};
 use pack_disk::Disk;
 use pack_store::{Limits, Store, puts_last};
+use perkeep_lines::{IncomingFault, source_facts};
 use std::alloc::Global;
 
 /// How far the program's store may grow (`docs/formats/packs.md`).
@@ -53,6 +57,28 @@ pub(crate) fn told_too_long(status: Status) -> Status
             Status::BadInput(InputFault::TooLong { len: size })
         }
         status => status,
+    }
+}
+
+/// The facts of the blobs of the pack that the source has left, which has at most so many bytes.
+pub(crate) fn read_facts<S: Source>(
+    alloc: Global,
+    source: &mut S,
+    most: usize,
+) -> Result<FactList, Status>
+    requires { most < 2 ^ 63 }
+    ensures read { IfOk result (GaveFacts most (S.left source.old) (S.left source.new)) }
+    ensures valid { IfOk result (λ facts. AreValid facts) }
+    ensures refused { IfErr result (RefusesInput S.Source most source.old source.new) }
+    ensures later { S.faults source.old ≤ S.faults source.new }
+{
+    match source_facts(alloc, source, most) {
+        Ok(facts) => Ok(facts),
+        Err(IncomingFault::ReadFault) => Err(Status::ReadFault),
+        Err(IncomingFault::TooLong) => Err(Status::BadInput(InputFault::TooBig {
+            size: most as u64 + 1,
+        })),
+        Err(IncomingFault::NoMemory) => Err(Status::NoMemory),
     }
 }
 

@@ -8,7 +8,7 @@ use blobref::{NoMemory, Ref, RefList};
 use edge_base::{CallList, Put, PutFault};
 use pack_disk::MemDisk;
 use pack_store::{Limits, OpenFault, Store, holds_content, lives_keep, puts_last, scan_pack};
-use salvage_scan::{Clean, Found};
+use salvage_scan::{Clean, Found, FoundList, Scanner};
 use std::alloc::Global;
 use std::test::Fail;
 
@@ -299,11 +299,54 @@ fn blobs_are_put_and_read(rt: HostRuntime) -> Result<(), Fail> {
     Ok(())
 }
 
-// Whether a scan of a pack with these bytes finds so, and tells so whether it is clean.
+// Whether a scan of a pack with these bytes finds so, and tells so whether it is clean, also where they come in pieces.
 fn scans(alloc: Global, bytes: &[u8], found: &[Found], clean: Clean) -> Result<bool, Fail> {
     let mut disk = synced(alloc, 0, bytes)?;
     let scan = scan_pack(alloc, &mut disk, 0)?;
-    Ok(scan.found.as_slice() == found && scan.clean == clean && scan.size == bytes.len() as u64)
+    let whole = scan.found.as_slice() == found
+        && scan.clean == clean
+        && scan.size == bytes.len() as u64;
+    Ok(
+        whole
+            && tells(alloc, bytes, 1, found, clean)?
+            && tells(alloc, bytes, 2, found, clean)?
+            && tells(alloc, bytes, 73, found, clean)?
+            && tells(alloc, bytes, 65_536, found, clean)?,
+    )
+}
+
+// Whether a scanner tells so that is fed the bytes in pieces of so many.
+fn tells(
+    alloc: Global,
+    bytes: &[u8],
+    size: usize,
+    found: &[Found],
+    clean: Clean,
+) -> Result<bool, NoMemory> {
+    let told = scan_by(alloc, bytes, size)?;
+    Ok(told.0.as_slice() == found && told.1 == clean)
+}
+
+// What a scanner tells that is fed the bytes in pieces of so many.
+fn scan_by(alloc: Global, bytes: &[u8], size: usize) -> Result<(FoundList, Clean), NoMemory> {
+    let mut scanner = Scanner::start(alloc)?;
+    let mut found = FoundList::empty(alloc);
+    let mut at = 0;
+    'pieces: while at < bytes.len() {
+        let count = size.max(1).min(bytes.len() - at);
+        add_all(&mut found, &scanner.feed(&bytes[at..at + count])?)?;
+        at += count;
+    }
+    let (rest, clean) = scanner.end()?;
+    add_all(&mut found, &rest)?;
+    Ok((found, clean))
+}
+
+fn add_all(found: &mut FoundList, more: &FoundList) -> Result<(), NoMemory> {
+    for f in more.as_slice() {
+        found.push(*f)?;
+    }
+    Ok(())
 }
 
 // `abc` as it is found under a ref, from a place on.

@@ -5,11 +5,12 @@ ghost use Rattle.perkeep_top.specs.Frame.{Ends};
 ghost use Rattle.perkeep_top.specs.Search.{search_pack_meaning};
 
 use crate::status::Status;
-use crate::steps::{read_input, written};
+use crate::steps::{read_facts, written};
 use claim_verify::Verifier;
 use edge_base::{Clock, Dice, Sink, Source};
 use pack_disk::Disk;
-use perkeep_lines::pack_answer;
+use perkeep_lines::search_line;
+use schema_date::When;
 use std::alloc::Global;
 
 // The most bytes of a pack that is searched: 2 ^ 30.
@@ -34,11 +35,11 @@ pub(crate) fn search_pack<D: Disk, V: Verifier, S: Source, K: Sink, C: Clock, R:
         (world disk source.old sink.old _clock.old _dice.old)
         (world result.0 source.new sink.new _clock.new _dice.new) result.1 }
 {
-    let pack = match read_input(alloc, source, LONGEST_PACK) {
-        Ok(pack) => pack,
+    let facts = match read_facts(alloc, source, LONGEST_PACK) {
+        Ok(facts) => facts,
         Err(status) => return (disk, status),
     };
-    match pack_answer(alloc, attr, value, keys, &pack) {
+    match search_line(alloc, facts, keys, attr, value, When::Always) {
         Ok(line) => (disk, written(line.as_slice(), sink)),
         Err(_) => (disk, Status::NoMemory),
     }
