@@ -496,7 +496,8 @@ module _ (tells closes : Bool) where
             ∙ ap (λ (e : Option StoreEvent). ran.before ++ stamped t e) (none (arrivals ran.before) ran.entry ran.said)
             ∙ append-nil ran.before)) (before_within ran.ticket ran.before ran.within.0);
         longer = record {
-          store = prefix_trans v.store.history ran.before w.store.history ran.longer (stamped t ran.entry, sym ran.added);
+          store = prefix_trans v.store.history ran.before w.store.history ran.longer
+              (stamped t ran.entry, sym ran.added);
           index = same_prefix v.index.history w.index.history (ap (λ s. s.history) turned.index);
           shown = same_prefix v.index.shown w.index.shown (ap (λ s. s.shown) turned.index);
           limits = turned.turn.limits;

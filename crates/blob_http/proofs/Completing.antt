@@ -1,6 +1,6 @@
 -- A valid request gets its answer.
 use Rattle.std.proofs.Common.{◌≡◌, ◌+◌, ◌<◌, ◌≤◌, ◌⊎◌, inl, inr, ℕ, List, [], ◌∷◌, ◌++◌, length, take, All, Bool, true}
-use Rattle.std.proofs.Common.{false, not, if◌then◌else◌, flat_map, Option, Some, None, Result, Ok, Err, Contains, refl, ap}
+use Rattle.std.proofs.Common.{false, not, if◌then◌else◌, flat_map, Option, Some, None, Result, Ok, Err, refl, ap}
 use Rattle.std.proofs.Common.{sym, subst, ◌∙◌, arith, append_assoc, length-append}
 use Rattle.std.specs.Option.{IfSome}
 use Rattle.std.proofs.lemmas.Bool.{false≢true}
@@ -44,7 +44,7 @@ use Rattle.blob_http.specs.declared.questions.Question.{Question}
 use Rattle.blob_http.specs.Asked.{Asked, Whole, Front, Head as NoHead}
 use Rattle.blob_http.specs.Questions.{first_of}
 use Rattle.blob_http.specs.Keeping.{boundary_at, Kept, IsUploadReply}
-use Rattle.blob_http.specs.Serving.{HasCauseIn, IsBodyRefusal, IsFrontDefined, IsFrontReply, IsFrontUpload, IsReply, Answer}
+use Rattle.blob_http.specs.Serving.{HasCauseIn, IsBodyRefusal, IsFrontDefined, IsReply, Answer}
 use Rattle.blob_http.specs.Complete.{IsGoodUpload, IsGoodQuestion, HasGoodBody, IsValid, IsOf, is_put, IsCalm}
 use Rattle.blob_http.specs.Complete.{IsDefinedReply, IsServed, ValidIsServed}
 
@@ -143,7 +143,8 @@ sound_body boundary text good =
     let told = good.whole.0 in
     let is = good.whole.2 in
     let have = bodies_have_parts boundary text told (Ok tt) is in
-    let same = one_list_of_parts boundary text good.parts have.0 (Ok tt) (Ok tt) good.whole (told, have.1, is, have.2) in
+    let same = one_list_of_parts boundary text good.parts have.0 (Ok tt) (Ok tt) good.whole
+    (told, have.1, is, have.2) in
     let tokens : told ≡ flat_map part_tokens have.0 ++ [] = have.2
     ∙ ap (λ (c : Cut). flat_map part_tokens have.0 ++ cut_tokens c) (have.3 refl) in
     record {
@@ -157,7 +158,8 @@ sound_body boundary text good =
 
 module _ (boundary given more : List ℕ) (good : SoundBody boundary (given ++ more)) (parts : List Part) where
   -- what the front tells is told first
-  sound_after : (after : List Token) → Told boundary given parts after → (later : List Token) × Sound between (after ++ later)
+  sound_after : (after : List Token) → Told boundary given parts after
+      → (later : List Token) × Sound between (after ++ later)
   sound_after after told =
       let first = told_first boundary given parts after told more good.told (Ok tt) good.is in
       let tokens : good.told ≡ flat_map part_tokens parts ++ (after ++ first.0) = first.1

@@ -1,6 +1,6 @@
 -- One step of a connection.
 use Rattle.std.proofs.Common.{◌≡◌, ℕ, List, [], ◌∷◌, ◌++◌, Bool, true, false, Option, refl, sym, ◌∙◌}
-use Rattle.std.proofs.Common.{Some, None, inl, inr, ap, subst, append_assoc}
+use Rattle.std.proofs.Common.{Some, None, inl, inr, ap, subst, append_assoc, ◌+◌, length, arith, length-append}
 use Rattle.std.specs.Option.{IfSome}
 use Rattle.std.specs.List.{flat_map}
 use Rattle.edge_base.specs.Edge.{Gave, Took, TookFront}
@@ -8,7 +8,7 @@ use Rattle.edge_base.proofs.Moves.{Took-chain}
 use Rattle.histories.specs.declared.stamped.Stamped.{Stamped}
 use Rattle.histories.specs.declared.events.StoreEvent.{StoreEvent}
 use Rattle.home_places.specs.Passes.{Sight}
-use Rattle.http_wire.specs.Stream.{Flow, stream}
+use Rattle.http_wire.specs.Stream.{Flow, stream, counted}
 use Rattle.http_wire.specs.Wires.{WireView}
 use Rattle.http_wire.specs.Speaking.{Begun, text_of as text_in}
 use Rattle.blob_http.specs.declared.entries.Answered.{Answered}
@@ -29,40 +29,53 @@ gave_from : (x0 now : Option (List ℕ)) (text : List ℕ) → Gave (stream [] x
 gave_from None now text g = g
 gave_from (Some x) now text g = g
 
-stands_behind : (x0 now : Option (List ℕ)) (text : List ℕ) (b : Begun) → Gave x0 now text
-    → IfSome now (λ bytes. (before after : List ℕ) × (bytes ≡ before ++ (b.head ++ (b.framed ++ after))))
-    → IfSome x0 (λ bytes. (before after : List ℕ) × (bytes ≡ before ++ (b.head ++ (b.framed ++ after))))
-stands_behind None now text b g at = tt
-stands_behind (Some x) now text b g at =
-    let s = subst (λ (z : Option (List ℕ)). IfSome z (λ bytes. (before after : List ℕ)
-    × (bytes ≡ before ++ (b.head ++ (b.framed ++ after))))) g.1 at in
-    (text ++ s.0, s.1, g.2 ∙ ap (λ (z : List ℕ). text ++ z) s.2 ∙ sym (append_assoc text s.0 _))
+behind_place : (start taken place size text : ℕ) → taken ≡ counted start text → place ≡ counted taken size
+    → place ≡ counted start (text + size)
+behind_place start taken place size text at is = omega (arith, at, is)
 
-cut_behind : (x0 now : Option (List ℕ)) (text turns : List ℕ) (added : List (Stamped StoreEvent)) → Gave x0 now text
-    → CutUpload now turns added → CutUpload x0 turns added
-cut_behind x0 now text turns added g u = record {
-  begun = u.begun;
-  is_begun = u.is_begun;
-  stands = stands_behind x0 now text u.begun g u.stands;
-  upload = u.upload;
-  boundary = u.boundary;
-  bounds = u.bounds;
-  parts = u.parts;
-  reads = u.reads;
-  count = u.count;
-  placed = u.placed;
-  adds = u.adds;
-}
+module _ (x0 now : Option (List ℕ)) (text : List ℕ) (start taken : ℕ) (g : Gave x0 now text)
+    (at : taken ≡ counted start (length text)) where
+  stands_behind : (x0 now : Option (List ℕ)) (b : Begun) (place : ℕ) → Gave x0 now text
+      → IfSome now (λ bytes. (before after : List ℕ) × (place ≡ counted taken (length before))
+      × (bytes ≡ before ++ (b.head ++ (b.framed ++ after))))
+      → IfSome x0 (λ bytes. (before after : List ℕ) × (place ≡ counted start (length before))
+      × (bytes ≡ before ++ (b.head ++ (b.framed ++ after))))
+  stands_behind None now b place g stands = tt
+  stands_behind (Some x) now b place g stands =
+      let s = subst (λ (z : Option (List ℕ)). IfSome z (λ bytes. (before after : List ℕ)
+      × (place ≡ counted taken (length before)) × (bytes ≡ before ++ (b.head ++ (b.framed ++ after))))) g.1 stands in (
+        text ++ s.0,
+        s.1,
+        behind_place start taken place (length s.0) (length text) at s.2
+            ∙ ap (counted start) (sym (length-append text s.0)),
+        g.2 ∙ ap (λ (z : List ℕ). text ++ z) s.3 ∙ sym (append_assoc text s.0 _),
+      )
 
-rest_behind : (x0 now : Option (List ℕ)) (text : List ℕ) (end : Ended) (turns : List ℕ)
-    (added : List (Stamped StoreEvent)) → Gave x0 now text → IsRest now end turns added → IsRest x0 end turns added
-rest_behind x0 now text ended.Closed turns added g is = is
-rest_behind x0 now text (ended.Cut n) turns added g (inl is) = inl is
-rest_behind x0 now text (ended.Cut n) turns added g (inr is) = inr (cut_behind x0 now text turns added g is)
-rest_behind x0 now text ended.ReadFault turns added g (inl is) = inl is
-rest_behind x0 now text ended.ReadFault turns added g (inr is) = inr (cut_behind x0 now text turns added g is)
-rest_behind x0 now text ended.WriteFault turns added g is = is
-rest_behind x0 now text ended.NoMemory turns added g is = is
+  cut_behind : (place : ℕ) (turns : List ℕ) (added : List (Stamped StoreEvent))
+      → CutUpload now taken place turns added → CutUpload x0 start place turns added
+  cut_behind place turns added u = record {
+    begun = u.begun;
+    is_begun = u.is_begun;
+    stands = stands_behind x0 now u.begun place g u.stands;
+    upload = u.upload;
+    boundary = u.boundary;
+    bounds = u.bounds;
+    parts = u.parts;
+    reads = u.reads;
+    count = u.count;
+    placed = u.placed;
+    adds = u.adds;
+  }
+
+  rest_behind : (end : Ended) (turns : List ℕ) (added : List (Stamped StoreEvent))
+      → IsRest now taken end turns added → IsRest x0 start end turns added
+  rest_behind ended.Closed turns added is = is
+  rest_behind (ended.Cut n) turns added (inl is) = inl is
+  rest_behind (ended.Cut n) turns added (inr is) = inr (cut_behind n turns added is)
+  rest_behind ended.ReadFault turns added (inl is) = inl is
+  rest_behind ended.ReadFault turns added (inr is) = inr (is.0, cut_behind is.0 turns added is.1)
+  rest_behind ended.WriteFault turns added is = is
+  rest_behind ended.NoMemory turns added is = is
 
 module _ (tells : Bool) (v w : Sight) (noted noted' : List Answered → Type 0) (x0 x1 w0 w1 : Option (List ℕ))
     (flow : Flow) (s : Serves tells v w noted (Open x0 x1 fresh_flow flow) (Took w0 w1) HasNone) where
@@ -90,7 +103,7 @@ module _ (tells : Bool) (v w : Sight) (noted noted' : List Answered → Type 0) 
   pub step_closes : (x : Sight) (entry : Answered) (m : Made) (x2 w2 : Option (List ℕ)) (new : WireView) (closes : Bool)
       → Adds entry → Replies x1 x2 flow new tells w x entry m closes → closes ≡ true
       → Took w1 w2 (text_of m)
-      → Serves tells v x noted' (Heard x0 x2 ended.Closed) (Wrote w0 w2 ended.Closed) (IsRest x0 ended.Closed)
+      → Serves tells v x noted' (Heard x0 x2 ended.Closed) (Wrote w0 w2 ended.Closed) (IsRest x0 0 ended.Closed)
   step_closes x entry m x2 w2 new closes adds r closed took =
       serves_more tells v w x noted noted' (Open x0 x1 fresh_flow flow) (Heard x0 x2 ended.Closed) (Took w0 w1)
       (Wrote w0 w2 ended.Closed) r.asked entry (text_of m) s r.handles adds
@@ -101,7 +114,7 @@ module _ (tells : Bool) (v w : Sight) (noted noted' : List Answered → Type 0) 
   pub step_breaks : (x : Sight) (entry : Answered) (m : Made) (x2 w2 : Option (List ℕ)) (new : WireView) (closes : Bool)
       → Adds entry → Replies x1 x2 flow new tells w x entry m closes → TookFront w1 w2 (text_of m)
       → Serves tells v x noted' (Heard x0 x2 ended.WriteFault) (Wrote w0 w2 ended.WriteFault)
-      (IsRest x0 ended.WriteFault)
+      (IsRest x0 0 ended.WriteFault)
   step_breaks x entry m x2 w2 new closes adds r took =
       serves_more tells v w x noted noted' (Open x0 x1 fresh_flow flow) (Heard x0 x2 ended.WriteFault) (Took w0 w1)
       (Wrote w0 w2 ended.WriteFault) r.asked entry (text_of m) s r.handles adds
@@ -111,14 +124,15 @@ module _ (tells : Bool) (v w : Sight) (noted noted' : List Answered → Type 0) 
   -- no request came, or one that has no answer
   pub step_ends : (x : Sight) (x2 : Option (List ℕ)) (end : Ended) → Same
       → NoneComes (stream flow.bytes x1) x2 flow.taken end
-      → Passes (stream flow.bytes x1) end w x
-      → Serves tells v x noted' (Heard x0 x2 end) (Wrote w0 w1 end) (IsRest x0 end)
+      → Passes (stream flow.bytes x1) flow.taken end w x
+      → Serves tells v x noted' (Heard x0 x2 end) (Wrote w0 w1 end) (IsRest x0 0 end)
   step_ends x x2 end same none passes =
       serves_ends tells v w x noted noted' (Open x0 x1 fresh_flow flow) (Heard x0 x2 end) (Took w0 w1)
-      (Wrote w0 w1 end) (IsRest x0 end) passes.turns passes.added s same
+      (Wrote w0 w1 end) (IsRest x0 0 end) passes.turns passes.added s same
       (λ asked o. heard_none x0 x1 x2 flow asked end o none) (written end none) passes.drawn passes.owned
-      (rest_behind x0 (stream flow.bytes x1) (flat_map text_in s.heard.requests) end passes.turns passes.added
-      (gave_from x0 (stream flow.bytes x1) (flat_map text_in s.heard.requests) s.heard.passed.gave) passes.rest)
+      (rest_behind x0 (stream flow.bytes x1) (flat_map text_in s.heard.requests) 0 flow.taken
+      (gave_from x0 (stream flow.bytes x1) (flat_map text_in s.heard.requests) s.heard.passed.gave)
+      s.heard.passed.taken end passes.turns passes.added passes.rest)
       passes.longer
     where
       written : (end : Ended) → NoneComes (stream flow.bytes x1) x2 flow.taken end → (texts : List ℕ)
@@ -132,16 +146,16 @@ module _ (tells : Bool) (v w : Sight) (noted noted' : List Answered → Type 0) 
 
   -- there was no memory for an entry, and nothing was read
   pub step_full : Same
-      → Serves tells v w noted' (Heard x0 x1 ended.NoMemory) (Wrote w0 w1 ended.NoMemory) (IsRest x0 ended.NoMemory)
+      → Serves tells v w noted' (Heard x0 x1 ended.NoMemory) (Wrote w0 w1 ended.NoMemory) (IsRest x0 0 ended.NoMemory)
   step_full same =
       serves_ends tells v w w noted noted' (Open x0 x1 fresh_flow flow) (Heard x0 x1 ended.NoMemory) (Took w0 w1)
-      (Wrote w0 w1 ended.NoMemory) (IsRest x0 ended.NoMemory) [] [] s same
+      (Wrote w0 w1 ended.NoMemory) (IsRest x0 0 ended.NoMemory) [] [] s same
       (λ asked o. heard_full x0 x1 flow asked o) (λ texts t. t) (sym (append-nil w.store.turns)) (owns_none w)
       (refl, refl) (longer_none w)
 
 -- a connection for which there was no memory
 pub no_memory : (tells : Bool) (v : Sight) (noted : List Answered → Type 0) (x w : Option (List ℕ)) → noted []
-    → Serves tells v v noted (Heard x x ended.NoMemory) (Wrote w w ended.NoMemory) (IsRest x ended.NoMemory)
+    → Serves tells v v noted (Heard x x ended.NoMemory) (Wrote w w ended.NoMemory) (IsRest x 0 ended.NoMemory)
 no_memory tells v noted x w none =
     step_full tells v v noted noted x x w w fresh_flow
     (serves_none tells v noted (Open x x fresh_flow fresh_flow) (Took w w) none (open_none x) (took_none w))

@@ -1,5 +1,5 @@
 -- A search finds what its first turn shows.
-use Rattle.std.proofs.Common.{◌≡◌, ◌<◌, ◌≤◌, ◌⊎◌, inl, inr, ⊎_elim, ℕ, zero, suc, Bool, true, List, [], ◌∷◌, ◌++◌, length}
+use Rattle.std.proofs.Common.{◌≡◌, ◌<◌, ◌≤◌, inl, inr, ⊎_elim, ℕ, suc, Bool, List, [], ◌∷◌, ◌++◌, length}
 use Rattle.std.proofs.Common.{take, Option, Some, None, Result, Ok, Err, Contains, slice_get, All, refl, sym, ap, subst}
 use Rattle.std.proofs.Common.{◌∙◌, arith}
 use Rattle.std.proofs.lemmas.List.{length-take-le}
@@ -88,7 +88,8 @@ put_arrives (s ∷ ss) turn number blob c =
   where
     at_head : Contains (s ∷ []) (stamp turn (store.Put number blob.0 blob.1))
         → (n : ℕ) × (slice_get (arrivals (s ∷ ss)) n ≡ Some blob)
-    at_head here = ⊎_elim (λ (none : Contains [] (stamp turn (store.Put number blob.0 blob.1))). absurd (omega (arith, none.1)))
+    at_head here = ⊎_elim
+        (λ (none : Contains [] (stamp turn (store.Put number blob.0 blob.1))). absurd (omega (arith, none.1)))
         (λ (same : s ≡ stamp turn (store.Put number blob.0 blob.1)).
         subst (λ (z : Stamped StoreEvent). (n : ℕ) × (slice_get (arrivals (z ∷ ss)) n ≡ Some blob)) (sym same)
         (0, refl)) (Contains-push_cases [] s (stamp turn (store.Put number blob.0 blob.1)) here)
@@ -116,7 +117,8 @@ module _ (h : List (Stamped StoreEvent)) (g : List Insertion) (count : ℕ) (tur
       record {
         number = at.0;
         within = omega (arith, within, size, same);
-        arrived = prefix_get (arrivals shown.seen) (arrivals h) at.0 blob (arrivals_prefix shown.seen h shown.begins) at.1;
+        arrived = prefix_get (arrivals shown.seen) (arrivals h) at.0 blob
+            (arrivals_prefix shown.seen h shown.begins) at.1;
         inserted = all at.0 (omega (arith, within, same));
       }
 
@@ -154,9 +156,9 @@ module _ (tells : Bool) (accepts : Accepts) (h : List (Stamped StoreEvent)) (g :
 
 pub searches_find : SearchesFind
 searches_find tells accepts h g a r query holds whole asked defined =
-    finds_by tells accepts h (take a.entry.index_count g) r query a.entry.store_count a.entry.kept a.turns a.added a.text
-    holds.store_within asked
-    (subst (λ (z : Asked). IsReply tells accepts h (take a.entry.store_count (arrivals h)) (take a.entry.index_count g) z
-    a.entry.kept a.turns a.added Defined a.text) whole
+    finds_by tells accepts h (take a.entry.index_count g) r query a.entry.store_count a.entry.kept a.turns a.added
+    a.text holds.store_within asked
+    (subst (λ (z : Asked). IsReply tells accepts h (take a.entry.store_count (arrivals h))
+    (take a.entry.index_count g) z a.entry.kept a.turns a.added Defined a.text) whole
     (subst (λ (o : Outcome). IsReply tells accepts h (take a.entry.store_count (arrivals h))
     (take a.entry.index_count g) a.asked a.entry.kept a.turns a.added o a.text) defined holds.replied))

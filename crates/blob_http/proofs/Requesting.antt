@@ -112,7 +112,8 @@ handles_of tells closes q v w entry m asked a replied = record {
   longer = a.longer;
 }
   where
-    reply_at : (tells : Bool) (accepts : Accepts) (h : List (Stamped StoreEvent)) (blobs : List Blob) (g : List Insertion) (asked : Asked) (kept : ℕ)
+    reply_at : (tells : Bool) (accepts : Accepts) (h : List (Stamped StoreEvent)) (blobs : List Blob)
+        (g : List Insertion) (asked : Asked) (kept : ℕ)
         (turns : List ℕ) (added : List (Stamped StoreEvent)) (o : Outcome) (m : Made)
         → kept ≡ 0 → o ≡ outcome_of m → IsReply tells accepts h blobs g asked 0 turns added (outcome_of m) (text_of m)
         → IsReply tells accepts h blobs g asked kept turns added o (text_of m)
@@ -445,21 +446,21 @@ stop_replies x0 x1 x2 flow mid new says head stopped.ReadFault gathered tells v 
 
 -- ---- the source ended inside a body, or a read failed
 
-no_rest : (x : Option (List ℕ)) (end : Ended) → IsRest x end [] []
-no_rest x ended.Closed = (refl, refl)
-no_rest x (ended.Cut n) = inl (refl, refl)
-no_rest x ended.ReadFault = inl (refl, refl)
-no_rest x ended.WriteFault = (refl, refl)
-no_rest x ended.NoMemory = (refl, refl)
+no_rest : (x : Option (List ℕ)) (start : ℕ) (end : Ended) → IsRest x start end [] []
+no_rest x start ended.Closed = (refl, refl)
+no_rest x start (ended.Cut n) = inl (refl, refl)
+no_rest x start ended.ReadFault = inl (refl, refl)
+no_rest x start ended.WriteFault = (refl, refl)
+no_rest x start ended.NoMemory = (refl, refl)
 
 -- nothing was done
-pub passes_none : (x : Option (List ℕ)) (end : Ended) (v : Sight) → Passes x end v v
-passes_none x end v = record {
+pub passes_none : (x : Option (List ℕ)) (start : ℕ) (end : Ended) (v : Sight) → Passes x start end v v
+passes_none x start end v = record {
   turns = [];
   drawn = sym (append-nil v.store.turns);
   added = [];
   owned = owns_none v;
-  rest = no_rest x end;
+  rest = no_rest x start end;
   longer = longer_none v;
 }
 
@@ -529,5 +530,6 @@ stop_none x0 x1 x2 flow mid new says head stopped.ReadFault gathered r first oth
     (is_begun x0 x1 x2 flow mid new says head gathered.given gathered.moved)
     (passed x0 x1 x2 flow mid new says head gathered.given gathered.moved).gave gathered.says)
 
-pub passes_same : (x : Option (List ℕ)) (end : Ended) (v w : Sight) → w ≡ v → Passes x end v w
-passes_same x end v w same = subst (λ (z : Sight). Passes x end v z) (sym same) (passes_none x end v)
+pub passes_same : (x : Option (List ℕ)) (start : ℕ) (end : Ended) (v w : Sight) → w ≡ v → Passes x start end v w
+passes_same x start end v w same =
+    subst (λ (z : Sight). Passes x start end v z) (sym same) (passes_none x start end v)

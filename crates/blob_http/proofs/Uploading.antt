@@ -23,7 +23,7 @@ use Rattle.http_wire.specs.declared.head.Head.{Head}
 use Rattle.http_wire.specs.declared.head.Framing.{Framing}
 use Rattle.http_wire.specs.declared.ends.WireEnd.{WireEnd}
 use Rattle.http_wire.specs.declared.ends.WireEnd.TheVariants as ends
-use Rattle.http_wire.specs.Stream.{Flow, stream}
+use Rattle.http_wire.specs.Stream.{Flow, stream, counted as counted_on}
 use Rattle.http_wire.specs.Bodies.{Leads}
 use Rattle.http_wire.specs.Wires.{WireView, body_of, to_come}
 use Rattle.http_wire.specs.Speaking.{Request}
@@ -179,10 +179,12 @@ upload_said : (boundary given : List ℕ) (parts : List Part) (wire : WireView) 
     → (is_whole c ≡ false) ⊎ (m ≡ made.Memory) → AddsParts boundary given parts c added
     → (d : Came) × Comes boundary given parts wire x d × Turns d n t × IsUploadReply parts d (outcome_of m) (text_of m)
     × AddsParts boundary given parts d added
-upload_said boundary given parts wire x closes c made.Memory n t added is comes turns part adds = (c, comes, turns, refl, adds)
+upload_said boundary given parts wire x closes c made.Memory n t added is comes turns part adds =
+    (c, comes, turns, refl, adds)
 upload_said boundary given parts wire x closes came.Whole (made.Told o head rest) n t added is comes turns part adds =
     absurd (elim part [ inl e ↦ not_whole e | inr e ↦ cc e ])
-upload_said boundary given parts wire x closes (came.Refused why) (made.Told o head rest) n t added is comes turns part adds = (
+upload_said boundary given parts wire x closes (came.Refused why)
+    (made.Told o head rest) n t added is comes turns part adds = (
   came.Refused why,
   comes,
   turns,
@@ -190,7 +192,8 @@ upload_said boundary given parts wire x closes (came.Refused why) (made.Told o h
       (sym is.0) is.1,
   adds,
 )
-upload_said boundary given parts wire x closes (came.Full k pack) (made.Told o head rest) n t added is comes turns part adds = (
+upload_said boundary given parts wire x closes (came.Full k pack)
+    (made.Told o head rest) n t added is comes turns part adds = (
   came.Full k pack,
   comes,
   turns,
@@ -206,7 +209,8 @@ upload_said boundary given parts wire x closes came.Disk (made.Told o head rest)
       (refl, is.1),
   adds,
 )
-upload_said boundary given parts wire x closes came.Memory (made.Told o head rest) n t added is comes turns part adds = absurd is
+upload_said boundary given parts wire x closes came.Memory
+    (made.Told o head rest) n t added is comes turns part adds = absurd is
 upload_said boundary given parts wire x closes (came.Ended ends.Closed)
     (made.Told o head rest) n t added is comes turns part adds = absurd comes.1
 upload_said boundary given parts wire x closes (came.Ended (ends.Cut k))
@@ -236,10 +240,12 @@ added_longer parts next c v w adds = record {
 }
 
 -- what was taken of a stream stands in it
-gave_stands : (o now : Option (List ℕ)) (head framed : List ℕ) → Gave o now (head ++ framed)
-    → IfSome o (λ bytes. (before after : List ℕ) × (bytes ≡ before ++ (head ++ (framed ++ after))))
-gave_stands None now head framed gave = tt
-gave_stands (Some x) now head framed gave = ([], gave.0, gave.2 ∙ append_assoc head framed gave.0)
+gave_stands : (o now : Option (List ℕ)) (head framed : List ℕ) (start place : ℕ) → Gave o now (head ++ framed)
+    → place ≡ start → IfSome o (λ bytes. (before after : List ℕ) × (place ≡ counted_on start (length before))
+    × (bytes ≡ before ++ (head ++ (framed ++ after))))
+gave_stands None now head framed start place gave at = tt
+gave_stands (Some x) now head framed start place gave at =
+    ([], gave.0, omega (arith, at), gave.2 ∙ append_assoc head framed gave.0)
 
 module _ (x0 x1 x2 : Option (List ℕ)) (flow : Flow) (mid new : WireView) (says : Head)
     (head : ReadsHead x0 x1 flow mid says)
@@ -279,8 +285,8 @@ module _ (x0 x1 x2 : Option (List ℕ)) (flow : Flow) (mid new : WireView) (says
   handles : (asked : Asked) (entry : Answered) (m : Made) → UploadMade says.closes listed c (Ok m)
       → IsUploadEntry w (length listed) m entry
       → ((g : List Insertion)
-      → IsReply tells w.index.accepts w.store.history (arrivals w.store.history) g asked entry.kept turns adds.grew.added (outcome_of m)
-      (text_of m))
+      → IsReply tells w.index.accepts w.store.history (arrivals w.store.history) g asked entry.kept turns
+      adds.grew.added (outcome_of m) (text_of m))
       → Handles tells asked v w entry (text_of m)
   handles asked entry m is e replied =
       let all : take entry.store_count
@@ -404,12 +410,13 @@ module _ (x0 x1 x2 : Option (List ℕ)) (flow : Flow) (mid new : WireView) (says
           (closing ∙ ap (λ (b : Bool). (says.closes || not b) || false) part ∙ or_true says.closes)
 
   -- an upload in which the connection ends leaves the turns that it drew, and what they added
-  cut_upload : (end : WireEnd) → c ≡ came.Ended end → CutUpload (stream flow.bytes x0) turns adds.grew.added
-  cut_upload end ends_so = record {
+  cut_upload : (end : WireEnd) (place : ℕ) → c ≡ came.Ended end → place ≡ flow.taken
+      → CutUpload (stream flow.bytes x0) flow.taken place turns adds.grew.added
+  cut_upload end place ends_so at = record {
     begun = begun x0 x1 x2 flow mid new says head u.given u.moved;
     is_begun = is_begun x0 x1 x2 flow mid new says head u.given u.moved;
-    stands = gave_stands (stream flow.bytes x0) (stream new.flow.bytes x2) mid.head u.moved.0
-        (passed x0 x1 x2 flow mid new says head u.given u.moved).gave;
+    stands = gave_stands (stream flow.bytes x0) (stream new.flow.bytes x2) mid.head u.moved.0 flow.taken place
+        (passed x0 x1 x2 flow mid new says head u.given u.moved).gave at;
     upload = first;
     boundary = boundary;
     bounds = bounds;
@@ -421,8 +428,9 @@ module _ (x0 x1 x2 : Option (List ℕ)) (flow : Flow) (mid new : WireView) (says
         (subst (λ (z : Came). AddsParts boundary u.given u.parts z adds.grew.added) ends_so adds.grew.each_is);
   }
 
-  pub upload_passes : (end : Ended) → UploadMade says.closes listed c (Err end) → Passes (stream flow.bytes x0) end v w
-  upload_passes end is = record {
+  pub upload_passes : (new.begun ≡ mid.begun) → (end : Ended) → UploadMade says.closes listed c (Err end)
+      → Passes (stream flow.bytes x0) flow.taken end v w
+  upload_passes begun_so end is = record {
     turns = turns;
     drawn = adds.grew.drawn;
     added = adds.grew.added;
@@ -432,7 +440,7 @@ module _ (x0 x1 x2 : Option (List ℕ)) (flow : Flow) (mid new : WireView) (says
   }
     where
       may_rest : (d : Came) (end : Ended) → c ≡ d → UploadMade says.closes listed d (Err end)
-          → IsRest (stream flow.bytes x0) end turns adds.grew.added
+          → IsRest (stream flow.bytes x0) flow.taken end turns adds.grew.added
       may_rest came.Whole end same is = absurd is
       may_rest (came.Refused why) end same is = absurd is
       may_rest (came.Full n pack) end same is = absurd is
@@ -440,14 +448,15 @@ module _ (x0 x1 x2 : Option (List ℕ)) (flow : Flow) (mid new : WireView) (says
       may_rest came.Memory end same is = absurd is
       may_rest (came.Ended ends.Closed) end same is = absurd is
       may_rest (came.Ended (ends.Cut n)) end same is =
-          subst (λ (e : Ended). IsRest (stream flow.bytes x0) e turns adds.grew.added) (sym is)
-          (inr (cut_upload (ends.Cut n) same))
+          let place = (subst (λ (z : Came). Comes boundary u.given u.parts new (to_come new x2) z) same comes).1.0 in
+          subst (λ (e : Ended). IsRest (stream flow.bytes x0) flow.taken e turns adds.grew.added) (sym is)
+          (inr (cut_upload (ends.Cut n) n same (place ∙ begun_so ∙ head.begun)))
       may_rest (came.Ended (ends.BadHead n)) end same is = absurd is
       may_rest (came.Ended (ends.BadLength n)) end same is = absurd is
       may_rest (came.Ended (ends.TooLong n)) end same is = absurd is
       may_rest (came.Ended ends.ReadFault) end same is =
-          subst (λ (e : Ended). IsRest (stream flow.bytes x0) e turns adds.grew.added) (sym is)
-          (inr (cut_upload ends.ReadFault same))
+          subst (λ (e : Ended). IsRest (stream flow.bytes x0) flow.taken e turns adds.grew.added) (sym is)
+          (inr (flow.taken, cut_upload ends.ReadFault flow.taken same refl))
 
   pub upload_none : (new.begun ≡ mid.begun) → (end : Ended) → UploadMade says.closes listed c (Err end)
       → NoneComes (stream flow.bytes x0) x2 flow.taken end

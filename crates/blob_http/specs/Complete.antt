@@ -58,8 +58,8 @@ pub record IsValid (r : Request) : Type 0 where
   pub first : first_of r.head r.says ≡ Ok route
   pub body : HasGoodBody r route
 
--- This was answered of a stream that goes on with the request, and then with the rest: all of the request, or as much of
--- it as was read.
+-- This was answered of a stream that goes on with the request, and then with the rest: all of the request, or as much
+-- of it as was read.
 abbrev pub IsOf : Request → List ℕ → Asked → Type 0
 IsOf r rest (Whole s) = s ≡ r
 IsOf r rest (Front b after) = IsBegun b × (b.head ≡ r.head) × (b.says ≡ r.says)

@@ -18,7 +18,7 @@ use Rattle.home_places.specs.Passes.{Sight, Caused, IsTrouble}
 use Rattle.http_wire.specs.declared.body.Body.TheVariants.{Done}
 use Rattle.http_wire.specs.declared.ends.WireEnd.{WireEnd}
 use Rattle.http_wire.specs.declared.ends.WireEnd.TheVariants as ends
-use Rattle.http_wire.specs.Stream.{Flow, Passed}
+use Rattle.http_wire.specs.Stream.{Flow, Passed, counted}
 use Rattle.http_wire.specs.Bodies.{Stops, Breaks}
 use Rattle.http_wire.specs.Wires.{WireView, HeadEnds, LacksHead, body_of}
 use Rattle.http_wire.specs.Speaking.{Request, IsRequest, Speaks, Begun, IsBegun, Last, Nothing, Refused, Unfinished}
@@ -319,12 +319,13 @@ Wrote before now (ended.Cut n) texts = Took before now texts
 Wrote before now ended.ReadFault texts = Took before now texts
 Wrote before now ended.NoMemory texts = Took before now texts
 
--- An upload that the stream begins, or that stands in it, was read so far. It drew a turn for each of its parts that
+-- An upload at this place was read so far, of a stream that has this place. It drew a turn for each of its parts that
 -- were told, and under these stand Puts of such parts alone.
-pub record CutUpload (x : Option (List ℕ)) (turns : List ℕ) (added : List (Stamped StoreEvent)) : Type 0 where
+pub record CutUpload (x : Option (List ℕ)) (start place : ℕ) (turns : List ℕ) (added : List (Stamped StoreEvent))
+    : Type 0 where
   pub begun : Begun
   pub is_begun : IsBegun begun
-  pub stands : IfSome x (λ bytes. (before after : List ℕ)
+  pub stands : IfSome x (λ bytes. (before after : List ℕ) × (place ≡ counted start (length before))
       × (bytes ≡ before ++ (begun.head ++ (begun.framed ++ after))))
   pub upload : first_of begun.head begun.says ≡ Ok route.Upload
   pub boundary : List ℕ
@@ -340,20 +341,21 @@ HasNone turns added = (turns ≡ []) × (added ≡ [])
 
 -- the turns of the store that belong to no answer, and what they added: those of an upload that was cut, or in which a
 -- read failed
-abbrev pub IsRest : Option (List ℕ) → Ended → List ℕ → List (Stamped StoreEvent) → Type 0
-IsRest x ended.Closed turns added = HasNone turns added
-IsRest x (ended.Cut n) turns added = HasNone turns added ⊎ CutUpload x turns added
-IsRest x ended.ReadFault turns added = HasNone turns added ⊎ CutUpload x turns added
-IsRest x ended.WriteFault turns added = HasNone turns added
-IsRest x ended.NoMemory turns added = HasNone turns added
+abbrev pub IsRest : Option (List ℕ) → ℕ → Ended → List ℕ → List (Stamped StoreEvent) → Type 0
+IsRest x start ended.Closed turns added = HasNone turns added
+IsRest x start (ended.Cut n) turns added = HasNone turns added ⊎ CutUpload x start n turns added
+IsRest x start ended.ReadFault turns added =
+    HasNone turns added ⊎ ((place : ℕ) × CutUpload x start place turns added)
+IsRest x start ended.WriteFault turns added = HasNone turns added
+IsRest x start ended.NoMemory turns added = HasNone turns added
 
 -- a request without an answer: the turns that it drew, where the connection ends so, and what they added
-pub record Passes (x : Option (List ℕ)) (end : Ended) (v w : Sight) : Type 0 where
+pub record Passes (x : Option (List ℕ)) (start : ℕ) (end : Ended) (v w : Sight) : Type 0 where
   pub turns : List ℕ
   pub drawn : w.store.turns ≡ v.store.turns ++ turns
   pub added : List (Stamped StoreEvent)
   pub owned : Owns v w added
-  pub rest : IsRest x end turns added
+  pub rest : IsRest x start end turns added
   pub longer : Longer v w
 
 -- why it ended
@@ -376,7 +378,7 @@ WroteBy before now (Some end) texts = Wrote before now end texts
 
 abbrev pub RestBy : Option (List ℕ) → Option Ended → List ℕ → List (Stamped StoreEvent) → Type 0
 RestBy x None turns added = HasNone turns added
-RestBy x (Some end) turns added = IsRest x end turns added
+RestBy x (Some end) turns added = IsRest x 0 end turns added
 
 abbrev pub StepCause : ℕ → ℕ → ℕ → ℕ → Option Ended → Type 0
 StepCause read read' wrote wrote' None = Unit {0}

@@ -3,8 +3,8 @@ ghost use Rattle.blob_http.specs.Complete.{ValidIsServed};
 ghost use Rattle.blob_http.specs.Finding.{SearchesFind};
 
 /// A search finds each blob of the history that its first turn shows: the blob is among the arrivals that its entry
-/// counts, and its number among the Inserts over which it is answered. Where what joins the history behind that turn has
-/// later turns, these are the blobs that were put in earlier turns, by whichever pass.
+/// counts, and its number among the Inserts over which it is answered. Where what joins the history behind that turn
+/// has later turns, these are the blobs that were put in earlier turns, by whichever pass.
 pub fn searches_find()
     ensures { SearchesFind }
 {}

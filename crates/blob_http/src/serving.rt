@@ -53,7 +53,7 @@ pub fn serve_connection<H: Home, S: Source, K: Sink, L: AnswerLog, R: Wait>(
     ensures own { H.belongs home.now pass.new }
     ensures serves { Serves (H.tells home.now) (H.sight pass.old) (H.sight pass.new) (Notes L.tells log.old log.new)
         (Heard (S.left source.old) (S.left source.new) result)
-        (Wrote (K.written sink.old) (K.written sink.new) result) (IsRest (S.left source.old) result) }
+        (Wrote (K.written sink.old) (K.written sink.new) result) (IsRest (S.left source.old) 0 result) }
     ensures cause { EndCause (S.faults source.old) (S.faults source.new) (K.faults sink.old) (K.faults sink.new)
         result }
 {

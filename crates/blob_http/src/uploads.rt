@@ -49,7 +49,8 @@ pub(crate) fn reply_to_upload<H: Home, S: Source, R: Wait>(
         → IfOk result (λ replied. Replies x0 (S.left source.new) flow wire.new (H.tells home.now) (H.sight pass.old)
         (H.sight pass.new) replied.entry replied.made replied.closes) }
     ensures passes { (x0 : Option (List ℕ)) (flow : Flow) → ReadsHead x0 (S.left source.old) flow wire.old head.now
-        → IfErr result (λ ended. Passes (stream flow.bytes x0) ended (H.sight pass.old) (H.sight pass.new)) }
+        → IfErr result (λ ended. Passes (stream flow.bytes x0) flow.taken ended (H.sight pass.old)
+        (H.sight pass.new)) }
     ensures none { (x0 : Option (List ℕ)) (flow : Flow) → ReadsHead x0 (S.left source.old) flow wire.old head.now
         → IfErr result (NoneComes (stream flow.bytes x0) (S.left source.new) flow.taken) }
     ensures fault { IsErrOf result Ended.ReadFault → Rose (S.faults source.old) (S.faults source.new) }

@@ -28,5 +28,5 @@ returns-in-Err-head_says-clause-none g c =
 
 pub returns-in-Err-head_says-clause-passes : goal.returns-in-Err-head_says-clause-passes
 returns-in-Err-head_says-clause-passes g c =
-    passes_none (stream c.args.wire.now.flow.bytes (g.S.Source.left c.args.source.now)) c.in-Err-head_says.ended
-    (g.H.Home.sight c.args.pass.now)
+    passes_none (stream c.args.wire.now.flow.bytes (g.S.Source.left c.args.source.now)) c.args.wire.now.flow.taken
+    c.in-Err-head_says.ended (g.H.Home.sight c.args.pass.now)

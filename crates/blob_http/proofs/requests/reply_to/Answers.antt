@@ -62,4 +62,4 @@ returns-in-Err-gather-clause-passes g c x0 flow read =
     let v = g.H.Home.sight c.args.pass.now in
     let w = g.H.Home.sight c.reply_to_stop.new.pass in
     IfErr-weaker c.reply_to_stop.result (λ end. w ≡ v) _
-    (λ end same. passes_same (stream flow.bytes x0) end v w same) c.reply_to_stop.ensures.same
+    (λ end same. passes_same (stream flow.bytes x0) flow.taken end v w same) c.reply_to_stop.ensures.same

@@ -53,11 +53,12 @@ returns-clause-passes g c x0 flow read =
     let kept = c.take_parts-came.new.kept in
     let came = c.take_parts-came.result in
     IfErr-weaker c.reply_to_came.result (λ e. UploadMade c.args.head.now.closes kept came (Err e)) _
-    (upload_passes x0 x1 x2 flow c.args.wire.now c.take_parts-came.new.wire c.args.head.now read
+    (λ e p. upload_passes x0 x1 x2 flow c.args.wire.now c.take_parts-came.new.wire c.args.head.now read
     c.requires.upload c.as_slice.result.now
     (c.in-Ok.ensures ∙ ap Some (sym c.as_slice.ensures)) (g.H.Home.tells c.args.home.now) v w kept came
     (subst (λ (k : List (List ℕ × ℕ)). Uploads c.as_slice.result.now x1 x2 c.args.wire.now c.take_parts-came.new.wire
-    v w k kept came) c.empty-kept.ensures c.take_parts-came.ensures.uploads))
+    v w k kept came) c.empty-kept.ensures c.take_parts-came.ensures.uploads)
+    c.take_parts-came.ensures.head.1 e p)
     c.reply_to_came.ensures.ends
 
 pub returns-clause-none : goal.returns-clause-none
