@@ -1,17 +1,12 @@
 -- What serving leaves, from what it leaves of each desk.
-use Rattle.std.proofs.Common.{◌≡◌, ℕ, ◌+◌, ◌<◌, ◌≤◌, ◌⊎◌, inl, inr, ⊎_elim, Bool, true, false, ◌||◌, cond, nat_eq, List, [], ◌∷◌, map, length, All, refl, ap, sym, subst, ◌∙◌, arith, Option, Some, None, Ok, Err}
+use Rattle.std.proofs.Common.{◌≡◌, ℕ, ◌+◌, ◌<◌, ◌≤◌, ◌⊎◌, inl, inr, ⊎_elim, Bool, true, false, ◌||◌, cond, nat_eq, List, [], ◌∷◌, map, All, refl, ap, sym, subst, ◌∙◌, arith, Option, Some, None, Ok, Err}
 use Rattle.std.specs.List.{list_any, AllZip}
 use Rattle.std.proofs.lemmas.Bool.{eq-eqb}
 use Rattle.std.proofs.lemmas.List.Elements.{All-nil, All-cons}
 use Rattle.std.proofs.lemmas.List.Sums.{sum_by-cons}
 use Rattle.edge_base.specs.declared.answers.GetFault.{GetFault}
 use Rattle.edge_base.specs.declared.answers.GetFault.TheVariants as unread
-use Rattle.histories.specs.Stores.{arrivals}
-use Rattle.histories.specs.Indexes.{inserts}
-use Rattle.histories.proofs.Standing.{inserts_prefix, has_all_longer}
-use Rattle.home_places.specs.Passes.{Sight, Settles}
-use Rattle.blob_http.specs.Serving.{Longer}
-use Rattle.blob_http.proofs.Staying.{longer_chain}
+use Rattle.home_places.specs.Passes.{Sight}
 use Rattle.blob_server.specs.declared.serving.Served.{Served}
 use Rattle.blob_server.specs.declared.serving.Served.TheVariants as served
 use Rattle.blob_server.specs.declared.desk_list.Desk.{Desk}
@@ -105,26 +100,9 @@ gathered (v ∷ vs) (w ∷ ws) taken dry a =
 
 -- ---- settled first
 
-settles_longer : (v w : Sight) → Settles (Ok tt) v w → Longer v w
-settles_longer v w s = record { store = s.store.longer; index = s.index.longer; shown = s.shown; limits = s.limits; accepts = s.accepts }
-
-tended_from : (first : Stand) (now : Sight) (rest after : List Stand) → Settles (Ok tt) first.sight now
-    → AllZip Tended (settled first now ∷ rest) after → AllZip Tended (first ∷ rest) after
-tended_from first now rest [] s t = absurd t
-tended_from first now rest (w ∷ ws) s t = (
-  record {
-    longer = longer_chain first.sight now w.sight (settles_longer first.sight now s) t.0.longer;
-    counted = t.0.counted;
-  },
-  t.1,
-)
-
-first_from : (first : Stand) (now : Sight) (rest after : List Stand) → Settles (Ok tt) first.sight now
-    → AllZip Tended (settled first now ∷ rest) after → FirstSettled (first ∷ rest) after
-first_from first now rest [] s t = tt
-first_from first now rest (w ∷ ws) s t =
-    has_all_longer (length (arrivals first.sight.store.history)) (inserts now.index.history) (inserts w.sight.index.history)
-    (inserts_prefix now.index.history w.sight.index.history t.0.longer.index) s.all
+first_settled : (before begun : List Stand) → SettlesFirst (Ok tt) before begun → FirstSettled before begun
+first_settled [] begun s = absurd (cc s.before_is)
+first_settled (v ∷ vs) begun s = s
 
 module _ (connections : ℕ) (before mid after : List Stand) (result : Served) where
   ends_by : (failed : Bool) → has_failed after ≡ failed → AreServed connections before after → (has_failed after ≡ false → AllAccepted connections before after)
@@ -132,31 +110,30 @@ module _ (connections : ℕ) (before mid after : List Stand) (result : Served) w
   ends_by true is served all = (served, is)
   ends_by false is served all = (served, is, all is)
 
-  served_from : (first : Stand) (now : Sight) (rest : List Stand) → before ≡ first ∷ rest → mid ≡ settled first now ∷ rest
-      → Settles (Ok tt) first.sight now → Serves connections mid after result → Ends connections before after result
-  served_from first now rest is is' settles s =
-      let v' : Stand = settled first now in
-      let g : Gathered (v' ∷ rest) after s.taken s.dry = subst (λ (zs : List Stand). Gathered zs after s.taken s.dry) is' (gathered mid after s.taken s.dry s.attended) in
+  -- the whole call, where the first pass was settled
+  pub ends_served : SettlesFirst (Ok tt) before mid → Serves connections mid after result → Ends connections before after result
+  ends_served f s =
+      let first = f.first in
+      let rest = f.rest in
+      let v' : Stand = settled first f.now in
+      let tended : Gathered mid after s.taken s.dry = gathered mid after s.taken s.dry s.attended in
+      let g : Gathered (v' ∷ rest) after s.taken s.dry = subst (λ (zs : List Stand). Gathered zs after s.taken s.dry) f.after_is tended in
       let before_sum : accepted_in (first ∷ rest) ≡ accepted_of first.counts + accepted_in rest = sum_by-cons (λ (x : Stand). accepted_of x.counts) first rest in
       let mid_sum : accepted_in (v' ∷ rest) ≡ accepted_of first.counts + accepted_in rest = sum_by-cons (λ (x : Stand). accepted_of x.counts) v' rest in
-      let same : accepted_in before ≡ accepted_in (v' ∷ rest) = ap accepted_in is ∙ (before_sum ∙ sym mid_sum) in
+      let same : accepted_in before ≡ accepted_in (v' ∷ rest) = ap accepted_in f.before_is ∙ (before_sum ∙ sym mid_sum) in
       let most = g.most in
       let limit = s.most in
       let are : AreServed connections before after = record {
-        settled = subst (λ (zs : List Stand). FirstSettled zs after) (sym is) (first_from first now rest after settles g.tended);
-        tended = subst (λ (zs : List Stand). AllZip Tended zs after) (sym is) (tended_from first now rest after settles g.tended);
+        begun = mid;
+        settled = first_settled before mid f;
+        tended = tended.tended;
         most = omega (arith, same, most, limit);
       } in
       let all : has_failed after ≡ false → AllAccepted connections before after = λ none worker.
-      let dried = g.dried none (subst (λ (zs : List Stand). has_worker zs ≡ true) is worker) in
+      let dried = g.dried none (subst (λ (zs : List Stand). has_worker zs ≡ true) f.before_is worker) in
       let whole = s.all dried in
       ⊎_elim (λ p. inl (omega (arith, same, p, whole))) (λ p. inr p) (g.all none) in
       subst (Ends connections before after) (sym s.answer) (ends_by (has_failed after) refl are all)
-
--- the whole call, where the first pass was settled
-pub ends_served : (connections : ℕ) (before mid after : List Stand) (result : Served) → SettlesFirst (Ok tt) before mid
-    → Serves connections mid after result → Ends connections before after result
-ends_served connections before mid after result f s = served_from connections before mid after result f.first f.now f.rest f.before_is f.after_is f.settles s
 
 -- or refused
 pub ends_unsettled : (connections : ℕ) (before after : List Stand) (fault : GetFault) → SettlesFirst (Err fault) before after → Ends connections before after (unsettled fault)
@@ -166,7 +143,7 @@ ends_unsettled connections before after unread.NoMemory f = f
 
 -- without desks nothing is done
 pub ends_none : (connections : ℕ) (before after : List Stand) → before ≡ [] → after ≡ [] → Ends connections before after served.Done
-ends_none connections before after is is' = rw (is, is') (record { settled = tt; tended = tt; most = omega arith }, refl, λ none. absurd (cc none))
+ends_none connections before after is is' = rw (is, is') (record { begun = []; settled = refl; tended = tt; most = omega arith }, refl, λ none. absurd (cc none))
 
 -- ---- from desks to what they are seen as
 

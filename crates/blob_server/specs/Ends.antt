@@ -1,12 +1,10 @@
 -- How serving ends, and what it leaves of the desks.
-use Rattle.std.specs.Prelude.{◌≡◌, ◌+◌, ◌<◌, ◌≤◌, ◌⊎◌, if◌then◌else◌, ℕ, List, [], ◌∷◌, length, Bool, true, false}
-use Rattle.std.specs.Prelude.{nat_eq, Option, Some, None, Result, Err}
+use Rattle.std.specs.Prelude.{◌≡◌, ◌+◌, ◌<◌, ◌≤◌, ◌⊎◌, if◌then◌else◌, ℕ, List, [], ◌∷◌, Bool, true, false}
+use Rattle.std.specs.Prelude.{nat_eq, Option, Some, None, Result, Ok, Err}
 use Rattle.std.specs.List.{sum_by, list_any, AllZip}
 use Rattle.edge_base.specs.Edge.{Rose}
 use Rattle.edge_base.specs.declared.answers.GetFault.{GetFault}
 use Rattle.edge_base.specs.declared.answers.GetFault.TheVariants as unread
-use Rattle.histories.specs.Stores.{arrivals}
-use Rattle.histories.specs.Indexes.{inserts, HasAllBelow}
 use Rattle.home_places.specs.Passes.{Sight, Settles}
 use Rattle.blob_http.specs.Serving.{Longer}
 use Rattle.blob_server.specs.declared.serving.Served.{Served}
@@ -49,24 +47,6 @@ has_failed = list_any (λ (s : Stand). s.failed)
 abbrev pub is_at_last : List Stand → Bool
 is_at_last = list_any (λ (s : Stand). nat_eq (accepted_of s.counts) last_count)
 
--- all that the first pass had seen arrive is inserted
-abbrev pub FirstSettled : List Stand → List Stand → Type 0
-FirstSettled [] after = Unit {0}
-FirstSettled (v ∷ vs) [] = Unit {0}
-FirstSettled (v ∷ vs) (w ∷ ws) =
-    HasAllBelow (length (arrivals v.sight.store.history)) (inserts w.sight.index.history)
-
--- the connections were served, at most so many
-pub record AreServed (connections : ℕ) (before after : List Stand) : Type 0 where
-  pub settled : FirstSettled before after
-  pub tended : AllZip Tended before after
-  pub most : accepted_in after ≤ accepted_in before + connections
-
--- where there is a worker, all connections were accepted, unless a listener stands at the last count
-abbrev pub AllAccepted : ℕ → List Stand → List Stand → Type 0
-AllAccepted connections before after = has_worker before ≡ true
-    → (accepted_in after ≡ accepted_in before + connections) ⊎ (is_at_last after ≡ true)
-
 -- a desk whose pass was settled
 abbrev pub settled : Stand → Sight → Stand
 settled desk now = record { sight = now; counts = desk.counts; failed = desk.failed }
@@ -79,6 +59,23 @@ pub record SettlesFirst (result : Result (Unit {0}) GetFault) (before after : Li
   pub before_is : before ≡ first ∷ rest
   pub after_is : after ≡ settled first now ∷ rest
   pub settles : Settles result first.sight now
+
+-- all that the first pass had seen arrive was inserted, and nothing else was done, so no connection was accepted
+abbrev pub FirstSettled : List Stand → List Stand → Type 0
+FirstSettled [] begun = begun ≡ []
+FirstSettled (v ∷ vs) begun = SettlesFirst (Ok tt) (v ∷ vs) begun
+
+-- The first pass was settled. From there on the connections were served, at most so many.
+pub record AreServed (connections : ℕ) (before after : List Stand) : Type 0 where
+  pub begun : List Stand
+  pub settled : FirstSettled before begun
+  pub tended : AllZip Tended begun after
+  pub most : accepted_in after ≤ accepted_in before + connections
+
+-- where there is a worker, all connections were accepted, unless a listener stands at the last count
+abbrev pub AllAccepted : ℕ → List Stand → List Stand → Type 0
+AllAccepted connections before after = has_worker before ≡ true
+    → (accepted_in after ≡ accepted_in before + connections) ⊎ (is_at_last after ≡ true)
 
 -- the answer where the first settling was refused
 abbrev pub unsettled : GetFault → Served

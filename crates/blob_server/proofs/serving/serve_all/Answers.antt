@@ -1,9 +1,17 @@
-use Rattle.std.proofs.Common.{map}
+use Rattle.std.proofs.Common.{map, sym, subst}
 use Rattle.blob_server.specs.Stands.{stand_of}
-use Rattle.blob_server.proofs.Ending.{ends_served}
+use Rattle.blob_server.specs.Ends.{Ends}
+use Rattle.blob_server.proofs.Ending.{ends_served, ends_unsettled}
 use Rattle.blob_server.proofs.serving.serve_all.Goals as goal
 
 pub returns-in-Ok-clause-ends : goal.returns-in-Ok-clause-ends
 returns-in-Ok-clause-ends g c =
     let seen = map (stand_of g.H.Home.sight g.L.Listener.accepted g.L.Listener.faults) in
     ends_served c.args.connections (seen c.args.desks.now) (seen c.settle_first.new.desks) (seen c.serve_settled.new.desks) c.serve_settled.result c.in-Ok.ensures.settles c.serve_settled.ensures.serves
+
+pub returns-in-Err-clause-ends : goal.returns-in-Err-clause-ends
+returns-in-Err-clause-ends g c =
+    let seen = map (stand_of g.H.Home.sight g.L.Listener.accepted g.L.Listener.faults) in
+    let before = seen c.args.desks.now in
+    let after = seen c.settle_first.new.desks in
+    subst (Ends c.args.connections before after) (sym c.unsettled.ensures) (ends_unsettled c.args.connections before after c.in-Err.fault c.in-Err.ensures.settles)
