@@ -1,7 +1,6 @@
 -- Facts that are gathered as a pack comes in pieces.
 use Rattle.std.proofs.Common.{◌≡◌, ◌+◌, ◌-◌, ◌≤◌, ◌<◌, ◌⊎◌, slice_index_or, inl, inr, ⊎_elim, ℕ, zero, suc, List, [], ◌∷◌, ◌++◌, length, take, drop, map, refl, sym, ◌∙◌, ap, subst, arith, length-append, length-drop, append_assoc, Option, None, Some, Result, Ok, Err}
 use Rattle.std.proofs.lemmas.List.{append-nil, map-append, drop-append-le, drop-drop, length-take-le}
-use Rattle.std.proofs.lemmas.List.Elements.{All-map}
 use Rattle.std.specs.List.{All}
 use Rattle.std.specs.BTreeSet.{BTreeSet}
 use Rattle.std.specs.Prelude.{IfSome, OnOk}
@@ -10,7 +9,7 @@ use Rattle.claim_model.specs.Facts.{Entry, AreDistinct, AreValid}
 use Rattle.edge_base.specs.Edge.{Gave, GaveFront}
 use Rattle.edge_base.proofs.Moves.{Gave-chain, Gave-end, GaveFront-more}
 use Rattle.salvage_scan.specs.declared.found.Found.{Found}
-use Rattle.salvage_scan.specs.Salvage.{Finding, salvage, salvage_past}
+use Rattle.salvage_scan.specs.Salvage.{Finding, salvage}
 use Rattle.salvage_scan.specs.Scan.{place_of}
 use Rattle.salvage_scan.specs.Arrivals.{blob_of}
 use Rattle.salvage_scan.specs.Pieces.{Scanning, Holds, fresh, fed, longest, still_found, Tells, LiesNear}

@@ -12,6 +12,7 @@ returns-in-Ok-clause-ends g c =
 pub returns-in-Err-clause-ends : goal.returns-in-Err-clause-ends
 returns-in-Err-clause-ends g c =
     let seen = map (stand_of g.H.Home.sight g.L.Listener.accepted g.L.Listener.faults) in
-    let before = seen c.args.desks.now in
-    let after = seen c.settle_first.new.desks in
-    subst (Ends c.args.connections before after) (sym c.unsettled.ensures) (ends_unsettled c.args.connections before after c.in-Err.fault c.in-Err.ensures.settles)
+    let old = seen c.args.desks.now in
+    let new = seen c.settle_first.new.desks in
+    subst (Ends c.args.connections old new) (sym c.unsettled.ensures)
+    (ends_unsettled c.args.connections old new c.in-Err.fault c.in-Err.ensures.settles)

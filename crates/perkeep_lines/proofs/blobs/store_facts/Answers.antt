@@ -1,4 +1,4 @@
-use Rattle.std.proofs.Common.{◌∙◌, ◌≤◌, sym, ap, subst, arith, ℕ, List, ◌∷◌, [], ◌++◌, Some, length, map, slice_get, ◌≡◌}
+use Rattle.std.proofs.Common.{◌∙◌, ◌≤◌, ap, subst, arith, ℕ, List, ◌∷◌, [], ◌++◌, Some, length, slice_get, ◌≡◌}
 use Rattle.std.proofs.lemmas.List.{length-map}
 use Rattle.pack_disk.specs.declared.disk.Disk.{Ghosts}
 use Rattle.pack_store.specs.declared.rows.Row.{Row}

@@ -1,4 +1,3 @@
-use Rattle.std.proofs.Common.{◌++◌, List, ℕ}
 use Rattle.perkeep_lines.proofs.Taking.{pushes}
 use Rattle.perkeep_lines.proofs.incoming.push.Goals as goal
 

@@ -22,7 +22,7 @@ returns-in-Ok-search_line g c =
     (c.as_slice.ensures ∙ c.in-Ok-search_line.ensures ∙ ap (λ m. search_line m (g.V.Verifier.accepts c.args.keys.now) c.args.attr.now c.args.value.now Always) gave.says)
     refl c.written.result c.written.ensures.wrote c.written.ensures.later
 
-pub returns : goal.returns
-returns g c =
+pub returns-in-Err-search_line : goal.returns-in-Err-search_line
+returns-in-Err-search_line g c =
     let run = begun (outside g.D.Disk g.S.Source g.K.Sink g.C.Clock g.R.Dice) g.met.D.Disk.counts_now g.met.D.Disk.only_now (search_pack_meaning (g.V.Verifier.accepts c.args.keys.now) c.args.attr.now c.args.value.now) refl (world c.args.disk c.args.source.now c.args.sink.now c.args._clock.now c.args._dice.now) in
     early_memory run c.read_facts.new.source (far_read run c.read_facts.new.source (λ e. absurd (cc e)) c.in-Ok.ensures.later)
