@@ -1,10 +1,10 @@
 -- A valid request gets its answer.
-use Rattle.std.proofs.Common.{◌≡◌, ◌+◌, ◌<◌, ◌≤◌, ◌⊎◌, inl, inr, ℕ, List, [], ◌∷◌, ◌++◌, length, take, All, Bool, true}
+use Rattle.std.proofs.Common.{◌≡◌, ◌≤◌, inl, inr, ℕ, List, [], ◌∷◌, ◌++◌, length, take, All, Bool, true}
 use Rattle.std.proofs.Common.{false, not, if◌then◌else◌, flat_map, Option, Some, None, Result, Ok, Err, refl, ap}
 use Rattle.std.proofs.Common.{sym, subst, ◌∙◌, arith, append_assoc, length-append}
 use Rattle.std.specs.Option.{IfSome}
 use Rattle.std.proofs.lemmas.Bool.{false≢true}
-use Rattle.std.proofs.lemmas.List.{append-nil, append_cancel_left, map-append}
+use Rattle.std.proofs.lemmas.List.{append-nil, append_cancel_left}
 use Rattle.std.proofs.lemmas.List.Elements.{All-head, All-tail}
 use Rattle.blobref.specs.Blobref.{is_blobref, is_own_ref, ref_like}
 use Rattle.claim_verify.specs.Verifier.{Accepts}
@@ -26,7 +26,7 @@ use Rattle.multipart_read.specs.declared.events.PartFault.{PartFault}
 use Rattle.multipart_read.specs.declared.events.PartFault.TheVariants as part
 use Rattle.multipart_read.specs.Tokens.{Token, named, byte, ended, content}
 use Rattle.multipart_read.specs.Reader.{IsBody}
-use Rattle.multipart_read.specs.PartLists.{Part, part_tokens, Cut, between, inside, cut_tokens, IsMultipart}
+use Rattle.multipart_read.specs.PartLists.{Part, part_tokens, Cut, between, inside, cut_tokens}
 use Rattle.multipart_read.proofs.Unique.{one_reading}
 use Rattle.multipart_read.proofs.PartLaws.{bodies_have_parts, one_list_of_parts}
 use Rattle.blob_routes.specs.declared.routes.Route.{Route}
@@ -44,9 +44,9 @@ use Rattle.blob_http.specs.declared.questions.Question.{Question}
 use Rattle.blob_http.specs.Asked.{Asked, Whole, Front, Head as NoHead}
 use Rattle.blob_http.specs.Questions.{first_of}
 use Rattle.blob_http.specs.Keeping.{boundary_at, Kept, IsUploadReply}
-use Rattle.blob_http.specs.Serving.{HasCauseIn, IsBodyRefusal, IsFrontDefined, IsReply, Answer}
-use Rattle.blob_http.specs.Complete.{IsGoodUpload, IsGoodQuestion, HasGoodBody, IsValid, IsOf, is_put, IsCalm}
-use Rattle.blob_http.specs.Complete.{IsDefinedReply, IsServed, ValidIsServed}
+use Rattle.blob_http.specs.Serving.{HasCauseIn, IsBodyRefusal, IsFrontDefined, IsReply}
+use Rattle.blob_http.specs.Complete.{IsGoodUpload, HasGoodBody, IsValid, IsOf, IsCalm}
+use Rattle.blob_http.specs.Complete.{IsServed, ValidIsServed}
 
 -- ---- nothing failed
 

@@ -1,11 +1,10 @@
 -- A search finds what its first turn shows.
-use Rattle.std.proofs.Common.{◌≡◌, ◌<◌, ◌≤◌, inl, inr, ⊎_elim, ℕ, suc, Bool, List, [], ◌∷◌, ◌++◌, length}
-use Rattle.std.proofs.Common.{take, Option, Some, None, Result, Ok, Err, Contains, slice_get, All, refl, sym, ap, subst}
+use Rattle.std.proofs.Common.{◌≡◌, ◌<◌, ◌≤◌, inl, inr, ⊎_elim, ℕ, suc, Bool, List, [], ◌∷◌, length}
+use Rattle.std.proofs.Common.{take, Some, Result, Ok, Err, Contains, slice_get, refl, sym, ap, subst}
 use Rattle.std.proofs.Common.{◌∙◌, arith}
 use Rattle.std.proofs.lemmas.List.{length-take-le}
 use Rattle.std.proofs.lemmas.List.Elements.{Contains-push_cases, Contains-append_cases}
 use Rattle.std.proofs.lemmas.Option.{slice_get_within}
-use mathlib.Core.List.{IsPrefix}
 use Rattle.claim_verify.specs.Verifier.{Accepts}
 use Rattle.search_query.specs.declared.query.Query.{Query}
 use Rattle.answer_text.specs.declared.refusal.Refusal.{Refusal}
@@ -14,7 +13,7 @@ use Rattle.histories.specs.declared.events.StoreEvent.{StoreEvent}
 use Rattle.histories.specs.declared.events.StoreEvent.TheVariants as store
 use Rattle.histories.specs.History.{events, stamp, Later}
 use Rattle.histories.specs.Stores.{Blob, puts, arrivals}
-use Rattle.histories.specs.Indexes.{Insertion, HasAllBelow, has_number}
+use Rattle.histories.specs.Indexes.{Insertion, HasAllBelow}
 use Rattle.histories.proofs.Prefixes.{prefix_get}
 use Rattle.histories.proofs.Standing.{arrivals_prefix}
 use Rattle.http_wire.specs.declared.head.Framing.{Framing}

@@ -185,22 +185,22 @@ upload_said boundary given parts wire x closes came.Whole (made.Told o head rest
     absurd (elim part [ inl e ↦ not_whole e | inr e ↦ cc e ])
 upload_said boundary given parts wire x closes (came.Refused why)
     (made.Told o head rest) n t added is comes turns part adds = (
-  came.Refused why,
-  comes,
-  turns,
-  subst (λ (z : Outcome). IsUploadReply parts (came.Refused why) z (head ++ rest))
-      (sym is.0) is.1,
-  adds,
-)
+      came.Refused why,
+      comes,
+      turns,
+      subst (λ (z : Outcome). IsUploadReply parts (came.Refused why) z (head ++ rest))
+          (sym is.0) is.1,
+      adds,
+    )
 upload_said boundary given parts wire x closes (came.Full k pack)
     (made.Told o head rest) n t added is comes turns part adds = (
-  came.Full k pack,
-  comes,
-  turns,
-  subst (λ (z : Outcome). IsUploadReply parts (came.Full k pack) z (head ++ rest))
-      (sym is.0) (refl, is.1),
-  adds,
-)
+      came.Full k pack,
+      comes,
+      turns,
+      subst (λ (z : Outcome). IsUploadReply parts (came.Full k pack) z (head ++ rest))
+          (sym is.0) (refl, is.1),
+      adds,
+    )
 upload_said boundary given parts wire x closes came.Disk (made.Told o head rest) n t added is comes turns part adds = (
   came.Disk,
   comes,

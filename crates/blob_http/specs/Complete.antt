@@ -1,6 +1,6 @@
 -- A valid request gets its answer.
 use Rattle.std.specs.Prelude.{◌≡◌, ◌≤◌, ◌⊎◌, ℕ, List, ◌++◌, length, take, All, Bool, true, false, Option, Some, None}
-use Rattle.std.specs.Prelude.{Result, Ok, Err, Contains}
+use Rattle.std.specs.Prelude.{Ok, Contains}
 use Rattle.claim_verify.specs.Verifier.{Accepts}
 use Rattle.answer_text.specs.declared.refusal.Refusal.{Refusal}
 use Rattle.answer_text.specs.Listings.{upload_text}
