@@ -2,8 +2,8 @@
 
     pieces.py PROGRAM KIND FOLDER
 
-The folder holds what make_pack.py has written for the kind. A row of a store takes some 150 bytes; what `list` takes beside its
-rows is printed too. Ends with status 1 where an answer is wrong.
+The folder holds what make_pack.py has written for the kind. Of `list` it is printed what that is for a blob, too, since an open
+store keeps a row for each. Ends with status 1 where an answer is wrong.
 """
 
 import os
@@ -12,10 +12,9 @@ import subprocess
 import sys
 import tempfile
 
-from make_pack import reference
-from store import MIB, peak
+from store import MIB, peak, reference
 
-ROW = 150
+MOST_BLOBS = 4_194_304
 
 
 def lines_of(words):
@@ -44,9 +43,9 @@ def main(program, kind, folder):
     pack = store / reference.pack_name(0)
     pack.unlink(missing_ok=True)
     os.link(folder / "pack", pack)
-    rows = lines_of([program, "list", str(store)]) * ROW
+    blobs = lines_of([program, "list", str(store), "--limit", str(MOST_BLOBS)])
     listing = peak([program, "list", str(store)])
-    print(f"{kind}: list: peak {listing / MIB:.0f} MiB, {(listing - rows) / MIB:.0f} MiB beside the rows", flush=True)
+    print(f"{kind}: list: peak {listing / MIB:.0f} MiB, {listing / blobs:.0f} bytes for each of {blobs} blobs", flush=True)
     print(f"{kind}: salvage: peak {peak([program, 'salvage', str(store)]) / MIB:.0f} MiB", flush=True)
     print(f"{kind}: search-pack: peak {peak_of_search(program, folder) / MIB:.0f} MiB", flush=True)
 
