@@ -135,7 +135,8 @@ pub fn change_said<'a, T: FactTable, L: Ledger>(
     place: usize,
     steps: &mut Steps<L>,
 ) -> Option<ChangeView<'a>>
-    ensures { option_map change_seen result ≡ change_said (T.facts table.now) r.now place }
+    ensures value { option_map change_seen result ≡ change_said (T.facts table.now) r.now place }
+    ensures ticks { steps.new ≡ steps.old + 1 }
 {
     claim_says(&table.fact_at(r, steps)?.kind)?.change(place)
 }

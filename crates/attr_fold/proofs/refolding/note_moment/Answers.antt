@@ -8,5 +8,5 @@ returns g c =
     subst (λ t. OnOk c.note.result (c.note.new.self ≡ t))
     (noted_is c.args.rows.now.facts c.args.rows.now.state c.args.rows.now.deletes c.requires.counted c.args.p.now
     c.args.turns.now c.args.moment.now c.args.n c.requires.change (change_seen c.in-Some.change) c.has_deleters-counts.result
-    c.in-Some.ensures c.has_deleters-counts.ensures)
+    c.in-Some.ensures.value c.has_deleters-counts.ensures)
     c.note.ensures
