@@ -52,7 +52,7 @@ or_right true b h = refl
 or_right false b h = h
 
 module _ {K X : Type 0} {R : K → K → Ordering} (o : IsTotalOrder R) (same : IsAntisymmetric R) where
-  any_found : (p : K × X → Bool) (es : List (K × X)) (k : K) (v : X) → find R k es ≡ Some v → p (k, v) ≡ true → list_any p es ≡ true
+  pub any_found : (p : K × X → Bool) (es : List (K × X)) (k : K) (v : X) → find R k es ≡ Some v → p (k, v) ≡ true → list_any p es ≡ true
   any_found p [] k v h t = absurd (let e : None ≡ Some v = h in cc e)
   any_found p (e ∷ es) k v h t = by (any_found p es k v) (cases_Bool (eq_by_cmp R k e.0))
     where

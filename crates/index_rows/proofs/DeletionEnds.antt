@@ -11,10 +11,10 @@ use Rattle.claim_model.specs.Facts.{Facts}
 use Rattle.claim_model.specs.Ready.{round, is_ready}
 use Rattle.claim_model.proofs.Rounds.{ready_is_settled}
 use Rattle.index_rows.specs.Pairs.{Pair, group_after}
-use Rattle.index_rows.specs.Deletes.{Deletes, IsDelete, Ringless, any_live, target_in}
+use Rattle.index_rows.specs.Deletes.{total, Deletes, IsDelete, Ringless, any_live, target_in}
 use Rattle.index_rows.proofs.Orders.{pair_total, pair_same}
 use Rattle.index_look.proofs.Keys.{entries_held}
-use Rattle.index_rows.proofs.DeletionWalk.{total, target_before, weight, weights, ahead, Ends, IsAt, on_one, gone}
+use Rattle.index_rows.proofs.DeletionWalk.{target_before, weight, weights, ahead, Ends, IsAt, on_one, gone}
 
 module _ {A : Type 0} where
   pub all_filter : (P : A → Type 0) (p : A → Bool) (es : List A) → AllByRecursion P es → AllByRecursion (λ e. P e × (p e ≡ true)) (filter p es)

@@ -15,12 +15,8 @@ use Rattle.claim_model.specs.Ready.{round}
 use Rattle.claim_model.specs.Deleted.{counts_at, can_be_deleted}
 use Rattle.claim_model.proofs.Rounds.{round_grows}
 use Rattle.index_rows.specs.Pairs.{Pair, group_after}
-use Rattle.index_rows.specs.Deletes.{Deletes, IsDelete, Ringless, is_live, any_live, row_deleted, target_in, fact_target, kind_target}
+use Rattle.index_rows.specs.Deletes.{Deletes, total, rows_under, IsDelete, Ringless, is_live, any_live, row_deleted, target_in, fact_target, kind_target}
 use Rattle.index_rows.proofs.Deleting.{row_deleted_is}
-
-abbrev pub total : {A : Type 0} → (A → ℕ) → List A → ℕ
-total f [] = 0
-total f (x ∷ xs) = f x + total f xs
 
 module _ (facts : Facts) (rows : Deletes) where
   -- what a delete claim in the next round deletes stands in this one
@@ -32,8 +28,7 @@ module _ (facts : Facts) (rows : Deletes) where
 
   -- the weight of a delete claim: one, and the weights of those on it
   abbrev pub weight : ℕ → List ℕ → ℕ
-  weight zero d = 1
-  weight (suc n) d = suc (total (λ (e : Pair × ℤ). weight n e.0.1) (group_after rows d None))
+  weight n d = rows_under rows n d
 
   abbrev pub weights : ℕ → List ℕ → Option (List ℕ) → ℕ
   weights n y after = total (λ (e : Pair × ℤ). weight n e.0.1) (group_after rows y after)
@@ -42,6 +37,17 @@ module _ (facts : Facts) (rows : Deletes) where
   abbrev pub ahead : List ℕ → ℕ → List ℕ → Option (List ℕ) → ℕ
   ahead r zero y after = 2 * weights (len facts) y after
   ahead r (suc n) y after = 2 * weights (len facts) y after + (if bytes_eq y r then 0 else suc (ahead r n (target_in facts y) (Some y)))
+
+  -- from r on it is what is on r
+  pub first_ahead : (r : List ℕ) → ahead r (len facts) r None ≤ 2 * weights (len facts) r None
+  first_ahead r = by (len facts)
+    where
+      by : (n : ℕ) → ahead r n r None ≤ 2 * weights (len facts) r None
+      by zero = omega arith
+      by (suc n) =
+          let e : (if bytes_eq r r then 0 else suc (ahead r n (target_in facts r) (Some r))) ≡ 0
+          = ap (λ b. if b then 0 else suc (ahead r n (target_in facts r) (Some r))) ((bytes_eq-Decides r r).1 refl) in
+          omega (arith, e)
 
   module _ (when : When) (r : List ℕ) where
     abbrev pub gone : List ℕ → Bool

@@ -14,3 +14,4 @@ pub mod DeletionEnds
 pub mod DeletionSteps
 pub mod Counting
 pub mod DeletionCounts
+pub mod Sums

@@ -1,7 +1,7 @@
 -- Deletion as rows tell it: by the delete claims whose rows stand.
-use Rattle.std.specs.Prelude.{◌≡◌, ℕ, ◌&&◌, Bool, true, false, not, List, Option, Some, None, ℤ}
+use Rattle.std.specs.Prelude.{◌≡◌, ◌+◌, ℕ, zero, suc, ◌&&◌, Bool, true, false, not, List, [], ◌∷◌, Option, Some, None, ℤ}
 use Rattle.std.specs.List.{list_any}
-use Rattle.std.specs.FinMap.{FinMap, get, contains_key}
+use Rattle.std.specs.FinMap.{FinMap, get, contains_key, len}
 use Rattle.schema_date.specs.declared.date.When.{When}
 use Rattle.schema_fact.specs.declared.kinds.Fact.{Fact}
 use Rattle.schema_fact.specs.declared.kinds.Signed.{Signed}
@@ -86,6 +86,19 @@ is_live when gone e = counts_at when e.1 && not (gone e.0.1)
 -- whether some such row stands in the group x, behind a claim
 abbrev pub any_live : Deletes → When → (List ℕ → Bool) → List ℕ → Option (List ℕ) → Bool
 any_live rows when gone x after = list_any (is_live when gone) (group_after rows x after)
+
+abbrev pub total : {A : Type 0} → (A → ℕ) → List A → ℕ
+total f [] = 0
+total f (x ∷ xs) = f x + total f xs
+
+-- a delete claim, and those on it, and on these, looked at n deep: how many rows they have
+abbrev pub rows_under : Deletes → ℕ → List ℕ → ℕ
+rows_under rows zero d = 1
+rows_under rows (suc n) d = suc (total (λ e. rows_under rows n e.0.1) (group_after rows d None))
+
+-- how many rows of delete claims are on x, on these claims, and so on
+abbrev pub tree_rows : Facts → Deletes → List ℕ → ℕ
+tree_rows facts rows x = total (λ e. rows_under rows (len facts) e.0.1) (group_after rows x None)
 
 -- whether x is deleted, by the delete claims whose rows stand
 abbrev pub row_deleted : Facts → Deletes → When → List ℕ → Bool

@@ -8,3 +8,4 @@ pub mod Once
 pub mod Counted
 pub mod Values
 pub mod Holders
+pub mod Touched

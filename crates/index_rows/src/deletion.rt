@@ -1,6 +1,6 @@
 //! Deletion at a date, by a walk over the rows of delete claims.
-ghost use Rattle.std.specs.Prelude.{◌≡◌};
-ghost use Rattle.index_rows.specs.Deletes.{Ringless, row_deleted, target_in, kind_target, what_target};
+ghost use Rattle.std.specs.Prelude.{◌≡◌, ◌≤◌, ◌+◌, ◌*◌};
+ghost use Rattle.index_rows.specs.Deletes.{Ringless, row_deleted, tree_rows, target_in, kind_target, what_target};
 
 use crate::rows::Rows;
 use blobref::Ref;
@@ -15,7 +15,8 @@ use std::sync::ledger::Ledger;
 /// of looking through the delete claims on the blob, those on these, and so on, once each.
 pub fn deleted_at<L: Ledger>(rows: &Rows, r: &Ref, when: &When, steps: &mut Steps<L>) -> bool
     requires { Ringless rows.now.facts rows.now.deletes }
-    ensures { result ≡ row_deleted rows.now.facts rows.now.deletes when.now r.now }
+    ensures deleted { result ≡ row_deleted rows.now.facts rows.now.deletes when.now r.now }
+    ensures ticks { steps.new ≤ steps.old + 4 + 6 * tree_rows rows.now.facts rows.now.deletes r.now }
 {
     if !can_be_deleted_at(&rows.facts, r, steps) {
         return false;
@@ -50,7 +51,8 @@ pub fn deleted_at<L: Ledger>(rows: &Rows, r: &Ref, when: &When, steps: &mut Step
 
 // The target of a delete claim, and of all else the ref itself.
 fn target_in<L: Ledger>(rows: &Rows, y: &Ref, steps: &mut Steps<L>) -> Ref
-    ensures { result ≡ target_in rows.now.facts y.now }
+    ensures target { result ≡ target_in rows.now.facts y.now }
+    ensures ticks { steps.new ≡ steps.old + 1 }
 {
     match rows.facts.row(y, steps) {
         Some(fact) => kind_target(y, &fact.kind),
