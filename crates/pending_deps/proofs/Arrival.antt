@@ -25,8 +25,9 @@ use Rattle.index_rows.proofs.Deleting.{any_get}
 use Rattle.index_rows.specs.Once.{AreNew}
 use Rattle.index_rows.specs.States.{States}
 use Rattle.index_rows.specs.Waiting.{Waiters, waits, depends, arrived, IsWaiting}
+use Rattle.index_rows.specs.Touched.{needs_of, fact_needs}
 use Rattle.pending_deps.specs.Settling.{CountsMissing, Settling, KeepsOthers, others}
-use Rattle.pending_deps.specs.Arriving.{says_ready, needs_of, fact_needs, HasPut, IsEnlisted, IsNew, HasArrived, BecameReady}
+use Rattle.pending_deps.specs.Arriving.{says_ready, HasPut, IsEnlisted, IsNew, HasArrived, BecameReady}
 use Rattle.index_rows.proofs.Puts.{put_at, put_beside}
 use Rattle.pending_deps.proofs.Steps.{has_all_where}
 use Rattle.index_rows.proofs.Arrived.{get-arrived, arrived_same}
@@ -43,7 +44,7 @@ no_value (Some x) h = absurd (false≢true (sym h))
 pub none_found : {X : Type 0} (o : Option (Bor X)) (p : Option X) → option_copied o ≡ p → false ≡ is_some o → p ≡ None
 none_found o p h f = no_value p (ap is_some (sym h) ∙ is_some-copied o ∙ sym f)
 
-eq_pair : (e y d r : List ℕ) → eq_by_cmp pair_cmp (e, y) (d, r) ≡ (bytes_eq y r && bytes_eq e d)
+pub eq_pair : (e y d r : List ℕ) → eq_by_cmp pair_cmp (e, y) (d, r) ≡ (bytes_eq y r && bytes_eq e d)
 eq_pair e y d r = by (cases_Bool (bytes_eq y r)) (cases_Bool (bytes_eq e d))
   where
     apart : (bytes_eq y r ≡ false) ⊎ (bytes_eq e d ≡ false) → eq_by_cmp pair_cmp (e, y) (d, r) ≡ false
@@ -294,7 +295,10 @@ module _ (facts : Facts) (state : States) (waiters : Waiters) (r : List ℕ) (wa
       pub counted_put : CountsMissing put waiters1
       counted_put = subst (λ s. CountsMissing s waiters1) (sym is_put) counted1
 
-      within : IsWithin A A1
+      pub begun : Settling A1 old put waiters1 order1 0
+      begun = subst (λ s. Settling A1 old s waiters1 order1 0) (sym is_put) settling1
+
+      pub within : IsWithin A A1
       within y fact h = by (cases_Bool (bytes_eq y r))
         where
           by : (bytes_eq y r ≡ true) ⊎ (bytes_eq y r ≡ false) → get A1 y ≡ Some fact
@@ -305,7 +309,7 @@ module _ (facts : Facts) (state : States) (waiters : Waiters) (r : List ℕ) (wa
           → ((all : Facts) (ready : List ℕ → Bool) → Settling all ready put waiters1 order1 0 → Settling all ready state2 waiters2 order2 (length order2))
           → HasArrived facts state state2 waiters2 r order2
       has_arrived state2 waiters2 order2 counted2 kept settles =
-          let is : Settling A1 old state2 waiters2 order2 (length order2) = settles A1 old (subst (λ s. Settling A1 old s waiters1 order1 0) (sym is_put) settling1) in
+          let is : Settling A1 old state2 waiters2 order2 (length order2) = settles A1 old begun in
           let same : (y : List ℕ) → contains_key state2 y ≡ contains_key state1 y = λ y. kept_same put state2 kept y ∙ ap (λ s. contains_key s y) is_put in
           let there : A1 ≡ arrived facts state2 = arrived_same facts state1 state2 (λ y. sym (same y)) in
           record {

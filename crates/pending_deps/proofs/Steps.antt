@@ -75,7 +75,7 @@ among_all (suc i) (x ∷ xs) d h = by (bytes_eq d x) (among_all i xs d) h
     by true more t = refl
     by false more t = more t
 
-at_place : (xs : List (List ℕ)) (i : ℕ) (x : List ℕ) → slice_get xs i ≡ Some x → list_any (bytes_eq x) xs ≡ true
+pub at_place : (xs : List (List ℕ)) (i : ℕ) (x : List ℕ) → slice_get xs i ≡ Some x → list_any (bytes_eq x) xs ≡ true
 at_place [] i x h = absurd (let e : None ≡ Some x = h in cc e)
 at_place (y ∷ xs) zero x h = ap (λ b. b || list_any (bytes_eq x) xs) ((bytes_eq-Decides x y).1 (sym (same_Some y x h)))
 at_place (y ∷ xs) (suc i) x h = by (bytes_eq x y) (at_place xs i x h)

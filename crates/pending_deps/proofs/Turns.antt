@@ -18,7 +18,7 @@ use Rattle.index_rows.specs.Waiting.{Waiters}
 use Rattle.pending_deps.specs.Settling.{row_or_empty, one_less, order_with, HasMissing, CountsMissing, others, KeepsOthers, Settling}
 use Rattle.pending_deps.proofs.Steps.{Releasing, released, step_on, has_missing, still_counted, others_kept}
 
-row_there : (rows : Waiters) (x : List ℕ) (k : Pair) (v : Unit {0}) (rest : List (Pair × Unit {0})) → group_after rows x None ≡ (k, v) ∷ rest → get rows k ≡ Some v
+pub row_there : (rows : Waiters) (x : List ℕ) (k : Pair) (v : Unit {0}) (rest : List (Pair × Unit {0})) → group_after rows x None ≡ (k, v) ∷ rest → get rows k ≡ Some v
 row_there rows x k v rest h =
     (subst (λ xs. AllByRecursion (λ (e : Pair × Unit {0}). (get rows e.0 ≡ Some e.1) × ((bytes_eq x e.0.0 && true) ≡ true)) xs) h
     (all_filter (λ (e : Pair × Unit {0}). get rows e.0 ≡ Some e.1) (λ (e : Pair × Unit {0}). bytes_eq x e.0.0 && true) (entries rows) (entries_held pair_total pair_same rows))).0.0

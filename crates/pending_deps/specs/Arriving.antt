@@ -1,10 +1,9 @@
 -- A ref that arrives.
-use Rattle.std.specs.Prelude.{◌≡◌, ◌+◌, ◌≤◌, ℕ, ◌&&◌, ◌||◌, Bool, false, not, List, [], length, Option, Some, None, if◌then◌else◌, option_map}
+use Rattle.std.specs.Prelude.{◌≡◌, ◌+◌, ◌*◌, ◌≤◌, ℕ, ◌&&◌, ◌||◌, Bool, false, not, List, [], length, Option, Some, None, if◌then◌else◌, option_map}
 use Rattle.std.specs.List.{list_any}
 use Rattle.std.specs.Str.{bytes_eq}
-use Rattle.std.specs.FinMap.{get, contains_key, entries}
+use Rattle.std.specs.FinMap.{get, contains_key, entries, retain_keys}
 use Rattle.schema_fact.specs.declared.kinds.Fact.{Fact}
-use Rattle.schema_fact.specs.Dependencies.{dependencies}
 use Rattle.claim_model.specs.Facts.{Facts, passes}
 use Rattle.claim_model.specs.Ready.{is_ready}
 use Rattle.claim_model.specs.Least.{passes_or_in, AreReached}
@@ -12,18 +11,12 @@ use Rattle.index_rows.specs.Pairs.{number}
 use Rattle.index_rows.specs.States.{States}
 use Rattle.index_rows.specs.Once.{AreNew}
 use Rattle.index_rows.specs.Waiting.{Waiters, waits, arrived, IsWaiting}
+use Rattle.index_rows.specs.Touched.{becomes, became, needs_of, namings}
 use Rattle.pending_deps.specs.Settling.{others}
 
 -- whether the row of d says that it is ready
 abbrev pub says_ready : States → List ℕ → Bool
 says_ready state d = passes (λ row. row.ready) (get state d)
-
-abbrev pub fact_needs : Option Fact → List (List ℕ)
-fact_needs None = []
-fact_needs (Some fact) = dependencies fact
-
-abbrev pub needs_of : Facts → List ℕ → List (List ℕ)
-needs_of facts r = fact_needs (get facts r)
 
 -- at most one row more, of r for d
 pub record HasPut (state : States) (old new : Waiters) (d r : List ℕ) (n : ℕ) : Type 0 where
@@ -64,3 +57,19 @@ pub record HasArrived (facts : Facts) (before after : States) (waiters : Waiters
   -- the columns of other calls are as before, and empty for r
   pub kept : (y : List ℕ) → bytes_eq y r ≡ false → option_map others (get after y) ≡ option_map others (get before y)
   pub own : option_map others (get after r) ≡ Some (false, false, 0)
+
+-- the facts that have arrived once r has
+abbrev pub arrived_with : Facts → States → List ℕ → Facts
+arrived_with facts state r = retain_keys facts (λ x. bytes_eq x r || contains_key state x)
+
+-- whether y becomes ready as r arrives
+abbrev pub is_freed : Facts → States → List ℕ → List ℕ → Bool
+is_freed facts state r y = becomes (is_ready (arrived facts state)) (arrived_with facts state r) y
+
+-- two for r, three for each place at which it depends on a ref, one for each ref that becomes ready, and four for each
+-- place at which one depends on such a ref
+abbrev pub arrival_steps : Facts → States → List ℕ → ℕ
+arrival_steps facts state r =
+    2 + 3 * length (needs_of facts r)
+    + length (became (is_ready (arrived facts state)) (arrived_with facts state r))
+    + 4 * length (namings (arrived_with facts state r) (is_freed facts state r))

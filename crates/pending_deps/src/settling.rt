@@ -1,6 +1,11 @@
 //! What becomes ready one after another.
-ghost use Rattle.std.specs.Prelude.{◌≡◌, ◌<◌, ℕ, Bool, List, length, OnOk};
+ghost use Rattle.std.specs.Prelude.{◌≡◌, ◌<◌, ◌≤◌, ◌+◌, ◌*◌, ℕ, Bool, List, [], length, OnOk, OnErr};
+ghost use Rattle.std.specs.List.{list_any};
+ghost use Rattle.std.specs.Str.{bytes_eq};
 ghost use Rattle.std.specs.FinMap as finite;
+ghost use Rattle.claim_model.specs.Least.{AreReached};
+ghost use Rattle.index_rows.specs.Once.{AreNew};
+ghost use Rattle.index_rows.specs.Pairs.{number};
 ghost use Rattle.claim_model.specs.Facts.{Facts};
 ghost use Rattle.pending_deps.specs.Settling.{row_or_empty, one_less, order_with, CountsMissing, Settling, KeepsOthers, HasMissing};
 
@@ -22,6 +27,10 @@ pub(crate) fn settle<L: Ledger>(
     ensures settled { OnOk result ((facts : Facts) (old : List ℕ → Bool)
         → Settling facts old state.old waiters.old order.old 0
         → Settling facts old state.new waiters.new order.new (length order.new)) }
+    ensures reached { (facts : Facts) (old : List ℕ → Bool) → Settling facts old state.old waiters.old order.old 0
+        → AreReached facts old [] order.new × AreNew old [] order.new }
+    ensures ticks { steps.new ≤ steps.old + length order.new
+        + 4 * number (λ e. list_any (bytes_eq e.0.0) order.new) (finite.entries waiters.old) }
 {
     let mut i = 0;
     'next: while i < order.len() {
@@ -48,6 +57,8 @@ fn drop_waiter<L: Ledger>(
     ensures state { OnOk result
         (state.new ≡ finite.insert state.old w.now (one_less (row_or_empty (finite.get state.old w.now)))) }
     ensures order { OnOk result (order.new ≡ order_with order.old w.now (row_or_empty (finite.get state.old w.now))) }
+    ensures stays { OnErr result (order.new ≡ order.old) }
+    ensures ticks { steps.new ≡ steps.old + 3 }
 {
     waiters.drop_row(x, w, steps);
     let row = row_of(state, w, steps);
@@ -62,6 +73,7 @@ fn row_of<L: Ledger>(state: &RefRows<StateRow>, w: &Ref, steps: &mut Steps<L>) -
     requires { HasMissing state.now w.now }
     ensures row { result ≡ row_or_empty (finite.get state.now w.now) }
     ensures missing { 0 < result.missing }
+    ensures ticks { steps.new ≡ steps.old + 1 }
 {
     match state.row(w, steps) {
         Some(row) => *row,
