@@ -89,10 +89,10 @@ module _ (facts : Facts) (deletes : Deletes) (before state : States) (changed : 
           by true e = (refl, same_Some target (kind_target at kind) e)
           by false e = absurd (let f : Some target ≡ None = e in cc f)
 
-      stands : row_stands facts deletes at ≡ true
+      pub stands : row_stands facts deletes at ≡ true
       stands = of.stands ∙ parts.0
 
-      is_target : target ≡ target_in facts at
+      pub is_target : target ≡ target_in facts at
       is_target = parts.1 ∙ sym of.target
 
       pub on : Flipping facts deletes before state' changed' target (not up)

@@ -10,7 +10,8 @@ use Rattle.schema_fact.specs.declared.kinds.What.TheVariants.{Set, Add, Del, Del
 use Rattle.schema_fact.specs.declared.kinds.Kind.{Kind}
 use Rattle.schema_fact.specs.declared.kinds.Kind.TheVariants.{Plain, Key, File, Bytes, Directory, StaticSet, Permanode, Claim, Unread}
 use Rattle.claim_model.specs.Facts.{Facts}
-use Rattle.index_rows.specs.Deletes.{Deletes, IsDelete, row_deleted}
+use Rattle.index_rows.specs.Deletes.{Deletes, IsDelete, row_deleted, row_stands, target_in}
+use Rattle.index_rows.specs.Touched.{targets_from}
 use Rattle.index_rows.specs.States.{States}
 use Rattle.index_rows.specs.Once.{AreOnce}
 use Rattle.index_rows.specs.Counted.{IsCounted}
@@ -41,6 +42,19 @@ fact_delete (Some fact) = kind_delete fact.kind
 -- the target and the date of a delete claim
 abbrev pub delete_in : Facts → List ℕ → Option (List ℕ × ℤ)
 delete_in facts d = fact_delete (get facts d)
+
+abbrev pub put_row : Deletes → List ℕ → Option (List ℕ × ℤ) → Deletes
+put_row deletes d None = deletes
+put_row deletes d (Some found) = insert deletes (found.0, d) found.1
+
+-- the rows with that of d
+abbrev pub with_row : Facts → Deletes → List ℕ → Deletes
+with_row facts deletes d = put_row deletes d (delete_in facts d)
+
+-- the target of d, and further targets as long as the last one is a delete claim whose row stands, with the row of d
+abbrev pub entered_targets : Facts → Deletes → List ℕ → List (List ℕ)
+entered_targets facts deletes d =
+    targets_from facts (row_stands facts (with_row facts deletes d)) (target_in facts d)
 
 -- d is a ready delete claim that has arrived, its target has, and it has no row
 pub record IsNewDelete (facts : Facts) (deletes : Deletes) (state : States) (d : List ℕ) : Type 0 where

@@ -1,5 +1,5 @@
 -- What a delete claim more or less on a ref changes, from target to target.
-use Rattle.std.specs.Prelude.{◌≡◌, ◌<◌, ◌+◌, ◌-◌, ◌^◌, ◌==◌, ℕ, suc, Bool, true, false, not, List, Option, Some, None, if◌then◌else◌, option_map}
+use Rattle.std.specs.Prelude.{◌≡◌, ◌<◌, ◌+◌, ◌-◌, ◌^◌, ◌++◌, ◌==◌, ℕ, suc, Bool, true, false, not, List, Option, Some, None, if◌then◌else◌, option_map}
 use Rattle.std.specs.List.{list_any}
 use Rattle.std.specs.Str.{bytes_eq}
 use Rattle.std.specs.FinMap.{get, insert, contains_key}
@@ -53,6 +53,10 @@ deletable facts y = fact_deletable (get facts y)
 -- the target of a delete claim whose row stands
 abbrev pub row_target : Deletes → List ℕ → Kind → Option (List ℕ)
 row_target deletes d kind = if kind_has_row deletes d kind then Some (kind_target d kind) else None
+
+-- the one list begins the other
+abbrev pub IsFront : List (List ℕ) → List (List ℕ) → Type 0
+IsFront xs ys = (rest : List (List ℕ)) × (xs ++ rest ≡ ys)
 
 -- a truth, or its opposite where it is turned
 abbrev pub turned : Bool → Bool → Bool

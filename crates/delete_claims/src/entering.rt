@@ -1,9 +1,10 @@
 //! Delete claims that are entered, one after another.
-ghost use Rattle.std.specs.Prelude.{◌≡◌, IfOk};
+ghost use Rattle.std.specs.Prelude.{◌≡◌, ◌≤◌, ◌+◌, ◌*◌, IfOk, length};
 ghost use Rattle.schema_date.specs.declared.date.When.TheVariants.{Always};
 ghost use Rattle.index_rows.specs.Deletes.{row_deleted};
 ghost use Rattle.index_rows.specs.Counted.{has_deleters, IsCounted};
-ghost use Rattle.delete_claims.specs.Entered.{delete_in, IsNewDelete, IsEntered};
+ghost use Rattle.delete_claims.specs.Flipping.{IsFront};
+ghost use Rattle.delete_claims.specs.Entered.{delete_in, entered_targets, IsNewDelete, IsEntered};
 
 use crate::flipping::flip_from;
 use blobref::{NoMemory, Ref, RefList};
@@ -24,10 +25,10 @@ use std::sync::ledger::Ledger;
 /// tables are as they were.
 ///
 /// A target whose deletion changes may itself be a delete claim that counted, or now counts, at its own target, and so
-/// on from target to target. The time is that of at most four look-ups or changes for each target up to the first whose
-/// deletion stays. So of n delete claims that each delete the one before, entered in this order, the last one alone
-/// looks at up to n targets, and all together at up to the square of n. Entered in the reverse order, each looks at
-/// one.
+/// on from target to target. It takes at most 3 look-ups and changes for the claim, and 4 for each target up to the
+/// first whose deletion stays, also where it ends with `NoMemory`. So of n delete claims that each delete the one
+/// before, entered in this order, the last one alone looks at up to n targets, and all together at up to the square of
+/// n. Entered in the reverse order, each looks at one.
 pub fn enter<L: Ledger>(
     alloc: Global,
     rows: &mut Rows,
@@ -42,6 +43,9 @@ pub fn enter<L: Ledger>(
     ensures holders { rows.new.holders ≡ rows.old.holders }
     ensures entered { IfOk result (λ changed.
         IsEntered rows.old.facts rows.old.deletes rows.new.deletes rows.old.state rows.new.state d.now changed) }
+    ensures front { IfOk result (λ changed.
+        IsFront changed (entered_targets rows.old.facts rows.old.deletes d.now)) }
+    ensures ticks { steps.new ≤ steps.old + 3 + 4 * length (entered_targets rows.old.facts rows.old.deletes d.now) }
 {
     let Some((target, date)) = delete_in(&rows.facts, d, steps) else {
         unreachable!()
@@ -64,13 +68,15 @@ pub fn enter<L: Ledger>(
 /// are right for these rows. At most two look-ups.
 pub fn is_gone<L: Ledger>(rows: &Rows, y: &Ref, steps: &mut Steps<L>) -> bool
     requires { IsCounted rows.now.facts rows.now.deletes rows.now.state }
-    ensures { result ≡ row_deleted rows.now.facts rows.now.deletes Always y.now }
+    ensures gone { result ≡ row_deleted rows.now.facts rows.now.deletes Always y.now }
+    ensures ticks { steps.new ≤ steps.old + 2 }
 {
     can_be_deleted_at(&rows.facts, y, steps) && has_deleters(&rows.state, y, steps)
 }
 
 fn has_deleters<L: Ledger>(state: &RefRows<StateRow>, y: &Ref, steps: &mut Steps<L>) -> bool
-    ensures { result ≡ has_deleters state.now y.now }
+    ensures some { result ≡ has_deleters state.now y.now }
+    ensures ticks { steps.new ≡ steps.old + 1 }
 {
     match state.row(y, steps) {
         Some(row) => 0 < row.deleters,
@@ -80,7 +86,8 @@ fn has_deleters<L: Ledger>(state: &RefRows<StateRow>, y: &Ref, steps: &mut Steps
 
 // The target and the date of a delete claim.
 fn delete_in<L: Ledger>(facts: &FactRows, d: &Ref, steps: &mut Steps<L>) -> Option<(Ref, Date)>
-    ensures { result ≡ delete_in facts.now d.now }
+    ensures value { result ≡ delete_in facts.now d.now }
+    ensures ticks { steps.new ≡ steps.old + 1 }
 {
     match &facts.row(d, steps)?.kind {
         Kind::Claim {

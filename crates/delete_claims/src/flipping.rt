@@ -1,7 +1,9 @@
 //! Counts that change one after another, from target to target.
-ghost use Rattle.std.specs.Prelude.{◌≡◌, ◌<◌, ◌+◌, ◌^◌, [], Some, true, false, IfOk, option_copied};
+ghost use Rattle.std.specs.Prelude.{◌≡◌, ◌<◌, ◌≤◌, ◌+◌, ◌*◌, ◌^◌, [], Some, true, false, IfOk, length, option_copied};
 ghost use Rattle.std.specs.FinMap.{get};
-ghost use Rattle.delete_claims.specs.Flipping.{deletable, row_target, CanRecount, IsRecounted, Flipping, Flipped};
+ghost use Rattle.index_rows.specs.Deletes.{row_stands};
+ghost use Rattle.index_rows.specs.Touched.{targets_from};
+ghost use Rattle.delete_claims.specs.Flipping.{deletable, row_target, CanRecount, IsRecounted, IsFront, Flipping, Flipped};
 
 use blobref::{NoMemory, Ref, RefList};
 use edge_base::Steps;
@@ -23,7 +25,11 @@ pub(crate) fn flip_from<L: Ledger>(
     steps: &mut Steps<L>,
 ) -> Result<RefList, NoMemory>
     requires { Flipping facts.now deletes.now state.old state.old [] start.now true }
-    ensures { IfOk result (λ changed. Flipped facts.now deletes.now state.old state.new changed) }
+    ensures flipped { IfOk result (λ changed. Flipped facts.now deletes.now state.old state.new changed) }
+    ensures front { IfOk result (λ changed.
+        IsFront changed (targets_from facts.now (row_stands facts.now deletes.now) start.now)) }
+    ensures ticks { steps.new ≤ steps.old
+        + 4 * length (targets_from facts.now (row_stands facts.now deletes.now) start.now) }
 {
     // A ref counts at most all of these rows, so each count fits in 64 bits.
     deletes.is_countable();
@@ -54,7 +60,8 @@ fn recount<L: Ledger>(
     steps: &mut Steps<L>,
 ) -> Result<bool, NoMemory>
     requires { CanRecount state.old at.now up }
-    ensures { IfOk result (λ flipped. IsRecounted state.old state.new at.now up flipped) }
+    ensures recounted { IfOk result (λ flipped. IsRecounted state.old state.new at.now up flipped) }
+    ensures ticks { steps.new ≡ steps.old + 2 }
 {
     let row = row_of(state, at, up, steps);
     let deleters = if up {
@@ -76,6 +83,7 @@ fn row_of<L: Ledger>(
     ensures row { get state.now at.now ≡ Some result }
     ensures more { up ≡ true → result.deleters + 1 < 2 ^ 64 }
     ensures less { up ≡ false → 0 < result.deleters }
+    ensures ticks { steps.new ≡ steps.old + 1 }
 {
     match state.row(at, steps) {
         Some(row) => *row,
@@ -85,7 +93,8 @@ fn row_of<L: Ledger>(
 
 // What a ref says, if it is a permanode or a claim.
 fn deletable<'a, L: Ledger>(facts: &'a FactRows, y: &Ref, steps: &mut Steps<L>) -> Option<&'a Kind>
-    ensures { option_copied result ≡ deletable facts.now y.now }
+    ensures kind { option_copied result ≡ deletable facts.now y.now }
+    ensures ticks { steps.new ≡ steps.old + 1 }
 {
     match facts.row(y, steps) {
         Some(fact) if can_be_deleted(&fact.kind) => Some(&fact.kind),
@@ -100,7 +109,8 @@ fn row_target<L: Ledger>(
     kind: &Kind,
     steps: &mut Steps<L>,
 ) -> Option<Ref>
-    ensures { result ≡ row_target deletes.now d.now kind.now }
+    ensures target { result ≡ row_target deletes.now d.now kind.now }
+    ensures ticks { steps.new ≤ steps.old + 1 }
 {
     match kind {
         Kind::Claim {
