@@ -5,3 +5,4 @@ pub mod Standing
 pub mod Telling
 pub mod Written
 pub mod Seen
+pub mod Ticks

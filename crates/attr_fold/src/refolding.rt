@@ -1,11 +1,13 @@
 //! The rows of what a permanode holds, written again.
-ghost use Rattle.std.specs.Prelude.{◌≡◌, ◌+◌, ◌<◌, ◌^◌, ◌∷◌, [], ◌++◌, ◌&&◌, ℕ, List, length, nat_lt, false, true, if◌then◌else◌, IfOk, OnErr, OnOk};
-ghost use Rattle.std.specs.FinMap.{contains_key};
+ghost use Rattle.std.specs.Prelude.{◌≡◌, ◌+◌, ◌*◌, ◌<◌, ◌≤◌, ◌^◌, ◌∷◌, [], ◌++◌, ◌&&◌, ℕ, List, length, nat_lt, None, false, true, if◌then◌else◌, IfOk, OnErr, OnOk};
+ghost use Rattle.std.specs.FinMap.{contains_key, entries};
+ghost use Rattle.index_rows.specs.Pairs.{number};
 ghost use Rattle.std.specs.Str.{bytes_eq};
+ghost use Rattle.index_rows.specs.Changes.{changes_after};
 ghost use Rattle.index_rows.specs.Counted.{has_deleters, IsCounted};
 ghost use Rattle.index_rows.specs.Holders.{row_holds, HolderKey as Seen, IsHeldBut};
 ghost use Rattle.index_rows.specs.Values.{IsChange, IsListed};
-ghost use Rattle.attr_fold.specs.Refolded.{IsHeldSomehow};
+ghost use Rattle.attr_fold.specs.Refolded.{refold_steps, IsHeldSomehow};
 ghost use Rattle.attr_fold.specs.Turns.{all_moments, is_there, moment_noted, row_written, standing, told, turn_at, Tells};
 
 use crate::attribute_turns::AttributeTurns;
@@ -24,8 +26,9 @@ use std::sync::ledger::Ledger;
 /// each row of `holders` must be of a genuine permanode and of a value that one of its changes sets or adds. All other
 /// rows stay as they are, also after `NoMemory`; those of the permanode may then be anything. No other table changes.
 ///
-/// It walks over the changes of the permanode once: where there are k, it takes at most 4 + 4 k look-ups, steps and
-/// changes, and time in k log k. It takes memory for the moments of these changes and for their values.
+/// It walks over the changes of the permanode once: where there are k, it takes at most 3 + 4 k look-ups, steps and
+/// changes, and time in k log k; of a ref that is no genuine permanode at most 2 look-ups. It takes memory for the
+/// moments of these changes and for their values.
 pub fn refold<L: Ledger>(
     alloc: Global,
     rows: &mut Rows,
@@ -47,6 +50,7 @@ pub fn refold<L: Ledger>(
     ensures held { OnOk result ((but : List (List ℕ))
         → IsHeldBut (p.now ∷ but) rows.old.facts rows.old.state rows.old.deletes rows.old.changes rows.old.holders
         → IsHeldBut but rows.old.facts rows.old.state rows.old.deletes rows.old.changes rows.new.holders) }
+    ensures ticks { steps.new ≤ steps.old + refold_steps rows.old.facts rows.old.state rows.old.changes p.now }
 {
     let Some(stands) = standing(rows, p, steps) else {
         return Ok(());
@@ -58,7 +62,8 @@ pub fn refold<L: Ledger>(
 // Whether p isn't deleted, where it is a genuine permanode.
 fn standing<L: Ledger>(rows: &Rows, p: &Ref, steps: &mut Steps<L>) -> Option<bool>
     requires { IsCounted rows.now.facts rows.now.deletes rows.now.state }
-    ensures { result ≡ standing rows.now.facts rows.now.state rows.now.deletes p.now }
+    ensures stands { result ≡ standing rows.now.facts rows.now.state rows.now.deletes p.now }
+    ensures ticks { steps.new ≤ steps.old + 2 }
 {
     if !is_permanode_at(&rows.facts, p, steps) {
         return None;
@@ -78,9 +83,12 @@ fn turns_of<L: Ledger>(
 ) -> Result<Turns, NoMemory>
     requires counted { IsCounted rows.now.facts rows.now.deletes rows.now.state }
     requires listed { IsListed rows.now.facts rows.now.state rows.now.changes }
-    ensures { IfOk result (λ turns. Tells p.now
+    ensures told { IfOk result (λ turns. Tells p.now
         (told rows.now.facts rows.now.deletes (all_moments rows.now.changes p.now)) turns
         (length (all_moments rows.now.changes p.now))) }
+    ensures few { IfOk result (λ turns.
+        number (λ e. true) (entries turns.given) ≤ length (changes_after rows.now.changes p.now None)) }
+    ensures ticks { steps.new ≤ steps.old + 1 + 3 * length (changes_after rows.now.changes p.now None) }
 {
     let moments = moments_of(alloc, &rows.changes, p, steps)?;
     let mut turns = Turns::empty(alloc);
@@ -97,7 +105,8 @@ fn moments_of<L: Ledger>(
     p: &Ref,
     steps: &mut Steps<L>,
 ) -> Result<Vec<Moment>, NoMemory>
-    ensures { IfOk result (λ moments. moments.items ≡ all_moments changes.now p.now) }
+    ensures moments { IfOk result (λ moments. moments.items ≡ all_moments changes.now p.now) }
+    ensures ticks { steps.new ≤ steps.old + 1 + length (changes_after changes.now p.now None) }
 {
     let mut moments = Vec::new(alloc);
     let mut last = None;
@@ -128,8 +137,9 @@ fn note_moment<L: Ledger>(
     requires counted { IsCounted rows.now.facts rows.now.deletes rows.now.state }
     requires change { IsChange rows.now.facts rows.now.state p.now moment.now }
     requires small { n + 1 < 2 ^ 64 }
-    ensures { OnOk result
+    ensures noted { OnOk result
         (turns.new ≡ moment_noted rows.now.facts rows.now.deletes p.now turns.old moment.now n) }
+    ensures ticks { steps.new ≤ steps.old + 2 }
 {
     let Some(change) = change_said(&rows.facts, &moment.1, moment.2 as usize, steps) else {
         return Ok(());
@@ -140,7 +150,8 @@ fn note_moment<L: Ledger>(
 
 // Whether the row of a ref counts some delete claim.
 fn has_deleters<L: Ledger>(state: &RefRows<StateRow>, r: &Ref, steps: &mut Steps<L>) -> bool
-    ensures { result ≡ has_deleters state.now r.now }
+    ensures some { result ≡ has_deleters state.now r.now }
+    ensures ticks { steps.new ≡ steps.old + 1 }
 {
     match state.row(r, steps) {
         Some(row) => 0 < row.deleters,
@@ -164,6 +175,7 @@ fn write_rows<L: Ledger>(
         ≡ (if contains_key turns.given (name, value, p.now)
         then stands && is_there turns.given turns.emptied (name, value, p.now)
         else contains_key holders.old (name, value, p.now))) }
+    ensures ticks { steps.new ≤ steps.old + number (λ e. true) (entries turns.given) }
 {
     'rows: while let Some((key, turn)) = turns.given.pop_first() {
         write_row(holders, &turns.emptied, key, turn, stands, steps)?;
@@ -183,6 +195,7 @@ fn write_row<L: Ledger>(
     ensures ok { OnOk result (holders.new
         ≡ row_written holders.old key (stands && nat_lt (turn_at emptied.now key.0) turn)) }
     ensures err { OnErr result (holders.new ≡ holders.old) }
+    ensures ticks { steps.new ≡ steps.old + 1 }
 {
     if stands && emptied.turn(key.attr()) < turn {
         holders.put(key, steps)
