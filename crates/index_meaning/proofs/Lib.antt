@@ -14,3 +14,4 @@ pub mod Left
 pub mod Keeping
 pub mod Concerning
 pub mod Progressing
+pub mod Grouped
