@@ -1,7 +1,9 @@
 -- The steps of folding the changes of a permanode.
-use Rattle.std.proofs.Common.{◌≡◌, ◌≤◌, ◌+◌, ◌*◌, ℕ, suc, Bool, true, false, not, ◌==◌, cond, List, [], ◌∷◌, length, map, Option, None, Some, refl, sym, ap, subst, ◌∙◌, arith}
+use Rattle.std.proofs.Common.{◌≡◌, ◌≤◌, ◌+◌, ◌*◌, ℕ, suc, Bool, true, false, not, ◌==◌, cond, List, [], ◌∷◌, length, map, Option, None, Some, refl, sym, ap, subst, ◌∙◌, IfSome, arith}
 use Rattle.std.specs.FinMap.{get, insert, remove, entries, contains_key, len, len-entries, len-insert, len-empty, empty}
 use Rattle.std.proofs.lemmas.List.{length-map}
+use Rattle.std.proofs.lemmas.List.Sums.{sum_by-cons}
+use Rattle.std.specs.List.{sum_by}
 use Rattle.schema_date.specs.declared.date.When.TheVariants.{Always}
 use Rattle.schema_fact.specs.declared.changes.Act.{Act}
 use Rattle.schema_fact.specs.declared.changes.Act.TheVariants.{Set as sets, Add as adds, Del as removes}
@@ -95,3 +97,12 @@ steps_some facts state deletes changes p stands h = by (says_permanode facts sta
     by : (b : Bool) → Some stands ≡ cond b (Some (not (row_deleted facts deletes Always p))) None → cond b (3 + 4 * length (changes_after changes p None)) 2 ≡ 3 + 4 * length (changes_after changes p None)
     by true e = refl
     by false e = absurd (let f : Some stands ≡ None = e in cc f)
+
+-- the steps of the moments that are still to come
+pub sum_rest : (cost : Moment → ℕ) (before rest : List Moment) (k : Moment) → before ≡ k ∷ rest → sum_by cost before ≡ cost k + sum_by cost rest
+sum_rest cost before rest k is = ap (sum_by cost) is ∙ sum_by-cons cost k rest
+
+-- what holds of the moment before and of this one holds of either
+pub either_moment : (P : Moment → Type 0) (b : Bool) (found : Option Moment) (k : Moment) → IfSome found P → P k → IfSome (cond b found (Some k)) P
+either_moment P true found k before this = before
+either_moment P false found k before this = this

@@ -1,5 +1,5 @@
 -- The moments of the changes of a permanode, one after another.
-use Rattle.std.specs.Prelude.{ℕ, List, map, filter, Option, Some, None, ℤ, if◌then◌else◌}
+use Rattle.std.specs.Prelude.{ℕ, ◌+◌, ◌*◌, List, map, filter, Option, Some, None, ℤ, if◌then◌else◌}
 use Rattle.schema_date.specs.declared.date.When.{When}
 use Rattle.schema_fact.specs.declared.kinds.Kind.{Kind}
 use Rattle.schema_fact.specs.declared.kinds.Kind.TheVariants.{Plain, Key, File, Bytes, Directory, StaticSet, Permanode, Claim, Unread}
@@ -8,7 +8,7 @@ use Rattle.claim_model.specs.Claims.{Moment}
 use Rattle.claim_model.specs.Deleted.{counts_at}
 use Rattle.index_look.specs.Claims.{values_with}
 use Rattle.index_rows.specs.Changes.{Changes, changes_after}
-use Rattle.index_rows.specs.Deletes.{Deletes, row_deleted}
+use Rattle.index_rows.specs.Deletes.{Deletes, row_deleted, tree_rows}
 use Rattle.index_rows.specs.Values.{change_at}
 
 -- the moments of p behind one, or all, that are dated at or before that time
@@ -23,6 +23,10 @@ moment_values facts deletes when name found k =
 -- the later moment, unless its claim is deleted at that time
 abbrev pub last_with : Facts → Deletes → When → Option Moment → Moment → Option Moment
 last_with facts deletes when found k = if row_deleted facts deletes when k.1 then found else Some k
+
+-- at most as many steps as a moment takes: one to come to it, one to look its change up, and those of seeing whether its claim is deleted
+abbrev pub moment_steps : Facts → Deletes → Moment → ℕ
+moment_steps facts deletes k = 6 + 6 * tree_rows facts deletes k.1
 
 -- the date of a claim
 abbrev pub claim_date : Kind → Option ℤ

@@ -1,5 +1,5 @@
 //! The moments of the changes of a permanode.
-ghost use Rattle.std.specs.Prelude.{◌≡◌, ◌∷◌, [], true, Some, IfSome, IfNone, option_copied};
+ghost use Rattle.std.specs.Prelude.{◌≡◌, ◌+◌, ◌∷◌, [], true, Some, IfSome, IfNone, option_copied};
 ghost use Rattle.std.specs.FinMap.{contains_key};
 ghost use Rattle.claim_model.specs.Deleted.{counts_at};
 ghost use Rattle.attr_fold.specs.Moments.{moments_after};
@@ -23,6 +23,7 @@ pub(crate) fn next_moment<L: Ledger>(
         ≡ k ∷ moments_after changes.now when.now p.now (Some k)) }
     ensures row { IfSome result (λ k. contains_key changes.now (p.now, k) ≡ true) }
     ensures last { IfNone result (moments_after changes.now when.now p.now (option_copied after.entry) ≡ []) }
+    ensures ticks { steps.new ≡ steps.old + 1 }
 {
     match changes.next_of(p, after, steps) {
         Some(moment) => if counts_at(when, &moment) {

@@ -1,9 +1,10 @@
 //! The values of an attribute, and the date of the last change.
-ghost use Rattle.std.specs.Prelude.{◌≡◌, IfOk, OnOk, map, option_and_then};
+ghost use Rattle.std.specs.Prelude.{◌≡◌, ◌≤◌, ◌+◌, ◌*◌, None, IfOk, OnOk, map, option_and_then};
+ghost use Rattle.std.specs.List.{sum_by};
 ghost use Rattle.std.specs.FinMap.{get};
-ghost use Rattle.index_rows.specs.Deletes.{Ringless};
+ghost use Rattle.index_rows.specs.Deletes.{tree_rows, Ringless};
 ghost use Rattle.index_rows.specs.Values.{row_values, row_last_change, IsChange, IsListed};
-ghost use Rattle.attr_fold.specs.Moments.{claim_date, last_with, moment_values};
+ghost use Rattle.attr_fold.specs.Moments.{claim_date, last_with, moment_steps, moment_values, moments_after};
 
 use crate::moments::next_moment;
 use blobref::{NoMemory, Ref, Text, TextList};
@@ -17,8 +18,9 @@ use std::sync::ledger::Ledger;
 
 /// The values of an attribute of a permanode at that time, as the rows of its changes tell them, whether it is deleted
 /// or not. Each row of `deletes` must be that of a ready delete claim, and each row of `changes` that of a change of a
-/// genuine claim. `NoMemory` comes only where no memory is left. Its time is that of the walk over the changes up to
-/// that time, and of looking for each whether its claim is deleted.
+/// genuine claim. `NoMemory` comes only where no memory is left. It walks over the changes up to that time, and looks
+/// for each whether its claim is deleted: at most 1 step, and for each change 6, and 6 for each row of a delete claim
+/// on its claim, on these, and so on.
 pub fn fold_at<L: Ledger>(
     alloc: Global,
     rows: &Rows,
@@ -29,8 +31,10 @@ pub fn fold_at<L: Ledger>(
 ) -> Result<TextList, NoMemory>
     requires ringless { Ringless rows.now.facts rows.now.deletes }
     requires listed { IsListed rows.now.facts rows.now.state rows.now.changes }
-    ensures { IfOk result (λ texts.
+    ensures values { IfOk result (λ texts.
         texts ≡ row_values rows.now.facts rows.now.deletes rows.now.changes when.now p.now attr.now) }
+    ensures ticks { steps.new ≤ steps.old + 1 + sum_by (moment_steps rows.now.facts rows.now.deletes)
+        (moments_after rows.now.changes when.now p.now None) }
 {
     let mut found = Vec::new(alloc);
     let mut last = None;
@@ -53,8 +57,9 @@ fn apply_moment<'a, L: Ledger>(
 ) -> Result<(), NoMemory>
     requires ringless { Ringless rows.now.facts rows.now.deletes }
     requires change { IsChange rows.now.facts rows.now.state p.now moment.now }
-    ensures { OnOk result (map (λ t. t.now) found.new.items
+    ensures values { OnOk result (map (λ t. t.now) found.new.items
         ≡ moment_values rows.now.facts rows.now.deletes when.now attr.now (map (λ t. t.now) found.old.items) moment.now) }
+    ensures ticks { steps.new ≤ steps.old + 5 + 6 * tree_rows rows.now.facts rows.now.deletes moment.now.1 }
 {
     if deleted_at(rows, &moment.1, when, steps) {
         return Ok(());
@@ -64,8 +69,8 @@ fn apply_moment<'a, L: Ledger>(
 }
 
 /// The date of the last change of a permanode that counts at that time, as the rows of its changes tell it; `None`
-/// exactly where none counts. The rows of `deletes` and `changes` must be as for `fold_at`, and so is its time. It
-/// takes no memory.
+/// exactly where none counts. The rows of `deletes` and `changes` must be as for `fold_at`. It takes as many steps as
+/// that, and one more, and no memory.
 pub fn last_change_at<L: Ledger>(
     rows: &Rows,
     p: &Ref,
@@ -74,7 +79,9 @@ pub fn last_change_at<L: Ledger>(
 ) -> Option<Date>
     requires ringless { Ringless rows.now.facts rows.now.deletes }
     requires listed { IsListed rows.now.facts rows.now.state rows.now.changes }
-    ensures { result ≡ row_last_change rows.now.facts rows.now.deletes rows.now.changes when.now p.now }
+    ensures change { result ≡ row_last_change rows.now.facts rows.now.deletes rows.now.changes when.now p.now }
+    ensures ticks { steps.new ≤ steps.old + 2 + sum_by (moment_steps rows.now.facts rows.now.deletes)
+        (moments_after rows.now.changes when.now p.now None) }
 {
     let mut found = None;
     let mut last = None;
@@ -97,7 +104,8 @@ fn last_with<L: Ledger>(
     steps: &mut Steps<L>,
 ) -> Option<Moment>
     requires { Ringless rows.now.facts rows.now.deletes }
-    ensures { result ≡ last_with rows.now.facts rows.now.deletes when.now found moment.now }
+    ensures later { result ≡ last_with rows.now.facts rows.now.deletes when.now found moment.now }
+    ensures ticks { steps.new ≤ steps.old + 4 + 6 * tree_rows rows.now.facts rows.now.deletes moment.now.1 }
 {
     if deleted_at(rows, &moment.1, when, steps) {
         found
@@ -108,7 +116,8 @@ fn last_with<L: Ledger>(
 
 // The date of the claim of a ref.
 fn date_at<L: Ledger>(rows: &Rows, r: &Ref, steps: &mut Steps<L>) -> Option<Date>
-    ensures { result ≡ option_and_then (λ fact. claim_date fact.kind) (get rows.now.facts r.now) }
+    ensures date { result ≡ option_and_then (λ fact. claim_date fact.kind) (get rows.now.facts r.now) }
+    ensures ticks { steps.new ≡ steps.old + 1 }
 {
     match rows.facts.row(r, steps) {
         Some(fact) => claim_date(&fact.kind),

@@ -1,7 +1,8 @@
-use Rattle.std.proofs.Common.{◌≡◌, fold, length, IfSome, true}
+use Rattle.std.proofs.Common.{◌≡◌, ◌≤◌, ◌+◌, None, fold, length, IfSome, true}
+use Rattle.std.specs.List.{sum_by}
 use Rattle.std.specs.FinMap.{contains_key}
 use Rattle.index_rows.specs.Values.{row_last_change}
-use Rattle.attr_fold.specs.Moments.{moments_after, last_with}
+use Rattle.attr_fold.specs.Moments.{moments_after, moment_steps, last_with}
 use Rattle.attr_fold.proofs.Walking.{last_date}
 use Rattle.attr_fold.proofs.values.last_change_at.Given as goal
 
@@ -11,6 +12,8 @@ invariant-walk g l = record {
       (fold (last_with l.rows.facts l.rows.deletes l.when) l.found (moments_after l.rows.changes l.when l.p l.last))
       ≡ row_last_change l.rows.facts l.rows.deletes l.rows.changes l.when l.p;
   row : IfSome l.found (λ k. contains_key l.rows.changes (l.p, k) ≡ true);
+  ticks : l.steps + sum_by (moment_steps l.rows.facts l.rows.deletes) (moments_after l.rows.changes l.when l.p l.last)
+      ≤ l.fn.steps + sum_by (moment_steps l.rows.facts l.rows.deletes) (moments_after l.rows.changes l.when l.p None);
 }
 
 abbrev pub decreases-walk : goal.decreases-walk
