@@ -1,5 +1,5 @@
 -- The steps of folding the changes of a permanode.
-use Rattle.std.proofs.Common.{◌≡◌, ◌≤◌, ◌+◌, ◌*◌, ℕ, suc, Bool, true, false, not, ◌==◌, cond, List, [], ◌∷◌, length, map, Option, None, Some, refl, sym, ap, subst, ◌∙◌, IfSome, arith}
+use Rattle.std.proofs.Common.{◌≡◌, ◌≤◌, ◌+◌, ◌*◌, ℕ, suc, Bool, true, false, not, ◌==◌, cond, List, ◌∷◌, length, Option, None, Some, refl, sym, ap, ◌∙◌, IfSome, arith}
 use Rattle.std.specs.FinMap.{get, insert, remove, entries, contains_key, len, len-entries, len-insert, len-empty, empty}
 use Rattle.std.proofs.lemmas.List.{length-map}
 use Rattle.std.proofs.lemmas.List.Sums.{sum_by-cons}
@@ -17,7 +17,7 @@ use Rattle.index_rows.specs.Holders.{HolderKey, holder_cmp, holder_total, says_p
 use Rattle.index_rows.specs.Values.{change_at}
 use Rattle.index_rows.specs.Pairs.{number}
 use Rattle.index_rows.proofs.Orders.{holder_same}
-use Rattle.index_rows.proofs.Counting.{bit, number_whole, number-remove}
+use Rattle.index_rows.proofs.Counting.{number_whole, number-remove}
 use Rattle.attr_fold.specs.Turns.{ValueTurns, known, noted, change_noted, moment_noted, all_moments, standing}
 use Rattle.attr_fold.specs.Refolded.{refold_steps}
 use Rattle.attr_fold.specs.declared.turns.Turns.{Turns}

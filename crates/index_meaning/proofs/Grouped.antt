@@ -1,5 +1,5 @@
 -- The rows of the changes of a permanode are at most as many as the changes on it of genuine claims.
-use Rattle.std.proofs.Common.{◌≡◌, ◌≤◌, ℕ, ℤ, Bool, true, false, ◌&&◌, ◌||◌, cond, List, [], ◌∷◌, length, map, filter, flat_map, Option, None, Some, refl, sym, ap, ◌∙◌, is_some, slice_get, Ordering, arith}
+use Rattle.std.proofs.Common.{◌≡◌, ◌≤◌, ℕ, ℤ, Bool, true, ◌&&◌, ◌||◌, cond, List, [], ◌∷◌, length, map, filter, flat_map, Option, None, Some, refl, sym, ap, ◌∙◌, is_some, slice_get, arith}
 use Rattle.std.proofs.lemmas.Bool.{false≢true, and_parts}
 use Rattle.std.proofs.lemmas.List.Folds.{list_any-append}
 use Rattle.std.proofs.lemmas.List.{length-map}
@@ -9,7 +9,6 @@ use Rattle.std.specs.Str.{bytes_eq}
 use Rattle.std.specs.Ordering.{is_eq, eq_by_cmp, int_cmp, ordering_then}
 use Rattle.std.specs.FinMap.{get, entries, find, contains_key}
 use Rattle.std.proofs.lemmas.Cmp.{tied_itself}
-use Rattle.blobref.specs.Blobref.{ref_cmp}
 use Rattle.claim_verify.specs.Verifier.{Accepts}
 use Rattle.schema_date.specs.declared.date.When.TheVariants.{Always}
 use Rattle.schema_fact.specs.declared.kinds.Fact.{Fact}
@@ -23,13 +22,12 @@ use Rattle.schema_fact.specs.Changes.{changes_of}
 use Rattle.schema_fact.specs.declared.changes.Change.{Change}
 use Rattle.claim_model.specs.Claims.{Moment, moment_cmp, changes_on}
 use Rattle.index_rows.specs.Changes.{Changes, ChangeKey, change_cmp, changes_after}
-use Rattle.index_rows.specs.Pairs.{number}
 use Rattle.index_rows.specs.Touched.{group_of}
 use Rattle.index_rows.proofs.Deleting.{any-filter, any_get, any_found}
 use Rattle.index_rows.proofs.Orders.{ref_total, ref_same, moment_total, moment_same, change_total, change_same}
 use Rattle.index_rows.proofs.Sums.{number_length, rows_within}
 use Rattle.index_meaning.specs.Meaning.{is_change_on, genuine_change, IsChangesOf}
-use Rattle.index_meaning.proofs.Moments.{claim_change, on_p}
+use Rattle.index_meaning.proofs.Moments.{claim_change}
 
 any_map : {A B : Type 0} (p : B → Bool) (f : A → B) (xs : List A) → list_any p (map f xs) ≡ list_any (λ x. p (f x)) xs
 any_map p f [] = refl

@@ -1,12 +1,12 @@
 -- Sums over lists in which each ref stands once, and how many rows of a table can be of what a list has.
-use Rattle.std.proofs.Common.{◌≡◌, ◌≤◌, ◌+◌, ℕ, Bool, true, false, not, ◌&&◌, ◌||◌, cond, List, [], ◌∷◌, ◌++◌, length, filter, map, flat_map, None, Some, refl, sym, ap, subst, ◌∙◌, ◌⊎◌, inl, inr, arith, Ordering}
-use Rattle.std.proofs.lemmas.Bool.{cases_Bool, false≢true, and_parts}
+use Rattle.std.proofs.Common.{◌≡◌, ◌≤◌, ◌+◌, ℕ, Bool, true, false, not, ◌||◌, cond, List, [], ◌∷◌, ◌++◌, length, filter, Some, refl, sym, ap, ◌∙◌, ◌⊎◌, inl, inr, arith, Ordering}
+use Rattle.std.proofs.lemmas.Bool.{cases_Bool, false≢true}
 use Rattle.std.proofs.lemmas.Slice.Eq.{bytes_eq-Decides}
-use Rattle.std.proofs.lemmas.List.Sums.{sum_by-cons, sum_by-append}
+use Rattle.std.proofs.lemmas.List.Sums.{sum_by-cons}
 use Rattle.std.proofs.lemmas.Map.Made.{IsDistinct-keys_filter, length-le_from_is_member}
 use Rattle.std.proofs.lemmas.Map.Keys.{IsDistinct-from_sorted}
 use Rattle.std.proofs.lemmas.Map.Entries.{length-keys_of}
-use Rattle.std.specs.List.{list_any, sum_by, IsDistinct, AllByRecursion}
+use Rattle.std.specs.List.{list_any, sum_by, AllByRecursion}
 use Rattle.std.specs.Str.{bytes_eq}
 use Rattle.std.specs.Ordering.{is_eq, eq_by_cmp}
 use Rattle.std.specs.Set.{is_member}
@@ -20,7 +20,6 @@ use Rattle.index_look.proofs.Keys.{entries_held}
 use Rattle.index_rows.specs.Once.{AreNew, AreOnce}
 use Rattle.index_rows.specs.Pairs.{number}
 use Rattle.index_rows.proofs.Counting.{bit}
-use Rattle.index_rows.proofs.Deleting.{any_some}
 
 -- what was never before, in any sense, is there once
 pub once_of : (p : List ℕ → Bool) (before xs : List (List ℕ)) → AreNew p before xs → AreNew (λ r. false) before xs

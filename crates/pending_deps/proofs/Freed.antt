@@ -1,17 +1,17 @@
 -- What waits for the refs that become ready, in terms of the facts.
-use Rattle.std.proofs.Common.{◌≡◌, ◌≤◌, ◌+◌, ◌*◌, ℕ, Bool, true, false, not, ◌&&◌, ◌||◌, cond, List, [], ◌∷◌, ◌++◌, length, filter, map, flat_map, Option, None, Some, refl, sym, ap, subst, ◌∙◌, ◌⊎◌, inl, inr, is_some, arith, length-append}
-use Rattle.std.proofs.lemmas.Bool.{cases_Bool, false≢true, and_parts}
+use Rattle.std.proofs.Common.{◌≡◌, ◌≤◌, ℕ, Bool, true, false, not, ◌&&◌, ◌||◌, cond, List, [], ◌∷◌, ◌++◌, length, filter, map, flat_map, Option, None, Some, refl, sym, ap, ◌∙◌, ◌⊎◌, inl, inr, is_some, arith, length-append}
+use Rattle.std.proofs.lemmas.Bool.{false≢true, and_parts}
 use Rattle.std.proofs.lemmas.List.Folds.{list_any-append}
 use Rattle.std.proofs.lemmas.Slice.Eq.{bytes_eq-Decides}
 use Rattle.std.specs.List.{list_any, list_all}
 use Rattle.std.specs.Str.{bytes_eq}
 use Rattle.std.specs.Ordering.{eq_by_cmp}
-use Rattle.std.specs.FinMap.{get, contains_key, entries, keys}
+use Rattle.std.specs.FinMap.{get, contains_key, entries}
 use Rattle.schema_fact.specs.declared.kinds.Fact.{Fact}
 use Rattle.schema_fact.specs.Dependencies.{dependencies}
 use Rattle.claim_model.specs.Facts.{Facts, Entry, passes}
 use Rattle.claim_model.specs.Ready.{is_ready}
-use Rattle.claim_model.specs.Least.{IsWithin, AreReached, passes_or_in, has_all}
+use Rattle.claim_model.specs.Least.{IsWithin, AreReached, passes_or_in}
 use Rattle.claim_model.proofs.Least.{ready_grows, ready_is_closed, has_all-implies}
 use Rattle.claim_model.proofs.Rounds.{ready_is_settled}
 use Rattle.index_rows.specs.Once.{AreNew}
