@@ -16,3 +16,16 @@ pub mod Telling
 mod Whole
 mod OneMore
 mod Listed
+pub mod TouchedSum
+pub mod Changed
+pub mod RefoldSum
+pub mod PartTicks
+pub mod LoopTicks
+pub mod EnterTicks
+pub mod AddTicks
+pub mod TakeTicks
+pub mod Concerned
+pub mod TakeUp
+pub mod InsertTicks
+pub mod EnterOne
+pub mod Distinct

@@ -72,7 +72,7 @@ take_last refs i r above below is =
     let next : suc (i - 1) ≡ i = omega arith in
     ap (λ n. take n refs) (sym next) ∙ take_one refs (i - 1) r (omega arith) is
 
--- a list from one of its refs on
-pub drop_first : (refs : List (List ℕ)) (i : ℕ) (r : List ℕ) → i < length refs → r ≡ get_or refs i r
+-- a list from one of its elements on
+pub drop_first : {A : Type 0} (refs : List A) (i : ℕ) (r : A) → i < length refs → r ≡ get_or refs i r
     → drop i refs ≡ r ∷ drop (i + 1) refs
 drop_first refs i r within is = drop-cons refs i r within ∙ (λ j. sym is j ∷ drop (sym (add-one i) j) refs)

@@ -62,7 +62,7 @@ module _ (rows : Rows) (entered : Deletes) (state : States) (d : List ℕ) (chan
   enters : Enters rows.facts rows.state state rows.deletes entered is.target d is.date changed
   enters = record { is = is.is; row = is.row; counted = is.counted; kept = is.kept; turns = is.turns }
 
-  same_genuine : (y : List ℕ) → says_genuine state y ≡ says_genuine rows.state y
+  pub same_genuine : (y : List ℕ) → says_genuine state y ≡ says_genuine rows.state y
   same_genuine = genuine_kept beside_count rows.state state is.kept (λ t. t.1) (λ row. refl)
 
   -- ---- whom it concerns

@@ -24,7 +24,7 @@ lacking None h = refl
 lacking (Some x) h = absurd (false≢true (sym h))
 
 module _ (facts : Facts) (r : List ℕ) (fact : Fact) (absent : contains_key facts r ≡ false) where
-  added_within : IsWithin facts (insert facts r fact)
+  pub added_within : IsWithin facts (insert facts r fact)
   added_within y one h = by (cases_Bool (bytes_eq y r))
     where
       by : (bytes_eq y r ≡ true) ⊎ (bytes_eq y r ≡ false) → get (insert facts r fact) y ≡ Some one

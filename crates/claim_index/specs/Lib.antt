@@ -3,3 +3,4 @@ pub mod Judging
 pub mod Halfway
 pub mod Indexed
 pub mod Told
+pub mod Costs

@@ -1,11 +1,11 @@
 //! What the tables of an index answer while nothing is left to do.
-ghost use Rattle.std.specs.Prelude.{◌≡◌, ◌++◌, ◌∷◌, [], true, Some, IfOk, OnOk, filter, option_copied};
+ghost use Rattle.std.specs.Prelude.{◌≡◌, ◌++◌, ◌∷◌, [], true, Some, IfOk, OnOk, filter, option_copied, ◌≤◌, ◌+◌, length, None};
 ghost use Rattle.std.specs.FinMap.{get, keys};
 ghost use Rattle.std.specs.Str.{IsUtf8};
 ghost use Rattle.index_meaning.specs.Laws.{rows_holding};
 ghost use Rattle.index_rows.specs.Counted.{IsCounted};
 ghost use Rattle.index_rows.specs.Deletes.{Ringless, row_deleted};
-ghost use Rattle.index_rows.specs.Holders.{says_permanode};
+ghost use Rattle.index_rows.specs.Holders.{says_permanode, holders_after};
 ghost use Rattle.index_rows.specs.Values.{IsListed};
 ghost use Rattle.claim_index.specs.Told.{told_after, told_change, told_fact, told_holds, told_parents, told_size, told_values};
 
@@ -146,7 +146,8 @@ pub(crate) fn holders<L: Ledger>(
     value: &str,
     steps: &mut Steps<L>,
 ) -> Result<RefList, NoMemory>
-    ensures { IfOk result (λ refs. refs ≡ rows_holding rows.now attr.now value.now) }
+    ensures held { IfOk result (λ refs. refs ≡ rows_holding rows.now attr.now value.now) }
+    ensures ticks { steps.new ≤ steps.old + 1 + length (holders_after rows.now attr.now value.now None) }
 {
     let mut found = RefList::empty(alloc);
     let mut place = None;

@@ -1,10 +1,12 @@
 //! What is left once refs were judged: delete claims are entered, and permanodes looked at again.
-ghost use Rattle.std.specs.Prelude.{◌≡◌, ◌∷◌, ◌++◌, [], ℕ, List, OnOk};
-ghost use Rattle.std.specs.List.{flat_map};
+ghost use Rattle.std.specs.Prelude.{◌≡◌, ◌≤◌, ◌+◌, ◌*◌, ◌∷◌, ◌++◌, [], ℕ, List, length, OnOk};
+ghost use Rattle.std.specs.List.{flat_map, sum_by};
 ghost use Rattle.std.specs.FinMap.{contains_key};
 ghost use Rattle.claim_verify.specs.Verifier.{Accepts};
 ghost use Rattle.delete_claims.specs.Entered.{IsNewDelete};
 ghost use Rattle.index_rows.specs.Counted.{IsCounted};
+ghost use Rattle.claim_index.specs.Costs.{all_concerned, enter_steps, finish_steps, refolds_steps};
+ghost use Rattle.claim_index.specs.Costs.{AddsEntered, AreTaken, IsCovered};
 ghost use Rattle.claim_index.specs.Halfway.{IsHalfway, CanBeFinished};
 ghost use Rattle.index_meaning.specs.Touching.{concerned_by};
 
@@ -30,6 +32,11 @@ pub(crate) fn finish<L: Ledger>(
     ensures taken { OnOk result ((y : List ℕ) → contains_key rows.new.state y ≡ contains_key rows.old.state y) }
     ensures halfway { OnOk result ((accepts : Accepts)
         → IsHalfway accepts [] work.deletes work.concerned rows.old → IsHalfway accepts [] [] [] rows.new) }
+    ensures ticks { (accepts : Accepts) (heads changed : List (List ℕ))
+        → IsHalfway accepts [] work.deletes work.concerned rows.old → AreTaken rows.old
+        → IsCovered rows.old.facts accepts (all_concerned rows.old.facts accepts work.deletes work.concerned)
+        heads changed
+        → steps.new ≤ steps.old + finish_steps rows.old.facts accepts work.deletes heads changed }
 {
     let Work {
         deletes,
@@ -53,6 +60,12 @@ fn enter_all<L: Ledger>(
     ensures finished { OnOk result (CanBeFinished [] concerned.new rows.new) }
     ensures halfway { OnOk result ((accepts : Accepts)
         → IsHalfway accepts [] deletes.now concerned.old rows.old → IsHalfway accepts [] [] concerned.new rows.new) }
+    ensures adds { OnOk result ((accepts : Accepts)
+        → IsHalfway accepts [] deletes.now concerned.old rows.old → AreTaken rows.old
+        → AddsEntered rows.old.facts accepts deletes.now concerned.old concerned.new) }
+    ensures ticks { (accepts : Accepts)
+        → IsHalfway accepts [] deletes.now concerned.old rows.old → AreTaken rows.old
+        → steps.new ≤ steps.old + sum_by (enter_steps rows.old.facts accepts) deletes.now }
 {
     'claims: for i in (0..deletes.len()).rev() {
         enter_one(alloc, rows, &deletes[i], concerned, steps)?;
@@ -77,6 +90,12 @@ fn enter_one<L: Ledger>(
     ensures halfway { OnOk result ((accepts : Accepts) (others : List (List ℕ))
         → IsHalfway accepts [] (others ++ d.now ∷ []) concerned.old rows.old
         → IsHalfway accepts [] others concerned.new rows.new) }
+    ensures adds { OnOk result ((accepts : Accepts) (others : List (List ℕ))
+        → IsHalfway accepts [] (others ++ d.now ∷ []) concerned.old rows.old → AreTaken rows.old
+        → AddsEntered rows.old.facts accepts (d.now ∷ []) concerned.old concerned.new) }
+    ensures ticks { (accepts : Accepts) (others : List (List ℕ))
+        → IsHalfway accepts [] (others ++ d.now ∷ []) concerned.old rows.old → AreTaken rows.old
+        → steps.new ≤ steps.old + enter_steps rows.old.facts accepts d.now }
 {
     let changed = enter(alloc, rows, d, steps)?;
     concern_all(rows, changed.as_slice(), concerned, steps)
@@ -89,8 +108,9 @@ fn concern_all<L: Ledger>(
     concerned: &mut RefList,
     steps: &mut Steps<L>,
 ) -> Result<(), NoMemory>
-    ensures { OnOk result
+    ensures added { OnOk result
         (concerned.new ≡ concerned.old ++ flat_map (concerned_by rows.now.facts rows.now.state) changed.now) }
+    ensures ticks { steps.new ≤ steps.old + 2 * length changed.now }
 {
     for y in changed {
         concern(rows, y, concerned, steps)?;
@@ -110,6 +130,9 @@ fn refold_all<L: Ledger>(
     ensures taken { OnOk result ((y : List ℕ) → contains_key rows.new.state y ≡ contains_key rows.old.state y) }
     ensures halfway { OnOk result ((accepts : Accepts)
         → IsHalfway accepts [] [] concerned rows.old → IsHalfway accepts [] [] [] rows.new) }
+    ensures ticks { (accepts : Accepts) (heads changed : List (List ℕ)) → IsHalfway accepts [] [] concerned rows.old
+        → AreTaken rows.old → IsCovered rows.old.facts accepts concerned heads changed
+        → steps.new ≤ steps.old + refolds_steps rows.old.facts accepts heads changed }
 {
     let refs = RefSet::of(concerned)?;
     for p in refs.as_slice() {

@@ -1,5 +1,5 @@
 //! Whether a fact is signed by its key.
-ghost use Rattle.std.specs.Prelude.{◌≡◌};
+ghost use Rattle.std.specs.Prelude.{◌≡◌, ◌≤◌, ◌+◌};
 ghost use Rattle.claim_model.specs.Genuine.{is_signed};
 
 use claim_verify::Verifier;
@@ -16,7 +16,8 @@ pub(crate) fn is_signed<V: Verifier, L: Ledger>(
     fact: &Fact,
     steps: &mut Steps<L>,
 ) -> bool
-    ensures { result ≡ is_signed facts.now (V.accepts keys.now) fact.now }
+    ensures signed { result ≡ is_signed facts.now (V.accepts keys.now) fact.now }
+    ensures ticks { steps.new ≤ steps.old + 1 }
 {
     let Some(signed) = signature(&fact.kind) else {
         return false;

@@ -1,7 +1,7 @@
 //! What is found out of a ref that became ready.
-ghost use Rattle.std.specs.Prelude.{◌≡◌, ◌&&◌, ◌||◌, ◌∷◌, ℕ, List, IfOk, OnOk, nat_eq, option_map};
+ghost use Rattle.std.specs.Prelude.{◌≡◌, ◌≤◌, ◌+◌, ◌&&◌, ◌||◌, ◌∷◌, ℕ, List, length, IfOk, OnOk, nat_eq, option_map};
 ghost use Rattle.std.specs.Ordering.{is_eq, int_cmp};
-ghost use Rattle.schema_fact.specs.Changes.{change_seen};
+ghost use Rattle.schema_fact.specs.Changes.{change_seen, changes_of};
 ghost use Rattle.std.specs.Str.{bytes_eq};
 ghost use Rattle.std.specs.FinMap.{get, contains_key};
 ghost use Rattle.schema_fact.specs.Validity.{HasValidChanges, IsValidKind};
@@ -9,6 +9,8 @@ ghost use Rattle.claim_model.specs.Facts.{Facts, passes};
 ghost use Rattle.claim_model.specs.Claims.{Moment};
 ghost use Rattle.index_meaning.specs.Meaning.{is_change_on, IsJudged, IsChangesOf};
 ghost use Rattle.claim_index.specs.Judging.{is_change_by, judged_in, kind_judged, marked, what_judged, with_marks};
+ghost use Rattle.index_rows.specs.Touched.{kind_changes};
+ghost use Rattle.claim_index.specs.Costs.{judge_steps};
 ghost use Rattle.claim_index.specs.Judging.{IsMarked, IsChanged, CanJudge};
 
 use crate::genuine::is_signed;
@@ -37,8 +39,9 @@ pub(crate) enum Judged {
 // Judges a ref that became ready, once what it depends on was judged: its row of `state` says from then on whether it
 // is genuine and whether it is a sound tree, and the changes of a genuine attribute claim have their rows. The answer
 // says what the ref is, which is all that is left to do for it. Facts, and the tables that aren't named here, stay.
-// `NoMemory` comes only where no memory is left, and the rows of `state` and `changes` may be anything then. It looks
-// up the fact, its signer and the origins of its parts, once each.
+// `NoMemory` comes only where no memory is left, and the rows of `state` and `changes` may be anything then. It takes at
+// most 4 steps for the fact, its signer and its row, 2 for the origin of each part, and 1 for each change of a genuine
+// claim.
 pub(crate) fn judge<V: Verifier, L: Ledger>(
     rows: &mut Rows,
     keys: &V,
@@ -62,6 +65,7 @@ pub(crate) fn judge<V: Verifier, L: Ledger>(
         → CanJudge facts rows.old.facts rows.old.state left x.now
         → IsChangesOf facts (V.accepts keys.now) (x.now ∷ left) rows.old.changes
         → IsChangesOf facts (V.accepts keys.now) left rows.new.changes) }
+    ensures ticks { steps.new ≤ steps.old + judge_steps rows.old.facts (V.accepts keys.now) x.now }
 {
     look_into(rows, keys, x, steps)
 }
@@ -82,6 +86,7 @@ fn look_into<V: Verifier, L: Ledger>(
     ensures changes { OnOk result
         (IsChanged rows.old.facts (V.accepts keys.now) rows.old.changes rows.new.changes x.now) }
     ensures answer { IfOk result (λ judged. judged ≡ judged_in rows.old.facts (V.accepts keys.now) x.now) }
+    ensures ticks { steps.new ≤ steps.old + judge_steps rows.old.facts (V.accepts keys.now) x.now }
 {
     let Some(fact) = rows.facts.row(x, steps) else {
         return Ok(Judged::Nothing);
@@ -104,8 +109,9 @@ fn mark<L: Ledger>(
     sound: bool,
     steps: &mut Steps<L>,
 ) -> Result<(), NoMemory>
-    ensures { OnOk result ((y : List ℕ)
+    ensures marked { OnOk result ((y : List ℕ)
         → get state.new y ≡ marked (bytes_eq y x.now) genuine sound (get state.old y)) }
+    ensures ticks { steps.new ≤ steps.old + 2 }
 {
     if !genuine && !sound {
         return Ok(());
@@ -137,8 +143,9 @@ fn list_changes<L: Ledger>(
     steps: &mut Steps<L>,
 ) -> Result<(), NoMemory>
     requires { IsValidKind kind.now }
-    ensures { OnOk result ((p : List ℕ) (k : Moment) → contains_key changes.new (p, k)
+    ensures listed { OnOk result ((p : List ℕ) (k : Moment) → contains_key changes.new (p, k)
         ≡ (contains_key changes.old (p, k) || (bytes_eq k.1 x.now && is_change_on p k kind.now))) }
+    ensures ticks { steps.new ≤ steps.old + length (kind_changes kind.now) }
 {
     match kind {
         Kind::Claim { date, what, .. } => put_changes(changes, x, date, what, steps),
@@ -155,8 +162,9 @@ fn put_changes<L: Ledger>(
     steps: &mut Steps<L>,
 ) -> Result<(), NoMemory>
     requires { HasValidChanges what.now }
-    ensures { OnOk result ((p : List ℕ) (k : Moment) → contains_key changes.new (p, k)
+    ensures listed { OnOk result ((p : List ℕ) (k : Moment) → contains_key changes.new (p, k)
         ≡ (contains_key changes.old (p, k) || (bytes_eq k.1 claim.now && is_change_by p k date.now what.now))) }
+    ensures ticks { steps.new ≤ steps.old + length (changes_of what.now) }
 {
     for place in 0..what.change_count() {
         put_change(
@@ -179,9 +187,10 @@ fn put_change<L: Ledger>(
     place: u32,
     steps: &mut Steps<L>,
 ) -> Result<(), NoMemory>
-    ensures { OnOk result ((p : List ℕ) (k : Moment) → contains_key changes.new (p, k)
+    ensures listed { OnOk result ((p : List ℕ) (k : Moment) → contains_key changes.new (p, k)
         ≡ (contains_key changes.old (p, k) || (bytes_eq k.1 claim.now && (is_eq (int_cmp k.0 date.now)
         && (passes (λ c. bytes_eq p c.on) (option_map change_seen change.entry) && nat_eq k.2 place))))) }
+    ensures ticks { steps.new ≤ steps.old + 1 }
 {
     match change {
         Some(change) => {

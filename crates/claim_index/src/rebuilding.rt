@@ -1,8 +1,9 @@
 //! The tables made anew, of all facts at once.
-ghost use Rattle.std.specs.Prelude.{◌≡◌, ℕ, List, [], IfSome, IfNone, None, OnOk, option_copied, false};
+ghost use Rattle.std.specs.Prelude.{◌≡◌, ◌≤◌, ◌+◌, ◌*◌, ℕ, List, length, [], IfSome, IfNone, None, OnOk, option_copied, false};
 ghost use Rattle.std.specs.FinMap.{contains_key};
 ghost use Rattle.index_look.specs.Walk.{entries_after};
-ghost use Rattle.claim_index.specs.Halfway.{HasOneMore, IsHalfway, IsNext, IsTakenTo, Rests};
+ghost use Rattle.index_rows.specs.Touched.{touched_in};
+ghost use Rattle.claim_index.specs.Halfway.{taken, HasOneMore, IsHalfway, IsNext, IsTakenTo, Rests};
 
 use crate::finishing::finish;
 use crate::taking::take_in;
@@ -27,6 +28,8 @@ pub(crate) fn take_up<V: Verifier, L: Ledger>(
     requires { stale ≡ false → HasOneMore (V.accepts keys.now) rows.old r.now }
     ensures facts { rows.new.facts ≡ rows.old.facts }
     ensures rest { OnOk result (Rests (V.accepts keys.now) rows.new) }
+    ensures ticks { stale ≡ false → steps.new ≤ steps.old
+        + 14 + 16 * length (touched_in (taken rows.old) rows.old.facts (V.accepts keys.now) r.now) }
 {
     if stale {
         return rebuild(alloc, rows, keys, steps);

@@ -1,5 +1,5 @@
 //! What rows of `state` say. One look-up each.
-ghost use Rattle.std.specs.Prelude.{◌≡◌};
+ghost use Rattle.std.specs.Prelude.{◌≡◌, ◌+◌};
 ghost use Rattle.index_rows.specs.States.{says_genuine};
 ghost use Rattle.claim_index.specs.Judging.{says_sound};
 ghost use Rattle.claim_index.specs.Told.{says_ready};
@@ -15,7 +15,8 @@ pub(crate) fn says_ready<L: Ledger>(
     r: &Ref,
     steps: &mut Steps<L>,
 ) -> bool
-    ensures { result ≡ says_ready state.now r.now }
+    ensures says { result ≡ says_ready state.now r.now }
+    ensures ticks { steps.new ≡ steps.old + 1 }
 {
     match state.row(r, steps) {
         Some(row) => row.ready,
@@ -29,7 +30,8 @@ pub(crate) fn says_genuine<L: Ledger>(
     r: &Ref,
     steps: &mut Steps<L>,
 ) -> bool
-    ensures { result ≡ says_genuine state.now r.now }
+    ensures says { result ≡ says_genuine state.now r.now }
+    ensures ticks { steps.new ≡ steps.old + 1 }
 {
     match state.row(r, steps) {
         Some(row) => row.genuine,
@@ -43,7 +45,8 @@ pub(crate) fn says_sound<L: Ledger>(
     r: &Ref,
     steps: &mut Steps<L>,
 ) -> bool
-    ensures { result ≡ says_sound state.now r.now }
+    ensures says { result ≡ says_sound state.now r.now }
+    ensures ticks { steps.new ≡ steps.old + 1 }
 {
     match state.row(r, steps) {
         Some(row) => row.sound,

@@ -1,6 +1,7 @@
 //! Whether the parts of a file stand in their origins, where the rows say which trees are sound.
-ghost use Rattle.std.specs.Prelude.{◌≡◌, All};
+ghost use Rattle.std.specs.Prelude.{◌≡◌, ◌≤◌, ◌+◌, ◌*◌, length, ◌∷◌, [], All};
 ghost use Rattle.std.specs.List.{list_all};
+ghost use Rattle.schema_fact.specs.Dependencies.{dependencies, part_refs};
 ghost use Rattle.schema_fact.specs.Limits.{IsShortPart};
 ghost use Rattle.schema_fact.specs.Validity.{IsValid};
 ghost use Rattle.claim_model.specs.Trees.{part_fits, parts_fit, tree_size};
@@ -23,7 +24,8 @@ pub(crate) fn parts_fit<L: Ledger>(
     steps: &mut Steps<L>,
 ) -> bool
     requires { IsValid fact.now }
-    ensures { result ≡ parts_fit facts.now (says_sound state.now) fact.now }
+    ensures fit { result ≡ parts_fit facts.now (says_sound state.now) fact.now }
+    ensures ticks { steps.new ≤ steps.old + 2 * length (dependencies fact.now) }
 {
     match tree_parts(&fact.kind) {
         Some(parts) => all_fit(facts, state, parts.as_slice(), steps),
@@ -31,6 +33,7 @@ pub(crate) fn parts_fit<L: Ledger>(
     }
 }
 
+#[tactic(auto, using(crate::proofs::PartTicks::part_first))]
 fn all_fit<L: Ledger>(
     facts: &FactRows,
     state: &RefRows<StateRow>,
@@ -38,7 +41,8 @@ fn all_fit<L: Ledger>(
     steps: &mut Steps<L>,
 ) -> bool
     requires { All IsShortPart parts.now }
-    ensures { result ≡ list_all (part_fits facts.now (says_sound state.now)) parts.now }
+    ensures fit { result ≡ list_all (part_fits facts.now (says_sound state.now)) parts.now }
+    ensures ticks { steps.new ≤ steps.old + 2 * length (part_refs parts.now) }
 {
     for part in parts {
         if !part_fits(facts, state, part, steps) {
@@ -55,7 +59,8 @@ fn part_fits<L: Ledger>(
     steps: &mut Steps<L>,
 ) -> bool
     requires { IsShortPart part.now }
-    ensures { result ≡ part_fits facts.now (says_sound state.now) part.now }
+    ensures fits { result ≡ part_fits facts.now (says_sound state.now) part.now }
+    ensures ticks { steps.new ≤ steps.old + 2 * length (part_refs (part.now ∷ [])) }
 {
     let end = part_end(part);
     match &part.origin {
@@ -69,7 +74,8 @@ fn part_fits<L: Ledger>(
 
 // The size of the tree at a ref.
 fn tree_size<L: Ledger>(facts: &FactRows, r: &Ref, steps: &mut Steps<L>) -> Option<u64>
-    ensures { result ≡ tree_size facts.now r.now }
+    ensures size { result ≡ tree_size facts.now r.now }
+    ensures ticks { steps.new ≡ steps.old + 1 }
 {
     match facts.row(r, steps) {
         Some(fact) => own_size(fact),

@@ -1,8 +1,10 @@
 //! A ref that is taken up, and what becomes ready by it.
-ghost use Rattle.std.specs.Prelude.{◌≡◌, ◌||◌, ◌∷◌, [], ℕ, List, OnOk};
+ghost use Rattle.std.specs.Prelude.{◌≡◌, ◌≤◌, ◌+◌, ◌||◌, ◌∷◌, [], ℕ, List, OnOk};
+ghost use Rattle.std.specs.List.{sum_by};
 ghost use Rattle.std.specs.Str.{bytes_eq};
 ghost use Rattle.std.specs.FinMap.{contains_key};
 ghost use Rattle.pending_deps.specs.Arriving.{IsNew};
+ghost use Rattle.claim_index.specs.Costs.{look_steps, freed, taking_steps, AddsFor};
 ghost use Rattle.claim_index.specs.Halfway.{IsHalfway, CanBeJudged};
 
 use crate::judging::{Judged, judge};
@@ -33,6 +35,11 @@ pub(crate) fn take_in<V: Verifier, L: Ledger>(
         → contains_key rows.new.state y ≡ (bytes_eq y r.now || contains_key rows.old.state y)) }
     ensures halfway { OnOk result
         (IsHalfway (V.accepts keys.now) [] work.new.deletes work.new.concerned rows.new) }
+    ensures adds { OnOk result (AddsFor rows.old.facts (V.accepts keys.now)
+        (freed rows.old.facts rows.old.state r.now)
+        work.old.deletes work.new.deletes work.old.concerned work.new.concerned) }
+    ensures ticks { steps.new ≤ steps.old
+        + taking_steps rows.old.facts (V.accepts keys.now) rows.old.state r.now }
 {
     let order = arrive(alloc, rows, r, steps)?;
     judge_all(rows, keys, order.as_slice(), work, steps)
@@ -52,6 +59,9 @@ fn judge_all<V: Verifier, L: Ledger>(
     ensures taken { OnOk result ((y : List ℕ) → contains_key rows.new.state y ≡ contains_key rows.old.state y) }
     ensures halfway { OnOk result
         (IsHalfway (V.accepts keys.now) [] work.new.deletes work.new.concerned rows.new) }
+    ensures adds { OnOk result (AddsFor rows.old.facts (V.accepts keys.now) order.now
+        work.old.deletes work.new.deletes work.old.concerned work.new.concerned) }
+    ensures ticks { steps.new ≤ steps.old + sum_by (look_steps rows.old.facts (V.accepts keys.now)) order.now }
 {
     for x in order {
         judge_one(rows, keys, x, work, steps)?;
@@ -76,6 +86,9 @@ fn judge_one<V: Verifier, L: Ledger>(
     ensures reached { OnOk result ((left : List (List ℕ))
         → IsHalfway (V.accepts keys.now) (x.now ∷ left) work.old.deletes work.old.concerned rows.old
         → CanBeJudged (x.now ∷ left) rows.old → CanBeJudged left rows.new) }
+    ensures adds { OnOk result (AddsFor rows.old.facts (V.accepts keys.now) (x.now ∷ [])
+        work.old.deletes work.new.deletes work.old.concerned work.new.concerned) }
+    ensures ticks { steps.new ≤ steps.old + look_steps rows.old.facts (V.accepts keys.now) x.now }
 {
     match judge(rows, keys, x, steps)? {
         Judged::Nothing => Ok(()),

@@ -1,5 +1,5 @@
 //! Whom the deletion of a ref touches.
-ghost use Rattle.std.specs.Prelude.{◌≡◌, ◌++◌, OnOk, map, option_map, option_to_list};
+ghost use Rattle.std.specs.Prelude.{◌≡◌, ◌≤◌, ◌+◌, ◌++◌, OnOk, map, option_map, option_to_list};
 ghost use Rattle.schema_fact.specs.Changes.{change_seen};
 ghost use Rattle.index_meaning.specs.Touching.{concerned_by, changes_concern};
 
@@ -19,7 +19,8 @@ pub(crate) fn concern<L: Ledger>(
     concerned: &mut RefList,
     steps: &mut Steps<L>,
 ) -> Result<(), NoMemory>
-    ensures { OnOk result (concerned.new ≡ concerned.old ++ concerned_by rows.now.facts rows.now.state y.now) }
+    ensures added { OnOk result (concerned.new ≡ concerned.old ++ concerned_by rows.now.facts rows.now.state y.now) }
+    ensures ticks { steps.new ≤ steps.old + 2 }
 {
     let Some(fact) = rows.facts.row(y, steps) else {
         return Ok(());
@@ -39,7 +40,8 @@ fn concern_changed<L: Ledger>(
     concerned: &mut RefList,
     steps: &mut Steps<L>,
 ) -> Result<(), NoMemory>
-    ensures { OnOk result (concerned.new ≡ concerned.old ++ changes_concern state.now y.now what.now) }
+    ensures added { OnOk result (concerned.new ≡ concerned.old ++ changes_concern state.now y.now what.now) }
+    ensures ticks { steps.new ≤ steps.old + 1 }
 {
     if !says_genuine(state, y, steps) {
         return Ok(());

@@ -1,9 +1,11 @@
 -- The claims from here on are entered.
-use Rattle.std.proofs.Common.{◌≡◌, ℕ, List, [], take}
+use Rattle.std.proofs.Common.{◌≡◌, ◌≤◌, ◌+◌, ℕ, List, [], take, drop}
+use Rattle.std.specs.List.{sum_by}
 use Rattle.std.specs.FinMap.{contains_key}
 use Rattle.claim_verify.specs.Verifier.{Accepts}
 use Rattle.index_rows.specs.declared.rows.Rows.{Rows}
 use Rattle.claim_index.specs.Halfway.{IsHalfway, CanBeFinished}
+use Rattle.claim_index.specs.Costs.{enter_steps, AddsEntered, AreTaken}
 use Rattle.claim_index.proofs.finishing.enter_all.Given as goal
 
 pub record AreEntered (deletes before concerned : List (List ℕ)) (rows after : Rows) (i : ℕ) : Type 0 where
@@ -14,4 +16,10 @@ pub record AreEntered (deletes before concerned : List (List ℕ)) (rows after :
       → IsHalfway accepts [] (take i deletes) concerned after
 
 abbrev pub invariant-claims : goal.invariant-claims
-invariant-claims g l = AreEntered l.deletes l.fn.concerned l.concerned l.fn.rows l.rows l.i
+invariant-claims g l = record {
+  entered : AreEntered l.deletes l.fn.concerned l.concerned l.fn.rows l.rows l.i;
+  adds : (accepts : Accepts) → IsHalfway accepts [] l.deletes l.fn.concerned l.fn.rows → AreTaken l.fn.rows
+      → AddsEntered l.fn.rows.facts accepts (drop l.i l.deletes) l.fn.concerned l.concerned;
+  ticks : (accepts : Accepts) → IsHalfway accepts [] l.deletes l.fn.concerned l.fn.rows → AreTaken l.fn.rows
+      → l.steps ≤ l.fn.steps + sum_by (enter_steps l.fn.rows.facts accepts) (drop l.i l.deletes);
+}

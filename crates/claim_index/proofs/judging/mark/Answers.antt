@@ -5,8 +5,8 @@ use Rattle.index_rows.specs.States.{States}
 use Rattle.claim_index.proofs.Rows.{put_marked, either_found}
 use Rattle.claim_index.proofs.judging.mark.Goals as goal
 
-pub returns-in-Some : goal.returns-in-Some
-returns-in-Some g c =
+pub returns-in-Some-clause-marked : goal.returns-in-Some-clause-marked
+returns-in-Some-clause-marked g c =
     let some : (c.args.genuine || c.args.sound)
     ≡ true = either_found c.args.genuine c.args.sound c.else-not-genuine.either in
     on_ok_weaker c.put.result (λ is y.

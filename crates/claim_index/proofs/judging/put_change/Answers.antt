@@ -8,8 +8,8 @@ use Rattle.claim_model.specs.Facts.{passes}
 use Rattle.claim_index.proofs.Rows.{listed}
 use Rattle.claim_index.proofs.judging.put_change.Goals as goal
 
-pub returns-in_ok-put-in-Some : goal.returns-in_ok-put-in-Some
-returns-in_ok-put-in-Some g c p k =
+pub returns-in_ok-put-in-Some-clause-listed : goal.returns-in_ok-put-in-Some-clause-listed
+returns-in_ok-put-in-Some-clause-listed g c p k =
     let old = c.args.changes.now in
     ap (λ m. contains_key m (p, k)) c.in_ok-put-in-Some.ensures.ok
     ∙ listed c.in-Some.change.on.now c.args.claim.now c.args.date.now c.args.place p k old

@@ -1,4 +1,4 @@
-use Rattle.std.proofs.Common.{◌≡◌, ◌||◌, ◌&&◌, ℕ, List}
+use Rattle.std.proofs.Common.{◌≡◌, ◌≤◌, ◌+◌, ◌||◌, ◌&&◌, ℕ, List}
 use Rattle.std.specs.Str.{bytes_eq}
 use Rattle.std.specs.Ordering.{is_eq, int_cmp}
 use Rattle.std.specs.FinMap.{contains_key}
@@ -7,8 +7,11 @@ use Rattle.claim_model.specs.Claims.{Moment}
 use Rattle.claim_index.proofs.Rows.{on_among}
 use Rattle.claim_index.proofs.judging.put_changes.Given as goal
 
--- the changes so far have their rows
+-- the changes so far have their rows, at a step each
 abbrev pub invariant-loop-place : goal.invariant-loop-place
-invariant-loop-place g l = (p : List ℕ) (k : Moment) → contains_key l.changes (p, k)
-    ≡ (contains_key l.fn.changes (p, k)
-    || (bytes_eq k.1 l.claim && (is_eq (int_cmp k.0 l.date) && on_among p k.2 l.place (changes_of l.what))))
+invariant-loop-place g l = record {
+  listed : (p : List ℕ) (k : Moment) → contains_key l.changes (p, k)
+      ≡ (contains_key l.fn.changes (p, k)
+      || (bytes_eq k.1 l.claim && (is_eq (int_cmp k.0 l.date) && on_among p k.2 l.place (changes_of l.what))));
+  ticks : l.steps ≤ l.fn.steps + l.place;
+}

@@ -1,4 +1,6 @@
 use Rattle.std.proofs.Common.{◌∷◌, [], ◌++◌, ℕ, List, sym, ap, subst, ◌∙◌}
+use Rattle.std.proofs.lemmas.Result.{on_ok_weaker}
+use Rattle.claim_index.proofs.AddTicks.{adds_nothing, adds_delete, adds_concerned, judged_signed}
 use Rattle.index_meaning.specs.Touching.{concerned_by}
 use Rattle.claim_index.specs.Halfway.{taken, IsHalfway, CanBeJudged}
 use Rattle.claim_index.proofs.OneJudged.{can_judge, can_go_on, nothing_more, concerns_more, delete_more, judged_is, others_are_no_delete, ok_then}
@@ -70,7 +72,7 @@ returns-in-Permanode-clause-halfway g c = ok_then c.concern.result (λ added lef
     (subst (IsHalfway a left work.deletes (work.concerned ++ concerned_by old.facts new.state x)) (judged_is old new e.facts e.waiters e.deletes e.holders)
     (concerns_more a old x left work.deletes work.concerned h can new.state new.changes e.state e.changes
     (e.judged (taken old) left able h.judged) (e.changed (taken old) left able h.changed)
-    (λ d. others_are_no_delete c.in-Permanode.is (e.answer ∙ d))))) c.concern.ensures
+    (λ d. others_are_no_delete c.in-Permanode.is (e.answer ∙ d))))) c.concern.ensures.added
 
 pub returns-in-Permanode-clause-reached : goal.returns-in-Permanode-clause-reached
 returns-in-Permanode-clause-reached g c = ok_then c.concern.result (λ added left h can.
@@ -83,4 +85,20 @@ returns-in-Permanode-clause-reached g c = ok_then c.concern.result (λ added lef
     let able = can_judge a old x left work.deletes work.concerned h can in
     subst (CanBeJudged left) (judged_is old new e.facts e.waiters e.deletes e.holders)
     (can_go_on a old x left work.deletes work.concerned h can new.state new.changes e.state e.changes
-    (e.judged (taken old) left able h.judged) (e.changed (taken old) left able h.changed))) c.concern.ensures
+    (e.judged (taken old) left able h.judged) (e.changed (taken old) left able h.changed))) c.concern.ensures.added
+
+pub returns-in-Nothing-clause-adds : goal.returns-in-Nothing-clause-adds
+returns-in-Nothing-clause-adds g c = adds_nothing c.args.rows.now.facts (g.V.Verifier.accepts c.args.keys.now) c.args.x.now c.args.work.now.deletes c.args.work.now.concerned
+
+pub returns-in-Delete-clause-adds : goal.returns-in-Delete-clause-adds
+returns-in-Delete-clause-adds g c = on_ok_weaker c.push.result
+    (adds_delete c.args.rows.now.facts (g.V.Verifier.accepts c.args.keys.now) c.args.x.now c.args.work.now.deletes c.args.work.now.concerned _) c.push.ensures.ok
+
+pub returns-in-Permanode-clause-adds : goal.returns-in-Permanode-clause-adds
+returns-in-Permanode-clause-adds g c =
+    let facts = c.args.rows.now.facts in
+    let a = g.V.Verifier.accepts c.args.keys.now in
+    let x = c.args.x.now in
+    on_ok_weaker c.concern.result
+    (λ added. adds_concerned facts a x c.args.work.now.deletes c.args.work.now.concerned (judged_signed facts a x _ c.in_ok-judge.ensures.answer c.in-Permanode.is)
+    c.judge.new.rows.facts c.judge.new.rows.state _ c.in_ok-judge.ensures.facts added) c.concern.ensures.added

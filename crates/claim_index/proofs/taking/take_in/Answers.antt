@@ -1,4 +1,6 @@
 use Rattle.std.proofs.Common.{ℕ, List, sym, subst}
+use Rattle.std.proofs.lemmas.Result.{on_ok_weaker}
+use Rattle.claim_index.proofs.TakeTicks.{freed_adds, taking_sum}
 use Rattle.claim_index.specs.Halfway.{IsHalfway, CanBeJudged}
 use Rattle.claim_index.proofs.OneArrived.{left_to_judge, can_be_judged, arrived_is, with_arrived}
 use Rattle.claim_index.proofs.taking.take_in.Goals as goal
@@ -24,3 +26,16 @@ judge_all-requires-clause-reached g c =
     subst (CanBeJudged c.as_slice.result.now) (arrived_is old new e.facts e.deletes e.changes e.holders)
     (subst (λ (order : List (List ℕ)). CanBeJudged order (with_arrived old new.state new.waiters)) (sym c.as_slice.ensures)
     (can_be_judged a old new.state new.waiters c.args.r.now _ work.deletes work.concerned c.requires.halfway c.requires.fresh.absent e.arrived))
+
+pub returns-clause-adds : goal.returns-clause-adds
+returns-clause-adds g c =
+    let e = c.in_ok-order.ensures in
+    on_ok_weaker c.judge_all.result
+    (freed_adds c.args.rows.now.facts c.args.rows.now.state c.arrive.new.rows.state c.arrive.new.rows.waiters c.args.r.now _ e.arrived (g.V.Verifier.accepts c.args.keys.now) c.args.rows.now.facts c.arrive.new.rows.facts c.as_slice.result.now
+    c.args.work.now.deletes c.judge_all.new.work.deletes c.args.work.now.concerned c.judge_all.new.work.concerned c.as_slice.ensures e.facts) c.judge_all.ensures.adds
+
+pub returns-clause-ticks : goal.returns-clause-ticks
+returns-clause-ticks g c =
+    let e = c.in_ok-order.ensures in
+    taking_sum c.args.rows.now.facts c.args.rows.now.state c.arrive.new.rows.state c.arrive.new.rows.waiters c.args.r.now _ e.arrived (g.V.Verifier.accepts c.args.keys.now) c.arrive.new.rows.facts c.as_slice.result.now
+    c.as_slice.ensures e.facts c.args.steps.now c.arrive.new.steps c.judge_all.new.steps c.arrive.ensures.ticks c.judge_all.ensures.ticks

@@ -1,4 +1,6 @@
-use Rattle.std.proofs.Common.{◌≡◌, false, sym, ap, subst, ◌∙◌}
+use Rattle.std.proofs.Common.{◌≡◌, ◌≤◌, ◌+◌, ◌*◌, length, false, sym, ap, subst, ◌∙◌, arith}
+use Rattle.index_rows.specs.Touched.{touched}
+use Rattle.claim_index.proofs.InsertTicks.{inserted_ticks}
 use Rattle.std.specs.FinMap.{remove, contains_key}
 use Rattle.claim_model.specs.Facts.{Facts}
 use Rattle.claim_index.specs.Indexed.{Indexed}
@@ -23,3 +25,19 @@ returns-then-is_err-clause-refused g c =
           ∙ taken_out rows.facts c.args.r.now c.args.fact absent ∙ ap (λ (v : Indexed g.row.V.Denot). v.facts) c.self.view_is;
       numbers = c.in_ok-make_room.ensures.numbers ∙ ap (λ (v : Indexed g.row.V.Denot). v.numbers) c.self.view_is;
     }
+
+pub returns-then-is_err-clause-ticks : goal.returns-then-is_err-clause-ticks
+returns-then-is_err-clause-ticks g c =
+    let rows = c.self.inside.rows in
+    let absent : contains_key rows.facts c.args.r.now ≡ false = (subst (λ (v : Indexed g.row.V.Denot). contains_key v.numbers c.args.number ≡ false → contains_key v.facts c.args.r.now ≡ false) (sym c.self.view_is) c.requires.alone) (sym c.has.ensures ∙ c.if-has.false) in
+    let a = g.V.Verifier.accepts c.self.inside.keys in
+    subst (λ (v : Indexed g.row.V.Denot). v.stale ≡ false → c.drop_row.new.steps ≤ c.args.steps.now + 16 * (1 + length (touched v.facts (g.V.Verifier.accepts v.keys) c.args.r.now c.args.fact))) c.self.view_is
+    (λ fresh. let h = inserted_ticks a rows c.args.r.now c.args.fact (c.self.invariant fresh) absent c.put.new.self c.in_ok-put.ensures.ok c.args.steps.now c.put.new.steps c.take_up-taken_up.new.steps c.put.ensures.ticks (c.take_up-taken_up.ensures.ticks fresh) in omega (arith, c.drop_row.ensures.ticks, h))
+
+pub returns-clause-ticks : goal.returns-clause-ticks
+returns-clause-ticks g c =
+    let rows = c.self.inside.rows in
+    let absent : contains_key rows.facts c.args.r.now ≡ false = (subst (λ (v : Indexed g.row.V.Denot). contains_key v.numbers c.args.number ≡ false → contains_key v.facts c.args.r.now ≡ false) (sym c.self.view_is) c.requires.alone) (sym c.has.ensures ∙ c.if-has.false) in
+    let a = g.V.Verifier.accepts c.self.inside.keys in
+    subst (λ (v : Indexed g.row.V.Denot). v.stale ≡ false → c.take_up-taken_up.new.steps ≤ c.args.steps.now + 16 * (1 + length (touched v.facts (g.V.Verifier.accepts v.keys) c.args.r.now c.args.fact))) c.self.view_is
+    (λ fresh. let h = inserted_ticks a rows c.args.r.now c.args.fact (c.self.invariant fresh) absent c.put.new.self c.in_ok-put.ensures.ok c.args.steps.now c.put.new.steps c.take_up-taken_up.new.steps c.put.ensures.ticks (c.take_up-taken_up.ensures.ticks fresh) in omega (arith, h))
