@@ -205,6 +205,11 @@ pub nothing_waits : (last : Bool) (x : List ℕ) (at : ℕ) → length x ≤ at 
 nothing_waits true x at le = drop_all at x le
 nothing_waits false x at le = ap is_open (drop_all at x le) ∙ nothing-open
 
+-- what may be left settles nothing
+pub waits_open : (last : Bool) (rest : List ℕ) → Waits last rest → is_open rest ≡ true
+waits_open true rest none = ap is_open none ∙ nothing-open
+waits_open false rest waits = waits
+
 -- ---- the end of a pack
 
 pub told_whole : (place : ℕ) (c d : Clean) (x : List ℕ) (told : List Found) (onward : ℕ) (rest : List ℕ) → Leads true place c x told onward d rest → Waits true rest

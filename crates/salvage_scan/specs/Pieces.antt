@@ -1,5 +1,7 @@
 -- Packs that come in pieces (docs/formats/packs.md).
-use Rattle.std.specs.Prelude.{◌≡◌, ◌+◌, ◌≤◌, ◌<◌, ◌^◌, ℕ, Bool, true, false, List, [], ◌++◌, length, drop, map, nat_lt, if◌then◌else◌}
+use Rattle.std.specs.Prelude.{◌≡◌, ◌+◌, ◌-◌, ◌≤◌, ◌<◌, ◌^◌, ℕ, Bool, true, false, List, [], ◌++◌, length, take, drop, map, nat_lt, if◌then◌else◌}
+use Rattle.blobref.specs.Blobref.{IsOwnRef}
+use Rattle.pack_format.specs.Header.{max_size}
 use Rattle.pack_format.specs.declared.header.HeaderAt.{HeaderAt}
 use Rattle.pack_format.specs.declared.header.HeaderAt.TheVariants.{Blob, Gone, Missing}
 use Rattle.pack_format.specs.Reading.{header_max, header_at}
@@ -56,8 +58,11 @@ pub record Leads (last : Bool) (place : ℕ) (broken : Clean) (text : List ℕ) 
 
 -- ---- a scanner
 
--- The bytes that wait, their place in the pack, and the first broken place before it. A spent scanner lacked memory.
+-- The bytes that are kept, and their place in the pack; those of them that wait, behind the ones that were told, and the place of
+-- these; and the first broken place before it. A spent scanner lacked memory.
 pub record Scanning : Type 0 where
+  pub from : ℕ
+  pub kept : List ℕ
   pub at : ℕ
   pub held : List ℕ
   pub clean : Clean
@@ -65,7 +70,7 @@ pub record Scanning : Type 0 where
 
 -- before the first byte of a pack
 abbrev pub fresh : Scanning
-fresh = record { at = 0; held = []; clean = clean.Yes; spent = false }
+fresh = record { from = 0; kept = []; at = 0; held = []; clean = clean.Yes; spent = false }
 
 -- how many bytes of the pack have come
 abbrev pub fed : Scanning → ℕ
@@ -104,9 +109,40 @@ pub record LiesNear (place most : ℕ) (f : Found) : Type 0 where
   pub late : place ≤ f.at + longest
   pub within : f.at + f.size ≤ most
 
-pub record IsScanner (at : ℕ) (held : List ℕ) : Type 0 where
-  pub waits : is_open held ≡ true
-  pub fits : at + length held < 2 ^ 64
+-- What was told is gone at the next call: the piece stands behind the bytes that waited, these are kept, and so many of them were
+-- told.
+pub record Keeps (old : Scanning) (piece : List ℕ) (new : Scanning) : Type 0 where
+  pub from_is : new.from ≡ old.at
+  pub kept_is : new.kept ≡ old.held ++ piece
+  pub used : ℕ
+  pub within : used ≤ length new.kept
+  pub at_is : new.at ≡ new.from + used
+  pub held_is : new.held ≡ drop used new.kept
+
+-- the finding lies among the bytes that are kept
+pub record LiesKept (s : Scanning) (f : Found) : Type 0 where
+  pub after : s.from ≤ f.at
+  pub within : f.at + f.size ≤ s.from + length s.kept
+
+-- its bytes
+abbrev pub kept_at : Scanning → Found → List ℕ
+kept_at s f = take f.size (drop (f.at - s.from) s.kept)
+
+-- the finding with its bytes
+abbrev pub kept_finding : Scanning → Found → Finding
+kept_finding s f = record { r = f.r; at = f.at; bytes = kept_at s f }
+
+-- the finding's bytes are kept: those of a blob, whose own ref is the finding's
+pub record IsKept (s : Scanning) (f : Found) : Type 0 where
+  pub lies : LiesKept s f
+  pub named : IsOwnRef f.r (kept_at s f)
+  pub small : f.size ≤ max_size
+
+-- so many of the bytes from a place on were told, and those that wait settle nothing
+pub record IsScanner (from : ℕ) (kept : List ℕ) (told : ℕ) : Type 0 where
+  pub waits : is_open (drop told kept) ≡ true
+  pub within : told ≤ length kept
+  pub fits : from + length kept < 2 ^ 64
 
 -- ---- laws
 

@@ -1,33 +1,38 @@
 //! Goes through a pack that comes in pieces.
-ghost use Rattle.std.specs.Prelude.{◌≡◌, ◌+◌, ◌≤◌, ◌<◌, ◌^◌, ◌++◌, length, drop, true, false, All, IfOk, OnOk, OnErr};
-ghost use Rattle.salvage_scan.specs.Pieces.{fresh, fed, Leads, Waits, Tells, Ends, LiesNear};
+ghost use Rattle.std.specs.Prelude.{◌≡◌, ◌+◌, ◌≤◌, ◌<◌, ◌^◌, ◌++◌, [], length, drop, true, false, All, IfOk, OnOk, OnErr};
+ghost use Rattle.salvage_scan.specs.Pieces.{fresh, fed, is_open, Leads, Waits, Tells, Ends, LiesNear, Keeps, IsKept, LiesKept, kept_at};
 
-use crate::found::{Clean, FoundList};
+use crate::found::{Clean, Found, FoundList};
 use crate::scanning::{Told, tell};
 use blobref::NoMemory;
 use std::alloc::Global;
 use std::marker::Model;
 
 /// Scans a pack that is fed in pieces (`docs/formats/packs.md`). What it tells doesn't depend on how the pack is cut. It
-/// holds back the bytes of one record or deleted record with its header at most, which are 16,777,372.
+/// holds back the bytes of one record or deleted record with its header at most, which are 16,777,372, and keeps those
+/// of what it told until the next call: so it never has more than these and one piece.
 #[derive(Drop)]
 pub struct Scanner {
     alloc: Global,
-    at: u64,
-    held: Vec<u8>,
+    // The place of the first byte that is kept.
+    from: u64,
+    kept: Vec<u8>,
+    // How many of them were told.
+    told: usize,
     wants: usize,
     clean: Clean,
     spent: bool,
 }
 
 impl Model for Scanner {
+    ghost use Rattle.std.specs.Prelude.{◌+◌, drop};
     ghost use Rattle.salvage_scan.specs.Pieces.{Scanning, IsScanner};
 
     ghost Value = { Scanning };
 
-    ghost view = { λ s. record { at = s.at; held = s.held.items; clean = s.clean; spent = s.spent } };
+    ghost view = { λ s. record { from = s.from; kept = s.kept.items; at = s.from + s.told; held = drop s.told s.kept.items; clean = s.clean; spent = s.spent } };
 
-    ghost invariant = { λ s. IsScanner s.at s.held.items };
+    ghost invariant = { λ s. IsScanner s.from s.kept.items s.told };
 }
 
 impl Scanner {
@@ -37,8 +42,9 @@ impl Scanner {
     {
         Ok(Scanner {
             alloc,
-            at: 0,
-            held: Vec::new(alloc),
+            from: 0,
+            kept: Vec::new(alloc),
+            told: 0,
             wants: 0,
             clean: Clean::Yes,
             spent: false,
@@ -46,8 +52,8 @@ impl Scanner {
     }
 
     /// Takes the next piece of the pack, and answers what was found that doesn't depend on what follows: each finding
-    /// begins at most 16,777,372 bytes before the place at which the piece begins. After `NoMemory` every call answers
-    /// it. The pieces must have fewer than 2^64 bytes in all.
+    /// begins at most 16,777,372 bytes before the place at which the piece begins. The bytes of each are kept until the
+    /// next call (`bytes`). After `NoMemory` every call answers it. The pieces must have fewer than 2^64 bytes in all.
     ///
     /// Each byte is copied at most twice, and a blob is hashed once it is whole, as `scan` does. Memory is taken for one
     /// record and one piece.
@@ -56,75 +62,127 @@ impl Scanner {
         ensures tells { IfOk result (λ told. Tells self.old piece.now told self.new) }
         ensures near { IfOk result (All (LiesNear (fed self.old) (fed self.new))) }
         ensures fed { OnOk result (fed self.new ≡ fed self.old + length piece.now) }
+        ensures keeps { OnOk result (Keeps self.old piece.now self.new) }
+        ensures kept { IfOk result (All (IsKept self.new)) }
+        ensures spent { OnErr result (self.new.spent ≡ true) }
+        ensures again { IfOk result (λ told. self.old.spent ≡ false) }
+    {
+        self.step(piece, false)
+    }
+
+    /// The end of the pack: what else was found, each beginning at most 16,777,372 bytes before the end, and whether the
+    /// pack is clean. The bytes of what was found are kept (`bytes`), and nothing waits any more. `NoMemory` comes also
+    /// where an earlier call has answered it.
+    pub fn finish(&mut self) -> Result<(FoundList, Clean), NoMemory>
+        ensures ends { IfOk result (Ends self.old) }
+        ensures near { IfOk result (λ told. All (LiesNear (fed self.old) (fed self.old)) told.0) }
+        ensures keeps { OnOk result (Keeps self.old [] self.new) }
+        ensures kept { IfOk result (λ told. All (IsKept self.new) told.0) }
+        ensures all { OnOk result (self.new.held ≡ []) }
+        ensures spent { OnErr result (self.new.spent ≡ true) }
+        ensures again { IfOk result (λ told. self.old.spent ≡ false) }
+    {
+        let _kept = &self.kept;
+        let found = self.step(&[], true)?;
+        Ok((found, self.clean))
+    }
+
+    /// The same as `finish`, where the bytes of what is found aren't asked for.
+    pub fn end(self) -> Result<(FoundList, Clean), NoMemory>
+        ensures ends { IfOk result (Ends self) }
+        ensures near { IfOk result (λ told. All (LiesNear (fed self) (fed self)) told.0) }
+        ensures again { IfOk result (λ told. self.spent ≡ false) }
+    {
+        let mut scanner = self;
+        scanner.finish()
+    }
+
+    /// The bytes of what the last call told.
+    pub fn bytes(&self, found: &Found) -> &[u8]
+        requires { LiesKept self.now found.now }
+        ensures { result.now ≡ kept_at self.now found.now }
+    {
+        let start = (found.at - self.from) as usize;
+        &self.kept[start..start + found.size as usize]
+    }
+
+    // Lets go what was told, and takes a piece behind what waits; behind the last one nothing follows.
+    fn step(&mut self, piece: &[u8], last: bool) -> Result<FoundList, NoMemory>
+        requires { fed self.old + length piece.now < 2 ^ 64 }
+        ensures leads { IfOk result (λ told. Leads last self.old.at self.old.clean (self.old.held ++ piece.now) told
+            self.new.at self.new.clean self.new.held) }
+        ensures keeps { OnOk result (Keeps self.old piece.now self.new) }
+        ensures waits { OnOk result (Waits last self.new.held) }
+        ensures held { is_open self.old.held ≡ true }
         ensures spent { OnErr result (self.new.spent ≡ true) }
         ensures again { IfOk result (λ told. self.old.spent ≡ false) }
     {
         if self.spent {
             return Err(NoMemory);
         }
+        drop_front(&mut self.kept, self.told);
+        self.from += self.told as u64;
+        self.told = 0;
         match advance(
             self.alloc,
-            self.at,
+            self.from,
             self.clean,
             self.wants,
-            &mut self.held,
+            &mut self.kept,
             piece,
+            last,
         ) {
             Ok(told) => {
-                self.at += told.used as u64;
+                self.told = told.used;
                 self.clean = told.clean;
                 self.wants = told.wants;
                 Ok(told.found)
             }
             Err(NoMemory) => {
                 self.spent = true;
-                self.held.clear();
+                self.kept.clear();
                 Err(NoMemory)
             }
         }
     }
-
-    /// The end of the pack: what else was found, each beginning at most 16,777,372 bytes before the end, and whether the
-    /// pack is clean. `NoMemory` comes also where a `feed` has answered it.
-    pub fn end(self) -> Result<(FoundList, Clean), NoMemory>
-        ensures ends { IfOk result (Ends self) }
-        ensures near { IfOk result (λ told. All (LiesNear (fed self) (fed self)) told.0) }
-        ensures again { IfOk result (λ told. self.spent ≡ false) }
-    {
-        if self.spent {
-            return Err(NoMemory);
-        }
-        let told = tell(self.alloc, self.at, self.clean, &self.held, true)?;
-        Ok((told.found, told.clean))
-    }
 }
 
-// Takes the piece behind the bytes that are held as far as it goes, and holds what is left of them.
+// Keeps the piece behind the bytes that are kept, and tells what they tell.
 fn advance(
     alloc: Global,
     at: u64,
     clean: Clean,
     wants: usize,
-    held: &mut Vec<u8>,
+    kept: &mut Vec<u8>,
     piece: &[u8],
+    last: bool,
 ) -> Result<Told, NoMemory>
-    requires { at + (length held.old.items + length piece.now) < 2 ^ 64 }
-    ensures used { IfOk result (λ told. told.used + length held.new.items ≡ length held.old.items + length piece.now) }
-    ensures leads { IfOk result (λ told. Leads false at clean (held.old.items ++ piece.now) told.found
-        (at + told.used) told.clean held.new.items) }
-    ensures held { IfOk result (λ told. held.new.items ≡ drop told.used (held.old.items ++ piece.now)) }
-    ensures waits { IfOk result (λ told. Waits false held.new.items) }
+    requires { at + (length kept.old.items + length piece.now) < 2 ^ 64 }
+    ensures kept { OnOk result (kept.new.items ≡ kept.old.items ++ piece.now) }
+    ensures used { IfOk result (λ told. told.used ≤ length kept.new.items) }
+    ensures leads { IfOk result (λ told. Leads last at clean kept.new.items told.found
+        (at + told.used) told.clean (drop told.used kept.new.items)) }
+    ensures waits { IfOk result (λ told. Waits last (drop told.used kept.new.items)) }
 {
-    if held.is_empty() {
-        let told = tell(alloc, at, clean, piece, false)?;
-        held.extend_from_slice(&piece[told.used..])?;
-        return Ok(told);
-    }
-    held.reserve_exact(wants.saturating_sub(held.len()).saturating_add(piece.len()))?;
-    held.extend_from_slice(piece)?;
-    let told = tell(alloc, at, clean, held, false)?;
-    drop_front(held, told.used);
+    push(kept, wants, piece)?;
+    let told = tell(alloc, at, clean, kept, last)?;
     Ok(told)
+}
+
+// Puts a piece behind bytes, of which so many are wanted.
+fn push(bytes: &mut Vec<u8>, wants: usize, piece: &[u8]) -> Result<(), NoMemory>
+    ensures { OnOk result (bytes.new.items ≡ bytes.old.items ++ piece.now) }
+{
+    if piece.is_empty() {
+        return Ok(());
+    }
+    bytes.reserve_exact(
+        wants
+            .saturating_sub(bytes.len())
+            .saturating_add(piece.len()),
+    )?;
+    bytes.extend_from_slice(piece)?;
+    Ok(())
 }
 
 // Takes so many bytes away in front.

@@ -6,11 +6,8 @@ ghost use Rattle.salvage_scan.specs.Pieces.{seen, undecided, Leads, Waits};
 
 use crate::found::{Clean, Found, FoundList};
 use blobref::{NoMemory, Ref};
-use pack_format::{HeaderAt, read_header};
+use pack_format::{HEADER_MAX, HeaderAt, read_header};
 use std::alloc::Global;
-
-// No header is longer.
-const HEADER_MAX: usize = 156;
 
 /// The blobs of a pack in order, by the four cases of docs/formats/packs.md, and whether it is clean. Each finding lies
 /// in the pack, and its ref is its bytes' own. A blob is hashed only where a header stands before it.
