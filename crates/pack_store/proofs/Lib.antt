@@ -4,7 +4,7 @@ pub mod Still
 pub mod Taking
 pub mod Buffers
 pub mod Piecewise
-pub mod RowTaking
+pub mod Shown
 pub mod Walking
 pub mod Packing
 pub mod Looking

@@ -18,10 +18,10 @@ use Rattle.pack_store.specs.Rows.{arrival_of, arrivals_in, bytes_in, found_in, i
 use Rattle.pack_store.proofs.Numbers.{new_more}
 use Rattle.pack_store.specs.Opening.{row_of, row_of_found, take_row, take_rows, take_pack, current_if_clean, current_by}
 
-All-first : {X : Type 0} (P : X → Type 0) (x : X) (xs : List X) → All P (x ∷ xs) → P x
+pub All-first : {X : Type 0} (P : X → Type 0) (x : X) (xs : List X) → All P (x ∷ xs) → P x
 All-first P x xs each = each 0 x (omega arith)
 
-All-later : {X : Type 0} (P : X → Type 0) (x : X) (xs : List X) → All P (x ∷ xs) → All P xs
+pub All-later : {X : Type 0} (P : X → Type 0) (x : X) (xs : List X) → All P (x ∷ xs) → All P xs
 All-later P x xs each k d lt = each (suc k) d (omega (arith, lt))
 
 -- what a scan shows of findings makes the same rows
@@ -59,12 +59,12 @@ number_some r rows held = position_some r rows 0 held
 -- ---- the arrivals of the rows are those of the findings
 
 -- the row's arrival is the finding, where the pack has the finding there
-row_arrives : (held : Packs) (pack : ℕ) (bytes : List ℕ) (f : Finding) → get held pack ≡ Some bytes → LiesAt 0 bytes f → arrival_of held (row_of pack f) ≡ blob_of f
+pub row_arrives : (held : Packs) (pack : ℕ) (bytes : List ℕ) (f : Finding) → get held pack ≡ Some bytes → LiesAt 0 bytes f → arrival_of held (row_of pack f) ≡ blob_of f
 row_arrives held pack bytes f there lies =
     let start : f.at - 0 ≡ f.at = omega arith in
     ap (λ b. (f.r, b)) (ap (bytes_in (row_of pack f)) there ∙ ap (λ k. take (length f.bytes) (drop k bytes)) (sym start) ∙ lies.bytes)
 
-rows_push : (held : Packs) (rows : List Row) (row : Row) → arrivals_in held (rows ++ row ∷ []) ≡ arrivals_in held rows ++ arrival_of held row ∷ []
+pub rows_push : (held : Packs) (rows : List Row) (row : Row) → arrivals_in held (rows ++ row ∷ []) ≡ arrivals_in held rows ++ arrival_of held row ∷ []
 rows_push held rows row = map-append (arrival_of held) rows (row ∷ [])
 
 arrive_row : (held : Packs) (pack : ℕ) (bytes : List ℕ) (f : Finding) (rows : List Row) → get held pack ≡ Some bytes → LiesAt 0 bytes f

@@ -7,6 +7,7 @@ pub mod Walk
 pub mod Scan
 pub mod Opening
 pub mod Taking
+pub mod Onlooking
 pub mod Reading
 pub mod Finding
 pub mod PutsLast

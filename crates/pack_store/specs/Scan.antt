@@ -1,11 +1,11 @@
--- What is found in a pack that was read in pieces (docs/formats/packs.md).
-use Rattle.std.specs.Prelude.{◌≡◌, ◌+◌, ◌-◌, ℕ, min, List, ◌++◌, length, take, drop, map, Option, Some}
+-- What is found in a pack that was read (docs/formats/packs.md).
+use Rattle.std.proofs.Common.{◌≡◌, ℕ, List, [], ◌++◌, length, map, Option, Some, sym, ◌∙◌, ap, append_assoc}
+use Rattle.std.proofs.lemmas.List.{append-nil, map-append}
 use Rattle.std.specs.Option.{ForSome}
 use Rattle.std.specs.FinMap.{get}
 use Rattle.salvage_scan.specs.declared.found.Found.{Found}
-use Rattle.salvage_scan.specs.Salvage.{salvage, broken}
+use Rattle.salvage_scan.specs.Salvage.{Finding, salvage, broken}
 use Rattle.salvage_scan.specs.Scan.{place_of, clean_of}
-use Rattle.salvage_scan.specs.Pieces.{Scanning, fresh, fed, Tells}
 use Rattle.pack_disk.specs.Packs.{Packs}
 use Rattle.pack_store.specs.declared.whole.PackScan.{PackScan}
 use Rattle.pack_store.specs.Rows.{AreBytes}
@@ -21,33 +21,15 @@ pub record IsScan (told : Option Packs) (pack : ℕ) (scan : PackScan) : Type 0 
   pub is : scan ≡ scan_of bytes
   pub there : ForSome told (λ held. get held pack ≡ Some bytes)
 
--- ---- piece by piece
+-- ---- a list that takes up what is found
 
--- a scanner took a piece, and what it told stands behind what was found before
-pub record Feeds (old : Scanning) (piece : List ℕ) (new : Scanning) (before now : List Found) : Type 0 where
-  pub more : List Found
-  pub found : now ≡ before ++ more
-  pub tells : Tells old piece more new
-  pub counts : fed new ≡ fed old + length piece
+-- these findings stand behind those before
+abbrev pub Lists : List Found → List Finding → List Found → Type 0
+Lists before found now = now ≡ before ++ map place_of found
 
--- it took the piece of a pack at this place, for which there was so much room, and that has so many bytes
-pub record TookPiece (told : Option Packs) (pack at room count : ℕ) (old new : Scanning) (before now : List Found) : Type 0 where
-  pub piece : List ℕ
-  pub octets : AreBytes piece
-  pub long : length piece ≡ count
-  pub feeds : Feeds old piece new before now
-  pub there : ForSome told (λ held. (bytes : List ℕ) → get held pack ≡ Some bytes
-      → (count ≡ min room (length bytes - at)) × (piece ≡ take count (drop at bytes)))
+pub lists_nothing : (list : List Found) → Lists list [] list
+lists_nothing list = sym (append-nil list)
 
--- it took the bytes of a pack up to this place
-pub record TookFront (told : Option Packs) (pack at : ℕ) (now : Scanning) (found : List Found) : Type 0 where
-  pub front : List ℕ
-  pub octets : AreBytes front
-  pub long : length front ≡ at
-  pub counts : fed now ≡ at
-  pub tells : Tells fresh front found now
-  pub there : ForSome told (λ held. (bytes : List ℕ) → get held pack ≡ Some bytes → front ≡ take at bytes)
-
--- where these were found in some bytes of this length, it is their scan
-abbrev pub Finishes : Scanning → List Found → ℕ → PackScan → Type 0
-Finishes s found size scan = (bytes : List ℕ) → Tells fresh bytes found s → length bytes ≡ size → scan ≡ scan_of bytes
+pub lists_then : (a b c : List Found) (first second : List Finding) → Lists a first b → Lists b second c → Lists a (first ++ second) c
+lists_then a b c first second one more =
+    more ∙ ap (λ l. l ++ map place_of second) one ∙ append_assoc a (map place_of first) (map place_of second) ∙ ap (λ l. a ++ l) (sym (map-append place_of first second))

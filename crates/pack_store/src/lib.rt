@@ -2,12 +2,14 @@
 #![tactic(auto)]
 
 mod adding;
+mod arrivals;
 mod laws;
 mod limits;
 mod listing;
+mod onlooker;
 mod opened_laws;
 mod opening;
-mod pack_rows;
+mod pieces;
 mod places;
 mod putting;
 mod reading;
@@ -15,10 +17,12 @@ mod records;
 mod rows;
 mod shelf;
 mod store;
+mod takers;
 mod whole;
 
 pub use laws::{holds_content, lives_keep};
 pub use limits::Limits;
+pub use onlooker::{Nobody, Onlooker};
 pub use opened_laws::puts_last;
 pub use opening::OpenFault;
 pub use reading::Found;

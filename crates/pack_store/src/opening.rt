@@ -1,5 +1,5 @@
 //! A store is opened: each pack in order is synced and then read.
-ghost use Rattle.std.specs.Prelude.{◌≡◌, ◌≤◌, ◌^◌, ℕ, List, All, map, IfOk, IfErr, IfSome, OnOk, IsSome, Some, Err};
+ghost use Rattle.std.specs.Prelude.{◌≡◌, ◌≤◌, ◌<◌, ◌^◌, ℕ, List, [], IfOk, IfErr, IfSome, OnOk, IsSome, Some, Err};
 ghost use Rattle.std.specs.Option.{ForSome};
 ghost use Rattle.std.specs.FinMap.{get};
 ghost use Rattle.edge_base.specs.Edge.{Rose};
@@ -9,16 +9,19 @@ ghost use Rattle.pack_disk.specs.Runs.{Stays};
 ghost use Rattle.pack_store.specs.declared.limits.Limits.{Limits};
 ghost use Rattle.pack_store.specs.Rows.{AreBlobs};
 ghost use Rattle.pack_store.specs.Archive.{Archive, AreLimits, IsSound};
-ghost use Rattle.pack_store.specs.Opening.{IsOpened, IsPlaced, current_if_clean, current_by, row_of_found, take_row, take_rows, take_pack};
+ghost use Rattle.pack_store.specs.Opening.{IsOpened, IsPlaced, current_if_clean, current_by, take_pack};
+ghost use Rattle.pack_store.specs.Onlooking.{IsShown};
 
+use crate::arrivals::Arrivals;
 use crate::limits::Limits;
-use crate::pack_rows::take_pieces;
+use crate::onlooker::{Nobody, Onlooker};
+use crate::pieces::{PIECE, take_pieces};
 use crate::places::Places;
 use crate::rows::{Current, Row};
 use crate::store::Store;
 use blobref::NoMemory;
 use pack_disk::Disk;
-use salvage_scan::{Clean, Found};
+use salvage_scan::Clean;
 use std::alloc::Global;
 use thiserror::Error;
 
@@ -59,16 +62,47 @@ impl<D: Disk> Store<D> {
         ensures later { IfOk result (λ s. D.faults disk ≤ D.faults s.disk) }
         ensures later_err { IfErr result (λ e. D.faults disk ≤ D.faults e.0) }
     {
+        match Store::open_watched(alloc, disk, limits, PIECE, Nobody) {
+            Ok(opened) => Ok(opened.0),
+            Err(fault) => Err(fault),
+        }
+    }
+
+    /// The same while somebody looks on, who is handed back with the store: as a blob arrives, its ref and its
+    /// bytes are shown, from the piece and the record that are being read. No byte is read for that. Each arrival is
+    /// shown once, in their order, with bytes whose own ref is the one that is shown, and where the disk tells its
+    /// packs, with the arrival's. `piece` is the most bytes that one read asks for.
+    ///
+    /// `NoMemory` comes also where the onlooker has none.
+    pub fn open_watched<L: Onlooker + Drop>(
+        alloc: Global,
+        disk: D,
+        limits: Limits,
+        piece: usize,
+        onlooker: L,
+    ) -> Result<(Store<D>, L), (D, OpenFault)>
+        requires last_pack { limits.last_pack ≤ last_number }
+        requires pack_bytes { limits.pack_bytes ≤ 2 ^ 63 }
+        requires some { 0 < piece }
+        ensures opened { IfOk result (λ o. IsOpened D.Disk disk limits o.0) }
+        ensures shown { IfOk result (λ o. IsShown L.Onlooker (D.packs disk) [] o.0.rows onlooker o.1) }
+        ensures stays { IfOk result (λ o. Stays D.Disk disk o.0.disk) }
+        ensures stays_err { IfErr result (λ e. Stays D.Disk disk e.0) }
+        ensures failed { IfErr result (λ e. e.1 ≡ OpenFault.Disk → Rose (D.faults disk) (D.faults e.0)) }
+        ensures later { IfOk result (λ o. D.faults disk ≤ D.faults o.0.disk) }
+        ensures later_err { IfErr result (λ e. D.faults disk ≤ D.faults e.0) }
+    {
         let mut disk = disk;
-        match load(alloc, &mut disk) {
+        match load(alloc, &mut disk, piece, onlooker) {
             Ok(loaded) => {
                 let Loaded {
                     rows,
                     places,
                     next,
                     current,
+                    onlooker,
                 } = loaded;
-                Ok(Store {
+                let store = Store {
                     alloc,
                     disk,
                     limits,
@@ -76,34 +110,47 @@ impl<D: Disk> Store<D> {
                     places,
                     next,
                     current,
-                })
+                };
+                Ok((store, onlooker))
             }
             Err(fault) => Err((disk, fault)),
         }
     }
 }
 
-// What was taken in of the packs so far.
+// What was taken in of the packs.
 #[derive(Drop)]
-struct Loaded {
+struct Loaded<L: Onlooker> {
     rows: Vec<Row>,
     places: Places,
     next: u32,
     current: Option<Current>,
+    onlooker: L,
 }
 
 // Takes in each pack in order.
-fn load<D: Disk>(alloc: Global, disk: &mut D) -> Result<Loaded, OpenFault>
+fn load<D: Disk, L: Onlooker + Drop>(
+    alloc: Global,
+    disk: &mut D,
+    piece: usize,
+    onlooker: L,
+) -> Result<Loaded<L>, OpenFault>
+    requires { 0 < piece }
     ensures opened { IfOk result (λ l. (limits : Limits) → IsOpened D.Disk disk.old limits
         (record { rows = l.rows.items; limits = limits; next = l.next; current = l.current; disk = disk.new })) }
     ensures sound { IfOk result (λ l. (limits : Limits) → AreLimits limits → IsSound D.Disk l.places
         (record { rows = l.rows.items; limits = limits; next = l.next; current = l.current; disk = disk.new })) }
+    ensures shown { IfOk result (λ l. IsShown L.Onlooker (D.packs disk.old) [] l.rows.items onlooker l.onlooker) }
     ensures stays { Stays D.Disk disk.old disk.new }
     ensures failed { result ≡ Err OpenFault.Disk → Rose (D.faults disk.old) (D.faults disk.new) }
     ensures later { D.faults disk.old ≤ D.faults disk.new }
 {
-    let mut rows = Vec::new(alloc);
-    let mut places = Places::empty(alloc);
+    let mut arrivals = Arrivals {
+        pack: 0,
+        rows: Vec::new(alloc),
+        places: Places::empty(alloc),
+        onlooker,
+    };
     let mut next = 0;
     let mut current = None;
     loop {
@@ -111,33 +158,43 @@ fn load<D: Disk>(alloc: Global, disk: &mut D) -> Result<Loaded, OpenFault>
             return Err(OpenFault::Disk);
         };
         let Some(pack) = found else {
+            let Arrivals {
+                pack: _,
+                rows,
+                places,
+                onlooker,
+            } = arrivals;
             return Ok(Loaded {
                 rows,
                 places,
                 next,
                 current,
+                onlooker,
             });
         };
-        current = take_pack(alloc, disk, pack, &mut rows, &mut places)?;
+        current = take_pack(alloc, disk, pack, piece, &mut arrivals)?;
         next = pack + 1;
     }
 }
 
 // Syncs a pack and takes it in, and answers it where it is clean.
-fn take_pack<D: Disk>(
+fn take_pack<D: Disk, L: Onlooker>(
     alloc: Global,
     disk: &mut D,
     pack: u32,
-    rows: &mut Vec<Row>,
-    places: &mut Places,
+    piece: usize,
+    arrivals: &mut Arrivals<L>,
 ) -> Result<Option<Current>, OpenFault>
     requires there { ForSome (D.packs disk.old) (λ held. IsSome (get held pack)) }
-    requires placed { IsPlaced places.old rows.old.items }
+    requires some { 0 < piece }
+    requires placed { IsPlaced arrivals.old.places arrivals.old.rows.items }
     ensures rows { OnOk result (ForSome (D.packs disk.old)
-        (λ held. (bytes : List ℕ) → get held pack ≡ Some bytes → rows.new.items
-        ≡ take_pack rows.old.items pack bytes)) }
-    ensures placed { OnOk result (IsPlaced places.new rows.new.items) }
-    ensures blobs { OnOk result (AreBlobs rows.old.items → AreBlobs rows.new.items) }
+        (λ held. (bytes : List ℕ) → get held pack ≡ Some bytes → arrivals.new.rows.items
+        ≡ take_pack arrivals.old.rows.items pack bytes)) }
+    ensures placed { OnOk result (IsPlaced arrivals.new.places arrivals.new.rows.items) }
+    ensures blobs { OnOk result (AreBlobs arrivals.old.rows.items → AreBlobs arrivals.new.rows.items) }
+    ensures shown { OnOk result (IsShown L.Onlooker (D.packs disk.old) arrivals.old.rows.items arrivals.new.rows.items
+        arrivals.old.onlooker arrivals.new.onlooker) }
     ensures clean { IfOk result (λ current. ForSome (D.packs disk.old)
         (λ held. (bytes : List ℕ) → get held pack ≡ Some bytes → current ≡ current_if_clean (pack, bytes))) }
     ensures number { IfOk result (λ current. IfSome current (λ c. c.pack ≡ pack)) }
@@ -150,47 +207,9 @@ fn take_pack<D: Disk>(
     if disk.sync(pack).is_err() {
         return Err(OpenFault::Disk);
     }
-    let taken = take_pieces(alloc, disk, pack, rows, places)?;
+    arrivals.pack = pack;
+    let taken = take_pieces(alloc, disk, pack, piece, arrivals)?;
     Ok(current_by(taken.clean, pack, taken.size))
-}
-
-// Takes up the findings of a pack in turn.
-pub(crate) fn take_findings(
-    pack: u32,
-    found: &[Found],
-    rows: &mut Vec<Row>,
-    places: &mut Places,
-) -> Result<(), NoMemory>
-    requires { IsPlaced places.old rows.old.items }
-    ensures rows { OnOk result (rows.new.items ≡ take_rows rows.old.items (map (row_of_found pack) found.now)) }
-    ensures placed { OnOk result (IsPlaced places.new rows.new.items) }
-{
-    for f in found {
-        take_finding(
-            Row {
-                r: f.r,
-                pack,
-                at: f.at,
-                size: f.size,
-            },
-            rows,
-            places,
-        )?;
-    }
-    Ok(())
-}
-
-// Takes up a finding, unless its ref has arrived.
-fn take_finding(row: Row, rows: &mut Vec<Row>, places: &mut Places) -> Result<(), NoMemory>
-    requires { IsPlaced places.old rows.old.items }
-    ensures rows { OnOk result (rows.new.items ≡ take_row rows.old.items row) }
-    ensures placed { OnOk result (IsPlaced places.new rows.new.items) }
-{
-    if places.number(&row.r).is_none() {
-        places.insert(&row.r, rows.len() as u64)?;
-        rows.push(row)?;
-    }
-    Ok(())
 }
 
 // The pack, where it is clean.

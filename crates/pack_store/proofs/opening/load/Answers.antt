@@ -1,9 +1,10 @@
-use Rattle.std.proofs.Common.{sym, ◌∙◌, ap, arith}
+use Rattle.std.proofs.Common.{[], sym, ◌∙◌, ap, arith}
 use Rattle.std.specs.FinMap.{get, get-empty}
 use Rattle.blobref.specs.Blobref.{ref_cmp}
 use Rattle.pack_store.specs.Rows.{number_of}
 use Rattle.pack_store.proofs.Packing.{taken_none, taken_more, taken_opened, taken_sound}
 use Rattle.pack_store.proofs.Moments.{stays_itself, stays_by_call, stays_then, stays_images}
+use Rattle.pack_store.proofs.Shown.{shown_none, shown_then}
 use Rattle.pack_store.proofs.Walking.{walk_found}
 use Rattle.pack_store.proofs.opening.load.Goals as goal
 
@@ -14,20 +15,21 @@ loop-found-init g c =
       small = omega arith;
       rose = omega arith;
       stays = stays_itself disk g.met.D.Disk.counts_now g.met.D.Disk.only_now c.args.disk.now;
-      placed = λ r. ap (λ m. get m r) c.empty-places.ensures ∙ get-empty ref_cmp r ∙ ap (number_of r) (sym c.new-rows.ensures.items);
-      taken = rw c.new-rows.ensures.items (taken_none disk c.args.disk.now);
+      placed = λ r. ap (λ m. get m r) c.empty.ensures ∙ get-empty ref_cmp r ∙ ap (number_of r) (sym c.new.ensures.items);
+      taken = rw c.new.ensures.items (taken_none disk c.args.disk.now);
+      shown = rw c.new.ensures.items (shown_none g.L.Onlooker (disk.packs c.args.disk.now) [] c.args.onlooker);
     }
 
 pub returns-in_default-found-clause-opened : goal.returns-in_default-found-clause-opened
 returns-in_default-found-clause-opened g c = λ limits.
     let disk = g.D.Disk in
-    taken_opened disk c.args.disk.now c.loop-found.disk c.packs.new.self c.loop-found.rows.items c.loop-found.next c.loop-found.current limits c.loop-found.invariant.taken c.loop-found.invariant.stays.told
+    taken_opened disk c.args.disk.now c.loop-found.disk c.packs.new.self c.loop-found.arrivals.rows.items c.loop-found.next c.loop-found.current limits c.loop-found.invariant.taken c.loop-found.invariant.stays.told
     (λ held told. sym c.in_default-found.is ∙ c.in-Ok.ensures.least held told)
 
 pub returns-in_default-found-clause-sound : goal.returns-in_default-found-clause-sound
 returns-in_default-found-clause-sound g c = λ limits limited.
     let disk = g.D.Disk in
-    taken_sound disk c.loop-found.disk c.packs.new.self c.loop-found.rows.items c.loop-found.next c.loop-found.current limits c.loop-found.places c.loop-found.invariant.taken c.loop-found.invariant.placed
+    taken_sound disk c.loop-found.disk c.packs.new.self c.loop-found.arrivals.rows.items c.loop-found.next c.loop-found.current limits c.loop-found.arrivals.places c.loop-found.invariant.taken c.loop-found.invariant.placed
     c.packs.ensures.told c.packs.ensures.crash (λ held told. sym c.in_default-found.is ∙ c.in-Ok.ensures.least held told) (omega (arith, c.loop-found.invariant.small)) limited
 
 pub take_pack-requires-clause-there : goal.take_pack-requires-clause-there
@@ -45,7 +47,9 @@ loop-found-preserved g c =
       rose = omega (arith, c.loop-found.invariant.rose, c.packs.ensures.cause.later, c.take_pack.ensures.later);
       stays = stays_then disk g.met.D.Disk.counts_now g.met.D.Disk.only_now c.args.disk.now c.loop-found.disk c.take_pack.new.disk c.loop-found.invariant.stays more;
       placed = c.in_ok-current.ensures.placed;
-      taken = taken_more disk g.met.D.Disk.tells c.loop-found.disk c.packs.new.self c.take_pack.new.disk c.loop-found.rows.items c.take_pack.new.rows.items c.loop-found.next c.in-Some.pack c.loop-found.current c.in_ok-current.current
+      shown = shown_then g.L.Onlooker (disk.packs c.args.disk.now) (disk.packs c.packs.new.self) [] c.loop-found.arrivals.rows.items c.take_pack.new.arrivals.rows.items c.args.onlooker c.loop-found.arrivals.onlooker
+          c.take_pack.new.arrivals.onlooker (c.packs.ensures.told ∙ c.loop-found.invariant.stays.told) c.loop-found.invariant.shown c.in_ok-current.ensures.shown;
+      taken = taken_more disk g.met.D.Disk.tells c.loop-found.disk c.packs.new.self c.take_pack.new.disk c.loop-found.arrivals.rows.items c.take_pack.new.arrivals.rows.items c.loop-found.next c.in-Some.pack c.loop-found.current c.in_ok-current.current
           c.loop-found.invariant.taken c.packs.ensures.told c.take_pack.ensures.stays.told
           (stays_images disk g.met.D.Disk.counts_now g.met.D.Disk.only_now c.loop-found.disk c.take_pack.new.disk more)
           (λ held told. sym c.in-Some.is ∙ c.in-Ok.ensures.least held told) range.0

@@ -1,5 +1,6 @@
-use Rattle.std.proofs.Common.{◌-◌, ◌≤◌}
+use Rattle.std.proofs.Common.{◌-◌, ◌≤◌, []}
 use Rattle.pack_disk.specs.Runs.{Stays}
+use Rattle.pack_store.specs.Onlooking.{IsShown}
 use Rattle.pack_store.specs.Opening.{IsTaken, IsPlaced}
 use Rattle.pack_store.proofs.opening.load.Given as goal
 
@@ -10,8 +11,9 @@ invariant-loop-found g l =
       small : l.next ≤ 100000;
       rose : disk.faults l.fn.disk ≤ disk.faults l.disk;
       stays : Stays disk l.fn.disk l.disk;
-      placed : IsPlaced l.places l.rows.items;
-      taken : IsTaken disk l.disk l.rows.items l.next l.current;
+      placed : IsPlaced l.arrivals.places l.arrivals.rows.items;
+      taken : IsTaken disk l.disk l.arrivals.rows.items l.next l.current;
+      shown : IsShown g.L.Onlooker (disk.packs l.fn.disk) [] l.arrivals.rows.items l.fn.onlooker l.arrivals.onlooker;
     }
 
 abbrev pub decreases-loop-found : goal.decreases-loop-found

@@ -1,8 +1,7 @@
-use Rattle.std.proofs.Common.{◌≤◌, ◌-◌}
+use Rattle.std.proofs.Common.{◌≡◌, ◌≤◌, ◌-◌}
 use Rattle.pack_disk.specs.Runs.{Stays}
-use Rattle.pack_store.specs.Opening.{IsPlaced}
-use Rattle.pack_store.specs.Taking.{TookRows}
-use Rattle.pack_store.proofs.pack_rows.take_pieces.Given as goal
+use Rattle.pack_store.specs.Taking.{TookFront}
+use Rattle.pack_store.proofs.pieces.take_pieces.Given as goal
 
 -- what was read and taken up so far
 abbrev pub invariant-pieces : goal.invariant-pieces
@@ -10,9 +9,10 @@ invariant-pieces g l =
     let disk = g.D.Disk in
     record {
       within : l.at ≤ l.size;
-      took : TookRows (disk.packs l.fn.disk) l.pack l.at l.scanner l.fn.rows.items l.rows.items;
-      placed : IsPlaced l.places l.rows.items;
+      took : TookFront g.T.Taker (disk.packs l.fn.disk) l.pack l.at l.scanner l.fn.taker l.taker;
+      ready : g.T.Taker.ready l.taker;
       stays : Stays disk l.fn.disk l.disk;
+      still : disk.moment l.disk ≡ disk.moment l.fn.disk;
       later : disk.faults l.fn.disk ≤ disk.faults l.disk;
     }
 

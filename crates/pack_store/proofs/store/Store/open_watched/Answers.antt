@@ -1,4 +1,4 @@
-use Rattle.pack_store.proofs.store.Store.open_on.Goals as goal
+use Rattle.pack_store.proofs.store.Store.open_watched.Goals as goal
 
 pub returns-in-Ok-clause-opened : goal.returns-in-Ok-clause-opened
 returns-in-Ok-clause-opened g c = c.in-Ok.ensures.opened c.args.limits
