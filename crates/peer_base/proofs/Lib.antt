@@ -1,0 +1,3 @@
+pub mod Pages
+mod Racks
+mod Listing

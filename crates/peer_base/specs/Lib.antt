@@ -1,0 +1,4 @@
+pub mod Blobs
+pub mod Causes
+pub mod Memory
+pub mod Order
