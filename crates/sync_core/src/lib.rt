@@ -1,0 +1,9 @@
+//! The blobs that one peer has and another lacks are copied.
+#![tactic(auto)]
+
+mod copying;
+mod lacking;
+mod pages;
+mod syncing;
+
+pub use syncing::{SyncFault, Synced, sync};
