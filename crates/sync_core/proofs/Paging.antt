@@ -83,6 +83,7 @@ module _ {A B : Type 0} (g : Ghosts A) (h : Ghosts B) (la : Laws g) (lb : Laws h
     gone = far.gone;
     copies = far.copies;
     all = λ from told to held. whole from told to held;
+    union = λ from told to held. given_of (h.content old) (h.content now) far.gone to far.copies.given held ∙ ap (λ l. Some (with_blobs to l)) (whole from told to held);
     copied_is = λ from told to held. (far.is from told to held).copied_is ∙ ap (λ (l : List Blob). length l) (whole from told to held);
     already_is = λ from told to held.
         (far.is from told to held).all_are ∙ ap (λ (l : List Blob). length l) (page_none after 1000 (entries from) (omega arith) (empty from (page_is from told)));

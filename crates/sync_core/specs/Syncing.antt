@@ -1,5 +1,5 @@
 -- What a sync does.
-use Rattle.std.specs.Prelude.{◌≡◌, ◌+◌, List, ◌++◌, length}
+use Rattle.std.specs.Prelude.{◌≡◌, ◌+◌, List, ◌++◌, length, Some}
 use Rattle.std.specs.Option.{ForSome}
 use Rattle.std.specs.FinMap.{entries}
 use Rattle.edge_base.specs.Shelf.{Blob, Blobs}
@@ -7,7 +7,7 @@ use Rattle.peer_base.specs.declared.peer.Peer.{Ghosts}
 use Rattle.sync_core.specs.declared.syncing.SyncFault.{SyncFault}
 use Rattle.sync_core.specs.declared.syncing.Synced.{Synced}
 use Rattle.sync_core.specs.Answers.{IsReached}
-use Rattle.sync_core.specs.Copying.{lacking, Copies, Stopped}
+use Rattle.sync_core.specs.Copying.{lacking, copied, Copies, Stopped}
 
 -- what both tell meets it
 abbrev pub ForBoth : {A B : Type 0} → Ghosts A → Ghosts B → A → B → (Blobs → Blobs → Type 0) → Type 0
@@ -15,11 +15,12 @@ ForBoth g h source target P = ForSome (g.content source) (λ from. ForSome (h.co
 
 module _ {A B : Type 0} (g : Ghosts A) (h : Ghosts B) where
   -- Each blob of the source that the target lacked was copied, and these and the others are counted. The target listed its refs, if only
-  -- once. Where both tell, what the target then tells is `copied from to`, by `copies` and `all`.
+  -- once.
   pub record IsSynced (source : A) (old new : B) (synced : Synced) : Type 0 where
     pub gone : List Blob
     pub copies : Copies g h source old new gone
     pub all : ForBoth g h source old (λ from to. gone ≡ lacking from to)
+    pub union : ForBoth g h source old (λ from to. h.content new ≡ Some (copied from to))
     pub copied_is : ForBoth g h source old (λ from to. synced.copied ≡ length (lacking from to))
     pub already_is : ForBoth g h source old (λ from to. synced.copied + synced.already ≡ length (entries from))
     pub reached : IsReached h old new
