@@ -1,0 +1,7 @@
+//! Tests of peers in memory, and of copying between them. What is tested here stands in the crates below.
+#![tactic(auto)]
+
+#[cfg(test)]
+mod peers;
+#[cfg(test)]
+mod syncs;
