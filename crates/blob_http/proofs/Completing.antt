@@ -15,6 +15,7 @@ use Rattle.histories.specs.declared.events.StoreEvent.{StoreEvent}
 use Rattle.histories.specs.declared.events.StoreEvent.TheVariants as store
 use Rattle.histories.specs.Stores.{Blob, arrivals}
 use Rattle.histories.specs.Indexes.{Insertion}
+use Rattle.http_wire.proofs.Framings.{request_ends}
 use Rattle.http_wire.specs.declared.body.Body.{Body}
 use Rattle.http_wire.specs.declared.body.Body.TheVariants as body
 use Rattle.http_wire.specs.declared.head.Head.{Head}
@@ -239,7 +240,7 @@ left_of : (r : Request) (b : Begun) (rest bytes : List ℕ) → IsValid r → Is
     → r.framed ++ rest ≡ b.framed ++ bytes → Left r b rest bytes
 left_of r b rest bytes valid begun says same =
     let whole = subst (λ (z : Head). RestOf (body_of z.framing) r.framed r.body) (sym says) valid.is.rest in
-    let goes = begun.leads.back r.framed r.body rest bytes whole same in
+    let goes = begun.leads.back (request_ends b.head b.says begun.read) r.framed r.body rest bytes whole same in
     record {
       framed = goes.0;
       more = goes.1;

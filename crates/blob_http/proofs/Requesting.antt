@@ -18,7 +18,7 @@ use Rattle.http_wire.specs.declared.body.Body.TheVariants as body
 use Rattle.http_wire.specs.declared.head.Head.{Head}
 use Rattle.http_wire.specs.declared.head.Piece.{Piece}
 use Rattle.http_wire.specs.declared.head.Framing.{Framing}
-use Rattle.http_wire.specs.declared.head.Framing.TheVariants.{Empty, Length, Chunked}
+use Rattle.http_wire.specs.declared.head.Framing.TheVariants.{Empty, Length, Chunked, ToEnd}
 use Rattle.http_wire.specs.declared.ends.WireEnd.{WireEnd}
 use Rattle.http_wire.specs.declared.ends.WireEnd.TheVariants as ends
 use Rattle.http_wire.specs.Stream.{Flow, Passed, stream}
@@ -309,12 +309,14 @@ read_done : (f : Framing) → is_read f ≡ true → body_of f ≡ body.Done
 read_done Empty e = refl
 read_done (Length n) e = ap (λ (b : Bool). if b then body.Done else body.Exactly n) e
 read_done Chunked e = absurd (true_not (sym e))
+read_done ToEnd e = absurd (true_not (sym e))
 
 not_done : (f : Framing) → is_read f ≡ false → body_of f ≡ body.Done → ⊥
 not_done Empty e done = true_not e
 not_done (Length n) e done =
     absurd (cc (sym (ap (λ (b : Bool). if b then body.Done else body.Exactly n) e) ∙ done))
 not_done Chunked e done = absurd (cc done)
+not_done ToEnd e done = absurd (cc done)
 
 -- a request that is refused before its body is read
 pub early_replies : (x0 x1 : Option (List ℕ)) (flow : Flow) (mid : WireView) (says : Head)

@@ -11,7 +11,7 @@ use Rattle.home_places.specs.Passes.{Sight}
 use Rattle.http_wire.specs.declared.body.Body.TheVariants as body
 use Rattle.http_wire.specs.declared.head.Head.{Head}
 use Rattle.http_wire.specs.declared.head.Framing.{Framing}
-use Rattle.http_wire.specs.declared.head.Framing.TheVariants.{Empty, Length, Chunked}
+use Rattle.http_wire.specs.declared.head.Framing.TheVariants.{Empty, Length, Chunked, ToEnd}
 use Rattle.http_wire.specs.Stream.{Flow, Passed}
 use Rattle.http_wire.specs.Heads.{IsHeadText, HeadSays}
 use Rattle.http_wire.specs.Wires.{WireView, body_of}
@@ -88,6 +88,7 @@ abbrev pub is_read : Framing → Bool
 is_read Empty = true
 is_read (Length n) = n == 0
 is_read Chunked = false
+is_read ToEnd = false
 
 -- a head was read from a flow
 pub record ReadsHead (before now : Option (List ℕ)) (old : Flow) (new : WireView) (says : Head) : Type 0 where

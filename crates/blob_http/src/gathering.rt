@@ -45,7 +45,9 @@ pub(crate) fn gather<S: Source>(
 {
     match framing {
         Framing::Empty => Ok(Octets::from_vec(Vec::new(alloc))),
-        Framing::Length(_) | Framing::Chunked => gather_on(alloc, wire, source),
+        Framing::Length(_) | Framing::Chunked | Framing::ToEnd => {
+            gather_on(alloc, wire, source)
+        }
     }
 }
 

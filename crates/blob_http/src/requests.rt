@@ -130,7 +130,7 @@ fn is_read(framing: Framing) -> bool
     match framing {
         Framing::Empty => true,
         Framing::Length(n) => n == 0,
-        Framing::Chunked => false,
+        Framing::Chunked | Framing::ToEnd => false,
     }
 }
 

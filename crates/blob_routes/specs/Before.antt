@@ -2,7 +2,7 @@
 use Rattle.std.specs.Prelude.{ℕ, List, Option, Some, None, option_and_then, Result, Ok, Err, if◌then◌else◌, nat_lt}
 use Rattle.multipart_read.specs.Parameters.{boundary_of}
 use Rattle.http_wire.specs.declared.head.Framing.{Framing}
-use Rattle.http_wire.specs.declared.head.Framing.TheVariants.{Empty, Length, Chunked}
+use Rattle.http_wire.specs.declared.head.Framing.TheVariants.{Empty, Length, Chunked, ToEnd}
 use Rattle.answer_text.specs.declared.refusal.Refusal.{Refusal}
 use Rattle.answer_text.specs.declared.refusal.Refusal.TheVariants.{BadMultipart, TooLong}
 use Rattle.blob_routes.specs.declared.routes.Route.{Route}
@@ -21,6 +21,7 @@ abbrev pub announced : Framing → ℕ
 announced Empty = 0
 announced (Length n) = n
 announced Chunked = 0
+announced ToEnd = 0
 
 abbrev pub within : ℕ → Framing → Option (List ℕ) → Result (Option (List ℕ)) Refusal
 within most framing boundary = if nat_lt most (announced framing) then Err (TooLong most) else Ok boundary

@@ -18,7 +18,7 @@ fn announced(framing: &Framing) -> u64
 {
     match framing {
         Framing::Length(n) => *n,
-        Framing::Empty | Framing::Chunked => 0,
+        Framing::Empty | Framing::Chunked | Framing::ToEnd => 0,
     }
 }
 

@@ -30,22 +30,53 @@ behind_front front xs after tail whole is e =
     append_cancel_left front (xs ++ after) tail (sym (append_assoc front xs after) ∙ ap (λ (t : List ℕ). t ++ after) (sym is) ∙ e)
 
 pub Leads-none : (b : Body) → Leads b b [] []
-Leads-none b = record { on = λ rest bytes h. h; back = λ whole all after tail r e. (whole, all, refl, refl, r) }
+Leads-none b = record {
+  on = λ rest bytes h. h;
+  back = λ other whole all after tail r e. (whole, all, refl, refl, r);
+  to_end = λ is. (refl, subst (λ (at : Body). RestOf at [] []) (sym is) refl);
+  only = λ is. is;
+}
+
+-- two lists that make none are none
+none_both : (xs ys : List ℕ) → [] ≡ xs ++ ys → (xs ≡ []) × (ys ≡ [])
+none_both [] ys e = (refl, sym e)
+none_both (x ∷ xs) ys e = absurd (cc e)
+
+ended_by : (b c : Body) (t y : List ℕ) → (b ≡ body.ToEnd → ⊥) → RestOf b [] [] → Leads b c t y → (t ≡ y) × RestOf c [] []
+ended_by b c t y other r k =
+    let on = k.back other [] [] t [] r (sym (append-nil t)) in
+    let texts = none_both t on.0 on.2 in
+    let bytes = none_both y on.1 on.3 in
+    (texts.0 ∙ sym bytes.0, subst (λ (more : List ℕ). RestOf c [] more) bytes.1 (subst (λ (rest : List ℕ). RestOf c rest on.1) texts.1 on.4))
+
+-- where a body may end, what leads on gives what it takes, and the body may end there too
+ended : (b c : Body) (t y : List ℕ) → RestOf b [] [] → Leads b c t y → (t ≡ y) × RestOf c [] []
+ended body.ToEnd c t y r k = k.to_end refl
+ended body.Done c t y r k = ended_by body.Done c t y (λ is. absurd (cc is)) r k
+ended (body.Exactly n) c t y r k = ended_by (body.Exactly n) c t y (λ is. absurd (cc is)) r k
+ended body.ChunkLine c t y r k = ended_by body.ChunkLine c t y (λ is. absurd (cc is)) r k
+ended (body.Chunk n) c t y r k = ended_by (body.Chunk n) c t y (λ is. absurd (cc is)) r k
+ended body.Trailers c t y r k = ended_by body.Trailers c t y (λ is. absurd (cc is)) r k
 
 pub Leads-chain : (a b c : Body) (s t x y : List ℕ) → Leads a b s x → Leads b c t y → Leads a c (s ++ t) (x ++ y)
 Leads-chain a b c s t x y h k = record {
   on = λ rest bytes r.
       let whole = h.on (t ++ rest) (y ++ bytes) (k.on rest bytes r) in
       subst (λ (u : List ℕ). RestOf a u ((x ++ y) ++ bytes)) (sym (append_assoc s t rest)) (subst (λ (u : List ℕ). RestOf a (s ++ (t ++ rest)) u) (sym (append_assoc x y bytes)) whole);
-  back = λ whole all after tail r e.
-      let first = h.back whole all after (t ++ tail) r (e ∙ append_assoc s t tail) in
-      let second = k.back first.0 first.1 after tail first.4 (behind_front s first.0 after (t ++ tail) whole first.2 (e ∙ append_assoc s t tail)) in (
+  back = λ other whole all after tail r e.
+      let first = h.back other whole all after (t ++ tail) r (e ∙ append_assoc s t tail) in
+      let second = k.back (λ is. other (h.only is)) first.0 first.1 after tail first.4 (behind_front s first.0 after (t ++ tail) whole first.2 (e ∙ append_assoc s t tail)) in (
         second.0,
         second.1,
         first.2 ∙ ap (λ (u : List ℕ). s ++ u) second.2 ∙ sym (append_assoc s t second.0),
         first.3 ∙ ap (λ (u : List ℕ). x ++ u) second.3 ∙ sym (append_assoc x y second.1),
         second.4,
       );
+  to_end = λ is.
+      let first = h.to_end is in
+      let second = ended b c t y first.1 k in
+      ((λ i. first.0 i ++ second.0 i), second.1);
+  only = λ is. h.only (k.only is);
 }
 
 pub Moves-chain : (p q r : Option (List ℕ)) (u v w : Flow) (a b c : Body) (x y : List ℕ) → Moves p q u v a b x → Moves q r v w b c y → Moves p r u w a c (x ++ y)
@@ -55,10 +86,41 @@ Moves-chain p q r u v w a b c x y h k = (h.0 ++ k.0, Passed-chain p q r u v w h.
 pub leads_exactly : (m n : ℕ) (text : List ℕ) → n + length text ≡ m → Leads (body.Exactly m) (body.Exactly n) text text
 leads_exactly m n text len = record {
   on = λ rest bytes h. (ap (λ (u : List ℕ). text ++ u) h.0, length-append text bytes ∙ omega (arith, h.1));
-  back = λ whole all after tail h e.
+  back = λ other whole all after tail h e.
       let rest = begins_with whole after text tail e (omega (arith, len, h.1, ap length h.0)) in
       let left : length rest.0 ≡ n = omega (arith, len, h.1, ap length h.0, ap length rest.1, length-append text rest.0) in
       (rest.0, rest.0, rest.1, sym h.0 ∙ rest.1, (refl, left));
+  to_end = λ is. absurd (cc is);
+  only = λ is. absurd (cc is);
+}
+
+-- a body of a known length, of which no byte is left
+pub leads_none_left : Leads (body.Exactly 0) body.Done [] []
+leads_none_left = record {
+  on = λ rest bytes h. (h.0 ∙ sym h.1, ap length h.1);
+  back = λ other whole all after tail h e.
+      let none : all ≡ [] = nil_from_length all h.1 in
+      ([], [], h.0 ∙ none, none, (refl, refl));
+  to_end = λ is. absurd (cc is);
+  only = λ is. absurd (cc is);
+}
+
+-- bytes of a body that goes to the end
+pub leads_to_end : (text : List ℕ) → Leads body.ToEnd body.ToEnd text text
+leads_to_end text = record {
+  on = λ rest bytes h. ap (λ (u : List ℕ). text ++ u) h;
+  back = λ other. absurd (other refl);
+  to_end = λ is. (refl, refl);
+  only = λ is. is;
+}
+
+-- and its end
+pub leads_at_end : Leads body.ToEnd body.Done [] []
+leads_at_end = record {
+  on = λ rest bytes h. h.0 ∙ sym h.1;
+  back = λ other. absurd (other refl);
+  to_end = λ is. (refl, (refl, refl));
+  only = λ is. absurd (cc is);
 }
 
 -- bytes of a chunk
@@ -73,7 +135,7 @@ leads_chunk m n text len = record {
     ap (λ (u : List ℕ). text ++ u) h.5 ∙ sym (append_assoc text h.0 (crlf_bytes ++ h.1)),
     ap (λ (u : List ℕ). text ++ u) h.6 ∙ sym (append_assoc text h.0 h.2),
   );
-  back = λ whole all after tail h e.
+  back = λ other whole all after tail h e.
       let split : h.0 ++ ((crlf_bytes ++ h.1) ++ after) ≡ text ++ tail = sym (append_assoc h.0 (crlf_bytes ++ h.1) after) ∙ ap (λ (t : List ℕ). t ++ after) (sym h.5) ∙ e in
       let rest = begins_with h.0 ((crlf_bytes ++ h.1) ++ after) text tail split (omega (arith, len, h.3)) in
       let left : length rest.0 ≡ n = omega (arith, len, h.3, ap length rest.1, length-append text rest.0) in (
@@ -83,15 +145,19 @@ leads_chunk m n text len = record {
         h.6 ∙ ap (λ (t : List ℕ). t ++ h.2) rest.1 ∙ append_assoc text rest.0 h.2,
         (rest.0, h.1, h.2, left, h.4, refl, refl),
       );
+  to_end = λ is. absurd (cc is);
+  only = λ is. absurd (cc is);
 }
 
 -- the end of a chunk
 pub leads_end : Leads (body.Chunk 0) body.ChunkLine crlf_bytes []
 leads_end = record {
   on = λ rest bytes h. ([], rest, bytes, refl, h, refl, refl);
-  back = λ whole all after tail h e.
+  back = λ other whole all after tail h e.
       let none : h.0 ≡ [] = nil_from_length h.0 h.3 in
       (h.1, h.2, h.5 ∙ ap (λ (t : List ℕ). t ++ (crlf_bytes ++ h.1)) none, h.6 ∙ ap (λ (t : List ℕ). t ++ h.2) none, h.4);
+  to_end = λ is. absurd (cc is);
+  only = λ is. absurd (cc is);
 }
 
 -- a chunk line has one size
@@ -139,8 +205,10 @@ leads_last line size is none = record {
     text_is = refl;
     bytes_are = h.1;
   };
-  back = λ whole all after tail h e.
+  back = λ other whole all after tail h e.
       last_goes line h.last h.trailers after tail whole all h.chunks (subst (IsLine line) none is) h.each h.last_line h.rest h.text_is h.bytes_are e;
+  to_end = λ is. absurd (cc is);
+  only = λ is. absurd (cc is);
 }
 
 all_more : (c : Chunk) (cs : List Chunk) → IsChunk c → All IsChunk cs → All IsChunk (c ∷ cs)
@@ -202,8 +270,10 @@ leads_line line size is some = record {
         text_is = text_parts line h.0 crlf_bytes h.1 (flat_map print_chunk h.4.chunks) (h.4.last ++ h.4.trailers) rest h.5 h.4.text_is;
         bytes_are = h.6 ∙ ap (λ (u : List ℕ). h.0 ++ u) h.4.bytes_are;
       };
-  back = λ whole all after tail h e.
+  back = λ other whole all after tail h e.
       line_goes line h.last h.trailers after tail whole all size h.chunks is some h.each h.last_line h.rest h.text_is h.bytes_are e;
+  to_end = λ is. absurd (cc is);
+  only = λ is. absurd (cc is);
 }
   where
     text_parts : (a b c r f t rest : List ℕ) → rest ≡ b ++ (c ++ r) → r ≡ f ++ t → a ++ rest ≡ ((a ++ (b ++ c)) ++ f) ++ t
@@ -219,9 +289,11 @@ pub leads_trailers : (text : List ℕ) → IsTrailers text → Leads body.Traile
 leads_trailers text is = record {
   on = λ rest bytes h.
       (subst IsTrailers (sym (ap (λ (u : List ℕ). text ++ u) h.0 ∙ append-nil text)) is, h.1);
-  back = λ whole all after tail h e.
+  back = λ other whole all after tail h e.
       let same : whole ≡ text = one_text Next 16384 (whole ++ after) whole text after tail refl e h.0.0 is.0 in
       ([], [], same ∙ sym (append-nil text), h.1, (refl, refl));
+  to_end = λ is. absurd (cc is);
+  only = λ is. absurd (cc is);
 }
 
 -- a text has one chunk line

@@ -4,10 +4,12 @@ pub mod Digits
 pub mod EndLines
 pub mod Ending
 pub mod Fetching
+pub mod Framings
 pub mod HeadParts
 pub mod Leading
 pub mod Passing
 pub mod Refusals
+pub mod ReplyParts
 pub mod Seams
 pub mod Speaking
 pub mod Targets

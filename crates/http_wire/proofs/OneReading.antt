@@ -19,6 +19,7 @@ use Rattle.http_wire.specs.Bodies.{Chunk, print_chunk, content_of, IsChunk, IsCh
 use Rattle.http_wire.specs.Wires.{body_of}
 use Rattle.http_wire.specs.Speaking.{Request, IsRequest, text_of, Speaks, HasNoRequest, Last, Nothing, Refused, Unfinished, IsOpen, ClosesAtLast, GoesOn, place_behind}
 use Rattle.http_wire.specs.Readings.{bytes_at, SaysSame, AreFirst, OneReading, IsLongest, IsFinished, SpeaksToNoMore}
+use Rattle.http_wire.proofs.Framings.{request_ends}
 use Rattle.http_wire.proofs.Passing.{one_text}
 use Rattle.http_wire.proofs.Leading.{Leads-chain, leads_chunk, leads_end, leads_on, leads_trailers}
 
@@ -57,25 +58,26 @@ leads_rest n text bytes is =
     (subst (λ (b : List ℕ). Leads (body.Chunk n) body.Done (is.0 ++ (crlf_bytes ++ is.1)) b) (sym is.6) whole)
 
 -- two texts that are the whole of what is to come of a body
-one_whole : (at : Body) (s t u v after rest : List ℕ) → RestOf at s u → Leads at body.Done t v → s ++ after ≡ t ++ rest → (s ≡ t) × (u ≡ v)
-one_whole at s t u v after rest is leads e =
-    let on = leads.back s u after rest is e in
+one_whole : (at : Body) (s t u v after rest : List ℕ) → (at ≡ body.ToEnd → ⊥) → RestOf at s u → Leads at body.Done t v → s ++ after ≡ t ++ rest → (s ≡ t) × (u ≡ v)
+one_whole at s t u v after rest other is leads e =
+    let on = leads.back other s u after rest is e in
     let text : s ≡ t = on.2 ∙ ap (λ (r : List ℕ). t ++ r) on.4.0 ∙ append-nil t in
     let bytes : u ≡ v = on.3 ∙ ap (λ (r : List ℕ). v ++ r) on.4.1 ∙ append-nil v in
     (text, bytes)
 
-one_body : (f : Framing) (s t u v after rest : List ℕ) → RestOf (body_of f) s u → RestOf (body_of f) t v → s ++ after ≡ t ++ rest → (s ≡ t) × (u ≡ v)
-one_body f s t u v after rest is other e = by (body_of f) is other
+one_body : (f : Framing) (s t u v after rest : List ℕ) → (body_of f ≡ body.ToEnd → ⊥) → RestOf (body_of f) s u → RestOf (body_of f) t v → s ++ after ≡ t ++ rest → (s ≡ t) × (u ≡ v)
+one_body f s t u v after rest bound is other e = by (body_of f) bound is other
   where
-    by : (at : Body) → RestOf at s u → RestOf at t v → (s ≡ t) × (u ≡ v)
-    by body.Done is other = (is.0 ∙ sym other.0, is.1 ∙ sym other.1)
-    by (body.Exactly n) is other =
+    by : (at : Body) → (at ≡ body.ToEnd → ⊥) → RestOf at s u → RestOf at t v → (s ≡ t) × (u ≡ v)
+    by body.Done bound is other = (is.0 ∙ sym other.0, is.1 ∙ sym other.1)
+    by (body.Exactly n) bound is other =
         let len : length t ≡ length s = ap length other.0 ∙ other.1 ∙ sym is.1 ∙ sym (ap length is.0) in
         let same : s ≡ t = sym (take_at s after (length s) refl) ∙ ap (take (length s)) e ∙ take_at t rest (length s) len in
         (same, sym is.0 ∙ same ∙ other.0)
-    by body.ChunkLine is other = one_whole body.ChunkLine s t u v after rest is (leads_chunked t v other) e
-    by (body.Chunk n) is other = one_whole (body.Chunk n) s t u v after rest is (leads_rest n t v other) e
-    by body.Trailers is other = one_whole body.Trailers s t u v after rest is (subst (λ (b : List ℕ). Leads body.Trailers body.Done t b) (sym other.1) (leads_trailers t other.0)) e
+    by body.ChunkLine bound is other = one_whole body.ChunkLine s t u v after rest bound is (leads_chunked t v other) e
+    by (body.Chunk n) bound is other = one_whole (body.Chunk n) s t u v after rest bound is (leads_rest n t v other) e
+    by body.Trailers bound is other = one_whole body.Trailers s t u v after rest bound is (subst (λ (b : List ℕ). Leads body.Trailers body.Done t b) (sym other.1) (leads_trailers t other.0)) e
+    by body.ToEnd bound is other = absurd (bound refl)
 
 -- a place of the same bytes
 same_first : (text : List ℕ) (found : List (List ℕ)) (a b : Option Piece) → IsFirstOf text found a → IsFirstOf text found b → option_map (bytes_at text) a ≡ option_map (bytes_at text) b
@@ -121,7 +123,7 @@ one_request x after rest a b is other e f =
     let says : HeadSays a.head (Ok b.says) = subst (λ (h : List ℕ). HeadSays h (Ok b.says)) (sym head) other.read in
     let same : SaysSame a (record { head = a.head; says = b.says; framed = b.framed; body = b.body }) =
     says_same a.head a.says b.says a.framed b.framed a.body b.body is.read says
-    (λ framing. one_body a.says.framing a.framed b.framed a.body b.body after rest is.rest
+    (λ framing. one_body a.says.framing a.framed b.framed a.body b.body after rest (request_ends a.head a.says is.read) is.rest
     (subst (λ (f : Framing). RestOf (body_of f) b.framed b.body) (sym framing) other.rest) behind) in
     subst (λ (h : List ℕ). SaysSame a (record { head = h; says = b.says; framed = b.framed; body = b.body })) head same
 

@@ -14,6 +14,13 @@ use Rattle.http_wire.proofs.Seams.{scanned-append, scanned-front, reached}
 counted-zero : (t : ℕ) → counted t 0 ≡ t
 counted-zero t = omega arith
 
+-- nothing is taken where nothing moves
+pub Passed-none : (left : Option (List ℕ)) (flow : Flow) → Passed left left flow flow []
+Passed-none left flow = record {
+  gave = Gave-none (stream flow.bytes left) (stream flow.bytes left) refl;
+  taken = sym (counted-zero flow.taken);
+}
+
 counted-chain : (t a b : ℕ) → counted (counted t a) b ≡ counted t (a + b)
 counted-chain t a b = omega arith
 

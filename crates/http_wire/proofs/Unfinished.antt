@@ -1,5 +1,5 @@
 -- Where a body isn't read to its end no whole request begins.
-use Rattle.std.proofs.Common.{◌≡◌, ℕ, ◌≤◌, List, [], ◌∷◌, ◌++◌, length, All, get_or, Some, Ok, inl, inr, sym, ap, subst, ◌∙◌, ◌⊎◌, ⊎_elim, arith, append_assoc, length-append}
+use Rattle.std.proofs.Common.{◌≡◌, ℕ, ◌≤◌, List, [], ◌∷◌, ◌++◌, length, All, get_or, Some, Ok, inl, inr, refl, sym, ap, subst, ◌∙◌, ◌⊎◌, ⊎_elim, arith, append_assoc, length-append}
 use Rattle.std.specs.List.{flat_map}
 use Rattle.std.proofs.lemmas.List.{append_cancel_left, nil_from_length}
 use Rattle.httparse.specs.Ascii.{crlf_bytes}
@@ -13,6 +13,7 @@ use Rattle.http_wire.specs.Heads.{HeadSays, framing_of, headers_of}
 use Rattle.http_wire.specs.Bodies.{IsLine, IsChunked, Chunk, print_chunk, IsChunk, RestOf, Stops, Breaks, IsBadEnd}
 use Rattle.http_wire.specs.Wires.{body_of}
 use Rattle.http_wire.specs.Speaking.{HasNoRequest, Begun, IsBegun}
+use Rattle.http_wire.proofs.Framings.{request_ends}
 use Rattle.http_wire.proofs.Passing.{one_text}
 use Rattle.http_wire.proofs.Refusals.{not_lacking}
 
@@ -54,18 +55,19 @@ few_bytes n tail (inr (zero_left, inl none)) = omega (arith, ap length none)
 few_bytes n tail (inr (zero_left, inr one)) = omega (arith, ap length one)
 
 -- where the stream stops inside a body, it doesn't hold the body's rest
-pub stops_short : (at : Body) (rest more after tail : List ℕ) → RestOf at rest more → rest ++ after ≡ tail → Stops at tail → ⊥
-stops_short body.Done rest more after tail r e stops = stops
-stops_short (body.Exactly n) rest more after tail r e stops =
+pub stops_short : (at : Body) (rest more after tail : List ℕ) → (at ≡ body.ToEnd → ⊥) → RestOf at rest more → rest ++ after ≡ tail → Stops at tail → ⊥
+stops_short body.Done rest more after tail bound r e stops = stops
+stops_short (body.Exactly n) rest more after tail bound r e stops =
     omega (arith, stops.0, r.1, ap length r.0, ap length e, ap length stops.1, length-append rest after)
-stops_short body.ChunkLine rest more after tail r e stops =
+stops_short body.ChunkLine rest more after tail bound r e stops =
     let first = line_of rest more r in
     not_lacking Last 4096 tail first.line (first.behind ++ after) (line_before rest after tail first e) first.is.0 stops.1
-stops_short (body.Chunk n) rest more after tail r e stops =
+stops_short (body.Chunk n) rest more after tail bound r e stops =
     let two = two_bytes r.0 r.1 rest after tail r.5 e in
     let few = few_bytes n tail stops in
     omega (arith, two, few)
-stops_short body.Trailers rest more after tail r e stops = not_lacking Next 16384 tail rest after (sym e) r.0.0 stops.1
+stops_short body.Trailers rest more after tail bound r e stops = not_lacking Next 16384 tail rest after (sym e) r.0.0 stops.1
+stops_short body.ToEnd rest more after tail bound r e stops = bound refl
 
 not_bad_end : (x rest : List ℕ) → x ≡ 13 ∷ 10 ∷ rest → IsBadEnd x → ⊥
 not_bad_end x rest e (first, others, inl (is, differs)) = differs (ap (λ (l : List ℕ). get_or l 0 0) (sym is ∙ e))
@@ -92,6 +94,7 @@ breaks_short body.Trailers rest more after tail r e (inr bad) =
     let reads = r.0.1.2 in
     let many = bad.3.1 r.0.1.0 r.0.1.1 (subst (λ (t : List ℕ). ReadsSection t r.0.1.0 r.0.1.1 []) same reads) in
     omega (arith, many, r.0.1.3)
+breaks_short body.ToEnd rest more after tail r e breaks = breaks
 
 -- a head says one framing
 one_framing : (text : List ℕ) (a b : Head) → HeadSays text (Ok a) → HeadSays text (Ok b) → a.framing ≡ b.framing
@@ -106,9 +109,10 @@ no_whole_request x tail b is e ends = λ r after also f.
     let heads : r.head ≡ b.head = one_text Start 16384 x r.head b.head (r.framed ++ after) (b.framed ++ tail) parts e also.lines is.lines in
     let framings : r.says.framing ≡ b.says.framing = one_framing b.head r.says b.says (subst (λ (t : List ℕ). HeadSays t (Ok r.says)) heads also.read) is.read in
     let bodies : r.framed ++ after ≡ b.framed ++ tail = append_cancel_left b.head (r.framed ++ after) (b.framed ++ tail) (ap (λ (t : List ℕ). t ++ (r.framed ++ after)) (sym heads) ∙ sym parts ∙ e) in
-    let goes = is.leads.back r.framed r.body after tail (ap-rest r.framed r.body r.says b.says framings also.rest) bodies in
+    let bound = request_ends b.head b.says is.read in
+    let goes = is.leads.back bound r.framed r.body after tail (ap-rest r.framed r.body r.says b.says framings also.rest) bodies in
     let left : goes.0 ++ after ≡ tail = append_cancel_left b.framed (goes.0 ++ after) tail (sym (append_assoc b.framed goes.0 after) ∙ ap (λ (t : List ℕ). t ++ after) (sym goes.2) ∙ bodies) in
-    ⊎_elim (stops_short b.at goes.0 goes.1 after tail goes.4 left) (breaks_short b.at goes.0 goes.1 after tail goes.4 left) ends
+    ⊎_elim (stops_short b.at goes.0 goes.1 after tail (λ to_end. bound (is.leads.only to_end)) goes.4 left) (breaks_short b.at goes.0 goes.1 after tail goes.4 left) ends
   where
     ap-rest : (text bytes : List ℕ) (a b : Head) → a.framing ≡ b.framing → RestOf (body_of a.framing) text bytes → RestOf (body_of b.framing) text bytes
     ap-rest text bytes a b same r = subst (λ f. RestOf (body_of f) text bytes) same r

@@ -61,16 +61,20 @@ RestOf (body.Exactly n) text bytes = (text ≡ bytes) × (length bytes ≡ n)
 RestOf body.ChunkLine text bytes = IsChunked text bytes
 RestOf (body.Chunk n) text bytes = (content : List ℕ) × (rest : List ℕ) × (more : List ℕ) × (length content ≡ n) × IsChunked rest more × (text ≡ content ++ (crlf_bytes ++ rest)) × (bytes ≡ content ++ more)
 RestOf body.Trailers text bytes = IsTrailers text × (bytes ≡ [])
+RestOf body.ToEnd text bytes = text ≡ bytes
 
 -- each text of a body that begins with this text goes on behind it as is said, and begins with these bytes
 abbrev pub GoesOnFrom : Body → Body → List ℕ → List ℕ → Type 0
 GoesOnFrom before now text given = (whole all after tail : List ℕ) → RestOf before whole all → whole ++ after ≡ text ++ tail
     → (rest : List ℕ) × (more : List ℕ) × (whole ≡ text ++ rest) × (all ≡ given ++ more) × RestOf now rest more
 
--- this text leads from there to there, and gives these bytes of the body
+-- this text leads from there to there, and gives these bytes of the body. Each front of a body that goes to the end is
+-- one as well, so that of such a one it is said what is given, and that the body may end there; no other body becomes one
 pub record Leads (before now : Body) (text given : List ℕ) : Type 0 where
   pub on : (rest bytes : List ℕ) → RestOf now rest bytes → RestOf before (text ++ rest) (given ++ bytes)
-  pub back : GoesOnFrom before now text given
+  pub back : (before ≡ body.ToEnd → ⊥) → GoesOnFrom before now text given
+  pub to_end : before ≡ body.ToEnd → (text ≡ given) × RestOf now [] []
+  pub only : now ≡ body.ToEnd → before ≡ body.ToEnd
 
 -- what stands there isn't a carriage return and a line feed
 abbrev pub IsBadEnd : List ℕ → Type 0
@@ -93,14 +97,16 @@ Breaks (body.Exactly n) x = ⊥
 Breaks body.ChunkLine x = ((4096 ≤ length x) × Lacks Last 4096 x) ⊎ Begins x IsBadLine
 Breaks (body.Chunk n) x = (n ≡ 0) × IsBadEnd x
 Breaks body.Trailers x = ((16384 ≤ length x) × Lacks Next 16384 x) ⊎ Begins x IsBadTrailers
+Breaks body.ToEnd x = ⊥
 
--- the stream ends inside the body
+-- the stream ends inside the body, or nothing more stands there of one that goes to the end
 abbrev pub Stops : Body → List ℕ → Type 0
 Stops body.Done x = ⊥
 Stops (body.Exactly n) x = (0 < n) × (x ≡ [])
 Stops body.ChunkLine x = (length x < 4096) × Lacks Last 4096 x
 Stops (body.Chunk n) x = (x ≡ []) ⊎ ((n ≡ 0) × IsPartOfEnd x)
 Stops body.Trailers x = (length x < 16384) × Lacks Next 16384 x
+Stops body.ToEnd x = x ≡ []
 
 -- the stream as it moves from one place in a body to another, and the bytes of the body that are given on the way
 abbrev pub Moves : Option (List ℕ) → Option (List ℕ) → Flow → Flow → Body → Body → List ℕ → Type 0

@@ -31,6 +31,32 @@ pub fn take_content<S: Source>(
     take_into(ahead, source, &mut buf[..room])
 }
 
+/// Takes bytes of what the source still has into the front of the buffer, and says how many: none for a buffer that
+/// isn't empty is the source's end.
+pub fn take_rest<S: Source>(
+    ahead: &mut Ahead,
+    source: &mut S,
+    buf: &mut [u8],
+) -> Result<usize, Stop>
+    ensures ok { IfOk result
+        (λ n. Passed (S.left source.old) (S.left source.new) ahead.old ahead.new (take n buf.new)) }
+    ensures bound { IfOk result (λ n. n ≤ length buf.old) }
+    ensures end { IfOk result (λ n. n ≡ 0 → 0 < length buf.old
+        → IfSome (stream ahead.new.bytes (S.left source.new)) (λ x. x ≡ [])) }
+    ensures err { OnErr result (Passed (S.left source.old) (S.left source.new) ahead.old ahead.new []) }
+    ensures failed { OnErr result (IsErrOf result Stop.Failed) }
+    ensures short { IsErrOf result Stop.Failed → ahead.new.bytes ≡ [] }
+    ensures fault { IsErrOf result Stop.Failed → Rose (S.faults source.old) (S.faults source.new) }
+    ensures later { S.faults source.old ≤ S.faults source.new }
+{
+    match take_into(ahead, source, buf) {
+        Ok(n) => Ok(n),
+        Err(Stop::Cut) => Ok(0),
+        Err(Stop::Broken) => unreachable!(),
+        Err(Stop::Failed) => Err(Stop::Failed),
+    }
+}
+
 // The same, as much as the buffer has room for.
 fn take_into<S: Source>(ahead: &mut Ahead, source: &mut S, buf: &mut [u8]) -> Result<usize, Stop>
     ensures ok { IfOk result

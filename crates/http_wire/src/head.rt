@@ -7,15 +7,17 @@ pub struct Piece {
     pub end: usize,
 }
 
-/// How long the body of a request is.
+/// How long the body of a message is.
 #[derive(Clone, Copy, PartialEq, Eq)]
 pub enum Framing {
-    /// There is none.
+    /// There is none. A reply has always one.
     Empty,
     /// So many bytes.
     Length(u64),
     /// In chunks.
     Chunked,
+    /// All that the source still has. The body of a request is never so.
+    ToEnd,
 }
 
 /// The head of a request. It holds no texts, but their places; docs/http.md says what each is.
@@ -33,7 +35,14 @@ pub struct Head {
     pub closes: bool,
 }
 
-/// Why some lines are no head of a request.
+/// The head of a reply.
+#[derive(Clone, Copy, PartialEq, Eq)]
+pub struct ReplyHead {
+    pub status: u16,
+    pub framing: Framing,
+}
+
+/// Why some lines are no head of a message.
 #[derive(Clone, Copy, PartialEq, Eq)]
 pub enum HeadFault {
     /// They aren't in the grammar.

@@ -68,7 +68,7 @@ fn first_at(text: &[u8], headers: &[HeaderSpan], name: &[u8]) -> Option<Piece>
 }
 
 // How long the body is, by the headers.
-fn framing_at(text: &[u8], headers: &[HeaderSpan]) -> Option<Framing>
+pub(crate) fn framing_at(text: &[u8], headers: &[HeaderSpan]) -> Option<Framing>
     requires { All (IsHeaderWithin (length text.now)) headers.now }
     ensures { result ≡ framing_of (map (header_bytes text.now) headers.now) }
 {

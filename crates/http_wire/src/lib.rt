@@ -18,6 +18,8 @@ mod laws;
 mod place;
 mod reading;
 mod replies;
+mod reply_heads;
+mod reply_judging;
 mod scanning;
 mod stop;
 mod taking;
@@ -27,7 +29,7 @@ mod wire;
 
 pub use body::Body;
 pub use ends::WireEnd;
-pub use head::{Framing, Head, HeadFault, Piece};
+pub use head::{Framing, Head, HeadFault, Piece, ReplyHead};
 pub use laws::{
     ends_are_last, ends_begin_no_request, heads_are_lines, one_head_text, one_more_request,
     one_reading, phrases, short_heads_begin_no_request, trailers_are_lines,

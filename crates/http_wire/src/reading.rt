@@ -1,5 +1,5 @@
 //! Reading a body from any place in it.
-ghost use Rattle.std.specs.Prelude.{◌≡◌, ◌<◌, ◌≤◌, [], length, take, IfOk, IfErr, IfSome, OnOk, OnErr, IsErrOf};
+ghost use Rattle.std.specs.Prelude.{◌≡◌, ◌<◌, ◌≤◌, [], length, take, Ok, IfOk, IfErr, IfSome, OnOk, OnErr, IsErrOf};
 ghost use Rattle.edge_base.specs.Edge.{Rose};
 ghost use Rattle.http_wire.specs.Stream.{stream, Passed};
 ghost use Rattle.http_wire.specs.Bodies.{Moves, Leads, Stops, StopSays, IsPastEnd, IsPastLine, IsReady, given_by};
@@ -8,7 +8,7 @@ use crate::ahead::Ahead;
 use crate::body::Body;
 use crate::chunk_end::take_end;
 use crate::chunks::take_line;
-use crate::content::take_content;
+use crate::content::{take_content, take_rest};
 use crate::stop::Stop;
 use crate::trailers::take_trailers;
 use edge_base::Source;
@@ -25,6 +25,9 @@ pub fn read_body<S: Source>(
     ensures bound { IfOk result (λ n. n ≤ length buf.old) }
     ensures end { IfOk result (λ n. n ≡ 0 → 0 < length buf.old → body.new ≡ Body.Done) }
     ensures err { IfErr result (λ stop. StopSays (stream ahead.new.bytes (S.left source.new)) body.new stop) }
+    ensures to_end { body.old ≡ Body.ToEnd → OnErr result (IsErrOf result Stop.Failed) }
+    ensures ended { body.old ≡ Body.ToEnd → body.new ≡ Body.Done
+        → IfSome (stream ahead.new.bytes (S.left source.new)) (λ x. x ≡ []) }
     ensures short { IsErrOf result Stop.Failed → Stops body.new ahead.new.bytes }
     ensures fault { IsErrOf result Stop.Failed → Rose (S.faults source.old) (S.faults source.new) }
     ensures later { S.faults source.old ≤ S.faults source.new }
@@ -39,6 +42,7 @@ pub fn read_body<S: Source>(
 fn get_ready<S: Source>(ahead: &mut Ahead, source: &mut S, body: &mut Body) -> Result<(), Stop>
     ensures moved { Moves (S.left source.old) (S.left source.new) ahead.old ahead.new body.old body.new [] }
     ensures past { OnOk result (IsReady body.new) }
+    ensures stays { body.old ≡ Body.ToEnd → (result ≡ Ok tt) × (body.new ≡ Body.ToEnd) }
     ensures err { IfErr result (λ stop. StopSays (stream ahead.new.bytes (S.left source.new)) body.new stop) }
     ensures short { IsErrOf result Stop.Failed → Stops body.new ahead.new.bytes }
     ensures fault { IsErrOf result Stop.Failed → Rose (S.faults source.old) (S.faults source.new) }
@@ -54,6 +58,7 @@ fn get_ready<S: Source>(ahead: &mut Ahead, source: &mut S, body: &mut Body) -> R
 fn pass_end<S: Source>(ahead: &mut Ahead, source: &mut S, body: &mut Body) -> Result<(), Stop>
     ensures moved { Moves (S.left source.old) (S.left source.new) ahead.old ahead.new body.old body.new [] }
     ensures past { OnOk result (IsPastEnd body.new) }
+    ensures stays { body.old ≡ Body.ToEnd → (result ≡ Ok tt) × (body.new ≡ Body.ToEnd) }
     ensures err { IfErr result (λ stop. StopSays (stream ahead.new.bytes (S.left source.new)) body.new stop) }
     ensures short { IsErrOf result Stop.Failed → Stops body.new ahead.new.bytes }
     ensures fault { IsErrOf result Stop.Failed → Rose (S.faults source.old) (S.faults source.new) }
@@ -77,6 +82,7 @@ fn pass_line<S: Source>(ahead: &mut Ahead, source: &mut S, body: &mut Body) -> R
     requires { IsPastEnd body.old }
     ensures moved { Moves (S.left source.old) (S.left source.new) ahead.old ahead.new body.old body.new [] }
     ensures past { OnOk result (IsPastLine body.new) }
+    ensures stays { body.old ≡ Body.ToEnd → (result ≡ Ok tt) × (body.new ≡ Body.ToEnd) }
     ensures err { IfErr result (λ stop. StopSays (stream ahead.new.bytes (S.left source.new)) body.new stop) }
     ensures short { IsErrOf result Stop.Failed → Stops body.new ahead.new.bytes }
     ensures fault { IsErrOf result Stop.Failed → Rose (S.faults source.old) (S.faults source.new) }
@@ -109,6 +115,7 @@ fn pass_trailers<S: Source>(ahead: &mut Ahead, source: &mut S, body: &mut Body) 
     requires { IsPastLine body.old }
     ensures moved { Moves (S.left source.old) (S.left source.new) ahead.old ahead.new body.old body.new [] }
     ensures past { OnOk result (IsReady body.new) }
+    ensures stays { body.old ≡ Body.ToEnd → (result ≡ Ok tt) × (body.new ≡ Body.ToEnd) }
     ensures err { IfErr result (λ stop. StopSays (stream ahead.new.bytes (S.left source.new)) body.new stop) }
     ensures short { IsErrOf result Stop.Failed → Stops body.new ahead.new.bytes }
     ensures fault { IsErrOf result Stop.Failed → Rose (S.faults source.old) (S.faults source.new) }
@@ -137,6 +144,9 @@ fn give<S: Source>(
     ensures bound { IfOk result (λ n. n ≤ length buf.old) }
     ensures end { IfOk result (λ n. n ≡ 0 → 0 < length buf.old → body.new ≡ Body.Done) }
     ensures err { IfErr result (λ stop. StopSays (stream ahead.new.bytes (S.left source.new)) body.new stop) }
+    ensures to_end { body.old ≡ Body.ToEnd → OnErr result (IsErrOf result Stop.Failed) }
+    ensures ended { body.old ≡ Body.ToEnd → body.new ≡ Body.Done
+        → IfSome (stream ahead.new.bytes (S.left source.new)) (λ x. x ≡ []) }
     ensures short { IsErrOf result Stop.Failed → Stops body.new ahead.new.bytes }
     ensures fault { IsErrOf result Stop.Failed → Rose (S.faults source.old) (S.faults source.new) }
     ensures later { S.faults source.old ≤ S.faults source.new }
@@ -155,6 +165,13 @@ fn give<S: Source>(
         Body::Chunk(left) => {
             let n = take_content(ahead, source, buf, left)?;
             *body = Body::Chunk(left - n as u64);
+            Ok(n)
+        }
+        Body::ToEnd => {
+            let n = take_rest(ahead, source, buf)?;
+            if n == 0 && !buf.is_empty() {
+                *body = Body::Done;
+            }
             Ok(n)
         }
         Body::ChunkLine | Body::Trailers => unreachable!(),

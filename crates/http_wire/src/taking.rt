@@ -1,22 +1,24 @@
-//! Taking the head of a request.
+//! Taking the head of a message.
 ghost use Rattle.std.specs.Prelude.{◌≡◌, ◌<◌, ◌≤◌, ℕ, List, Option, [], length, take, IfOk, IfErr, IfSome, OnErr, IsErrOf, Ok};
 ghost use Rattle.edge_base.specs.Edge.{Rose};
 ghost use Rattle.http_wire.specs.Lines.{Lacks};
 ghost use Rattle.http_wire.specs.Stream.{Passed, AtEnd, stream};
 ghost use Rattle.http_wire.specs.Heads.{IsHeadText, HeadSays};
-ghost use Rattle.http_wire.specs.Wires.{HeadEnds, RefusesHead, LacksHead};
+ghost use Rattle.http_wire.specs.ReplyHeads.{ReplySays};
+ghost use Rattle.http_wire.specs.Wires.{Message, MessageEnds, Refuses, HeadEnds, ReplyEnds, LacksHead};
 
 use crate::ahead::Ahead;
 use crate::ends::WireEnd;
 use crate::filling::{Missed, fill};
-use crate::head::{Head, HeadFault};
+use crate::head::{Head, HeadFault, ReplyHead};
 use crate::heads::read_head;
 use crate::kept::Kept;
 use crate::place::Place;
+use crate::reply_heads::read_reply;
 use edge_base::Source;
 use httparse::spans::HeaderSpan;
 
-/// Takes the next head, and keeps its text. An error takes nothing.
+/// Takes the next head of a request, and keeps its text. An error takes nothing.
 pub fn take_head<S: Source>(
     ahead: &mut Ahead,
     source: &mut S,
@@ -33,12 +35,7 @@ pub fn take_head<S: Source>(
     ensures later { S.faults source.old ≤ S.faults source.new }
 {
     let place = ahead.taken();
-    let n = match fill(ahead, source, Place::Start, 16_384) {
-        Ok(n) => n,
-        Err(Missed::Long) => return Err(WireEnd::TooLong { limit: 16_384 }),
-        Err(Missed::Ended) => return Err(end_of_stream(ahead.len(), place)),
-        Err(Missed::Failed) => return Err(WireEnd::ReadFault),
-    };
+    let n = lines_end(ahead, source)?;
     let text = &ahead.as_slice()[..n];
     match read_head(text, headers) {
         Ok(head) => {
@@ -50,11 +47,62 @@ pub fn take_head<S: Source>(
     }
 }
 
+/// Takes the next head of a reply, and keeps its text. An error takes nothing.
+pub fn take_reply<S: Source>(
+    ahead: &mut Ahead,
+    source: &mut S,
+    kept: &mut Kept,
+    headers: &mut [HeaderSpan],
+) -> Result<ReplyHead, WireEnd>
+    requires { length headers.old ≡ 5462 }
+    ensures ok { IfOk result (λ head. Passed (S.left source.old) (S.left source.new) ahead.old ahead.new kept.new
+        × IsHeadText kept.new × ReplySays kept.new (Ok head)) }
+    ensures same { OnErr result (Passed (S.left source.old) (S.left source.new) ahead.old ahead.new []) }
+    ensures err { IfErr result (λ end. ReplyEnds (stream ahead.new.bytes (S.left source.new)) ahead.old.taken end) }
+    ensures short { IsErrOf result WireEnd.ReadFault → LacksHead ahead.new.bytes }
+    ensures fault { IsErrOf result WireEnd.ReadFault → Rose (S.faults source.old) (S.faults source.new) }
+    ensures later { S.faults source.old ≤ S.faults source.new }
+{
+    let place = ahead.taken();
+    let n = lines_end(ahead, source)?;
+    let text = &ahead.as_slice()[..n];
+    match read_reply(text, headers) {
+        Ok(head) => {
+            kept.keep(text);
+            ahead.pass(n);
+            Ok(head)
+        }
+        Err(fault) => Err(end_of_fault(fault, place)),
+    }
+}
+
+// Behind how many bytes the lines of a head end, or why they don't.
+fn lines_end<S: Source>(ahead: &mut Ahead, source: &mut S) -> Result<usize, WireEnd>
+    ensures same { Passed (S.left source.old) (S.left source.new) ahead.old ahead.new [] }
+    ensures within { IfOk result (λ n. n ≤ length ahead.new.bytes) }
+    ensures found { IfOk result (λ n. IsHeadText (take n ahead.new.bytes)) }
+    ensures request { IfErr result
+        (λ end. HeadEnds (stream ahead.new.bytes (S.left source.new)) ahead.old.taken end) }
+    ensures reply { IfErr result
+        (λ end. ReplyEnds (stream ahead.new.bytes (S.left source.new)) ahead.old.taken end) }
+    ensures short { IsErrOf result WireEnd.ReadFault → LacksHead ahead.new.bytes }
+    ensures fault { IsErrOf result WireEnd.ReadFault → Rose (S.faults source.old) (S.faults source.new) }
+    ensures later { S.faults source.old ≤ S.faults source.new }
+{
+    let place = ahead.taken();
+    match fill(ahead, source, Place::Start, 16_384) {
+        Ok(n) => Ok(n),
+        Err(Missed::Long) => Err(WireEnd::TooLong { limit: 16_384 }),
+        Err(Missed::Ended) => Err(end_of_stream(ahead.len(), place)),
+        Err(Missed::Failed) => Err(WireEnd::ReadFault),
+    }
+}
+
 // The end that the stream's end is, where so many bytes are left.
 fn end_of_stream(len: usize, place: u64) -> WireEnd
-    ensures says { (bytes : List ℕ) (left : Option (List ℕ)) → length bytes ≡ len → AtEnd left
+    ensures says { (message : Message) (bytes : List ℕ) (left : Option (List ℕ)) → length bytes ≡ len → AtEnd left
         → IfSome (stream bytes left) (λ x. (length x < 16384) × Lacks Place.Start 16384 x)
-        → HeadEnds (stream bytes left) place result }
+        → MessageEnds message (stream bytes left) place result }
     ensures fault { result ≡ WireEnd.ReadFault → ⊥ }
 {
     if len == 0 {
@@ -66,8 +114,8 @@ fn end_of_stream(len: usize, place: u64) -> WireEnd
 
 // The end that a refused head is.
 fn end_of_fault(fault: HeadFault, place: u64) -> WireEnd
-    ensures says { (n : ℕ) (bytes : List ℕ) (left : Option (List ℕ)) → RefusesHead fault (take n bytes)
-        → HeadEnds (stream bytes left) place result }
+    ensures says { (message : Message) (n : ℕ) (bytes : List ℕ) (left : Option (List ℕ))
+        → Refuses message fault (take n bytes) → MessageEnds message (stream bytes left) place result }
     ensures fault { result ≡ WireEnd.ReadFault → ⊥ }
 {
     match fault {

@@ -1,18 +1,19 @@
 //! The reader of a connection.
-ghost use Rattle.std.specs.Prelude.{◌≡◌, ◌<◌, ◌≤◌, [], length, IfOk, IfErr, OnOk, OnErr, IsErrOf, slice_range, Ok};
+ghost use Rattle.std.specs.Prelude.{◌≡◌, ◌<◌, ◌≤◌, [], length, IfOk, IfErr, IfSome, OnOk, OnErr, IsErrOf, slice_range, Ok};
 ghost use Rattle.edge_base.specs.Edge.{Rose};
 ghost use Rattle.http_wire.specs.Stream.{Passed};
 ghost use Rattle.http_wire.specs.Heads.{IsHeadText, HeadSays, IsPlaceIn};
+ghost use Rattle.http_wire.specs.ReplyHeads.{ReplySays};
 ghost use Rattle.http_wire.specs.Bodies.{Moves, Stops, given_by};
-ghost use Rattle.http_wire.specs.Wires.{to_come, body_of, HeadEnds, BodyEnds, LacksHead};
+ghost use Rattle.http_wire.specs.Wires.{to_come, body_of, HeadEnds, ReplyEnds, BodyEnds, LacksHead};
 
 use crate::ahead::Ahead;
 use crate::body::Body;
 use crate::ends::{WireEnd, end_of_body};
-use crate::head::{Framing, Head, Piece};
+use crate::head::{Framing, Head, Piece, ReplyHead};
 use crate::kept::Kept;
 use crate::reading::read_body;
-use crate::taking::take_head;
+use crate::taking::{take_head, take_reply};
 use blobref::NoMemory;
 use edge_base::Source;
 use httparse::spans::{EMPTY_HEADER_SPAN, HeaderSpan};
@@ -78,9 +79,9 @@ impl Wire {
     /// isn't empty is the body's end, as it is for a request without a body. Chunk lines and trailers are dropped.
     ///
     /// It ends with `Cut` where the source ends inside the body, with `BadLength` where what comes is no body, both
-    /// with the number of bytes before the request, and with `ReadFault` where a read failed and what was read before
+    /// with the number of bytes before the message, and with `ReadFault` where a read failed and what was read before
     /// ends inside the body. After each the bytes given so far are those of the body, and what it tells is what the
-    /// stream then has.
+    /// stream then has. A body that goes to the source's end ends there, and with nothing but `ReadFault` before.
     pub fn body<S: Source>(&mut self, source: &mut S, buf: &mut [u8]) -> Result<usize, WireEnd>
         ensures moved { Moves (S.left source.old) (S.left source.new) self.old.flow self.new.flow
             self.old.body self.new.body (given_by result buf.new) }
@@ -89,6 +90,9 @@ impl Wire {
         ensures end { IfOk result (λ n. n ≡ 0 → 0 < length buf.old → self.new.body ≡ Body.Done) }
         ensures err { IfErr result
             (λ end. BodyEnds (to_come self.new (S.left source.new)) self.new.body self.old.begun end) }
+        ensures to_end { self.old.body ≡ Body.ToEnd → OnErr result (IsErrOf result WireEnd.ReadFault) }
+        ensures ended { self.old.body ≡ Body.ToEnd → self.new.body ≡ Body.Done
+            → IfSome (to_come self.new (S.left source.new)) (λ left. left ≡ []) }
         ensures short { IsErrOf result WireEnd.ReadFault → Stops self.new.body self.new.flow.bytes }
         ensures fault { IsErrOf result WireEnd.ReadFault → Rose (S.faults source.old) (S.faults source.new) }
         ensures later { S.faults source.old ≤ S.faults source.new }
@@ -124,6 +128,28 @@ impl Wire {
         self.body = body_at(head.framing);
         Ok(head)
     }
+
+    /// Takes the next head of a reply, from the first byte that no call has taken, whatever was to come of a body.
+    ///
+    /// It ends as `next_head` does; `at` is the number of bytes before the reply. An error takes nothing from the
+    /// stream, and leaves the present body as it was.
+    pub fn next_reply<S: Source>(&mut self, source: &mut S) -> Result<ReplyHead, WireEnd>
+        ensures ok { IfOk result
+            (λ head. Passed (S.left source.old) (S.left source.new) self.old.flow self.new.flow self.new.head
+            × IsHeadText self.new.head × ReplySays self.new.head (Ok head) × (self.new.body ≡ body_of head.framing)) }
+        ensures begun { self.new.begun ≡ self.old.flow.taken }
+        ensures same { OnErr result (Passed (S.left source.old) (S.left source.new) self.old.flow self.new.flow []
+            × (self.new.body ≡ self.old.body)) }
+        ensures err { IfErr result (λ end. ReplyEnds (to_come self.new (S.left source.new)) self.old.flow.taken end) }
+        ensures short { IsErrOf result WireEnd.ReadFault → LacksHead self.new.flow.bytes }
+        ensures fault { IsErrOf result WireEnd.ReadFault → Rose (S.faults source.old) (S.faults source.new) }
+        ensures later { S.faults source.old ≤ S.faults source.new }
+    {
+        self.begun = self.ahead.taken();
+        let head = take_reply(&mut self.ahead, source, &mut self.head, &mut self.headers)?;
+        self.body = body_at(head.framing);
+        Ok(head)
+    }
 }
 
 // What is to come of a body of this framing.
@@ -134,6 +160,7 @@ fn body_at(framing: Framing) -> Body
         Framing::Empty => Body::Done,
         Framing::Length(n) => { if n == 0 { Body::Done } else { Body::Exactly(n) } }
         Framing::Chunked => Body::ChunkLine,
+        Framing::ToEnd => Body::ToEnd,
     }
 }
 

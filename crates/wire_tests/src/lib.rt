@@ -9,3 +9,5 @@ mod ends;
 mod multipart;
 #[cfg(test)]
 mod replies;
+#[cfg(test)]
+mod reply_reading;

@@ -1,9 +1,10 @@
-use Rattle.std.proofs.Common.{◌≡◌, ◌-◌, length, take, sym, subst, arith}
+use Rattle.std.proofs.Common.{◌≡◌, ◌-◌, [], length, take, sym, ap, ◌∙◌, subst, arith}
 use Rattle.std.proofs.lemmas.List.{length-take-le}
 use Rattle.http_wire.specs.declared.body.Body.{Body}
 use Rattle.http_wire.specs.declared.body.Body.TheVariants as body
 use Rattle.http_wire.specs.Bodies.{Leads}
-use Rattle.http_wire.proofs.Leading.{leads_chunk, leads_exactly}
+use Rattle.http_wire.proofs.Leading.{leads_chunk, leads_exactly, leads_none_left}
+use Rattle.http_wire.proofs.Passing.{Passed-none}
 use Rattle.http_wire.proofs.reading.give.Goals as goal
 
 pub returns-in_ok-n-in-Chunk-clause-moved : goal.returns-in_ok-n-in-Chunk-clause-moved
@@ -27,3 +28,10 @@ returns-in_ok-n-in-Exactly-clause-moved g c =
       c.in_ok-n-in-Exactly.ensures.ok,
       subst (λ (b : Body). Leads b (body.Exactly (c.in-Exactly.left - n)) text text) (sym c.in-Exactly.is) (leads_exactly c.in-Exactly.left (c.in-Exactly.left - n) text (omega (arith, len, bound.1))),
     )
+
+pub returns-then-left-eq0-clause-moved : goal.returns-then-left-eq0-clause-moved
+returns-then-left-eq0-clause-moved g c = (
+  [],
+  Passed-none (g.S.Source.left c.args.source.now) c.args.ahead.now,
+  subst (λ (b : Body). Leads b body.Done [] []) (sym (c.in-Exactly.is ∙ ap body.Exactly c.if-left-eq0.true)) leads_none_left,
+)

@@ -1,0 +1,9 @@
+use Rattle.std.proofs.Common.{subst}
+use Rattle.http_wire.specs.Stream.{Passed}
+use Rattle.http_wire.specs.Wires.{WireView}
+use Rattle.http_wire.proofs.wire.Wire.next_reply.Goals as goal
+
+pub returns-clause-ok : goal.returns-clause-ok
+returns-clause-ok g c =
+    let ok = c.in_ok-head.ensures.ok in
+    (subst (λ (w : WireView). Passed (g.S.Source.left c.args.source.now) (g.S.Source.left c.take_reply.new.source) w.flow c.take_reply.new.ahead c.take_reply.new.kept) c.self.view_is ok.0, ok.1, ok.2, c.body_at-self-inside.ensures)
