@@ -66,8 +66,10 @@ fn is_row_read(
 ) -> Result<bool, NoMemory> {
     let stream = stream.as_bytes();
     let want = want.as_bytes();
-    Ok(is_read(alloc, stream, usize::MAX, status, want, end)?
-        && is_read(alloc, stream, 1, status, want, end)?)
+    Ok(
+        is_read(alloc, stream, usize::MAX, status, want, end)?
+            && is_read(alloc, stream, 1, status, want, end)?,
+    )
 }
 
 // How a row names an end.
@@ -85,7 +87,13 @@ fn end_named(name: &str) -> Option<WireEnd> {
 fn is_row(alloc: Global, row: &str) -> Result<bool, NoMemory> {
     let (name, rest) = row.split_once('|').unwrap_or(("", ""));
     let (want, stream) = rest.split_once('|').unwrap_or(("", ""));
-    is_row_read(alloc, stream, name.parse().unwrap_or(0), want, end_named(name))
+    is_row_read(
+        alloc,
+        stream,
+        name.parse().unwrap_or(0),
+        want,
+        end_named(name),
+    )
 }
 
 // The first row that isn't right, or nothing.
