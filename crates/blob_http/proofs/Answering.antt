@@ -19,16 +19,17 @@ use Rattle.answer_text.specs.Search.{search_text}
 use Rattle.histories.specs.declared.stamped.Stamped.{Stamped}
 use Rattle.histories.specs.declared.events.StoreEvent.{StoreEvent}
 use Rattle.histories.specs.declared.events.StoreEvent.TheVariants as store
-use Rattle.histories.specs.History.{stamp, stamped, has, own, Before}
+use Rattle.histories.specs.History.{stamp, stamped, has, own, Before, Ahead, AheadOf}
 use Rattle.histories.specs.Stores.{Blob, arrivals, bytes_of}
 use Rattle.histories.specs.Indexes.{Insertion, HasAllBelow, inserts}
 use Rattle.histories.specs.StoreCalls.{IsQuiet, GetSays, GetFails, StatSays, ListSays, page, sized, each_once}
 use Rattle.histories.proofs.Prefixes.{prefix_trans, prefix_length}
 use Rattle.histories.proofs.Growing.{has_rest, each_stamped, placed_stamped}
-use Rattle.histories.proofs.Rising.{before_within}
+use Rattle.histories.proofs.Rising.{before_within, later_stamped, ahead_none, ahead_less}
 use Rattle.histories.proofs.Standing.{arrivals_append, arrivals_prefix, has_all_longer, take_stays}
 use Rattle.home_places.specs.Passes.{Sight, IsSight, StoreCall, StoreTurned, Spends, Settles, Searches, Counts, Caused}
 use Rattle.home_places.specs.Passes.{IsTrouble}
+use Rattle.home_places.specs.Seats.{StoreSight}
 use Rattle.home_places.specs.Searches.{SearchSays}
 use Rattle.blob_routes.specs.declared.routes.Allowed.{Allowed}
 use Rattle.blob_routes.specs.declared.pages.Page.{Page}
@@ -43,7 +44,7 @@ use Rattle.blob_http.specs.Answers.{IsAnswer, IsBlobReply, IsDefined, reads_blob
 use Rattle.blob_http.specs.Answers.{IsMemory, FaultMade, BlobMade, TextMade, page_answer, cut_page, more_after}
 use Rattle.blob_http.specs.Serving.{HasCauseIn, LooksAt, Longer, PutsNothing, IsShown}
 use Rattle.blob_http.specs.Handling.{IsMade, Looked, Looks, Answers, entry_of}
-use Rattle.blob_http.proofs.Staying.{longer_none, longer_chain, owns_none, owns_chain}
+use Rattle.blob_http.proofs.Staying.{has_one, longer_none, longer_chain, owns_none, owns_chain}
 
 -- a turn that put nothing leaves the arrivals
 quiet_stays : (before : List (Stamped StoreEvent)) (n : ℕ) (e : Option StoreEvent) → IsQuiet e
@@ -111,13 +112,6 @@ list_none after limit (Err f) before e said = said
 -- nothing was added
 none_trouble : (e : StoreEvent) → Some e ≡ None → IsTrouble e
 none_trouble e none = absurd (cc none)
-
-has_one : (t : ℕ) → has (t ∷ []) t ≡ true
-has_one t = or_left (eqb t t) (eq-eqb t t refl)
-  where
-    or_left : (a : Bool) → a ≡ true → (a || false) ≡ true
-    or_left true e = refl
-    or_left false e = e
 
 stands : (h : List (Stamped StoreEvent)) (t : ℕ) (e : Option StoreEvent) (x : StoreEvent) → e ≡ Some x
     → Contains (h ++ stamped t e) (stamp t x)
@@ -222,15 +216,18 @@ looked_at h blobs q (made.Told o head body) turns is = looks_at h blobs q turns 
 
 -- what a look has shown is what is counted before anything else is done
 shown_by : (o v w : Sight) (n : ℕ) (further : List ℕ) (look : Looks o v) → n ≡ length (arrivals v.store.history)
-    → IsPrefix v.store.history w.store.history
+    → IsPrefix v.store.history w.store.history → AheadOf v.store.turns v.store.history w.store.history
     → IsShown w.store.history (take n (arrivals w.store.history)) (look.turn ∷ further)
-shown_by o v w n further look count longer = record {
+shown_by o v w n further look count longer later = record {
   turn = look.turn;
   further = further;
   first = refl;
   seen = v.store.history;
   begins = longer;
   before = look.before;
+  joined = λ m lt. ahead_less m look.turn v.store.history w.store.history (omega (arith, lt))
+      (later look.turn (subst (λ (ts : List ℕ). has ts look.turn ≡ true) (sym look.drawn)
+      (has_rest o.store.turns (look.turn ∷ []) look.turn (has_one look.turn))));
   arrived = take_stays (arrivals v.store.history) (arrivals w.store.history) n
       (arrivals_prefix v.store.history w.store.history longer) (omega (arith, count))
       ∙ take_all n (arrivals v.store.history) (omega (arith, count));
@@ -260,6 +257,9 @@ module _ (tells closes : Bool) (q : Question) (m : Made) where
         index_low = let p = count.inserts in let e = ap length rows in omega arith;
         longer = record {
           store = same_prefix v.store.history w.store.history (ap (λ s. s.history) spent.store);
+          turns = same_prefix v.store.turns w.store.turns (ap (λ s. s.turns) spent.store);
+          later = λ n e. subst (λ (s : StoreSight). Ahead n v.store.history s.history) (sym spent.store)
+              (ahead_none n v.store.history);
           index = same_prefix v.index.history w.index.history (ap (λ s. s.history) spent.index);
           shown = same_prefix v.index.shown w.index.shown rows;
           limits = ap (λ s. s.limits) spent.store;
@@ -308,6 +308,8 @@ module _ (tells closes : Bool) (q : Question) (m : Made) where
           index_low = let p = count.inserts in let e = ap length rows in omega arith;
           longer = record {
             store = grown;
+            turns = (t ∷ [], sym ran.drawn);
+            later = ran.later;
             index = same_prefix v.index.history w.index.history (ap (λ s. s.history) turned.index);
             shown = same_prefix v.index.shown w.index.shown rows;
             limits = turned.turn.limits;
@@ -320,6 +322,7 @@ module _ (tells closes : Bool) (q : Question) (m : Made) where
             seen = ran.before;
             begins = (stamped t ran.entry, sym ran.added);
             before = before_within ran.ticket ran.before ran.within.0;
+            joined = λ n lt. (stamped t ran.entry, sym ran.added, later_stamped n t ran.entry lt);
             arrived = all ∙ ap arrivals ran.added ∙ trouble_stays ran.before t ran.entry
                 (λ e is. troubles (arrivals ran.before) e (subst (says (arrivals ran.before)) is ran.said));
           });
@@ -498,6 +501,8 @@ module _ (tells closes : Bool) where
         longer = record {
           store = prefix_trans v.store.history ran.before w.store.history ran.longer
               (stamped t ran.entry, sym ran.added);
+          turns = (t ∷ [], sym ran.drawn);
+          later = ran.later;
           index = same_prefix v.index.history w.index.history (ap (λ s. s.history) turned.index);
           shown = same_prefix v.index.shown w.index.shown (ap (λ s. s.shown) turned.index);
           limits = turned.turn.limits;
@@ -578,6 +583,8 @@ module _ (tells closes : Bool) where
         index_low = let p = last.inserts in omega arith;
         longer = longer_chain o v w look.longer (record {
           store = s.store.longer;
+          turns = (s.store.further, sym s.store.drawn);
+          later = s.store.later;
           index = s.index.longer;
           shown = s.shown;
           limits = s.limits;
@@ -585,7 +592,7 @@ module _ (tells closes : Bool) where
         });
         looked = looked_at w.store.history (take before.0 (arrivals w.store.history)) (question.Search query) m
             (look.turn ∷ s.store.further)
-            (shown_by o v w before.0 s.store.further look first.puts s.store.longer);
+            (shown_by o v w before.0 s.store.further look first.puts s.store.longer s.store.later);
       }
 
   search_made : (query : Query) (found : Result (List (List ℕ)) NoMemory) (m : Made)
@@ -609,6 +616,8 @@ module _ (tells closes : Bool) where
       let grown : IsPrefix v.store.history w.store.history =
       prefix_trans v.store.history x.store.history w.store.history s.store.longer
       (same_prefix x.store.history w.store.history (ap (λ y. y.history) a.store)) in
+      let later : AheadOf v.store.turns v.store.history w.store.history =
+      subst (λ (y : StoreSight). AheadOf v.store.turns v.store.history y.history) (sym a.store) s.store.later in
       let shown : IsPrefix v.index.shown w.index.shown = prefix_trans v.index.shown x.index.shown w.index.shown
       s.shown a.search.shown in
       let arrived : IsPrefix (arrivals v.store.history)
@@ -647,11 +656,13 @@ module _ (tells closes : Bool) where
         index_low = let p = last.inserts in omega arith;
         longer = longer_chain o v w look.longer (record {
           store = grown;
+          turns = (s.store.further, sym (ap (λ y. y.turns) a.store ∙ s.store.drawn));
+          later = later;
           index = prefix_trans v.index.history x.index.history w.index.history s.index.longer a.search.grew.longer;
           shown = shown;
           limits = ap (λ y. y.limits) a.store ∙ s.limits;
           accepts = a.search.accepts ∙ s.accepts;
         });
         looked = looked_at w.store.history (take before.0 (arrivals w.store.history)) (question.Search query) m
-            (look.turn ∷ s.store.further) (shown_by o v w before.0 s.store.further look first.puts grown);
+            (look.turn ∷ s.store.further) (shown_by o v w before.0 s.store.further look first.puts grown later);
       }

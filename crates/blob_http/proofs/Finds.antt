@@ -31,7 +31,7 @@ use Rattle.blob_http.specs.Asked.{Asked, Whole}
 use Rattle.blob_http.specs.Questions.{IsAskedBy, IsAsked, IsSearch, first_of, piece, stat_of, refs_asked}
 use Rattle.blob_http.specs.Answers.{IsAnswer}
 use Rattle.blob_http.specs.Serving.{IsShown, LooksAt, IsReply}
-use Rattle.blob_http.specs.Finding.{IsPutAt, IsFound, JoinedLater, FindsShown, SearchesFind}
+use Rattle.blob_http.specs.Finding.{IsPutAt, IsFound, FindsShown, SearchesFind}
 
 -- ---- what is asked is a search
 
@@ -121,17 +121,16 @@ module _ (h : List (Stamped StoreEvent)) (g : List Insertion) (count : ℕ) (tur
         inserted = all at.0 (omega (arith, within, same));
       }
 
-  found_earlier : JoinedLater shown.turn shown.seen h → (turn : ℕ) (blob : Blob) → IsPutAt h turn blob
-      → turn < shown.turn → IsFound h g count blob
-  found_earlier joined turn blob put lt =
+  found_earlier : (turn : ℕ) (blob : Blob) → IsPutAt h turn blob → turn < shown.turn → IsFound h g count blob
+  found_earlier turn blob put lt =
       let entry = stamp turn (store.Put put.0 blob.0 blob.1) in
-      let rest = shown.begins.0 in
+      let joined = shown.joined turn lt in
       ⊎_elim (λ (here : Contains shown.seen entry). found_seen turn blob (put.0, here))
-      (λ (there : Contains rest entry).
-      let late = later_not shown.turn rest turn (store.Put put.0 blob.0 blob.1) (joined rest shown.begins.1) there in
-      absurd (omega (arith, lt, late)))
-      (Contains-append_cases shown.seen rest entry
-      (subst (λ (z : List (Stamped StoreEvent)). Contains z entry) (sym shown.begins.1) put.1))
+      (λ (there : Contains joined.0 entry).
+      let late = later_not turn joined.0 turn (store.Put put.0 blob.0 blob.1) joined.2 there in
+      absurd (omega (arith, late)))
+      (Contains-append_cases shown.seen joined.0 entry
+      (subst (λ (z : List (Stamped StoreEvent)). Contains z entry) (sym joined.1) put.1))
 
   finds : FindsShown h g count turns
   finds = record { shown = shown; seen = found_seen; earlier = found_earlier }

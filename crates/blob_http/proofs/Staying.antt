@@ -1,16 +1,20 @@
 -- What was answered stays so as the histories grow.
 use Rattle.std.proofs.Common.{◌≡◌, ℕ, ◌≤◌, List, [], ◌∷◌, ◌++◌, take, Bool, Contains, refl, ap, sym, subst, ◌∙◌, arith}
-use Rattle.std.proofs.Common.{append_assoc, inl, inr}
+use Rattle.std.proofs.Common.{append_assoc, inl, inr, true, false, ◌||◌, eqb, All, ◌<◌}
+use Rattle.std.specs.List.{flat_map}
 use Rattle.std.proofs.lemmas.List.{append-nil}
-use Rattle.std.proofs.lemmas.List.Elements.{Contains-append_left}
+use Rattle.std.proofs.lemmas.Bool.{eq-eqb}
+use Rattle.std.proofs.lemmas.List.Elements.{Contains-append_left, All-nil, All-cons, All-head, All-tail}
 use mathlib.Core.List.{IsPrefix}
 use Rattle.claim_verify.specs.Verifier.{Accepts}
 use Rattle.histories.specs.declared.stamped.Stamped.{Stamped}
 use Rattle.histories.specs.declared.events.StoreEvent.{StoreEvent}
-use Rattle.histories.specs.History.{own}
+use Rattle.histories.specs.History.{has, own, AheadOf}
 use Rattle.histories.specs.Stores.{Blob, arrivals}
 use Rattle.histories.specs.Indexes.{Insertion}
 use Rattle.histories.proofs.Prefixes.{prefix_self, prefix_trans, prefix_length}
+use Rattle.histories.proofs.Growing.{has_front, has_rest}
+use Rattle.histories.proofs.Rising.{ahead_none, ahead_chain, ahead_less}
 use Rattle.histories.proofs.Standing.{arrivals_prefix, take_stays}
 use Rattle.home_places.specs.Passes.{Sight}
 use Rattle.blob_http.specs.declared.entries.Answered.{Answered}
@@ -33,44 +37,54 @@ cause_stays turns h k Disk p c = (c.0, c.1, c.2, contains_stays h k _ p c.3)
 cause_stays turns h k (Full blobs pack) p c = (c.0, c.1, contains_stays h k _ p c.2)
 cause_stays turns h k (Damaged want is) p c = (c.0, c.1, contains_stays h k _ p c.2)
 
--- what was shown begins the longer history too
+pub has_one : (t : ℕ) → has (t ∷ []) t ≡ true
+has_one t = or_left (eqb t t) (eq-eqb t t refl)
+  where
+    or_left : (a : Bool) → a ≡ true → (a || false) ≡ true
+    or_left true e = refl
+    or_left false e = e
+
+-- what was shown begins the longer history too, and what joins it comes later
 shown_stays : (h k : List (Stamped StoreEvent)) (blobs : List Blob) (turns : List ℕ) → IsPrefix h k
-    → IsShown h blobs turns → IsShown k blobs turns
-shown_stays h k blobs turns p is = record {
+    → AheadOf turns h k → IsShown h blobs turns → IsShown k blobs turns
+shown_stays h k blobs turns p later is = record {
   turn = is.turn;
   further = is.further;
   first = is.first;
   seen = is.seen;
   begins = prefix_trans is.seen h k is.begins p;
   before = is.before;
+  joined = λ n lt. ahead_chain n is.seen h k (is.joined n lt) (ahead_less n is.turn h k (omega (arith, lt))
+      (later is.turn (subst (λ (ts : List ℕ). has ts is.turn ≡ true) (sym is.first)
+      (has_front (is.turn ∷ []) is.further is.turn (has_one is.turn)))));
   arrived = is.arrived;
 }
 
 looks_stay : (h k : List (Stamped StoreEvent)) (blobs : List Blob) (q : Question) (turns : List ℕ) → IsPrefix h k
-    → LooksAt h blobs q turns → LooksAt k blobs q turns
-looks_stay h k blobs (question.Refused why allow) turns p is = tt
-looks_stay h k blobs (question.Blob r) turns p is = shown_stays h k blobs turns p is
-looks_stay h k blobs (question.Stat refs) turns p is = shown_stays h k blobs turns p is
-looks_stay h k blobs (question.Refs page) turns p is = shown_stays h k blobs turns p is
-looks_stay h k blobs (question.Search query) turns p is = shown_stays h k blobs turns p is
+    → AheadOf turns h k → LooksAt h blobs q turns → LooksAt k blobs q turns
+looks_stay h k blobs (question.Refused why allow) turns p later is = tt
+looks_stay h k blobs (question.Blob r) turns p later is = shown_stays h k blobs turns p later is
+looks_stay h k blobs (question.Stat refs) turns p later is = shown_stays h k blobs turns p later is
+looks_stay h k blobs (question.Refs page) turns p later is = shown_stays h k blobs turns p later is
+looks_stay h k blobs (question.Search query) turns p later is = shown_stays h k blobs turns p later is
 
 reply_stays : (tells : Bool) (accepts : Accepts) (h k : List (Stamped StoreEvent)) (blobs : List Blob)
     (g : List Insertion) (asked : Asked) (kept : ℕ) (turns : List ℕ) (added : List (Stamped StoreEvent))
-    (outcome : Outcome) (text : List ℕ) → IsPrefix h k
+    (outcome : Outcome) (text : List ℕ) → IsPrefix h k → AheadOf turns h k
     → IsReply tells accepts h blobs g asked kept turns added outcome text
     → IsReply tells accepts k blobs g asked kept turns added outcome text
-reply_stays tells accepts h k blobs g (Whole r) kept turns added outcome text p (inl upload) = inl upload
-reply_stays tells accepts h k blobs g (Whole r) kept turns added outcome text p (inr is) =
-    let q = is.2 in inr (is.0, is.1, (q.0, q.1, q.2, looks_stay h k blobs q.0 turns p q.3))
-reply_stays tells accepts h k blobs g (Front b after) kept turns added outcome text p is = is
-reply_stays tells accepts h k blobs g (Head end) kept turns added outcome text p is = is
+reply_stays tells accepts h k blobs g (Whole r) kept turns added outcome text p later (inl upload) = inl upload
+reply_stays tells accepts h k blobs g (Whole r) kept turns added outcome text p later (inr is) =
+    let q = is.2 in inr (is.0, is.1, (q.0, q.1, q.2, looks_stay h k blobs q.0 turns p later q.3))
+reply_stays tells accepts h k blobs g (Front b after) kept turns added outcome text p later is = is
+reply_stays tells accepts h k blobs g (Head end) kept turns added outcome text p later is = is
 
 -- the lemma that the loop rests on
 pub answered_stays : (tells : Bool) (accepts : Accepts) (h k : List (Stamped StoreEvent)) (f g : List Insertion)
     (asked : Asked) (entry : Answered) (text turns : List ℕ) (added : List (Stamped StoreEvent))
-    → IsPrefix h k → IsPrefix f g → IsAnswered tells accepts h f asked entry text turns added
+    → IsPrefix h k → AheadOf turns h k → IsPrefix f g → IsAnswered tells accepts h f asked entry text turns added
     → IsAnswered tells accepts k g asked entry text turns added
-answered_stays tells accepts h k f g asked entry text turns added p q a =
+answered_stays tells accepts h k f g asked entry text turns added p later q a =
     let n = entry.store_count in
     let m = entry.index_count in
     let blobs : take n (arrivals k) ≡ take n (arrivals h) =
@@ -85,20 +99,37 @@ answered_stays tells accepts h k f g asked entry text turns added p q a =
           (subst (λ (z : List Insertion). IsReply tells accepts k
           (take n (arrivals h)) z asked entry.kept turns added entry.outcome text) (sym rows)
           (reply_stays tells accepts h k (take n (arrivals h)) (take m f) asked entry.kept turns added entry.outcome
-          text p a.replied));
+          text p later a.replied));
       cause = cause_stays turns h k entry.outcome p a.cause;
       placed = a.placed;
     }
 
 pub holds_stays : (tells : Bool) (accepts : Accepts) (h k : List (Stamped StoreEvent)) (f g : List Insertion)
     (a : Answer)
-    → IsPrefix h k → IsPrefix f g → AnswerHolds tells accepts h f a → AnswerHolds tells accepts k g a
-holds_stays tells accepts h k f g a p q is =
-    answered_stays tells accepts h k f g a.asked a.entry a.text a.turns a.added p q is
+    → IsPrefix h k → AheadOf a.turns h k → IsPrefix f g → AnswerHolds tells accepts h f a
+    → AnswerHolds tells accepts k g a
+holds_stays tells accepts h k f g a p later q is =
+    answered_stays tells accepts h k f g a.asked a.entry a.text a.turns a.added p later q is
+
+-- what was answered stays so, where what joins comes after the turns of all answers
+pub all_stay : (tells : Bool) (accepts : Accepts) (h k : List (Stamped StoreEvent)) (f g : List Insertion)
+    (answers : List Answer)
+    → IsPrefix h k → AheadOf (flat_map (λ (a : Answer). a.turns) answers) h k → IsPrefix f g
+    → All (AnswerHolds tells accepts h f) answers → All (AnswerHolds tells accepts k g) answers
+all_stay tells accepts h k f g [] p later q each = All-nil (AnswerHolds tells accepts k g)
+all_stay tells accepts h k f g (a ∷ rest) p later q each =
+    let others = flat_map (λ (b : Answer). b.turns) rest in
+    All-cons (AnswerHolds tells accepts k g) a rest
+    (holds_stays tells accepts h k f g a p (λ n e. later n (has_front a.turns others n e)) q
+    (All-head (AnswerHolds tells accepts h f) a rest each))
+    (all_stay tells accepts h k f g rest p (λ n e. later n (has_rest a.turns others n e)) q
+    (All-tail (AnswerHolds tells accepts h f) a rest each))
 
 pub longer_none : (v : Sight) → Longer v v
 longer_none v = record {
   store = prefix_self v.store.history;
+  turns = prefix_self v.store.turns;
+  later = λ n e. ahead_none n v.store.history;
   index = prefix_self v.index.history;
   shown = prefix_self v.index.shown;
   limits = refl;
@@ -108,6 +139,9 @@ longer_none v = record {
 pub longer_chain : (v w x : Sight) → Longer v w → Longer w x → Longer v x
 longer_chain v w x p q = record {
   store = prefix_trans v.store.history w.store.history x.store.history p.store q.store;
+  turns = prefix_trans v.store.turns w.store.turns x.store.turns p.turns q.turns;
+  later = λ n e. ahead_chain n v.store.history w.store.history x.store.history (p.later n e)
+      (q.later n (subst (λ (ts : List ℕ). has ts n ≡ true) p.turns.1 (has_front v.store.turns p.turns.0 n e)));
   index = prefix_trans v.index.history w.index.history x.index.history p.index q.index;
   shown = prefix_trans v.index.shown w.index.shown x.index.shown p.shown q.shown;
   limits = q.limits ∙ p.limits;

@@ -1,17 +1,19 @@
 -- One more answer extends what was served.
 use Rattle.std.proofs.Common.{◌≡◌, ℕ, ◌≤◌, List, [], ◌∷◌, ◌++◌, length, Bool, refl, ap, sym, subst, ◌∙◌, arith}
-use Rattle.std.proofs.Common.{append_assoc, Option, Some, None}
+use Rattle.std.proofs.Common.{append_assoc, All, true, Option, Some, None}
 use Rattle.std.specs.List.{flat_map}
 use Rattle.std.proofs.lemmas.List.{append-nil}
 use Rattle.std.proofs.lemmas.List.Concat.{flat_map-append}
-use Rattle.std.proofs.lemmas.List.Elements.{All-push, All-weaker, All-nil}
+use Rattle.std.proofs.lemmas.List.Elements.{All-push, All-nil}
 use mathlib.Core.List.{map-append}
 use Rattle.edge_base.specs.Edge.{Took, TookFront, Rose, one_more}
 use Rattle.edge_base.proofs.Moves.{Took-chain}
 use Rattle.histories.specs.declared.stamped.Stamped.{Stamped}
 use Rattle.histories.specs.declared.events.StoreEvent.{StoreEvent}
+use Rattle.histories.specs.History.{has}
 use Rattle.histories.specs.Stores.{arrivals}
 use Rattle.histories.proofs.Prefixes.{prefix_length}
+use Rattle.histories.proofs.Growing.{has_front, has_rest}
 use Rattle.histories.proofs.Standing.{arrivals_prefix}
 use Rattle.home_places.specs.Passes.{Sight}
 use Rattle.blob_http.specs.declared.entries.Answered.{Answered}
@@ -19,7 +21,7 @@ use Rattle.blob_http.specs.declared.serving.Ended.{Ended}
 use Rattle.blob_http.specs.declared.serving.Ended.TheVariants as ended
 use Rattle.blob_http.specs.Asked.{Asked}
 use Rattle.blob_http.specs.Serving.{IsAnswered, Handles, Longer, Answer, AnswerHolds, Serves, HasNone, EndCause, Owns}
-use Rattle.blob_http.proofs.Staying.{holds_stays, longer_none, longer_chain, climbs_more, climbs_stay, owns_none}
+use Rattle.blob_http.proofs.Staying.{all_stay, longer_none, longer_chain, climbs_more, climbs_stay, owns_none}
 use Rattle.blob_http.proofs.Staying.{owns_chain}
 
 pub took_none : (w : Option (List ℕ)) → Took w w []
@@ -76,6 +78,16 @@ module _ (tells : Bool) where
     longer = longer_none v;
   }
 
+  -- the answers stay as the pass sees more
+  each_stay : (v w x : Sight) (noted : List Answered → Type 0) (heard : List Asked → Type 0) (wrote : List ℕ → Type 0)
+      (s : Serves tells v w noted heard wrote HasNone) → Longer w x
+      → All (AnswerHolds tells v.index.accepts x.store.history x.index.shown) s.answers
+  each_stay v w x noted heard wrote s longer =
+      let turns = flat_map (λ (b : Answer). b.turns) s.answers in
+      all_stay tells v.index.accepts w.store.history x.store.history w.index.shown x.index.shown s.answers longer.store
+      (λ n e. longer.later n (subst (λ (ts : List ℕ). has ts n ≡ true) (sym s.turns)
+      (has_rest v.store.turns (turns ++ s.rest) n (has_front turns s.rest n e)))) longer.shown s.each
+
   -- one more answer
   pub serves_more : (v w x : Sight) (noted noted' : List Answered → Type 0) (heard heard' : List Asked → Type 0)
       (wrote wrote' : List ℕ → Type 0) (asked : Asked) (entry : Answered) (text : List ℕ)
@@ -93,10 +105,7 @@ module _ (tells : Bool) where
         heard = subst heard' (sym (map-append (λ (b : Answer). b.asked) s.answers (a ∷ []))) (more_heard _ s.heard);
         written = subst wrote' (sym (flat_push (λ (b : Answer). b.text) s.answers a)) (more_text _ s.written);
         each = All-push (AnswerHolds tells v.index.accepts x.store.history x.index.shown) s.answers a
-            (All-weaker (AnswerHolds tells v.index.accepts w.store.history w.index.shown)
-            (AnswerHolds tells v.index.accepts x.store.history x.index.shown)
-            (λ b p. holds_stays tells v.index.accepts w.store.history x.store.history w.index.shown x.index.shown b
-            h.longer.store h.longer.shown p) s.answers s.each)
+            (each_stay v w x noted heard wrote s h.longer)
             (subst (λ acc. IsAnswered tells acc x.store.history x.index.shown asked entry text h.turns h.added) same
             h.answered);
         climbs = climbs_more (length (arrivals v.store.history)) (length v.index.shown) s.answers
@@ -130,10 +139,7 @@ module _ (tells : Bool) where
     noted = e _ s.noted;
     heard = f _ s.heard;
     written = g _ s.written;
-    each = All-weaker (AnswerHolds tells v.index.accepts w.store.history w.index.shown)
-        (AnswerHolds tells v.index.accepts x.store.history x.index.shown)
-        (λ b p. holds_stays tells v.index.accepts w.store.history x.store.history w.index.shown x.index.shown b
-        longer.store longer.shown p) s.answers s.each;
+    each = each_stay v w x noted heard wrote s longer;
     climbs = climbs_stay (length (arrivals v.store.history)) (length v.index.shown) s.answers
         (length (arrivals w.store.history)) (length w.index.shown)
         (length (arrivals x.store.history)) (length x.index.shown) s.climbs

@@ -233,6 +233,8 @@ upload_said boundary given parts wire x closes (came.Ended ends.ReadFault)
 added_longer : (parts : List Part) (next : Part → Type 0) (c : Came) (v w : Sight) → Adds parts next c v w → Longer v w
 added_longer parts next c v w adds = record {
   store = adds.grew.longer;
+  turns = (adds.grew.further, sym adds.grew.drawn);
+  later = adds.grew.later;
   index = ([], append-nil v.index.history ∙ sym (ap (λ i. i.history) adds.index));
   shown = ([], append-nil v.index.shown ∙ sym (ap (λ i. i.shown) adds.index));
   limits = adds.limits;

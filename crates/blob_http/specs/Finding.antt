@@ -1,11 +1,11 @@
 -- What a search finds of what was put before it.
-use Rattle.std.specs.Prelude.{◌≡◌, ◌<◌, ℕ, List, ◌++◌, take, true, Bool, Some, Contains, slice_get}
+use Rattle.std.specs.Prelude.{◌≡◌, ◌<◌, ℕ, List, take, true, Bool, Some, Contains, slice_get}
 use Rattle.claim_verify.specs.Verifier.{Accepts}
 use Rattle.search_query.specs.declared.query.Query.{Query}
 use Rattle.histories.specs.declared.stamped.Stamped.{Stamped}
 use Rattle.histories.specs.declared.events.StoreEvent.{StoreEvent}
 use Rattle.histories.specs.declared.events.StoreEvent.TheVariants.{Put}
-use Rattle.histories.specs.History.{stamp, Later}
+use Rattle.histories.specs.History.{stamp}
 use Rattle.histories.specs.Stores.{Blob, arrivals}
 use Rattle.histories.specs.Indexes.{Insertion, has_number}
 use Rattle.http_wire.specs.Speaking.{Request}
@@ -26,17 +26,12 @@ pub record IsFound (h : List (Stamped StoreEvent)) (g : List Insertion) (count :
   pub arrived : slice_get (arrivals h) number ≡ Some blob
   pub inserted : has_number number g ≡ true
 
--- what joined the history behind its front has later turns
-abbrev pub JoinedLater : ℕ → List (Stamped StoreEvent) → List (Stamped StoreEvent) → Type 0
-JoinedLater turn front h = (rest : List (Stamped StoreEvent)) → front ++ rest ≡ h → Later turn rest
-
--- The first turn shows a front of the history, and each blob that was put there is found. Where what joined the history
--- behind that front has later turns, that is each blob that was put before this turn, by whomever.
+-- The first turn shows a front of the history, and each blob that was put there is found. That is each blob that was
+-- put before this turn, by whomever.
 pub record FindsShown (h : List (Stamped StoreEvent)) (g : List Insertion) (count : ℕ) (turns : List ℕ) : Type 0 where
   pub shown : IsShown h (take count (arrivals h)) turns
   pub seen : (turn : ℕ) (blob : Blob) → IsPutAt shown.seen turn blob → IsFound h g count blob
-  pub earlier : JoinedLater shown.turn shown.seen h → (turn : ℕ) (blob : Blob) → IsPutAt h turn blob
-      → turn < shown.turn → IsFound h g count blob
+  pub earlier : (turn : ℕ) (blob : Blob) → IsPutAt h turn blob → turn < shown.turn → IsFound h g count blob
 
 -- each search that was answered as is defined finds so
 abbrev pub SearchesFind : Type 0

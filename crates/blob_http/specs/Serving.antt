@@ -11,7 +11,7 @@ use Rattle.answer_text.specs.declared.refusal.Refusal.TheVariants as refusal
 use Rattle.histories.specs.declared.stamped.Stamped.{Stamped}
 use Rattle.histories.specs.declared.events.StoreEvent.{StoreEvent}
 use Rattle.histories.specs.declared.events.StoreEvent.TheVariants as store
-use Rattle.histories.specs.History.{stamp, has, own, Before}
+use Rattle.histories.specs.History.{stamp, has, own, Before, Ahead, AheadOf}
 use Rattle.histories.specs.Stores.{Blob, arrivals}
 use Rattle.histories.specs.Indexes.{Insertion}
 use Rattle.home_places.specs.Passes.{Sight, Caused, IsTrouble}
@@ -110,7 +110,7 @@ IsFrontUpload blobs b after kept turns added outcome text = (u : Kept b.head b.s
     × AddsParts u.boundary b.given u.parts came added)
 
 -- The first turn shows what has arrived: these blobs are the arrivals of the history before it, which begins what is
--- seen in the end, and has smaller turns alone.
+-- seen in the end, and has smaller turns alone. What joined it since came in this turn or in later ones.
 pub record IsShown (h : List (Stamped StoreEvent)) (blobs : List Blob) (turns : List ℕ) : Type 0 where
   pub turn : ℕ
   pub further : List ℕ
@@ -118,6 +118,7 @@ pub record IsShown (h : List (Stamped StoreEvent)) (blobs : List Blob) (turns : 
   pub seen : List (Stamped StoreEvent)
   pub begins : IsPrefix seen h
   pub before : Before turn seen
+  pub joined : (n : ℕ) → n < turn → Ahead n seen h
   pub arrived : blobs ≡ arrivals seen
 
 -- what is answered from the store draws a turn of it first, and so does a search; it is over the blobs that this shows
@@ -162,9 +163,12 @@ pub record IsAnswered (tells : Bool) (accepts : Accepts) (h : List (Stamped Stor
   pub cause : HasCauseIn turns h entry.outcome
   pub placed : All (λ (s : Stamped StoreEvent). has turns s.turn ≡ true) added
 
--- what a pass has seen grows
+-- What a pass has seen grows, and so do the turns that it drew. What joined the history of the store came after each
+-- turn that it had drawn before.
 pub record Longer (v w : Sight) : Type 0 where
   pub store : IsPrefix v.store.history w.store.history
+  pub turns : IsPrefix v.store.turns w.store.turns
+  pub later : AheadOf v.store.turns v.store.history w.store.history
   pub index : IsPrefix v.index.history w.index.history
   pub shown : IsPrefix v.index.shown w.index.shown
   pub limits : w.store.limits ≡ v.store.limits

@@ -1,5 +1,5 @@
 -- What a worker leaves, connection by connection.
-use Rattle.std.proofs.Common.{◌≡◌, ℕ, ◌+◌, ◌≤◌, ◌⊎◌, inl, inr, ⊎_elim, true, false, refl, ◌∙◌, arith, Option, Some, None}
+use Rattle.std.proofs.Common.{◌≡◌, ℕ, ◌+◌, ◌≤◌, ◌⊎◌, inl, inr, ⊎_elim, true, false, refl, sym, ◌∙◌, arith, Option, Some, None}
 use Rattle.std.specs.Option.{option_map}
 use Rattle.edge_base.specs.Edge.{Rose, one_more}
 use Rattle.home_places.specs.Passes.{Sight}
@@ -48,6 +48,8 @@ goes_fails a b c k later same rose g = record {
 pub works_longer : (n i : ℕ) (v w : Sight) → Works n i v w → Longer v w
 works_longer n i v w works = record {
   store = works.store.longer;
+  turns = (works.store.further, sym works.store.drawn);
+  later = works.store.later;
   index = works.index.longer;
   shown = works.shown;
   limits = works.limits;

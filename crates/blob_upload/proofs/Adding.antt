@@ -70,6 +70,7 @@ wider parts next came v w g = record {
   each_is = All-weaker (λ (s : Stamped StoreEvent). IsArrivalOf parts s.entry)
       (λ (s : Stamped StoreEvent). IsAddedBy parts next came s.entry) (λ s is. arrived s.entry is) g.added g.each_is;
   placed = g.placed;
+  later = g.later;
 }
   where
     arrived : (e : StoreEvent) → IsArrivalOf parts e → IsAddedBy parts next came e

@@ -161,6 +161,7 @@ of_more parts part v w g = record {
       (λ (s : Stamped StoreEvent). IsArrivalOf (parts ++ part ∷ []) s.entry)
       (λ s is. wider s.entry is) g.added g.each_is;
   placed = g.placed;
+  later = g.later;
 }
   where
     wider : (e : StoreEvent) → IsArrivalOf parts e → IsArrivalOf (parts ++ part ∷ []) e

@@ -10,7 +10,8 @@ use Rattle.histories.specs.History.{events, stamped, rises, own, Within, Drawn, 
 use Rattle.histories.specs.Stores.{Blob, arrivals}
 use Rattle.histories.specs.Indexes.{inserts}
 use Rattle.histories.proofs.Prefixes.{prefix_self}
-use Rattle.histories.proofs.Rising.{own_turned, rises_more, drawn_append, within_append, within_stamped, within_more}
+use Rattle.histories.proofs.Rising.{own_turned, rises_more, drawn_append, drawn_has, ahead_none, ahead_turned}
+use Rattle.histories.proofs.Rising.{within_append, within_stamped, within_more}
 use Rattle.histories.proofs.Standing.{inserts_prefix}
 use Rattle.home_places.specs.Showing.{shown_alone}
 use Rattle.home_places.specs.Passes.{Sight, StoreTurned, IndexTurned, StoreCall, Spends}
@@ -64,6 +65,8 @@ module _ {E : Type 0} where
     others = refl;
     owned = subst (λ (ts : List ℕ). own ts (h ++ stamped (n + 1) e) ≡ own (upto n) h ++ stamped (n + 1) e) (sym (upto_next n))
         (own_turned n (upto n) h h e refl (within_of n h w));
+    later = λ t is. ahead_turned t (n + 1) h h e
+        (let le = drawn_has n (upto n) t (drawn_upto n n (omega arith)) is in omega arith) (ahead_none t h);
     rising = turn_rises n h e w r;
   }
 

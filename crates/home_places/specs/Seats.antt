@@ -6,7 +6,7 @@ use Rattle.histories.specs.declared.stamped.Stamped.{Stamped}
 use Rattle.histories.specs.declared.events.StoreEvent.{StoreEvent}
 use Rattle.histories.specs.declared.events.IndexEvent.{IndexEvent}
 use Rattle.histories.specs.declared.events.IndexEvent.TheVariants.{Insert}
-use Rattle.histories.specs.History.{events, stamp, rises, own, IsLonger, Ran, Grew}
+use Rattle.histories.specs.History.{events, stamp, rises, own, AheadOf, IsLonger, Ran, Grew}
 use Rattle.histories.specs.Stores.{Blob, StoreLimits, arrivals, is_legal_store}
 use Rattle.histories.specs.Indexes.{Insertion, inserts, is_legal_index}
 
@@ -69,17 +69,21 @@ IndexGrew each v w = Grew each v.history v.turns w.history w.turns
 -- ---- joins
 
 -- Two seats of a store are joined. One of their histories begins the other, and the seat left has seen the longer one.
--- It has the turns of both, and no entry stands under these that their seat hadn't seen.
+-- It has the turns of both. No entry stands under these that their seat hadn't seen, and what their seat hadn't seen
+-- came after them.
 pub record StoreJoin (one other left : StoreSight) : Type 0 where
   pub longer : IsLonger one.history other.history left.history
   pub turns : left.turns ≡ one.turns ++ other.turns
   pub own_one : own one.turns left.history ≡ own one.turns one.history
   pub own_other : own other.turns left.history ≡ own other.turns other.history
+  pub later_one : AheadOf one.turns one.history left.history
+  pub later_other : AheadOf other.turns other.history left.history
   pub same_limits : other.limits ≡ one.limits
   pub limits : left.limits ≡ one.limits
 
 -- Two seats of an index are joined, in any number of turns that add nothing. The history that the seat left has seen
--- begins with the longer one of theirs, and the Inserts shown to either stand in it.
+-- begins with the longer one of theirs, and the Inserts shown to either stand in it. What a seat hadn't seen came after
+-- the turns that it had drawn.
 pub record IndexJoin (one other left : IndexSight) : Type 0 where
   pub longer : List (Stamped IndexEvent)
   pub of_both : IsLonger one.history other.history longer
@@ -89,6 +93,8 @@ pub record IndexJoin (one other left : IndexSight) : Type 0 where
   pub own_one : own one.turns left.history ≡ own one.turns one.history
   pub own_other : own other.turns left.history ≡ own other.turns other.history
   pub own_further : own further left.history ≡ []
+  pub later_one : AheadOf one.turns one.history left.history
+  pub later_other : AheadOf other.turns other.history left.history
   pub shown_one : IsPrefix one.shown (inserts left.history)
   pub shown_other : IsPrefix other.shown (inserts left.history)
   pub same_keys : other.accepts ≡ one.accepts

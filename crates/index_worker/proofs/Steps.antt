@@ -36,6 +36,7 @@ module _ {E : Type 0} where
     owned = ap (λ (h : List (Stamped E)). own t h) hist ∙ (ap (λ (ts : List ℕ). own ts a) turns ∙ sym (append-nil (own s a)));
     each_is = All-nil (λ (x : Stamped E). each x.entry);
     placed = All-nil (λ (x : Stamped E). has [] x.turn ≡ true);
+    later = λ n e. ([], append-nil a ∙ sym hist, tt);
   }
 
   -- less is said of the entries
@@ -48,6 +49,7 @@ module _ {E : Type 0} where
     owned = g.owned;
     each_is = All-weaker (λ (x : Stamped E). each x.entry) (λ (x : Stamped E). other x.entry) (λ x p. f x.entry p) g.added g.each_is;
     placed = g.placed;
+    later = g.later;
   }
 
 pub works_none : (v : Sight) → Works 0 0 v v

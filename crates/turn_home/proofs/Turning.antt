@@ -7,7 +7,7 @@ use Rattle.claim_verify.specs.Verifier.{Accepts}
 use Rattle.search_query.specs.declared.query.Query.{Query}
 use Rattle.histories.specs.declared.stamped.Stamped.{Stamped}
 use Rattle.histories.specs.declared.events.IndexEvent.{IndexEvent}
-use Rattle.histories.specs.History.{events, stamped, own, IsLonger, Ran}
+use Rattle.histories.specs.History.{events, stamped, own, AheadOf, IsLonger, Ran}
 use Rattle.histories.specs.Indexes.{inserts}
 use Rattle.histories.proofs.Prefixes.{prefix_self, prefix_trans}
 use Rattle.histories.proofs.Growing.{ran_grew}
@@ -49,8 +49,8 @@ own_none (e ∷ es) = own_none es
 
 -- two seats are joined
 pub joined : (x y z : List (Stamped IndexEvent)) (s t u : List ℕ) (a b c : Accepts) → IsLonger x y z → u ≡ s ++ t
-    → own s z ≡ own s x → own t z ≡ own t y → b ≡ a → c ≡ a → IndexJoin (shown_alone x s a) (shown_alone y t b) (shown_alone z u c)
-joined x y z s t u a b c longer turns one other same left = record {
+    → own s z ≡ own s x → own t z ≡ own t y → AheadOf s x z → AheadOf t y z → b ≡ a → c ≡ a → IndexJoin (shown_alone x s a) (shown_alone y t b) (shown_alone z u c)
+joined x y z s t u a b c longer turns one other later_one later_other same left = record {
   longer = z;
   of_both = longer;
   begins = prefix_self z;
@@ -59,6 +59,8 @@ joined x y z s t u a b c longer turns one other same left = record {
   own_one = one;
   own_other = other;
   own_further = own_none z;
+  later_one = later_one;
+  later_other = later_other;
   shown_one = inserts_prefix x z (⊎_elim (λ (p : (z ≡ x) × IsPrefix y x). subst (λ w. IsPrefix x w) (sym p.0) (prefix_self x)) (λ (p : (z ≡ y) × IsPrefix x y). subst (λ w. IsPrefix x w) (sym p.0) p.1) longer);
   shown_other = inserts_prefix y z (⊎_elim (λ (p : (z ≡ x) × IsPrefix y x). subst (λ w. IsPrefix y w) (sym p.0) p.1) (λ (p : (z ≡ y) × IsPrefix x y). subst (λ w. IsPrefix y w) (sym p.0) (prefix_self y)) longer);
   same_keys = same;

@@ -1,7 +1,7 @@
 //! How a lock is made, how its seats are split and joined, and how a job is run.
 ghost use Rattle.std.specs.Prelude.{◌≡◌, ◌++◌, [], ◌∷◌, ℕ, List, map, true, IfOk, IfErr, IsOk, Some};
 ghost use Rattle.histories.specs.declared.stamped.Stamped.{Stamped};
-ghost use Rattle.histories.specs.History.{stamp, own, IsLonger, Ran};
+ghost use Rattle.histories.specs.History.{stamp, own, AheadOf, IsLonger, Ran};
 ghost use Rattle.turn_cell.specs.Line.{Caught};
 ghost use Rattle.turn_cell.specs.Seats.{IsSeatOf, about, made_of, seen, turns};
 
@@ -67,7 +67,8 @@ impl<T: Told> Turn<T> {
     }
 
     /// Joins a seat to another one, which then has seen the longer of their histories and has the turns of both. In the
-    /// longer one no entry stands under the turns of either that it hadn't seen itself. It takes no turn.
+    /// longer one no entry stands under the turns of either that it hadn't seen itself, and what it hadn't seen came
+    /// after all of its turns. It takes no turn.
     pub fn join(
         &self,
         into: &mut TurnSeat<T, T::Entry, T::About>,
@@ -80,6 +81,8 @@ impl<T: Told> Turn<T> {
         ensures turns { turns into.new ≡ turns into.old ++ turns other }
         ensures own_one { own (turns into.old) (seen into.new) ≡ own (turns into.old) (seen into.old) }
         ensures own_other { own (turns other) (seen into.new) ≡ own (turns other) (seen other) }
+        ensures later_one { AheadOf (turns into.old) (seen into.old) (seen into.new) }
+        ensures later_other { AheadOf (turns other) (seen other) (seen into.new) }
         ensures about { about into.new ≡ about into.old }
         ensures same { about other ≡ about into.old }
     {
@@ -91,8 +94,9 @@ impl<T: Told> Turn<T> {
     }
 
     /// Does a job on the value in one turn, as soon as those that were drawn before have been passed on. The seat has
-    /// then seen the history before the turn, and the entry that the turn added. A thread that waits for its turn sleeps
-    /// after a few looks. Once 2^63 turns have been drawn no further one is, and the call doesn't return.
+    /// then seen the history before the turn, and the entry that the turn added. What it hadn't seen before came after
+    /// all turns that it had drawn before. A thread that waits for its turn sleeps after a few looks. Once 2^63 turns
+    /// have been drawn no further one is, and the call doesn't return.
     pub fn run<J: Job<T>, R: Wait>(
         &self,
         rt: &R,
@@ -116,8 +120,8 @@ impl<T: Told> Turn<T> {
     }
 
     /// Ends the lock and hands its value back, which needn't be `Drop`. The value stands for a history that begins with
-    /// what the seat has seen, and in which nothing further stands under the turns of the seat. It draws a turn for it,
-    /// and like `run` doesn't return once 2^63 were drawn.
+    /// what the seat has seen, in which nothing further stands under the turns of the seat, and what follows came after
+    /// these. It draws a turn for it, and like `run` doesn't return once 2^63 were drawn.
     pub fn into_inner<R: Wait>(self, rt: &R, seat: TurnSeat<T, T::Entry, T::About>) -> T
         requires { IsSeatOf self seat }
         ensures about { about seat ≡ Some (T.about result) }

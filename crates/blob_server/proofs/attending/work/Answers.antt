@@ -40,3 +40,8 @@ connections-preserved g c =
       ◌∙◌ {A = ℕ} e.1 i.6,
       (i.7.0 + 1, omega (arith, before, e.0), goes_more (counts c.args.listener.now) (counts c.connections.listener) (counts c.serve_next.new.listener) i.7.0 s.later (s.some some) i.7.2),
     )
+
+pub returns-then-not-serve_next-clause-longer : goal.returns-then-not-serve_next-clause-longer
+returns-then-not-serve_next-clause-longer g c =
+    longer_chain (g.H.Home.sight c.args.pass.now) (g.H.Home.sight c.connections.pass)
+    (g.H.Home.sight c.serve_next.new.pass) c.connections.invariant.3 c.serve_next.ensures.longer

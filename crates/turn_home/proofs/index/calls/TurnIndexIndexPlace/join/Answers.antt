@@ -29,4 +29,4 @@ returns-clause-join g c =
     let join = c.join.ensures in
     let accepts = accepts_of g.V.Verifier.accepts in
     joined (seen one) (seen other) (seen left) (turns one) (turns other) (turns left) (accepts (about one)) (accepts (about other)) (accepts (about left))
-    join.longer join.turns join.own_one join.own_other (ap accepts join.same) (ap accepts join.about)
+    join.longer join.turns join.own_one join.own_other join.later_one join.later_other (ap accepts join.same) (ap accepts join.about)
