@@ -28,24 +28,29 @@ use Rattle.blob_upload.specs.declared.came.Came.TheVariants.{Memory, Ended}
 use Rattle.blob_upload.specs.declared.uploading.Reading.{Reading}
 use Rattle.blob_upload.specs.Faults.{most_bytes, came_of_put, came_of_part, came_of_wire}
 use Rattle.blob_upload.specs.Puts.{EndsBy}
-use Rattle.blob_upload.specs.Ends.{StopsAt, IsSound, Reads, StopsIn, EndsShort, Ends}
+use Rattle.blob_upload.specs.Ends.{StopsAt, IsFed, IsSound, Reads, StopsIn, EndsShort, Ends}
 use Rattle.blob_upload.specs.Uploads.{Uploads}
 use Rattle.blob_upload.specs.Taking.{cut_of, Going, TakesPiece, came_of_end, Finishes}
 use Rattle.blob_upload.proofs.Putting.{keeps_none}
 
 -- ---- before the first byte
 
+fed_none : (boundary : List ℕ) → IsFed boundary [] (fresh boundary)
+fed_none boundary = record { start = refl; fed = refl; last = record { passed = []; whole = refl } }
+
 pub going_none : (boundary : List ℕ) (kept : List (List ℕ × ℕ)) (v : Sight)
     → Going boundary kept v [] (fresh boundary) None kept v
 going_none boundary kept v = record {
   tokens = [];
   tells = λ more tokens end gives. gives;
+  is_fed = fed_none boundary;
   took = record { parts = []; told = refl; is_named = tt; keeps = keeps_none kept v };
 }
 
 pub sound_none : (boundary : List ℕ) → IsSound (fresh boundary)
 sound_none boundary =
-    ((fresh_waits boundary (fresh boundary).start (fresh boundary).held refl refl).waits, λ fault is. absurd cc)
+    let is = fresh_waits boundary (fresh boundary).start (fresh boundary).held refl refl in
+    (is.waits, λ fault is. absurd cc, is.passable)
 
 gave_none : (x : Option (List ℕ)) → Gave x x []
 gave_none None = refl
@@ -69,6 +74,10 @@ part_otherwise BadBoundary end is = absurd cc
 part_otherwise (Bad at) end is = absurd cc
 part_otherwise (TooLong limit) end is = absurd cc
 part_otherwise NoMemory end is = absurd cc
+
+end_otherwise : (last : End) (end : WireEnd) → came_of_end last ≡ Ended end → ⊥
+end_otherwise (Ok closed) end is = absurd cc
+end_otherwise (Err fault) end is = part_otherwise fault end is
 
 last_otherwise : (answer : Result Put PutFault) (came : Came) (end : WireEnd) → EndsBy answer came → came ≡ Ended end
     → ⊥
@@ -134,6 +143,7 @@ no_room boundary left wire v kept = record {
       is_named = tt;
       reader = fresh boundary;
       tells = λ more tokens end gives. gives;
+      is_fed = fed_none boundary;
       sound = sound_none boundary;
     };
   }) (StopsIn.AtToken [] (record {
@@ -187,6 +197,7 @@ module _ (boundary : List ℕ) (left left' left'' : Option (List ℕ)) (wire wir
     reader = reading.parts;
     tells = subst (λ ts. Tells (fresh boundary) so_far.given ts reading.parts) so_far.going.took.told
         so_far.going.tells;
+    is_fed = so_far.going.is_fed;
     sound = so_far.sound;
   }
 
@@ -216,6 +227,12 @@ module _ (boundary : List ℕ) (left left' left'' : Option (List ℕ)) (wire wir
   never_ended piece x kept'' reading' came end takes is =
       let halted = takes boundary kept v so_far.given so_far.count so_far.going in
       stops_otherwise boundary (so_far.given ++ piece) halted.parts came halted.middle x end halted.stops is
+
+  -- nor at the body's end
+  pub never_finished : (came : Came) (end : WireEnd) → Finishes reading.parts came → came ≡ Ended end → ⊥
+  never_finished came end finishes is =
+      let finished = finishes boundary so_far.given so_far.going.tokens so_far.going.tells so_far.sound in
+      end_otherwise (finished.0) end (sym (finished.2) ∙ is)
 
   -- no more of the body is read
   pub uploading_breaks : (end : WireEnd) → moves [] → BodyEnds (to_come wire'' left'') wire''.body wire''.begun end

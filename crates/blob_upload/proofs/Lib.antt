@@ -8,3 +8,4 @@ pub mod Fitting
 pub mod Adding
 pub mod Coming
 pub mod Counting
+pub mod SoFar

@@ -8,8 +8,8 @@ use Rattle.multipart_read.specs.declared.events.PartFault.{PartFault}
 use Rattle.multipart_read.specs.declared.events.PartFault.TheVariants.{BadBoundary, Bad, TooLong, NoMemory}
 use Rattle.multipart_read.specs.declared.steps.Stage.TheVariants as stages
 use Rattle.multipart_read.specs.Tokens.{Token}
-use Rattle.multipart_read.specs.Body.{Rest, Waits}
-use Rattle.multipart_read.specs.Reader.{Reader, fresh, Gives, Tells, IsBody}
+use Rattle.multipart_read.specs.Body.{Rest, Waits, Passable}
+use Rattle.multipart_read.specs.Reader.{Reader, fresh, Gives, Tells, IsBody, AreLast}
 use Rattle.multipart_read.specs.PartLists.{Part, cut_tokens}
 use Rattle.multipart_read.proofs.Unique.{pieces_join}
 use Rattle.multipart_read.proofs.PartLaws.{told_in_order}
@@ -19,7 +19,7 @@ use Rattle.blob_upload.specs.declared.came.Came.{Came}
 use Rattle.blob_upload.specs.declared.came.Came.TheVariants.{Refused, Memory}
 use Rattle.blob_upload.specs.declared.opened.Opened.{Opened}
 use Rattle.blob_upload.specs.Faults.{most_bytes, came_of_part}
-use Rattle.blob_upload.specs.Ends.{StopsAt, Told, IsSound, Faulty, StopsIn}
+use Rattle.blob_upload.specs.Ends.{StopsAt, Told, IsFed, IsSound, Faulty, StopsIn}
 use Rattle.blob_upload.specs.Taking.{cut_of, After, IsInOrder, Takes, Going, Halted, Feeds, SoundAtLast}
 
 -- ---- nothing that follows a stop changes it
@@ -77,6 +77,22 @@ refused_ends reader fault more is =
     subst (λ stage. Rest reader.start (reader.fed + length more) stage (reader.held ++ more) [] (Err fault)) (sym is)
     (refl, refl)
 
+-- one more piece was fed
+fed_more : (boundary given piece : List ℕ) (r s : Reader) → IsFed boundary given r → s.start ≡ r.start
+    → s.fed ≡ r.fed + length piece → AreLast (r.held ++ piece) s.held → IsFed boundary (given ++ piece) s
+fed_more boundary given piece r s before start fed last =
+    let first = (fresh boundary).held in
+    record {
+      start = start ∙ before.start;
+      fed = let all = before.fed in omega (arith, fed, all, length-append given piece);
+      last = record {
+        passed = before.last.passed ++ last.passed;
+        whole = sym (append_assoc first given piece) ∙ ap (λ bytes. bytes ++ piece) before.last.whole
+            ∙ append_assoc before.last.passed r.held piece ∙ ap (λ bytes. before.last.passed ++ bytes) last.whole
+            ∙ sym (append_assoc before.last.passed last.passed s.held);
+      };
+    }
+
 module _ (piece : List ℕ) (r s : Reader) (o p : Option Opened) (k l : List (List ℕ × ℕ)) (v w : Sight) where
   -- the tokens told so far, and those of the piece
   abbrev joined : (boundary given : List ℕ) (tokens these : List Token) → Tells (fresh boundary) given tokens r
@@ -92,14 +108,20 @@ module _ (piece : List ℕ) (r s : Reader) (o p : Option Opened) (k l : List (Li
 
   -- what it told was taken
   pub feed_takes : (these taken : List Token) (more : Bool) → taken ≡ these → Tells r piece these s
+      → s.start ≡ r.start → s.fed ≡ r.fed + length piece → AreLast (r.held ++ piece) s.held
       → Takes taken o p k l v w (Ok tt) → SoundAtLast more s → Feeds SoundAtLast piece r s o p k l v w (Ok more)
-  feed_takes these taken more same tells take sound boundary first u given short going =
+  feed_takes these taken more same tells start fed last take sound boundary first u given short going =
       let takes : Takes these o p k l v w (Ok tt) = subst (λ ts. Takes ts o p k l v w (Ok tt)) same take in
       let all = joined boundary given going.tokens these going.tells tells in
       let order : IsInOrder (going.tokens ++ (these ++ [])) =
       subst IsInOrder (append_assoc going.tokens these [])
       (in_order boundary (given ++ piece) (going.tokens ++ these) all) in (
-        record { tokens = going.tokens ++ these; tells = all; took = takes first u going.tokens [] order going.took },
+        record {
+          tokens = going.tokens ++ these;
+          tells = all;
+          is_fed = fed_more boundary given piece r s going.is_fed start fed last;
+          took = takes first u going.tokens [] order going.took;
+        },
         sound,
       )
 
@@ -128,10 +150,13 @@ module _ (piece : List ℕ) (r s : Reader) (o p : Option Opened) (k l : List (Li
       }
 
 -- no fault waits behind what told nothing
-pub sound_at_last : (s : Reader) (count n : ℕ) → count ≡ n → Waits s.start s.stage s.held
+pub sound_at_last : (s : Reader) (count n : ℕ) → count ≡ n → Waits s.start s.stage s.held → Passable s.stage
     → ((fault : PartFault) → s.stage ≡ stages.Refused fault → 0 < n) → SoundAtLast (ltb 0 count) s
-sound_at_last s count n is waits some none =
-    (waits, λ fault refused. false≢true (sym none ∙ lt-ltb 0 count (omega (arith, some fault refused, is))))
+sound_at_last s count n is waits passable some none = (
+  waits,
+  λ fault refused. false≢true (sym none ∙ lt-ltb 0 count (omega (arith, some fault refused, is))),
+  passable,
+)
 
 -- the piece has a fault
 module _ (piece : List ℕ) (r s : Reader) (o : Option Opened) (k : List (List ℕ × ℕ)) (v : Sight) where
@@ -265,6 +290,7 @@ module _ (piece : List ℕ) (n taken : ℕ) (within : n ≡ min (length piece) (
                 is_named = after.0.took.is_named;
                 reader = s;
                 tells = subst (λ ts. Tells (fresh boundary) front ts s) after.0.took.told after.0.tells;
+                is_fed = after.0.is_fed;
                 sound = after.1;
               }) refl refl;
         }

@@ -11,8 +11,8 @@ use Rattle.http_wire.specs.Wires.{WireView, BodyEnds}
 use Rattle.multipart_read.specs.declared.events.PartFault.{PartFault}
 use Rattle.multipart_read.specs.declared.steps.Stage.TheVariants as stages
 use Rattle.multipart_read.specs.Tokens.{Token, named}
-use Rattle.multipart_read.specs.Body.{Waits}
-use Rattle.multipart_read.specs.Reader.{Reader, fresh, Tells, IsBody}
+use Rattle.multipart_read.specs.Body.{Waits, Passable}
+use Rattle.multipart_read.specs.Reader.{Reader, fresh, Tells, IsBody, AreLast}
 use Rattle.multipart_read.specs.PartLists.{Part, part_tokens, Cut, between, inside, cut_tokens, IsMultipart}
 use Rattle.home_places.specs.Passes.{Sight}
 use Rattle.answer_text.specs.declared.refusal.Refusal.TheVariants.{BadRef, TooLong}
@@ -48,10 +48,16 @@ abbrev pub IsNamed : Cut → Type 0
 IsNamed between = Unit {0}
 IsNamed (inside name front) = is_blobref name ≡ true
 
--- no fault has come, and the bytes that wait are few and may become a mark or a head
+-- a reader of a body with this boundary, which was fed these bytes: those that wait are the last of them
+pub record IsFed (boundary given : List ℕ) (reader : Reader) : Type 0 where
+  pub start : reader.start ≡ (fresh boundary).start
+  pub fed : reader.fed ≡ length given
+  pub last : AreLast ((fresh boundary).held ++ given) reader.held
+
+-- no fault has come, no limit was passed, and the bytes that wait are few and may become a mark or a head
 abbrev pub IsSound : Reader → Type 0
 IsSound reader = Waits reader.start reader.stage reader.held
-    × ((fault : PartFault) → reader.stage ≡ stages.Refused fault → ⊥)
+    × ((fault : PartFault) → reader.stage ≡ stages.Refused fault → ⊥) × Passable reader.stage
 
 -- all of the bytes, within the limit, tell these parts and the front of a further one, and no fault
 pub record Reads (boundary given : List ℕ) (parts : List Part) : Type 0 where
@@ -60,6 +66,7 @@ pub record Reads (boundary given : List ℕ) (parts : List Part) : Type 0 where
   pub is_named : IsNamed cut
   pub reader : Reader
   pub tells : Tells (fresh boundary) given (flat_map part_tokens parts ++ cut_tokens cut) reader
+  pub is_fed : IsFed boundary given reader
   pub sound : IsSound reader
 
 -- the body that begins so has these parts and then this fault, however it goes on

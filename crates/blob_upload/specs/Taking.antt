@@ -14,7 +14,7 @@ use Rattle.blob_upload.specs.declared.opened.Opened.{Opened}
 use Rattle.blob_upload.specs.declared.uploading.Reading.{Reading}
 use Rattle.blob_upload.specs.Faults.{most_bytes, came_of_part}
 use Rattle.blob_upload.specs.Puts.{Keeps, LastPut}
-use Rattle.blob_upload.specs.Ends.{StopsAt, IsNamed, IsSound, StopsIn}
+use Rattle.blob_upload.specs.Ends.{StopsAt, IsNamed, IsFed, IsSound, StopsIn}
 
 -- ---- one part
 
@@ -84,6 +84,7 @@ pub record Going (boundary : List ℕ) (kept : List (List ℕ × ℕ)) (v : Sigh
     (opened : Option Opened) (kept' : List (List ℕ × ℕ)) (w : Sight) : Type 0 where
   pub tokens : List Token
   pub tells : Tells (fresh boundary) given tokens reader
+  pub is_fed : IsFed boundary given reader
   pub took : Took kept v tokens opened kept' w
 
 -- the upload ends inside these bytes

@@ -1,7 +1,7 @@
 //! Laws of uploads.
 ghost use Rattle.blob_upload.specs.Adds.{UploadsAdd};
 ghost use Rattle.blob_upload.specs.Comes.{PartsAreFew, UploadsCome};
-ghost use Rattle.blob_upload.specs.Laws.{ContentsFit, ToldFirst};
+ghost use Rattle.blob_upload.specs.Laws.{ContentsFit, SoundSoFar, ToldFirst};
 
 /// However an upload ends, the store's history only grows. Of the turns drawn there is one for each part that was kept,
 /// and one for a part that was tried at the end. Under them stand arrivals of parts, and the entry that shows that the
@@ -24,4 +24,9 @@ pub fn uploads_come()
 pub fn fronts_of_bodies()
     ensures first { ToldFirst }
     ensures fit { ContentsFit }
+{}
+
+/// Where an upload hasn't ended, no whole part of the bytes that came has a fault, and none of their limits was passed.
+pub fn uploads_so_far()
+    ensures { SoundSoFar }
 {}

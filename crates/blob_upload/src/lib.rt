@@ -9,5 +9,5 @@ mod parts;
 mod uploading;
 
 pub use came::Came;
-pub use laws::{fronts_of_bodies, uploads_add, uploads_come};
+pub use laws::{fronts_of_bodies, uploads_add, uploads_come, uploads_so_far};
 pub use uploading::take_parts;

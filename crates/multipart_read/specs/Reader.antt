@@ -44,6 +44,11 @@ abbrev pub Reads : Reader → List ℕ → Result (List PartEvent) PartFault →
 Reads old piece (Ok events) new = Tells old piece (tokens_of events) new
 Reads old piece (Err fault) new = fault ≢ NoMemory → Tells old piece [] new
 
+-- of these bytes, those that wait are the last
+pub record AreLast (bytes held : List ℕ) : Type 0 where
+  pub passed : List ℕ
+  pub whole : bytes ≡ passed ++ held
+
 -- what a call answers at a stage, where these are its events
 abbrev pub IsOutcome : Stage → List PartEvent → Result (List PartEvent) PartFault → Type 0
 IsOutcome stage events (Ok answered) =

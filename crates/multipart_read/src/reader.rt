@@ -1,10 +1,10 @@
 //! The reader of parts.
 ghost use Rattle.std.specs.Prelude.{◌≡◌, ◌≢◌, ◌+◌, ◌<◌, ◌^◌, ◌++◌, ◌↔◌, ◌⊎◌, [], length, false, slice_index};
-ghost use Rattle.std.specs.Prelude.{IfOk, IfErr, Err, codes};
+ghost use Rattle.std.specs.Prelude.{IfOk, IfErr, OnOk, Err, codes};
 ghost use Rattle.multipart_read.specs.Parameters.{is_boundary};
 ghost use Rattle.multipart_read.specs.Tokens.{tokens_of};
 ghost use Rattle.multipart_read.specs.Body.{Led, Passable, Waits};
-ghost use Rattle.multipart_read.specs.Reader.{fresh, Gives, Reads, IsOutcome};
+ghost use Rattle.multipart_read.specs.Reader.{fresh, Gives, Reads, AreLast, IsOutcome};
 ghost use Rattle.multipart_read.specs.declared.events.PartFault.{PartFault};
 
 use crate::events::{PartEvents, PartFault};
@@ -36,6 +36,7 @@ impl Model for Parts {
 }
 
 /// Takes the piece behind the bytes that are held, as far as they go, and holds what is left of them.
+#[tactic(auto, using(crate::proofs::Feeding::left_are_last, crate::proofs::Feeding::piece_last))]
 fn advance(
     alloc: Global,
     start: &[u8],
@@ -50,6 +51,7 @@ fn advance(
     requires passable { Passable stage }
     ensures passable { IfOk result (λ after. Passable after) }
     ensures waits { IfOk result (λ after. Waits start.now after held.new.items) }
+    ensures last { IfOk result (λ after. AreLast (held.old.items ++ piece.now) held.new.items) }
     ensures leads { IfOk result (λ after. Led start.now total stage (held.old.items ++ piece.now)
         (tokens_of events.old) (tokens_of events.new) after held.new.items) }
 {
@@ -128,9 +130,9 @@ impl Parts {
     /// are answered, and the next call answers the fault, also one with an empty piece. Once a fault is answered every
     /// call answers it. After the close all is passed over. The pieces must have fewer than 2^64 bytes in all.
     ///
-    /// The bytes that are held back are looked at anew in each call: at most 91 in a preamble or a content, and up to
-    /// 4,095 in a head, so pieces of single bytes are slow there. Every other byte is looked at once. Contents are
-    /// copied once.
+    /// The bytes that are held back are the last that came, and are looked at anew in each call: at most 91 in a
+    /// preamble or a content, and up to 4,095 in a head, so pieces of single bytes are slow there. Every other byte is
+    /// looked at once. Contents are copied once.
     pub fn feed(&mut self, piece: &[u8]) -> Result<PartEvents, PartFault>
         requires { self.old.fed + length piece.now < 2 ^ 64 }
         ensures reads { Reads self.old piece.now result self.new }
@@ -141,6 +143,8 @@ impl Parts {
         ensures fed { self.new.fed ≡ self.old.fed + length piece.now }
         ensures start { self.new.start ≡ self.old.start }
         ensures waits { Waits self.new.start self.new.stage self.new.held }
+        ensures passable { Passable self.new.stage }
+        ensures last { OnOk result (AreLast (self.old.held ++ piece.now) self.new.held) }
     {
         let total = self.fed + piece.len() as u64;
         self.fed = total;

@@ -9,8 +9,9 @@ pub returns-in-Ok-take_events-clause-feeds : goal.returns-in-Ok-take_events-clau
 returns-in-Ok-take_events-clause-feeds g c =
     feed_takes c.args.piece.now c.args.parts.now c.feed.new.self _ _ _ _ _ _ (tokens_of c.in-Ok.events)
     (tokens_of c.as_slice.result.now) (nat_lt 0 c.len.result) (ap tokens_of c.as_slice.ensures) c.in-Ok.ensures.reads
-    c.in-Ok-take_events.ensures.takes
-    (sound_at_last c.feed.new.self c.len.result _ c.len.ensures c.in-Ok.ensures.waits c.in-Ok.ensures.events_first)
+    c.in-Ok.ensures.start c.in-Ok.ensures.fed c.in-Ok.ensures.last c.in-Ok-take_events.ensures.takes
+    (sound_at_last c.feed.new.self c.len.result _ c.len.ensures c.in-Ok.ensures.waits c.in-Ok.ensures.passable
+    c.in-Ok.ensures.events_first)
 
 pub returns-in-Ok-clause-feeds : goal.returns-in-Ok-clause-feeds
 returns-in-Ok-clause-feeds g c =

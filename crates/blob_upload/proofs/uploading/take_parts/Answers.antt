@@ -5,7 +5,7 @@ use Rattle.http_wire.specs.Wires.{to_come, BodyEnds}
 use Rattle.blob_upload.specs.declared.came.Came.{Came}
 use Rattle.blob_upload.specs.Uploads.{Uploads}
 use Rattle.blob_upload.proofs.Ending.{no_room, uploading_none, uploading_breaks, uploading_ends, uploading_more}
-use Rattle.blob_upload.proofs.Ending.{uploading_stops, never_ended}
+use Rattle.blob_upload.proofs.Ending.{uploading_stops, never_ended, never_finished}
 use Rattle.blob_upload.proofs.uploading.take_parts.Goals as goal
 
 pub returns-in_default-clause-uploads : goal.returns-in_default-clause-uploads
@@ -22,8 +22,14 @@ pieces-init g c = record {
   head = refl;
   begun = refl;
   later = omega arith;
-  some = let some = c.in-Ok.ensures.some in let same = ap length c.as_mut_slice-space.ensures.value in omega (arith, some, same);
-  room = let most = c.in-Ok.ensures.most in let same = ap length c.as_mut_slice-space.ensures.value in omega (arith, most, same);
+  some =
+      let some = c.in-Ok.ensures.some in
+      let same = ap length c.as_mut_slice-space.ensures.value in
+      omega (arith, some, same);
+  room =
+      let most = c.in-Ok.ensures.most in
+      let same = ap length c.as_mut_slice-space.ensures.value in
+      omega (arith, most, same);
 }
 
 pub returns-in-Err-clause-uploads : goal.returns-in-Err-clause-uploads
@@ -49,6 +55,11 @@ returns-then-n-eq0-clause-uploads g c =
     uploading_ends _ _ _ _ _ _ _ _ _ _ _ _ c.pieces.invariant.so_far c.finish.result
     (subst P c.if-n-eq0.true c.in-Ok-body.ensures.moved)
     (c.in-Ok-body.ensures.end c.if-n-eq0.true (omega (arith, some))) c.finish.ensures
+
+pub returns-then-n-eq0-clause-fault : goal.returns-then-n-eq0-clause-fault
+returns-then-n-eq0-clause-fault g c = λ is. absurd
+    (never_finished _ _ _ (g.S.Source.left c.body.new.source) _ _ c.body.new.self _ _ _ _ _ c.pieces.invariant.so_far
+    c.finish.result _ c.finish.ensures is)
 
 pub pieces-preserved : goal.pieces-preserved
 pieces-preserved g c =
