@@ -1,7 +1,7 @@
 -- What a call of the home answered is the answer over what the pass has then seen.
 use Rattle.std.proofs.Common.{◌≡◌, ℕ, ◌+◌, ◌≤◌, ⊎_elim, List, [], ◌∷◌, ◌++◌, length, take, Bool, true, false, ◌||◌, eqb}
 use Rattle.std.proofs.Common.{All, Contains, refl, ap, sym, subst, ◌∙◌, arith, append_assoc, Option, Some, None}
-use Rattle.std.proofs.Common.{Result, Ok, Err, IsErr}
+use Rattle.std.proofs.Common.{Result, Ok, Err, IsErr, inl, inr}
 use Rattle.std.specs.List.{filter_map}
 use Rattle.std.proofs.lemmas.List.{append-nil, take_all, take-take, length-take-le}
 use Rattle.std.proofs.lemmas.List.Elements.{Contains-append_right, All-nil, All-weaker}
@@ -35,10 +35,10 @@ use Rattle.blob_routes.specs.declared.routes.Allowed.{Allowed}
 use Rattle.blob_routes.specs.declared.pages.Page.{Page}
 use Rattle.blob_http.specs.declared.entries.Outcome.{Outcome}
 use Rattle.blob_http.specs.declared.entries.Outcome.TheVariants.{Defined, Memory, Disk, Full, Damaged}
-use Rattle.blob_http.specs.declared.questions.Question.{Question}
-use Rattle.blob_http.specs.declared.questions.Question.TheVariants as question
-use Rattle.blob_http.specs.declared.replies.Made.{Made}
-use Rattle.blob_http.specs.declared.replies.Made.TheVariants as made
+use Rattle.blob_http.specs.declared.operations.Operation.{Operation}
+use Rattle.blob_http.specs.declared.operations.Operation.TheVariants as question
+use Rattle.blob_http.specs.declared.replies.ReplyText.{ReplyText}
+use Rattle.blob_http.specs.declared.replies.ReplyText.TheVariants as made
 use Rattle.blob_http.specs.Replies.{json_reply, blob_reply, refused_reply}
 use Rattle.blob_http.specs.Answers.{IsAnswer, IsBlobReply, IsDefined, reads_blobs, allow_text, outcome_of, IsTold}
 use Rattle.blob_http.specs.Answers.{IsMemory, FaultMade, BlobMade, TextMade, page_answer, cut_page, more_after}
@@ -104,6 +104,46 @@ pub stat_none : (refs : List (List ℕ)) (result : Result (List (List ℕ × ℕ
 stat_none refs (Ok found) before e said = said.1
 stat_none refs (Err f) before e said = said
 
+-- a turn of the store says what follows of what it says
+pub turned_so : (says other : List Blob → Option StoreEvent → Type 0) (v w : Sight)
+    → ((before : List Blob) (e : Option StoreEvent) → says before e → other before e)
+    → StoreTurned says v w → StoreTurned other v w
+turned_so says other v w so turned =
+    let ran = turned.turn.ran in
+    record {
+      turn = record {
+        ran = record {
+          before = ran.before;
+          ticket = ran.ticket;
+          entry = ran.entry;
+          longer = ran.longer;
+          said = so (arrivals ran.before) ran.entry ran.said;
+          added = ran.added;
+          drawn = ran.drawn;
+          within = ran.within;
+          others = ran.others;
+          owned = ran.owned;
+          later = ran.later;
+          rising = ran.rising;
+        };
+        limits = turned.turn.limits;
+      };
+      index = turned.index;
+      spent = turned.spent;
+    }
+
+-- a look at the store, by a call that adds nothing
+pub looked_by : (found : Result (List (List ℕ × ℕ)) NoMemory) (refused : Type 0)
+    (says : List Blob → Option StoreEvent → Type 0) (v w : Sight) → (IsErr found → refused)
+    → StoreCall (IsErr found) says v w → ((before : List Blob) (e : Option StoreEvent) → says before e → e ≡ None)
+    → StoreCall refused (λ before e. e ≡ None) v w
+looked_by found refused says v w so (inl turned) none = inl (turned_so says (λ before e. e ≡ None) v w none turned)
+looked_by found refused says v w so (inr spent) none = inr (so spent.0, spent.1)
+
+pub not_err : (found : Result (List (List ℕ × ℕ)) NoMemory) (entries : List (List ℕ × ℕ)) → found ≡ Ok entries → IsErr found → ⊥
+not_err (Ok other) entries is none = cc none
+not_err (Err e) entries is none = absurd (cc is)
+
 list_none : (after : Option (List ℕ)) (limit : ℕ) (result : Result (List (List ℕ × ℕ)) NoMemory)
     (before : List Blob) (e : Option StoreEvent) → ListSays after limit before result e → e ≡ None
 list_none after limit (Ok found) before e said = said.1
@@ -122,7 +162,7 @@ same_prefix : {A : Type 0} (xs ys : List A) → ys ≡ xs → IsPrefix xs ys
 same_prefix xs ys e = ([], append-nil xs ∙ sym e)
 
 -- nothing was called
-pub refused_answers : (tells closes : Bool) (why : Refusal) (allow : Option Allowed) (m : Made) (v : Sight)
+pub refused_answers : (tells closes : Bool) (why : Refusal) (allow : Option Allowed) (m : ReplyText) (v : Sight)
     (counts : ℕ × ℕ)
     → IsTold Defined (refused_reply closes (allow_text allow) why) m → Counts v counts
     → Answers tells closes (question.Refused why allow) v v (entry_of counts.0 counts.1 0 m) m
@@ -145,12 +185,12 @@ refused_answers tells closes why allow m v counts is count = record {
   looked = refused_looked m;
 }
   where
-    refused_looked : (m : Made)
+    refused_looked : (m : ReplyText)
         → Looked v.store.history (take counts.0 (arrivals v.store.history)) (question.Refused why allow) m []
     refused_looked made.Memory = tt
     refused_looked (made.Told o head body) = tt
 
-    refused_made : (m : Made) → IsTold Defined (refused_reply closes (allow_text allow) why) m
+    refused_made : (m : ReplyText) → IsTold Defined (refused_reply closes (allow_text allow) why) m
         → (blobs : List Blob) (g : List Insertion)
         → IsMade tells v.index.accepts blobs g closes (question.Refused why allow) m
     refused_made made.Memory is blobs g = tt
@@ -158,13 +198,13 @@ refused_answers tells closes why allow m v counts is count = record {
         subst (λ (z : Outcome). IsAnswer tells v.index.accepts blobs g closes (question.Refused why allow) z
         (head ++ body)) (sym is.0) is.1
 
-    refused_cause : (m : Made) → IsTold Defined (refused_reply closes (allow_text allow) why) m
+    refused_cause : (m : ReplyText) → IsTold Defined (refused_reply closes (allow_text allow) why) m
         → HasCauseIn [] v.store.history (outcome_of m)
     refused_cause made.Memory is = tt
     refused_cause (made.Told o head body) is = subst (HasCauseIn [] v.store.history) (sym is.0) tt
 
 -- there was no memory to find out what is asked
-pub memory_answers : (tells closes : Bool) (q : Question) (v : Sight) (counts : ℕ × ℕ) → Counts v counts
+pub memory_answers : (tells closes : Bool) (q : Operation) (v : Sight) (counts : ℕ × ℕ) → Counts v counts
     → Answers tells closes q v v (entry_of counts.0 counts.1 0 made.Memory) made.Memory
 memory_answers tells closes q v counts count = record {
   turns = [];
@@ -186,22 +226,22 @@ memory_answers tells closes q v counts count = record {
 }
 
 memory_made : (tells : Bool) (accepts : Accepts) (blobs : List Blob) (g : List Insertion) (closes : Bool)
-    (q : Question) (m : Made)
+    (q : Operation) (m : ReplyText)
     → IsMemory m → IsMade tells accepts blobs g closes q m
 memory_made tells accepts blobs g closes q made.Memory is = tt
 memory_made tells accepts blobs g closes q (made.Told o head body) is = absurd is
 
-memory_cause : (turns : List ℕ) (h : List (Stamped StoreEvent)) (m : Made) → IsMemory m
+memory_cause : (turns : List ℕ) (h : List (Stamped StoreEvent)) (m : ReplyText) → IsMemory m
     → HasCauseIn turns h (outcome_of m)
 memory_cause turns h made.Memory is = tt
 memory_cause turns h (made.Told o head body) is = absurd is
 
-memory_looked : (h : List (Stamped StoreEvent)) (blobs : List Blob) (q : Question) (turns : List ℕ) (m : Made)
+memory_looked : (h : List (Stamped StoreEvent)) (blobs : List Blob) (q : Operation) (turns : List ℕ) (m : ReplyText)
     → IsMemory m → Looked h blobs q m turns
 memory_looked h blobs q turns made.Memory is = tt
 memory_looked h blobs q turns (made.Told o head body) is = absurd is
 
-looks_at : (h : List (Stamped StoreEvent)) (blobs : List Blob) (q : Question) (turns : List ℕ)
+looks_at : (h : List (Stamped StoreEvent)) (blobs : List Blob) (q : Operation) (turns : List ℕ)
     → IsShown h blobs turns → LooksAt h blobs q turns
 looks_at h blobs (question.Refused why allow) turns is = tt
 looks_at h blobs (question.Blob r) turns is = is
@@ -209,7 +249,7 @@ looks_at h blobs (question.Stat refs) turns is = is
 looks_at h blobs (question.Refs p) turns is = is
 looks_at h blobs (question.Search query) turns is = is
 
-looked_at : (h : List (Stamped StoreEvent)) (blobs : List Blob) (q : Question) (m : Made) (turns : List ℕ)
+looked_at : (h : List (Stamped StoreEvent)) (blobs : List Blob) (q : Operation) (m : ReplyText) (turns : List ℕ)
     → IsShown h blobs turns → Looked h blobs q m turns
 looked_at h blobs q made.Memory turns is = tt
 looked_at h blobs q (made.Told o head body) turns is = looks_at h blobs q turns is
@@ -233,7 +273,7 @@ shown_by o v w n further look count longer later = record {
       ∙ take_all n (arrivals v.store.history) (omega (arith, count));
 }
 
-module _ (tells closes : Bool) (q : Question) (m : Made) where
+module _ (tells closes : Bool) (q : Operation) (m : ReplyText) where
   spent_answers : (v w : Sight) (counts : ℕ × ℕ) → IsMemory m → Spends v w → Counts w counts
       → Answers tells closes q v w (entry_of counts.0 counts.1 0 m) m
   spent_answers v w counts is spent count =
@@ -337,7 +377,7 @@ module _ (tells closes : Bool) (q : Question) (m : Made) where
 -- ---- a blob
 
 fault_made : (tells : Bool) (accepts : Accepts) (blobs : List Blob) (g : List Insertion) (closes : Bool)
-    (q : Question) (f : GetFault) (m : Made)
+    (q : Operation) (f : GetFault) (m : ReplyText)
     → reads_blobs q ≡ true → FaultMade closes f m → IsMade tells accepts blobs g closes q m
 fault_made tells accepts blobs g closes q f made.Memory reads is = tt
 fault_made tells accepts blobs g closes q unread.Disk (made.Told o head body) reads is =
@@ -346,7 +386,7 @@ fault_made tells accepts blobs g closes q (unread.Damaged want was) (made.Told o
     subst (λ (z : Outcome). IsAnswer tells accepts blobs g closes q z (head ++ body)) (sym is.0) (reads, is.1)
 fault_made tells accepts blobs g closes q unread.NoMemory (made.Told o head body) reads is = absurd is
 
-told_cause : (turns : List ℕ) (h : List (Stamped StoreEvent)) (closes : Bool) (f : GetFault) (m : Made)
+told_cause : (turns : List ℕ) (h : List (Stamped StoreEvent)) (closes : Bool) (f : GetFault) (m : ReplyText)
     → FaultMade closes f m
     → Caused f turns h → HasCauseIn turns h (outcome_of m)
 told_cause turns h closes f made.Memory is c = tt
@@ -361,13 +401,13 @@ fails_caused tells asked unread.Disk h t e c = (t, c.0, has_one t, stands h t e 
 fails_caused tells asked (unread.Damaged a b) h t e c = (t, has_one t, stands h t e (store.Damage a b) c.2)
 fails_caused tells asked unread.NoMemory h t e c = tt
 
-defined_cause : (turns : List ℕ) (h : List (Stamped StoreEvent)) (text : List ℕ) (m : Made) → IsTold Defined text m
+defined_cause : (turns : List ℕ) (h : List (Stamped StoreEvent)) (text : List ℕ) (m : ReplyText) → IsTold Defined text m
     → HasCauseIn turns h (outcome_of m)
 defined_cause turns h text made.Memory is = tt
 defined_cause turns h text (made.Told o head body) is = subst (HasCauseIn turns h) (sym is.0) tt
 
 defined_made : (tells : Bool) (accepts : Accepts) (blobs : List Blob) (g : List Insertion) (closes : Bool)
-    (q : Question) (text : List ℕ) (m : Made)
+    (q : Operation) (text : List ℕ) (m : ReplyText)
     → IsTold Defined text m → IsDefined tells accepts blobs g closes q text → IsMade tells accepts blobs g closes q m
 defined_made tells accepts blobs g closes q text made.Memory is d = tt
 defined_made tells accepts blobs g closes q text (made.Told o head body) is d =
@@ -375,7 +415,7 @@ defined_made tells accepts blobs g closes q text (made.Told o head body) is d =
     (subst (λ (t : List ℕ). IsDefined tells accepts blobs g closes q t) (sym is.1) d)
 
 module _ (tells closes : Bool) (r : List ℕ) where
-  blob_made : (result : Result (Option (List ℕ)) GetFault) (m : Made) → BlobMade closes r result m
+  blob_made : (result : Result (Option (List ℕ)) GetFault) (m : ReplyText) → BlobMade closes r result m
       → (accepts : Accepts) (before blobs : List Blob) (g : List Insertion) (e : Option StoreEvent)
       → (IsQuiet e → blobs ≡ before)
       → GetSays tells r before result e → IsMade tells accepts blobs g closes (question.Blob r) m
@@ -392,7 +432,7 @@ module _ (tells closes : Bool) (r : List ℕ) where
   blob_made (Err f) m is accepts before blobs g e same says = fault_made tells accepts blobs g closes
       (question.Blob r) f m refl is
 
-  blob_cause : (result : Result (Option (List ℕ)) GetFault) (m : Made) → BlobMade closes r result m
+  blob_cause : (result : Result (Option (List ℕ)) GetFault) (m : ReplyText) → BlobMade closes r result m
       → (before : List Blob) (h : List (Stamped StoreEvent)) (t : ℕ) (e : Option StoreEvent)
       → GetSays tells r before result e → HasCauseIn (t ∷ []) (h ++ stamped t e) (outcome_of m)
   blob_cause (Ok None) m is before h t e says = defined_cause (t ∷ []) (h ++ stamped t e) _ m is
@@ -400,11 +440,11 @@ module _ (tells closes : Bool) (r : List ℕ) where
   blob_cause (Err f) m is before h t e says = told_cause (t ∷ []) (h ++ stamped t e) closes f m is
       (fails_caused tells _ f h t e says)
 
-  blob_memory : (result : Result (Option (List ℕ)) GetFault) (m : Made) → BlobMade closes r result m
+  blob_memory : (result : Result (Option (List ℕ)) GetFault) (m : ReplyText) → BlobMade closes r result m
       → result ≡ Err unread.NoMemory → IsMemory m
   blob_memory result m is e = subst (λ (z : Result (Option (List ℕ)) GetFault). BlobMade closes r z m) e is
 
-  pub blob_answers : (result : Result (Option (List ℕ)) GetFault) (m : Made) (v w : Sight) (counts : ℕ × ℕ)
+  pub blob_answers : (result : Result (Option (List ℕ)) GetFault) (m : ReplyText) (v w : Sight) (counts : ℕ × ℕ)
       → BlobMade closes r result m
       → StoreCall (result ≡ Err unread.NoMemory) (λ before e. GetSays tells r before result e) v w → Counts w counts
       → Answers tells closes (question.Blob r) v w (entry_of counts.0 counts.1 0 m) m
@@ -415,19 +455,19 @@ module _ (tells closes : Bool) (r : List ℕ) where
 
 -- ---- stats and pages
 
-text_cause : {A : Type 0} (closes : Bool) (text : A → List ℕ) (found : Result A NoMemory) (m : Made) (turns : List ℕ)
+text_cause : {A : Type 0} (closes : Bool) (text : A → List ℕ) (found : Result A NoMemory) (m : ReplyText) (turns : List ℕ)
     (h : List (Stamped StoreEvent))
     → TextMade closes text found m → HasCauseIn turns h (outcome_of m)
 text_cause closes text (Ok found) m turns h is = defined_cause turns h _ m is
 text_cause closes text (Err e) m turns h is = memory_cause turns h m is
 
-text_memory : {A : Type 0} (closes : Bool) (text : A → List ℕ) (found : Result A NoMemory) (m : Made)
+text_memory : {A : Type 0} (closes : Bool) (text : A → List ℕ) (found : Result A NoMemory) (m : ReplyText)
     → TextMade closes text found m → IsErr found → IsMemory m
 text_memory closes text (Ok found) m is none = absurd (cc none)
 text_memory closes text (Err e) m is none = is
 
 module _ (tells closes : Bool) where
-  stat_made : (refs : List (List ℕ)) (result : Result (List (List ℕ × ℕ)) NoMemory) (m : Made)
+  stat_made : (refs : List (List ℕ)) (result : Result (List (List ℕ × ℕ)) NoMemory) (m : ReplyText)
       → TextMade closes stat_text result m
       → (accepts : Accepts) (before blobs : List Blob) (g : List Insertion) (e : Option StoreEvent)
       → (IsQuiet e → blobs ≡ before)
@@ -439,7 +479,7 @@ module _ (tells closes : Bool) where
   stat_made refs (Err f) m is accepts before blobs g e same says = memory_made tells accepts blobs g closes
       (question.Stat refs) m is
 
-  pub stat_answers : (refs : List (List ℕ)) (result : Result (List (List ℕ × ℕ)) NoMemory) (m : Made) (v w : Sight)
+  pub stat_answers : (refs : List (List ℕ)) (result : Result (List (List ℕ × ℕ)) NoMemory) (m : ReplyText) (v w : Sight)
       (counts : ℕ × ℕ)
       → TextMade closes stat_text result m → StoreCall (IsErr result) (λ before e. StatSays refs before result e) v w
       → Counts w counts
@@ -458,7 +498,7 @@ module _ (tells closes : Bool) where
       ap (λ (z : List (List ℕ × ℕ)). page_text z (more_after z (page after (limit + 1) blobs)))
       (take-take limit (limit + 1) _ (omega arith))
 
-  page_made : (p : Page) (result : Result (List (List ℕ × ℕ)) NoMemory) (m : Made)
+  page_made : (p : Page) (result : Result (List (List ℕ × ℕ)) NoMemory) (m : ReplyText)
       → TextMade closes (cut_page p.limit) result m
       → (accepts : Accepts) (before blobs : List Blob) (g : List Insertion) (e : Option StoreEvent)
       → (IsQuiet e → blobs ≡ before)
@@ -471,7 +511,7 @@ module _ (tells closes : Bool) where
   page_made p (Err f) m is accepts before blobs g e same says = memory_made tells accepts blobs g closes
       (question.Refs p) m is
 
-  pub page_answers : (p : Page) (result : Result (List (List ℕ × ℕ)) NoMemory) (m : Made) (v w : Sight) (counts : ℕ × ℕ)
+  pub page_answers : (p : Page) (result : Result (List (List ℕ × ℕ)) NoMemory) (m : ReplyText) (v w : Sight) (counts : ℕ × ℕ)
       → TextMade closes (cut_page p.limit) result m
       → StoreCall (IsErr result) (λ before e. ListSays p.after (p.limit + 1) before result e) v w → Counts w counts
       → Answers tells closes (question.Refs p) v w (entry_of counts.0 counts.1 0 m) m
@@ -510,26 +550,24 @@ module _ (tells closes : Bool) where
         };
       }
 
-  pub looks : (found : List (List ℕ × ℕ)) (result : Result (List (List ℕ × ℕ)) NoMemory)
-      (says : List Blob → Option StoreEvent → Type 0) (v w : Sight) → result ≡ Ok found
-      → StoreCall (IsErr result) says v w
-      → ((before : List Blob) (e : Option StoreEvent) → says before e → e ≡ None) → Looks v w
-  looks found result says v w is call none =
-      ⊎_elim (λ (a : StoreTurned says v w). looks_turned v w says a none)
+  pub looks : (result : Result (Unit {0}) NoMemory) (v w : Sight) → result ≡ Ok tt
+      → StoreCall (IsErr result) (λ before e. e ≡ None) v w → Looks v w
+  looks result v w is call =
+      ⊎_elim (λ (a : StoreTurned (λ before e. e ≡ None) v w). looks_turned v w (λ before e. e ≡ None) a (λ before e h. h))
       (λ (b : IsErr result × Spends v w). not_both result is b.0) call
     where
-      not_both : (r : Result (List (List ℕ × ℕ)) NoMemory) → r ≡ Ok found → IsErr r → Looks v w
+      not_both : (r : Result (Unit {0}) NoMemory) → r ≡ Ok tt → IsErr r → Looks v w
       not_both (Ok found) is none = absurd (cc none)
       not_both (Err e) is none = absurd (cc is)
 
   -- it wasn't shown
-  pub not_looked : (query : Query) (refused : Type 0) (says : List Blob → Option StoreEvent → Type 0) (v w : Sight)
-      (counts : ℕ × ℕ) → StoreCall refused says v w → Counts w counts
-      → ((before : List Blob) (e : Option StoreEvent) → says before e → e ≡ None)
+  pub not_looked : (query : Query) (refused : Type 0) (v w : Sight) (counts : ℕ × ℕ)
+      → StoreCall refused (λ before e. e ≡ None) v w → Counts w counts
       → Answers tells closes (question.Search query) v w (entry_of counts.0 counts.1 0 made.Memory) made.Memory
-  not_looked query refused says v w counts call count none =
-      call_answers tells closes (question.Search query) made.Memory says (λ accepts before blobs g e same said. tt)
-      (λ before h t e said. tt) (λ before e said. none_trouble e (none before (Some e) said)) refused v w counts
+  not_looked query refused v w counts call count =
+      call_answers tells closes (question.Search query) made.Memory (λ before e. e ≡ None)
+      (λ accepts before blobs g e same said. tt)
+      (λ before h t e said. tt) (λ before e said. none_trouble e said) refused v w counts
       (λ _. tt) call count
 
   cause_behind : (t : ℕ) (turns : List ℕ) (h : List (Stamped StoreEvent)) (o : Outcome) → HasCauseIn turns h o
@@ -554,7 +592,7 @@ module _ (tells closes : Bool) where
   arrived_before o v longer = prefix_length (arrivals o.store.history) (arrivals v.store.history)
       (arrivals_prefix o.store.history v.store.history longer.store)
 
-  pub search_failed : (query : Query) (f : GetFault) (m : Made) (o v w : Sight) (before after : ℕ × ℕ)
+  pub search_failed : (query : Query) (f : GetFault) (m : ReplyText) (o v w : Sight) (before after : ℕ × ℕ)
       → Looks o v → Settles (Err f) v w → FaultMade closes f m → Counts v before → Counts w after
       → Answers tells closes (question.Search query) o w (entry_of before.0 after.1 0 m) m
   search_failed query f m o v w before after look s is first last =
@@ -595,7 +633,7 @@ module _ (tells closes : Bool) where
             (shown_by o v w before.0 s.store.further look first.puts s.store.longer s.store.later);
       }
 
-  search_made : (query : Query) (found : Result (List (List ℕ)) NoMemory) (m : Made)
+  search_made : (query : Query) (found : Result (List (List ℕ)) NoMemory) (m : ReplyText)
       → TextMade closes search_text found m
       → (accepts : Accepts) (blobs : List Blob) (g : List Insertion) → SearchSays accepts query g found
       → HasAllBelow (length blobs) g
@@ -607,7 +645,7 @@ module _ (tells closes : Bool) where
       (question.Search query) m is
 
   -- a search behind its look and its settling: what was inserted is shown
-  pub search_answers : (u : Unit {0}) (query : Query) (found : Result (List (List ℕ)) NoMemory) (m : Made)
+  pub search_answers : (u : Unit {0}) (query : Query) (found : Result (List (List ℕ)) NoMemory) (m : ReplyText)
       (o v x w : Sight) (before after : ℕ × ℕ)
       → Looks o v → Settles (Ok u) v x → IsSight x → Searches query found x w → TextMade closes search_text found m
       → Counts v before → Counts w after

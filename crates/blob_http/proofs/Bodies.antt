@@ -12,8 +12,8 @@ use Rattle.http_wire.proofs.Passing.{none_passed}
 use Rattle.http_wire.proofs.Leading.{Leads-none, Moves-chain}
 use Rattle.edge_base.specs.Edge.{Gave}
 use Rattle.blob_routes.specs.Before.{most_body}
-use Rattle.blob_http.specs.declared.gathering.Stopped.{Stopped}
-use Rattle.blob_http.specs.declared.gathering.Stopped.TheVariants as stopped
+use Rattle.blob_http.specs.declared.gathering.BodyFault.{BodyFault}
+use Rattle.blob_http.specs.declared.gathering.BodyFault.TheVariants as stopped
 use Rattle.blob_http.specs.Gathering.{Gathers, GatherSays, CanStop, StopSays}
 
 gave_none : (x : Option (List ℕ)) → Gave x x []
@@ -28,7 +28,7 @@ abbrev pub moves_none : (x : Option (List ℕ)) (flow : Flow) (at : Body) → Mo
 moves_none x flow at = ([], passed_none x flow, Leads-none at)
 
 -- what was given before, and then
-pub gathered : (p q r : Option (List ℕ)) (u v w : WireView) (all given : List ℕ) (result : Result (List ℕ) Stopped)
+pub gathered : (p q r : Option (List ℕ)) (u v w : WireView) (all given : List ℕ) (result : Result (List ℕ) BodyFault)
     → Moves p q u.flow v.flow u.body v.body all → v.head ≡ u.head → v.begun ≡ u.begun
     → Moves q r v.flow w.flow v.body w.body given → (w.head ≡ v.head) × (w.begun ≡ v.begun)
     → GatherSays (to_come w r) w.flow.bytes w.body v.begun (all ++ given) result → Gathers p r u w result
@@ -48,7 +48,7 @@ can_stop x at place (ends.BadLength n) h = tt
 can_stop x at place (ends.TooLong n) h = h
 can_stop x at place ends.ReadFault h = tt
 
-pub stop_says : (x : Option (List ℕ)) (ahead : List ℕ) (at : Body) (place : ℕ) (given : List ℕ) (why : Stopped)
+pub stop_says : (x : Option (List ℕ)) (ahead : List ℕ) (at : Body) (place : ℕ) (given : List ℕ) (why : BodyFault)
     → length given ≤ most_body → StopSays x ahead at place why → GatherSays x ahead at place given (Err why)
 stop_says x ahead at place given stopped.Long few h = absurd h
 stop_says x ahead at place given stopped.Broken few h = h

@@ -33,15 +33,15 @@ use Rattle.multipart_read.proofs.PartLaws.{bodies_have_parts, one_list_of_parts}
 use Rattle.blob_routes.specs.declared.routes.Route.{Route}
 use Rattle.blob_routes.specs.declared.routes.Route.TheVariants as route
 use Rattle.blob_routes.specs.Before.{most_body}
-use Rattle.blob_upload.specs.declared.came.Came.{Came}
-use Rattle.blob_upload.specs.declared.came.Came.TheVariants as came
+use Rattle.blob_upload.specs.declared.upload_end.UploadEnd.{UploadEnd}
+use Rattle.blob_upload.specs.declared.upload_end.UploadEnd.TheVariants as came
 use Rattle.blob_upload.specs.Faults.{most_bytes, part_fault}
 use Rattle.blob_upload.specs.Ends.{Told, Faulty, IsAll}
 use Rattle.blob_upload.specs.Comes.{Comes, HasFault, Refuses}
 use Rattle.blob_upload.proofs.Fronts.{told_first}
 use Rattle.blob_http.specs.declared.entries.Outcome.{Outcome}
 use Rattle.blob_http.specs.declared.entries.Outcome.TheVariants.{Defined, Memory, Disk, Full, Damaged}
-use Rattle.blob_http.specs.declared.questions.Question.{Question}
+use Rattle.blob_http.specs.declared.operations.Operation.{Operation}
 use Rattle.blob_http.specs.Asked.{Asked, Whole, Front, Head as NoHead}
 use Rattle.blob_http.specs.Questions.{first_of}
 use Rattle.blob_http.specs.Keeping.{boundary_at, Kept, IsUploadReply}
@@ -270,7 +270,7 @@ module _ (r : Request) (b : Begun) (rest bytes : List ℕ) (after : Option (List
   question_short route.Page other good = good.short
   question_short route.Search other good = good.short
 
-  no_front : (found : Result Route Question) (found_as : Route) → found ≡ Ok found_as → HasGoodBody r found_as
+  no_front : (found : Result Route Operation) (found_as : Route) → found ≡ Ok found_as → HasGoodBody r found_as
       → (text : List ℕ) → IsFrontDefined b after found text → ⊥
   no_front (Ok other) found_as is good text defined =
       let same : other ≡ found_as = cc is in
@@ -308,7 +308,7 @@ module _ (tells : Bool) (accepts : Accepts) (h : List (Stamped StoreEvent)) (blo
     bounds_is boundary is = subst (λ (z : Head). boundary_at r.head z ≡ Some boundary) of.2
         (subst (λ (z : List ℕ). boundary_at z b.says ≡ Some boundary) of.1 is)
 
-    upload_good : ◌≡◌ {A = Result Route Question} (Ok valid.route) (Ok route.Upload) → HasGoodBody r route.Upload
+    upload_good : ◌≡◌ {A = Result Route Operation} (Ok valid.route) (Ok route.Upload) → HasGoodBody r route.Upload
     upload_good is = let same : valid.route ≡ route.Upload = cc is in subst (HasGoodBody r) same valid.body
 
     no_upload_refusal : (u : Kept b.head b.says blobs kept) (wire : WireView) → wire.body ≡ b.at → (why : Refusal)
@@ -326,7 +326,7 @@ module _ (tells : Bool) (accepts : Accepts) (h : List (Stamped StoreEvent)) (blo
         (λ breaks. unbroken r b rest of.3.0 after left of.3.1
         (subst (λ (z : Body). IfSome after (Breaks z)) at breaks)) why refuses
 
-    upload_served : (u : Kept b.head b.says blobs kept) (c : Came) (wire : WireView) → wire.body ≡ b.at
+    upload_served : (u : Kept b.head b.says blobs kept) (c : UploadEnd) (wire : WireView) → wire.body ≡ b.at
         → Comes u.boundary b.given u.parts wire after c → (outcome : Outcome) → HasCauseIn turns h outcome
         → IsUploadReply u.parts c outcome text → Served outcome
     upload_served u (came.Refused why) wire at comes Defined cause reply =

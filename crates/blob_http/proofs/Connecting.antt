@@ -12,7 +12,7 @@ use Rattle.http_wire.specs.Stream.{Flow, stream, counted}
 use Rattle.http_wire.specs.Wires.{WireView}
 use Rattle.http_wire.specs.Speaking.{Begun, text_of as text_in}
 use Rattle.blob_http.specs.declared.entries.Answered.{Answered}
-use Rattle.blob_http.specs.declared.replies.Made.{Made}
+use Rattle.blob_http.specs.declared.replies.ReplyText.{ReplyText}
 use Rattle.blob_http.specs.declared.serving.Ended.{Ended}
 use Rattle.blob_http.specs.declared.serving.Ended.TheVariants as ended
 use Rattle.blob_http.specs.Answers.{text_of}
@@ -88,7 +88,7 @@ module _ (tells : Bool) (v w : Sight) (noted noted' : List Answered → Type 0) 
   Same = (entries : List Answered) → noted entries → noted' entries
 
   -- a request was answered, and the connection stays open
-  pub step_goes_on : (x : Sight) (entry : Answered) (m : Made) (x2 w2 : Option (List ℕ)) (new : WireView)
+  pub step_goes_on : (x : Sight) (entry : Answered) (m : ReplyText) (x2 w2 : Option (List ℕ)) (new : WireView)
       (closes : Bool)
       → Adds entry → Replies x1 x2 flow new tells w x entry m closes → closes ≡ false
       → Took w1 w2 (text_of m)
@@ -100,7 +100,7 @@ module _ (tells : Bool) (v w : Sight) (noted noted' : List Answered → Type 0) 
       (λ texts t. Took-chain w0 w1 w2 texts (text_of m) t took)
 
   -- a request was answered, and the connection closes
-  pub step_closes : (x : Sight) (entry : Answered) (m : Made) (x2 w2 : Option (List ℕ)) (new : WireView) (closes : Bool)
+  pub step_closes : (x : Sight) (entry : Answered) (m : ReplyText) (x2 w2 : Option (List ℕ)) (new : WireView) (closes : Bool)
       → Adds entry → Replies x1 x2 flow new tells w x entry m closes → closes ≡ true
       → Took w1 w2 (text_of m)
       → Serves tells v x noted' (Heard x0 x2 ended.Closed) (Wrote w0 w2 ended.Closed) (IsRest x0 0 ended.Closed)
@@ -111,7 +111,7 @@ module _ (tells : Bool) (v w : Sight) (noted noted' : List Answered → Type 0) 
       (λ texts t. Took-chain w0 w1 w2 texts (text_of m) t took)
 
   -- the reply wasn't written whole
-  pub step_breaks : (x : Sight) (entry : Answered) (m : Made) (x2 w2 : Option (List ℕ)) (new : WireView) (closes : Bool)
+  pub step_breaks : (x : Sight) (entry : Answered) (m : ReplyText) (x2 w2 : Option (List ℕ)) (new : WireView) (closes : Bool)
       → Adds entry → Replies x1 x2 flow new tells w x entry m closes → TookFront w1 w2 (text_of m)
       → Serves tells v x noted' (Heard x0 x2 ended.WriteFault) (Wrote w0 w2 ended.WriteFault)
       (IsRest x0 0 ended.WriteFault)

@@ -25,8 +25,8 @@ use Rattle.blob_routes.specs.Stats.{refs_of}
 use Rattle.blob_routes.specs.Pages.{page_of}
 use Rattle.blob_http.specs.declared.entries.Outcome.{Outcome}
 use Rattle.blob_http.specs.declared.entries.Outcome.TheVariants.{Defined}
-use Rattle.blob_http.specs.declared.questions.Question.{Question}
-use Rattle.blob_http.specs.declared.questions.Question.TheVariants as question
+use Rattle.blob_http.specs.declared.operations.Operation.{Operation}
+use Rattle.blob_http.specs.declared.operations.Operation.TheVariants as question
 use Rattle.blob_http.specs.Asked.{Asked, Whole}
 use Rattle.blob_http.specs.Questions.{IsAskedBy, IsAsked, IsSearch, first_of, piece, stat_of, refs_asked}
 use Rattle.blob_http.specs.Answers.{IsAnswer}
@@ -43,7 +43,7 @@ not_page : (query : Query) (found : Result Page Refusal) → question.Search que
 not_page query (Ok page) e = absurd (cc e)
 not_page query (Err why) e = absurd (cc e)
 
-search_asked : (query : Query) (body : List ℕ) (q : Question) → IsSearch body (question.Search query) → IsSearch body q
+search_asked : (query : Query) (body : List ℕ) (q : Operation) → IsSearch body (question.Search query) → IsSearch body q
     → (other : Query) × (q ≡ question.Search other)
 search_asked query body (question.Search other) e f = (other, refl)
 search_asked query body (question.Refused why allow) e f = absurd (cc (sym e ∙ f.0))
@@ -52,7 +52,7 @@ search_asked query body (question.Stat refs) e f = absurd f
 search_asked query body (question.Refs page) e f = absurd f
 
 -- two questions of one request are both searches, where one is
-both_search : (found : Result Route Question) (framing : Framing) (query : Query) (text body : List ℕ) (q : Question)
+both_search : (found : Result Route Operation) (framing : Framing) (query : Query) (text body : List ℕ) (q : Operation)
     → IsAskedBy found framing text body (question.Search query) → IsAskedBy found framing text body q
     → (other : Query) × (q ≡ question.Search other)
 both_search (Ok (route.Blob r)) framing query text body q e f = absurd (cc e)
@@ -62,10 +62,10 @@ both_search (Ok route.Upload) framing query text body q e f = absurd e
 both_search (Ok route.Search) framing query text body q e f = search_asked query body q e f
 both_search (Err first) framing query text body q e f = (query, f.0 ∙ sym e.0)
 
-not_upload : (found : Result Route Question) (framing : Framing) (query : Query) (text body : List ℕ)
+not_upload : (found : Result Route Operation) (framing : Framing) (query : Query) (text body : List ℕ)
     → found ≡ Ok route.Upload → IsAskedBy found framing text body (question.Search query) → ⊥
 not_upload found framing query text body is e =
-    subst (λ (z : Result Route Question). IsAskedBy z framing text body (question.Search query)) is e
+    subst (λ (z : Result Route Operation). IsAskedBy z framing text body (question.Search query)) is e
 
 -- ---- what was put has arrived
 
@@ -147,9 +147,9 @@ module _ (tells : Bool) (accepts : Accepts) (h : List (Stamped StoreEvent)) (g :
   finds_by (inr a) =
       let q = a.2 in
       let same = both_search (first_of r.head r.says) r.says.framing query (piece r.head r.says.query) r.body q.0 asked q.1 in
-      let answer = subst (λ (z : Question). IsAnswer tells accepts (take count (arrivals h)) g r.says.closes z Defined
+      let answer = subst (λ (z : Operation). IsAnswer tells accepts (take count (arrivals h)) g r.says.closes z Defined
       text) same.1 q.2 in
-      let looks = subst (λ (z : Question). LooksAt h (take count (arrivals h)) z turns) same.1 q.3 in
+      let looks = subst (λ (z : Operation). LooksAt h (take count (arrivals h)) z turns) same.1 q.3 in
       finds h g count turns low looks answer.0
 
 pub searches_find : SearchesFind

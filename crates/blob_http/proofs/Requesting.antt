@@ -41,12 +41,12 @@ use Rattle.blob_routes.specs.Before.{most_body, early_of}
 use Rattle.blob_http.specs.declared.entries.Outcome.{Outcome}
 use Rattle.blob_http.specs.declared.entries.Outcome.TheVariants.{Defined, Memory, Disk, Full, Damaged}
 use Rattle.blob_http.specs.declared.entries.Answered.{Answered}
-use Rattle.blob_http.specs.declared.gathering.Stopped.{Stopped}
-use Rattle.blob_http.specs.declared.gathering.Stopped.TheVariants as stopped
-use Rattle.blob_http.specs.declared.questions.Question.{Question}
-use Rattle.blob_http.specs.declared.questions.Question.TheVariants as question
-use Rattle.blob_http.specs.declared.replies.Made.{Made}
-use Rattle.blob_http.specs.declared.replies.Made.TheVariants as made
+use Rattle.blob_http.specs.declared.gathering.BodyFault.{BodyFault}
+use Rattle.blob_http.specs.declared.gathering.BodyFault.TheVariants as stopped
+use Rattle.blob_http.specs.declared.operations.Operation.{Operation}
+use Rattle.blob_http.specs.declared.operations.Operation.TheVariants as question
+use Rattle.blob_http.specs.declared.replies.ReplyText.{ReplyText}
+use Rattle.blob_http.specs.declared.replies.ReplyText.TheVariants as made
 use Rattle.blob_http.specs.declared.serving.Ended.{Ended}
 use Rattle.blob_http.specs.declared.serving.Ended.TheVariants as ended
 use Rattle.blob_http.specs.Asked.{Asked, Whole, Front, Head as Refused, Comes, head_says}
@@ -84,7 +84,7 @@ has_pieces text says h =
 
 -- ---- from an answer to what is handled
 
-pub handles_of : (tells closes : Bool) (q : Question) (v w : Sight) (entry : Answered) (m : Made) (asked : Asked)
+pub handles_of : (tells closes : Bool) (q : Operation) (v w : Sight) (entry : Answered) (m : ReplyText) (asked : Asked)
     → Answers tells closes q v w entry m
     → ((accepts : Accepts) (h : List (Stamped StoreEvent)) (blobs : List Blob) (g : List Insertion) (turns : List ℕ)
     (added : List (Stamped StoreEvent))
@@ -114,7 +114,7 @@ handles_of tells closes q v w entry m asked a replied = record {
   where
     reply_at : (tells : Bool) (accepts : Accepts) (h : List (Stamped StoreEvent)) (blobs : List Blob)
         (g : List Insertion) (asked : Asked) (kept : ℕ)
-        (turns : List ℕ) (added : List (Stamped StoreEvent)) (o : Outcome) (m : Made)
+        (turns : List ℕ) (added : List (Stamped StoreEvent)) (o : Outcome) (m : ReplyText)
         → kept ≡ 0 → o ≡ outcome_of m → IsReply tells accepts h blobs g asked 0 turns added (outcome_of m) (text_of m)
         → IsReply tells accepts h blobs g asked kept turns added o (text_of m)
     reply_at tells accepts h blobs g asked kept turns added o m none same is =
@@ -125,7 +125,7 @@ handles_of tells closes q v w entry m asked a replied = record {
 refused_says : (tells : Bool) (accepts : Accepts) (blobs : List Blob) (g : List Insertion) (why : Refusal)
     (allow : Option Allowed)
     (P : Outcome → List ℕ → Type 0) → P Defined (refused_reply true (allow_text allow) why) → P Memory memory_reply
-    → (m : Made) → IsMade tells accepts blobs g true (question.Refused why allow) m → P (outcome_of m) (text_of m)
+    → (m : ReplyText) → IsMade tells accepts blobs g true (question.Refused why allow) m → P (outcome_of m) (text_of m)
 refused_says tells accepts blobs g why allow P defined memory made.Memory is = memory
 refused_says tells accepts blobs g why allow P defined memory (made.Told Defined head body) is = subst (P Defined)
     (sym is) defined
@@ -138,7 +138,7 @@ refused_says tells accepts blobs g why allow P defined memory (made.Told (Damage
 -- ---- a head that is refused
 
 pub head_replies : (x0 x1 : Option (List ℕ)) (flow : Flow) (new : WireView) (tells : Bool) (v w : Sight)
-    (entry : Answered) (m : Made)
+    (entry : Answered) (m : ReplyText)
     (end : WireEnd) (why : Refusal) (closes : Bool) → head_says end ≡ Ok why → Passed x0 x1 flow new.flow []
     → HeadEnds (to_come new x1) flow.taken end
     → Answers tells true (refused why) v w entry m → closes ≡ (true || is_memory m)
@@ -221,9 +221,9 @@ module _ (x0 x1 x2 : Option (List ℕ)) (flow : Flow) (mid new : WireView) (says
   front_comes : Comes x0 x2 flow new.flow front
   front_comes = (is_begun, passed, refl)
 
-  module _ (tells : Bool) (v w : Sight) (entry : Answered) (m : Made) where
+  module _ (tells : Bool) (v w : Sight) (entry : Answered) (m : ReplyText) where
     -- the connection closes in any case
-    front_replies : (closes with_closes : Bool) (q : Question) → Answers tells with_closes q v w entry m
+    front_replies : (closes with_closes : Bool) (q : Operation) → Answers tells with_closes q v w entry m
         → ((accepts : Accepts) (h : List (Stamped StoreEvent)) (blobs : List Blob) (g : List Insertion)
         (turns : List ℕ) (added : List (Stamped StoreEvent))
         → IsMade tells accepts blobs g with_closes q m → Looked h blobs q m turns → PutsNothing added
@@ -237,12 +237,12 @@ module _ (x0 x1 x2 : Option (List ℕ)) (flow : Flow) (mid new : WireView) (says
       ready = λ still. absurd (true_not (sym closing ∙ still));
     }
 
-    pub memory_replies : (closes with_closes : Bool) (q : Question) → Answers tells with_closes q v w entry m
+    pub memory_replies : (closes with_closes : Bool) (q : Operation) → Answers tells with_closes q v w entry m
         → m ≡ made.Memory
         → closes ≡ true → Replies x0 x2 flow new tells v w entry m closes
     memory_replies closes with_closes q a none closing = front_replies closes with_closes q a
         (λ accepts h blobs g turns added is looked nothing. subst
-        (λ (z : Made). IsReply tells accepts h blobs g front 0 turns added (outcome_of z) (text_of z)) (sym none)
+        (λ (z : ReplyText). IsReply tells accepts h blobs g front 0 turns added (outcome_of z) (text_of z)) (sym none)
         (inr (refl, nothing, refl))) closing
 
     refused_replies : (closes : Bool) (why : Refusal) (allow : Option Allowed)
@@ -257,7 +257,7 @@ module _ (x0 x1 x2 : Option (List ℕ)) (flow : Flow) (mid new : WireView) (says
 
   -- the whole body was read
   module _ (tells : Bool) (v w : Sight) (entry : Answered) where
-    pub whole_replies : (m : Made) (closes : Bool) (q : Question) → new.body ≡ body.Done → IsAsked mid.head says given q
+    pub whole_replies : (m : ReplyText) (closes : Bool) (q : Operation) → new.body ≡ body.Done → IsAsked mid.head says given q
         → Answers tells says.closes q v w entry m → closes ≡ (says.closes || is_memory m)
         → Replies x0 x2 flow new tells v w entry m closes
     whole_replies made.Memory closes q done asked a closing =
@@ -286,7 +286,7 @@ module _ (x0 x1 x2 : Option (List ℕ)) (flow : Flow) (mid new : WireView) (says
         or_false false = refl
 
 -- what is refused before the body is read
-first_refused : (head : List ℕ) (says : Head) (q : Question) → first_of head says ≡ Err q
+first_refused : (head : List ℕ) (says : Head) (q : Operation) → first_of head says ≡ Err q
     → (why : Refusal) × (allow : Option Allowed) × (q ≡ question.Refused why allow)
 first_refused head says q is = by_route (route_of (piece head says.method) (piece head says.path)) is
   where
@@ -321,7 +321,7 @@ not_done ToEnd e done = absurd (cc done)
 -- a request that is refused before its body is read
 pub early_replies : (x0 x1 : Option (List ℕ)) (flow : Flow) (mid : WireView) (says : Head)
     → ReadsHead x0 x1 flow mid says
-    → (tells : Bool) (v w : Sight) (entry : Answered) (m : Made) (before closes : Bool) (q : Question)
+    → (tells : Bool) (v w : Sight) (entry : Answered) (m : ReplyText) (before closes : Bool) (q : Operation)
     → first_of mid.head says ≡ Err q
     → before ≡ (says.closes || not (is_read says.framing)) → Answers tells before q v w entry m
     → closes ≡ (before || is_memory m)
@@ -341,13 +341,13 @@ early_replies x0 x1 flow mid says head tells v w entry m before closes q first i
     refused_q = first_refused mid.head says q first
 
     asked : body_of says.framing ≡ body.Done → IsAsked mid.head says [] q
-    asked done = subst (λ (z : Result Route Question). IsAskedBy z says.framing (piece mid.head says.query) [] q)
+    asked done = subst (λ (z : Result Route Operation). IsAskedBy z says.framing (piece mid.head says.query) [] q)
         (sym first) (refl, done)
 
     defined : (b : Begun) (after : Option (List ℕ)) → b.framed ≡ [] → (body_of b.says.framing ≡ body.Done → ⊥)
         → IsFrontDefined b after (first_of mid.head says) (refused_reply true (allow_text refused_q.1) refused_q.0)
     defined b after none some =
-        subst (λ (z : Result Route Question). IsFrontDefined b after z
+        subst (λ (z : Result Route Operation). IsFrontDefined b after z
         (refused_reply true (allow_text refused_q.1) refused_q.0)) (sym (first ∙ ap Err refused_q.2))
         (refl, none, some)
 
@@ -363,7 +363,7 @@ early_replies x0 x1 flow mid says head tells v w entry m before closes q first i
         let moved : Moves x1 x1 mid.flow mid.flow mid.body mid.body [] = moves_none x1 mid.flow mid.body in
         let same : before ≡ true = is ∙ ap (λ (b : Bool). says.closes || not b) read ∙ or_true says.closes in
         refused_replies x0 x1 x1 flow mid mid says head [] moved tells v w entry m closes refused_q.0 refused_q.1
-        (subst (λ (z : Question). Answers tells true z v w entry m) refused_q.2
+        (subst (λ (z : Operation). Answers tells true z v w entry m) refused_q.2
         (subst (λ (b : Bool). Answers tells b q v w entry m) same a))
         (defined (begun x0 x1 x1 flow mid mid says head [] moved) (stream mid.flow.bytes x1) refl
         (not_done says.framing read))
@@ -371,8 +371,8 @@ early_replies x0 x1 flow mid says head tells v w entry m before closes q first i
 
 -- there was no memory before anything of the body was read
 pub none_read : (x0 x1 : Option (List ℕ)) (flow : Flow) (mid : WireView) (says : Head) → ReadsHead x0 x1 flow mid says
-    → (tells : Bool) (v w : Sight) (entry : Answered) (m : Made) (closes : Bool)
-    → ((q : Question) → Answers tells true q v w entry m)
+    → (tells : Bool) (v w : Sight) (entry : Answered) (m : ReplyText) (closes : Bool)
+    → ((q : Operation) → Answers tells true q v w entry m)
     → m ≡ made.Memory → closes ≡ true → Replies x0 x1 flow mid tells v w entry m closes
 none_read x0 x1 flow mid says head tells v w entry m closes a none closing =
     memory_replies x0 x1 x1 flow mid mid says head [] (moves_none x1 mid.flow mid.body) tells v w entry m closes true
@@ -382,8 +382,8 @@ none_read x0 x1 flow mid says head tells v w entry m closes a none closing =
 pub along_replies : (x0 x1 x2 : Option (List ℕ)) (flow : Flow) (mid new : WireView) (says : Head)
     → ReadsHead x0 x1 flow mid says
     → (bytes : List ℕ) → Gathers x1 x2 mid new (Ok bytes)
-    → (tells : Bool) (v w : Sight) (entry : Answered) (m : Made) (closes : Bool) (r : Route)
-    (asked : Result Question NoMemory)
+    → (tells : Bool) (v w : Sight) (entry : Answered) (m : ReplyText) (closes : Bool) (r : Route)
+    (asked : Result Operation NoMemory)
     → first_of mid.head says ≡ Ok r → IfOk asked (IsAskedAt r (piece mid.head says.query) bytes)
     → AlongSays tells says.closes asked v w entry m
     → closes ≡ (says.closes || is_memory m) → Replies x0 x2 flow new tells v w entry m closes
@@ -391,12 +391,12 @@ along_replies x0 x1 x2 flow mid new says head bytes gathered tells v w entry m c
     let moved : Moves x1 x2 mid.flow new.flow mid.body new.body bytes =
     subst (λ (z : List ℕ). Moves x1 x2 mid.flow new.flow mid.body new.body z) gathered.says.0 gathered.moved in
     whole_replies x0 x1 x2 flow mid new says head bytes moved tells v w entry m closes q gathered.says.2
-    (subst (λ (z : Result Route Question). IsAskedBy z says.framing (piece mid.head says.query) bytes q) (sym first) at)
+    (subst (λ (z : Result Route Operation). IsAskedBy z says.framing (piece mid.head says.query) bytes q) (sym first) at)
     a closing
 along_replies x0 x1 x2 flow mid new says head bytes gathered tells v w entry m closes r (Err e) first at a closing =
     memory_replies x0 x1 x2 flow mid new says head gathered.given gathered.moved tells v w entry m closes says.closes
     (refused refusal.Memory) (a.1 _) a.0
-    (closing ∙ ap (λ (z : Made). says.closes || is_memory z) a.0 ∙ or_true says.closes)
+    (closing ∙ ap (λ (z : ReplyText). says.closes || is_memory z) a.0 ∙ or_true says.closes)
   where
     or_true : (b : Bool) → (b || true) ≡ true
     or_true true = refl
@@ -412,18 +412,18 @@ upload_is route.Search is = absurd (true_not (sym is))
 not_upload : (r : Route) → is_upload r ≡ false → r ≡ route.Upload → ⊥
 not_upload r is same = true_not (sym (ap is_upload same) ∙ is)
 
-body_defined : (b : Begun) (after : Option (List ℕ)) (first : Result Route Question) (r : Route) (why : Refusal)
+body_defined : (b : Begun) (after : Option (List ℕ)) (first : Result Route Operation) (r : Route) (why : Refusal)
     → first ≡ Ok r
     → is_upload r ≡ false → IsBodyRefusal b after why → IsFrontDefined b after first (refused_reply true [] why)
 body_defined b after first r why is other fault =
-    subst (λ (z : Result Route Question). IsFrontDefined b after z (refused_reply true [] why)) (sym is)
+    subst (λ (z : Result Route Operation). IsFrontDefined b after z (refused_reply true [] why)) (sym is)
     (not_upload r other, (why, fault, refl))
 
 -- a request whose body wasn't read to its end
 pub stop_replies : (x0 x1 x2 : Option (List ℕ)) (flow : Flow) (mid new : WireView) (says : Head)
     → ReadsHead x0 x1 flow mid says
-    → (why : Stopped) → Gathers x1 x2 mid new (Err why)
-    → (tells : Bool) (v w : Sight) (entry : Answered) (m : Made) (closes : Bool) (r : Route)
+    → (why : BodyFault) → Gathers x1 x2 mid new (Err why)
+    → (tells : Bool) (v w : Sight) (entry : Answered) (m : ReplyText) (closes : Bool) (r : Route)
     → first_of mid.head says ≡ Ok r → is_upload r ≡ false → StopReplies tells why v w entry m → closes ≡ true
     → Replies x0 x2 flow new tells v w entry m closes
 stop_replies x0 x1 x2 flow mid new says head stopped.Long gathered tells v w entry m closes r first other a closing =
@@ -497,7 +497,7 @@ read_short_of_body (Some x) left ahead b is gave stops =
     (all, (more.0, more.1, whole), no_whole_request all ahead b is refl (inl stops), inr (b, ahead, is, refl, stops))
 
 -- a body that is read as a whole was within its limit
-none_due : (b : Begun) (first : Result Route Question) (r : Route) → first ≡ Ok r → is_upload r ≡ false
+none_due : (b : Begun) (first : Result Route Operation) (r : Route) → first ≡ Ok r → is_upload r ≡ false
     → length b.given ≤ most_body → HadNoRefusal b first
 none_due b first r is other few = subst (HadNoRefusal b) (sym is) (by_route r other)
   where
@@ -510,7 +510,7 @@ none_due b first r is other few = subst (HadNoRefusal b) (sym is) (by_route r ot
 
 pub stop_none : (x0 x1 x2 : Option (List ℕ)) (flow : Flow) (mid new : WireView) (says : Head)
     → ReadsHead x0 x1 flow mid says
-    → (why : Stopped) → Gathers x1 x2 mid new (Err why) → (r : Route) → first_of mid.head says ≡ Ok r
+    → (why : BodyFault) → Gathers x1 x2 mid new (Err why) → (r : Route) → first_of mid.head says ≡ Ok r
     → is_upload r ≡ false → (end : Ended) → StopEnds why end
     → NoneComes (stream flow.bytes x0) x2 flow.taken end
 stop_none x0 x1 x2 flow mid new says head stopped.Long gathered r first other end is = absurd is

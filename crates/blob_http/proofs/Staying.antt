@@ -20,8 +20,8 @@ use Rattle.home_places.specs.Passes.{Sight}
 use Rattle.blob_http.specs.declared.entries.Answered.{Answered}
 use Rattle.blob_http.specs.declared.entries.Outcome.{Outcome}
 use Rattle.blob_http.specs.declared.entries.Outcome.TheVariants.{Defined, Memory, Disk, Full, Damaged}
-use Rattle.blob_http.specs.declared.questions.Question.{Question}
-use Rattle.blob_http.specs.declared.questions.Question.TheVariants as question
+use Rattle.blob_http.specs.declared.operations.Operation.{Operation}
+use Rattle.blob_http.specs.declared.operations.Operation.TheVariants as question
 use Rattle.blob_http.specs.Asked.{Asked, Whole, Front, Head}
 use Rattle.blob_http.specs.Serving.{IsShown, LooksAt}
 use Rattle.blob_http.specs.Serving.{IsReply, HasCauseIn, IsAnswered, Longer, Answer, AnswerHolds, Climbs, Owns}
@@ -60,7 +60,7 @@ shown_stays h k blobs turns p later is = record {
   arrived = is.arrived;
 }
 
-looks_stay : (h k : List (Stamped StoreEvent)) (blobs : List Blob) (q : Question) (turns : List ℕ) → IsPrefix h k
+looks_stay : (h k : List (Stamped StoreEvent)) (blobs : List Blob) (q : Operation) (turns : List ℕ) → IsPrefix h k
     → AheadOf turns h k → LooksAt h blobs q turns → LooksAt k blobs q turns
 looks_stay h k blobs (question.Refused why allow) turns p later is = tt
 looks_stay h k blobs (question.Blob r) turns p later is = shown_stays h k blobs turns p later is

@@ -35,8 +35,8 @@ use Rattle.blob_routes.specs.declared.routes.Route.TheVariants as route
 use Rattle.blob_routes.specs.declared.routes.RouteFault.{RouteFault}
 use Rattle.blob_routes.specs.Routes.{route_of}
 use Rattle.blob_routes.specs.Before.{early_of, upload_of, boundary_in}
-use Rattle.blob_upload.specs.declared.came.Came.{Came}
-use Rattle.blob_upload.specs.declared.came.Came.TheVariants as came
+use Rattle.blob_upload.specs.declared.upload_end.UploadEnd.{UploadEnd}
+use Rattle.blob_upload.specs.declared.upload_end.UploadEnd.TheVariants as came
 use Rattle.blob_upload.specs.Comes.{Comes}
 use Rattle.blob_upload.specs.Adds.{Adds, Turns, ShowsWhy, IsAddedBy, IsNext}
 use Rattle.blob_upload.specs.Puts.{IsArrivalOf}
@@ -46,8 +46,8 @@ use Rattle.blob_upload.proofs.Coming.{uploads_come}
 use Rattle.blob_http.specs.declared.entries.Outcome.{Outcome}
 use Rattle.blob_http.specs.declared.entries.Outcome.TheVariants.{Defined, Disk, Full}
 use Rattle.blob_http.specs.declared.entries.Answered.{Answered}
-use Rattle.blob_http.specs.declared.replies.Made.{Made}
-use Rattle.blob_http.specs.declared.replies.Made.TheVariants as made
+use Rattle.blob_http.specs.declared.replies.ReplyText.{ReplyText}
+use Rattle.blob_http.specs.declared.replies.ReplyText.TheVariants as made
 use Rattle.blob_http.specs.declared.serving.Ended.{Ended}
 use Rattle.blob_http.specs.declared.serving.Ended.TheVariants as ended
 use Rattle.blob_http.specs.Asked.{Asked, Whole, Front}
@@ -106,13 +106,13 @@ boundary_is (Some text) b is = by_value (value_of (codes "multipart/form-data") 
 
 -- ---- the reply
 
-told_cause : (turns : List ℕ) (h : List (Stamped StoreEvent)) (o : Outcome) (text : List ℕ) (m : Made)
+told_cause : (turns : List ℕ) (h : List (Stamped StoreEvent)) (o : Outcome) (text : List ℕ) (m : ReplyText)
     → IsTold o text m → HasCauseIn turns h o
     → HasCauseIn turns h (outcome_of m)
 told_cause turns h o text made.Memory is c = tt
 told_cause turns h o text (made.Told p head rest) is c = subst (HasCauseIn turns h) (sym is.0) c
 
-upload_cause : (closes : Bool) (kept : List (List ℕ × ℕ)) (c : Came) (m : Made) (turns : List ℕ)
+upload_cause : (closes : Bool) (kept : List (List ℕ × ℕ)) (c : UploadEnd) (m : ReplyText) (turns : List ℕ)
     (h : List (Stamped StoreEvent))
     → UploadMade closes kept c (Ok m) → ShowsWhy c turns h → HasCauseIn turns h (outcome_of m)
 upload_cause closes kept c made.Memory turns h is why = tt
@@ -150,7 +150,7 @@ arrival_of parts next end (store.Damage want other) is = absurd is
 arrival_of parts next end (store.Full blobs pack) is = absurd (cc is)
 
 -- which every upload may add
-added_by : (parts : List Part) (next : Part → Type 0) (c : Came) (e : StoreEvent) → IsArrivalOf parts e
+added_by : (parts : List Part) (next : Part → Type 0) (c : UploadEnd) (e : StoreEvent) → IsArrivalOf parts e
     → IsAddedBy parts next c e
 added_by parts next c (store.Put n r bytes) is = inl is
 added_by parts next c (store.Fault f) is = absurd is
@@ -166,7 +166,7 @@ module _ (boundary given : List ℕ) (parts : List Part) (end : WireEnd) (added 
   arrivals_alone = All-weaker IsAdded (λ (s : Stamped StoreEvent). IsArrivalOf parts s.entry)
       (λ s is. arrival_of parts (IsNext boundary given parts) end s.entry is) added all
 
-  broken_adds : (c : Came) → AddsParts boundary given parts c added
+  broken_adds : (c : UploadEnd) → AddsParts boundary given parts c added
   broken_adds c = All-weaker IsAdded
       (λ (s : Stamped StoreEvent). IsAddedBy parts (IsNext boundary given parts) c s.entry)
       (λ s is. added_by parts (IsNext boundary given parts) c s.entry
@@ -174,10 +174,10 @@ module _ (boundary given : List ℕ) (parts : List Part) (end : WireEnd) (added 
 
 -- what an upload that isn't whole came to, and its reply
 upload_said : (boundary given : List ℕ) (parts : List Part) (wire : WireView) (x : Option (List ℕ)) (closes : Bool)
-    (c : Came) (m : Made) (n t : ℕ) (added : List (Stamped StoreEvent))
+    (c : UploadEnd) (m : ReplyText) (n t : ℕ) (added : List (Stamped StoreEvent))
     → UploadMade closes (sizes parts) c (Ok m) → Comes boundary given parts wire x c → Turns c n t
     → (is_whole c ≡ false) ⊎ (m ≡ made.Memory) → AddsParts boundary given parts c added
-    → (d : Came) × Comes boundary given parts wire x d × Turns d n t × IsUploadReply parts d (outcome_of m) (text_of m)
+    → (d : UploadEnd) × Comes boundary given parts wire x d × Turns d n t × IsUploadReply parts d (outcome_of m) (text_of m)
     × AddsParts boundary given parts d added
 upload_said boundary given parts wire x closes c made.Memory n t added is comes turns part adds =
     (c, comes, turns, refl, adds)
@@ -230,7 +230,7 @@ upload_said boundary given parts wire x closes (came.Ended (ends.TooLong k))
 upload_said boundary given parts wire x closes (came.Ended ends.ReadFault)
     (made.Told o head rest) n t added is comes turns part adds = absurd is
 
-added_longer : (parts : List Part) (next : Part → Type 0) (c : Came) (v w : Sight) → Adds parts next c v w → Longer v w
+added_longer : (parts : List Part) (next : Part → Type 0) (c : UploadEnd) (v w : Sight) → Adds parts next c v w → Longer v w
 added_longer parts next c v w adds = record {
   store = adds.grew.longer;
   turns = (adds.grew.further, sym adds.grew.drawn);
@@ -253,7 +253,7 @@ module _ (x0 x1 x2 : Option (List ℕ)) (flow : Flow) (mid new : WireView) (says
     (head : ReadsHead x0 x1 flow mid says)
     (first : first_of mid.head says ≡ Ok route.Upload) (boundary : List ℕ)
     (bounds : boundary_at mid.head says ≡ Some boundary)
-    (tells : Bool) (v w : Sight) (listed : List (List ℕ × ℕ)) (c : Came)
+    (tells : Bool) (v w : Sight) (listed : List (List ℕ × ℕ)) (c : UploadEnd)
     (u : Uploads boundary x1 x2 mid new v w [] listed c) where
   adds : Adds u.parts (IsNext boundary u.given u.parts) c v w
   adds = uploads_add boundary x1 x2 mid new v w [] listed c u
@@ -264,7 +264,7 @@ module _ (x0 x1 x2 : Option (List ℕ)) (flow : Flow) (mid new : WireView) (says
   abbrev turns : List ℕ
   turns = adds.grew.further
 
-  made_so : (m : Made) → UploadMade says.closes listed c (Ok m) → UploadMade says.closes (sizes u.parts) c (Ok m)
+  made_so : (m : ReplyText) → UploadMade says.closes listed c (Ok m) → UploadMade says.closes (sizes u.parts) c (Ok m)
   made_so m is = subst (λ (k : List (List ℕ × ℕ)). UploadMade says.closes k c (Ok m)) u.keeps.listed is
 
   counted : (k : ℕ) → k ≡ length listed → k ≡ length u.parts
@@ -284,7 +284,7 @@ module _ (x0 x1 x2 : Option (List ℕ)) (flow : Flow) (mid new : WireView) (says
   longer : Longer v w
   longer = added_longer u.parts (IsNext boundary u.given u.parts) c v w adds
 
-  handles : (asked : Asked) (entry : Answered) (m : Made) → UploadMade says.closes listed c (Ok m)
+  handles : (asked : Asked) (entry : Answered) (m : ReplyText) → UploadMade says.closes listed c (Ok m)
       → IsUploadEntry w (length listed) m entry
       → ((g : List Insertion)
       → IsReply tells w.index.accepts w.store.history (arrivals w.store.history) g asked entry.kept turns
@@ -320,7 +320,7 @@ module _ (x0 x1 x2 : Option (List ℕ)) (flow : Flow) (mid new : WireView) (says
       }
 
   -- an upload that isn't whole, or without memory for the reply
-  part_replies : (entry : Answered) (m : Made) (closes : Bool) → UploadMade says.closes listed c (Ok m)
+  part_replies : (entry : Answered) (m : ReplyText) (closes : Bool) → UploadMade says.closes listed c (Ok m)
       → IsUploadEntry w (length listed) m entry
       → (is_whole c ≡ false) ⊎ (m ≡ made.Memory) → closes ≡ true → Replies x0 x2 flow new tells v w entry m closes
   part_replies entry m closes is e part closing =
@@ -350,10 +350,10 @@ module _ (x0 x1 x2 : Option (List ℕ)) (flow : Flow) (mid new : WireView) (says
       → IsUploadEntry w (length listed) (made.Told o text rest) entry
       → closes ≡ says.closes → Replies x0 x2 flow new tells v w entry (made.Told o text rest) closes
   whole_replies entry o text rest closes whole is e closing =
-      let done = subst (λ (z : Came). Comes boundary u.given u.parts new (to_come new x2) z) whole comes in
-      let told = subst (λ (z : Came). UploadMade says.closes (sizes u.parts) z (Ok (made.Told o text rest))) whole
+      let done = subst (λ (z : UploadEnd). Comes boundary u.given u.parts new (to_come new x2) z) whole comes in
+      let told = subst (λ (z : UploadEnd). UploadMade says.closes (sizes u.parts) z (Ok (made.Told o text rest))) whole
       (made_so (made.Told o text rest) is) in
-      let count = subst (λ (z : Came). Turns z (length u.parts) (length turns)) whole adds.turns in
+      let count = subst (λ (z : UploadEnd). Turns z (length u.parts) (length turns)) whole adds.turns in
       let r : Request = record { head = mid.head; says = says; framed = u.moved.0; body = u.given } in
       let begins = is_begun x0 x1 x2 flow mid new says head u.given u.moved in
       let leads : Leads (body_of says.framing) body.Done u.moved.0 u.given = subst
@@ -372,13 +372,13 @@ module _ (x0 x1 x2 : Option (List ℕ)) (flow : Flow) (mid new : WireView) (says
               count ∙ sym (counted entry.kept e.kept),
               told.0,
               told.1,
-              subst (λ (z : Came). AddsParts boundary u.given u.parts z adds.grew.added) whole adds.grew.each_is,
+              subst (λ (z : UploadEnd). AddsParts boundary u.given u.parts z adds.grew.added) whole adds.grew.each_is,
             ));
         closing = closing;
         ready = λ still. done.0;
       }
 
-  pub upload_replies : (entry : Answered) (m : Made) (closes : Bool) → UploadMade says.closes listed c (Ok m)
+  pub upload_replies : (entry : Answered) (m : ReplyText) (closes : Bool) → UploadMade says.closes listed c (Ok m)
       → IsUploadEntry w (length listed) m entry
       → closes ≡ ((says.closes || not (is_whole c)) || is_memory m) → Replies x0 x2 flow new tells v w entry m closes
   upload_replies entry made.Memory closes is e closing =
@@ -397,7 +397,7 @@ module _ (x0 x1 x2 : Option (List ℕ)) (flow : Flow) (mid new : WireView) (says
       or_false true = refl
       or_false false = refl
 
-      whole_is : (d : Came) → is_whole d ≡ true → d ≡ came.Whole
+      whole_is : (d : UploadEnd) → is_whole d ≡ true → d ≡ came.Whole
       whole_is came.Whole is = refl
       whole_is (came.Refused why) is = absurd (true_not (sym is))
       whole_is (came.Full n pack) is = absurd (true_not (sym is))
@@ -423,11 +423,11 @@ module _ (x0 x1 x2 : Option (List ℕ)) (flow : Flow) (mid new : WireView) (says
     boundary = boundary;
     bounds = bounds;
     parts = u.parts;
-    reads = (subst (λ (z : Came). Comes boundary u.given u.parts new (to_come new x2) z) ends_so comes).0;
-    count = subst (λ (z : Came). Turns z (length u.parts) (length turns)) ends_so adds.turns;
+    reads = (subst (λ (z : UploadEnd). Comes boundary u.given u.parts new (to_come new x2) z) ends_so comes).0;
+    count = subst (λ (z : UploadEnd). Turns z (length u.parts) (length turns)) ends_so adds.turns;
     placed = adds.grew.placed;
     adds = arrivals_alone boundary u.given u.parts end adds.grew.added
-        (subst (λ (z : Came). AddsParts boundary u.given u.parts z adds.grew.added) ends_so adds.grew.each_is);
+        (subst (λ (z : UploadEnd). AddsParts boundary u.given u.parts z adds.grew.added) ends_so adds.grew.each_is);
   }
 
   pub upload_passes : (new.begun ≡ mid.begun) → (end : Ended) → UploadMade says.closes listed c (Err end)
@@ -441,7 +441,7 @@ module _ (x0 x1 x2 : Option (List ℕ)) (flow : Flow) (mid new : WireView) (says
     longer = longer;
   }
     where
-      may_rest : (d : Came) (end : Ended) → c ≡ d → UploadMade says.closes listed d (Err end)
+      may_rest : (d : UploadEnd) (end : Ended) → c ≡ d → UploadMade says.closes listed d (Err end)
           → IsRest (stream flow.bytes x0) flow.taken end turns adds.grew.added
       may_rest came.Whole end same is = absurd is
       may_rest (came.Refused why) end same is = absurd is
@@ -450,7 +450,7 @@ module _ (x0 x1 x2 : Option (List ℕ)) (flow : Flow) (mid new : WireView) (says
       may_rest came.Memory end same is = absurd is
       may_rest (came.Ended ends.Closed) end same is = absurd is
       may_rest (came.Ended (ends.Cut n)) end same is =
-          let place = (subst (λ (z : Came). Comes boundary u.given u.parts new (to_come new x2) z) same comes).1.0 in
+          let place = (subst (λ (z : UploadEnd). Comes boundary u.given u.parts new (to_come new x2) z) same comes).1.0 in
           subst (λ (e : Ended). IsRest (stream flow.bytes x0) flow.taken e turns adds.grew.added) (sym is)
           (inr (cut_upload (ends.Cut n) n same (place ∙ begun_so ∙ head.begun)))
       may_rest (came.Ended (ends.BadHead n)) end same is = absurd is
@@ -464,7 +464,7 @@ module _ (x0 x1 x2 : Option (List ℕ)) (flow : Flow) (mid new : WireView) (says
       → NoneComes (stream flow.bytes x0) x2 flow.taken end
   upload_none same end is = by_came c end is comes
     where
-      by_came : (d : Came) (end : Ended) → UploadMade says.closes listed d (Err end)
+      by_came : (d : UploadEnd) (end : Ended) → UploadMade says.closes listed d (Err end)
           → Comes boundary u.given u.parts new (to_come new x2) d
           → NoneComes (stream flow.bytes x0) x2 flow.taken end
       by_came came.Whole end is said = absurd is
@@ -496,7 +496,7 @@ module _ (x0 x1 x2 : Option (List ℕ)) (flow : Flow) (mid new : WireView) (says
           (passed x0 x1 x2 flow mid new says head u.given u.moved).gave (said.2 refl))
 
 -- where the connection ends with a failed read, that is what the upload ended with
-pub ended_so : (closes : Bool) (kept : List (List ℕ × ℕ)) (c : Came) → UploadMade closes kept c (Err ended.ReadFault)
+pub ended_so : (closes : Bool) (kept : List (List ℕ × ℕ)) (c : UploadEnd) → UploadMade closes kept c (Err ended.ReadFault)
     → c ≡ came.Ended ends.ReadFault
 ended_so closes kept came.Whole is = absurd is
 ended_so closes kept (came.Refused why) is = absurd is
@@ -518,7 +518,7 @@ if_ok_three (Ok x) P Q R S f p q t = f x p q t
 if_ok_three (Err y) P Q R S f p q t = tt
 
 -- where an upload ends with a failed read, that is what it came to
-pub fault_so : {X : Type 0} (closes : Bool) (kept : List (List ℕ × ℕ)) (c : Came) (r : Result X Ended)
+pub fault_so : {X : Type 0} (closes : Bool) (kept : List (List ℕ × ℕ)) (c : UploadEnd) (r : Result X Ended)
     → IfErr r (λ e. UploadMade closes kept c (Err e)) → IsErrOf r ended.ReadFault → c ≡ came.Ended ends.ReadFault
 fault_so closes kept c r is e =
     ended_so closes kept c (subst (λ (z : Result _ Ended). IfErr z (λ y. UploadMade closes kept c (Err y))) e is)

@@ -18,10 +18,10 @@ use Rattle.blob_routes.specs.declared.routes.Allowed.{Allowed}
 use Rattle.blob_routes.specs.Routes.{allowed_text}
 use Rattle.blob_http.specs.declared.entries.Outcome.{Outcome}
 use Rattle.blob_http.specs.declared.entries.Outcome.TheVariants.{Defined, Memory, Disk, Full, Damaged}
-use Rattle.blob_http.specs.declared.questions.Question.{Question}
-use Rattle.blob_http.specs.declared.questions.Question.TheVariants as question
-use Rattle.blob_http.specs.declared.replies.Made.{Made}
-use Rattle.blob_http.specs.declared.replies.Made.TheVariants as made
+use Rattle.blob_http.specs.declared.operations.Operation.{Operation}
+use Rattle.blob_http.specs.declared.operations.Operation.TheVariants as question
+use Rattle.blob_http.specs.declared.replies.ReplyText.{ReplyText}
+use Rattle.blob_http.specs.declared.replies.ReplyText.TheVariants as made
 use Rattle.blob_http.specs.Replies.{json_reply, blob_reply, refused_reply, memory_reply}
 
 -- the methods to tell
@@ -52,7 +52,7 @@ abbrev pub stat_answer : List (List ℕ) → List Blob → List ℕ
 stat_answer refs blobs = stat_text (filter_map (sized blobs) (each_once [] refs))
 
 -- The reply as it is defined. A search has found all of these blobs inserted.
-abbrev pub IsDefined : Bool → Accepts → List Blob → List Insertion → Bool → Question → List ℕ → Type 0
+abbrev pub IsDefined : Bool → Accepts → List Blob → List Insertion → Bool → Operation → List ℕ → Type 0
 IsDefined tells accepts blobs g closes (question.Refused why allow) text =
     text ≡ refused_reply closes (allow_text allow) why
 IsDefined tells accepts blobs g closes (question.Blob r) text = IsBlobReply tells r closes (bytes_of r blobs) text
@@ -63,7 +63,7 @@ IsDefined tells accepts blobs g closes (question.Search query) text =
     HasAllBelow (length blobs) g × (text ≡ json_reply closes (search_text (answer (indexed g) accepts query)))
 
 -- whether the answer needs bytes of blobs
-abbrev pub reads_blobs : Question → Bool
+abbrev pub reads_blobs : Operation → Bool
 reads_blobs (question.Refused why allow) = false
 reads_blobs (question.Blob r) = true
 reads_blobs (question.Stat refs) = false
@@ -79,7 +79,7 @@ IsFailed closes (Full blobs pack) text = ⊥
 IsFailed closes (Damaged want is) text = text ≡ refused_reply closes [] (refusal.Damaged want is)
 
 -- the reply to a question with this outcome
-abbrev pub IsAnswer : Bool → Accepts → List Blob → List Insertion → Bool → Question → Outcome → List ℕ → Type 0
+abbrev pub IsAnswer : Bool → Accepts → List Blob → List Insertion → Bool → Operation → Outcome → List ℕ → Type 0
 IsAnswer tells accepts blobs g closes q Defined text = IsDefined tells accepts blobs g closes q text
 IsAnswer tells accepts blobs g closes q Memory text = IsFailed closes Memory text
 IsAnswer tells accepts blobs g closes q Disk text = (reads_blobs q ≡ true) × IsFailed closes Disk text
@@ -89,35 +89,35 @@ IsAnswer tells accepts blobs g closes q (Damaged want is) text =
 
 -- ---- as a reply is made
 
-abbrev pub outcome_of : Made → Outcome
+abbrev pub outcome_of : ReplyText → Outcome
 outcome_of (made.Told outcome head body) = outcome
 outcome_of made.Memory = Memory
 
-abbrev pub text_of : Made → List ℕ
+abbrev pub text_of : ReplyText → List ℕ
 text_of (made.Told outcome head body) = head ++ body
 text_of made.Memory = memory_reply
 
-abbrev pub IsTold : Outcome → List ℕ → Made → Type 0
+abbrev pub IsTold : Outcome → List ℕ → ReplyText → Type 0
 IsTold outcome text (made.Told o head body) = (o ≡ outcome) × (head ++ body ≡ text)
 IsTold outcome text made.Memory = Unit {0}
 
-abbrev pub IsMemory : Made → Type 0
+abbrev pub IsMemory : ReplyText → Type 0
 IsMemory (made.Told o head body) = ⊥
 IsMemory made.Memory = Unit {0}
 
-abbrev pub FaultMade : Bool → GetFault → Made → Type 0
+abbrev pub FaultMade : Bool → GetFault → ReplyText → Type 0
 FaultMade closes unread.Disk m = IsTold Disk (refused_reply closes [] refusal.Disk) m
 FaultMade closes (unread.Damaged want is) m =
     IsTold (Damaged want is) (refused_reply closes [] (refusal.Damaged want is)) m
 FaultMade closes unread.NoMemory m = IsMemory m
 
-abbrev pub BlobMade : Bool → List ℕ → Result (Option (List ℕ)) GetFault → Made → Type 0
+abbrev pub BlobMade : Bool → List ℕ → Result (Option (List ℕ)) GetFault → ReplyText → Type 0
 BlobMade closes r (Ok None) m = IsTold Defined (refused_reply closes [] (refusal.Absent r)) m
 BlobMade closes r (Ok (Some bytes)) m = IsTold Defined (blob_reply closes bytes) m
 BlobMade closes r (Err f) m = FaultMade closes f m
 
 -- of what is listed or found, by the text that it has
-abbrev pub TextMade : {A : Type 0} → Bool → (A → List ℕ) → Result A NoMemory → Made → Type 0
+abbrev pub TextMade : {A : Type 0} → Bool → (A → List ℕ) → Result A NoMemory → ReplyText → Type 0
 TextMade closes text (Ok found) m = IsTold Defined (json_reply closes (text found)) m
 TextMade closes text (Err e) m = IsMemory m
 

@@ -20,8 +20,8 @@ use Rattle.blob_routes.specs.Before.{most_body}
 use Rattle.blob_upload.specs.Faults.{most_bytes, part_fault}
 use Rattle.blob_http.specs.declared.entries.Outcome.{Outcome}
 use Rattle.blob_http.specs.declared.entries.Outcome.TheVariants.{Defined, Memory}
-use Rattle.blob_http.specs.declared.questions.Question.{Question}
-use Rattle.blob_http.specs.declared.questions.Question.TheVariants.{Refused}
+use Rattle.blob_http.specs.declared.operations.Operation.{Operation}
+use Rattle.blob_http.specs.declared.operations.Operation.TheVariants.{Refused}
 use Rattle.blob_http.specs.Asked.{Asked, Whole, Front, Head}
 use Rattle.blob_http.specs.Questions.{IsAsked, first_of}
 use Rattle.blob_http.specs.Answers.{IsDefined}
@@ -84,7 +84,7 @@ IsDefinedReply tells accepts blobs g r text =
     ((boundary : List ℕ) × (parts : List Part) × (boundary_at r.head r.says ≡ Some boundary)
     × IsMultipart boundary r.body parts (Ok tt)
     × (text ≡ json_reply r.says.closes (upload_text (sizes parts) None)))
-    ⊎ ((q : Question) × IsAsked r.head r.says r.body q × IsDefined tells accepts blobs g r.says.closes q text)
+    ⊎ ((q : Operation) × IsAsked r.head r.says r.body q × IsDefined tells accepts blobs g r.says.closes q text)
 
 -- the request was answered as is defined, or for want of memory
 abbrev pub IsServed : Bool → Accepts → List Blob → List Insertion → Request → Outcome → List ℕ → Type 0

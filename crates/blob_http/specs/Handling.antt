@@ -18,29 +18,29 @@ use Rattle.http_wire.specs.Wires.{WireView, body_of}
 use Rattle.blobref.specs.declared.memory.NoMemory.{NoMemory}
 use Rattle.answer_text.specs.declared.refusal.Refusal.TheVariants as refusal
 use Rattle.blob_routes.specs.Before.{most_body}
-use Rattle.blob_http.specs.declared.gathering.Stopped.{Stopped}
-use Rattle.blob_http.specs.declared.gathering.Stopped.TheVariants as stopped
+use Rattle.blob_http.specs.declared.gathering.BodyFault.{BodyFault}
+use Rattle.blob_http.specs.declared.gathering.BodyFault.TheVariants as stopped
 use Rattle.blob_http.specs.declared.entries.Answered.{Answered}
 use Rattle.blob_http.specs.Questions.{refused}
-use Rattle.blob_http.specs.declared.questions.Question.{Question}
-use Rattle.blob_http.specs.declared.replies.Made.{Made}
-use Rattle.blob_http.specs.declared.replies.Made.TheVariants as made
+use Rattle.blob_http.specs.declared.operations.Operation.{Operation}
+use Rattle.blob_http.specs.declared.replies.ReplyText.{ReplyText}
+use Rattle.blob_http.specs.declared.replies.ReplyText.TheVariants as made
 use Rattle.blob_http.specs.declared.serving.Ended.{Ended}
 use Rattle.blob_http.specs.declared.serving.Ended.TheVariants as ended
 use Rattle.blob_http.specs.Asked.{Asked, Comes, closes_of}
 use Rattle.blob_http.specs.Answers.{IsAnswer, outcome_of, text_of}
 use Rattle.blob_http.specs.Serving.{HasCauseIn, LooksAt, Longer, Handles, IsCut, IsReadShort, Owns, PutsNothing}
 
-abbrev pub IsMade : Bool → Accepts → List Blob → List Insertion → Bool → Question → Made → Type 0
+abbrev pub IsMade : Bool → Accepts → List Blob → List Insertion → Bool → Operation → ReplyText → Type 0
 IsMade tells accepts blobs g closes q (made.Told o head body) = IsAnswer tells accepts blobs g closes q o (head ++ body)
 IsMade tells accepts blobs g closes q made.Memory = Unit {0}
 
-abbrev pub is_memory : Made → Bool
+abbrev pub is_memory : ReplyText → Bool
 is_memory (made.Told o head body) = false
 is_memory made.Memory = true
 
 -- what was answered from the store drew a turn of it first, and so did a search
-abbrev pub Looked : List (Stamped StoreEvent) → List Blob → Question → Made → List ℕ → Type 0
+abbrev pub Looked : List (Stamped StoreEvent) → List Blob → Operation → ReplyText → List ℕ → Type 0
 Looked h blobs q made.Memory turns = Unit {0}
 Looked h blobs q (made.Told o head body) turns = LooksAt h blobs q turns
 
@@ -53,7 +53,7 @@ pub record Looks (v w : Sight) : Type 0 where
   pub longer : Longer v w
 
 -- a question was answered, or there was no memory for that; no blob was put
-pub record Answers (tells closes : Bool) (q : Question) (v w : Sight) (entry : Answered) (m : Made) : Type 0 where
+pub record Answers (tells closes : Bool) (q : Operation) (v w : Sight) (entry : Answered) (m : ReplyText) : Type 0 where
   pub turns : List ℕ
   pub drawn : w.store.turns ≡ v.store.turns ++ turns
   pub added : List (Stamped StoreEvent)
@@ -73,11 +73,11 @@ pub record Answers (tells closes : Bool) (q : Question) (v w : Sight) (entry : A
   pub looked : Looked w.store.history (take entry.store_count (arrivals w.store.history)) q m turns
 
 -- an entry for a reply
-abbrev pub entry_of : ℕ → ℕ → ℕ → Made → Answered
+abbrev pub entry_of : ℕ → ℕ → ℕ → ReplyText → Answered
 entry_of m n kept reply = record { store_count = m; index_count = n; kept = kept; outcome = outcome_of reply }
 
 -- the entry of an upload that kept so many parts
-pub record IsUploadEntry (v : Sight) (n : ℕ) (m : Made) (entry : Answered) : Type 0 where
+pub record IsUploadEntry (v : Sight) (n : ℕ) (m : ReplyText) (entry : Answered) : Type 0 where
   pub store : entry.store_count ≡ length (arrivals v.store.history)
   pub index : entry.index_count ≡ length v.index.shown
   pub kept : entry.kept ≡ n
@@ -100,7 +100,7 @@ pub record ReadsHead (before now : Option (List ℕ)) (old : Flow) (new : WireVi
 
 -- something was answered: what it was, and that the entry and the reply are those to it
 pub record Replies (before now : Option (List ℕ)) (old : Flow) (new : WireView) (tells : Bool) (v w : Sight)
-    (entry : Answered) (m : Made) (closes : Bool) : Type 0 where
+    (entry : Answered) (m : ReplyText) (closes : Bool) : Type 0 where
   pub asked : Asked
   pub comes : Comes before now old new.flow asked
   pub handles : Handles tells asked v w entry (text_of m)
@@ -108,20 +108,20 @@ pub record Replies (before now : Option (List ℕ)) (old : Flow) (new : WireView
   pub ready : closes ≡ false → new.body ≡ body.Done
 
 -- the answer to what was asked, where that was found out
-abbrev pub AlongSays : Bool → Bool → Result Question NoMemory → Sight → Sight → Answered → Made → Type 0
+abbrev pub AlongSays : Bool → Bool → Result Operation NoMemory → Sight → Sight → Answered → ReplyText → Type 0
 AlongSays tells closes (Ok q) v w entry m = Answers tells closes q v w entry m
-AlongSays tells closes (Err e) v w entry m = (m ≡ made.Memory) × ((q : Question) → Answers tells closes q v w entry m)
+AlongSays tells closes (Err e) v w entry m = (m ≡ made.Memory) × ((q : Operation) → Answers tells closes q v w entry m)
 
 -- the answer where a body wasn't read to its end
-abbrev pub StopReplies : Bool → Stopped → Sight → Sight → Answered → Made → Type 0
+abbrev pub StopReplies : Bool → BodyFault → Sight → Sight → Answered → ReplyText → Type 0
 StopReplies tells stopped.Long v w entry m = Answers tells true (refused (refusal.TooLong most_body)) v w entry m
 StopReplies tells stopped.Broken v w entry m = Answers tells true (refused refusal.BadLength) v w entry m
-StopReplies tells stopped.Memory v w entry m = (m ≡ made.Memory) × ((q : Question) → Answers tells true q v w entry m)
+StopReplies tells stopped.Memory v w entry m = (m ≡ made.Memory) × ((q : Operation) → Answers tells true q v w entry m)
 StopReplies tells (stopped.Cut n) v w entry m = ⊥
 StopReplies tells stopped.ReadFault v w entry m = ⊥
 
 -- how the connection ends there
-abbrev pub StopEnds : Stopped → Ended → Type 0
+abbrev pub StopEnds : BodyFault → Ended → Type 0
 StopEnds stopped.Long end = ⊥
 StopEnds stopped.Broken end = ⊥
 StopEnds stopped.Memory end = ⊥

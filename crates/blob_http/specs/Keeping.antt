@@ -12,12 +12,12 @@ use Rattle.http_wire.specs.declared.ends.WireEnd.TheVariants as ends
 use Rattle.multipart_read.specs.PartLists.{Part}
 use Rattle.blob_routes.specs.declared.routes.Route.TheVariants.{Upload}
 use Rattle.blob_routes.specs.Before.{boundary_in}
-use Rattle.blob_upload.specs.declared.came.Came.{Came}
-use Rattle.blob_upload.specs.declared.came.Came.TheVariants as came
+use Rattle.blob_upload.specs.declared.upload_end.UploadEnd.{UploadEnd}
+use Rattle.blob_upload.specs.declared.upload_end.UploadEnd.TheVariants as came
 use Rattle.blob_upload.specs.Faults.{part_fault}
 use Rattle.blob_http.specs.declared.entries.Outcome.{Outcome}
 use Rattle.blob_http.specs.declared.entries.Outcome.TheVariants.{Defined, Memory, Disk, Full, Damaged}
-use Rattle.blob_http.specs.declared.replies.Made.{Made}
+use Rattle.blob_http.specs.declared.replies.ReplyText.{ReplyText}
 use Rattle.blob_http.specs.declared.replies.Kind.TheVariants.{Json}
 use Rattle.blob_http.specs.declared.serving.Ended.{Ended}
 use Rattle.blob_http.specs.declared.serving.Ended.TheVariants as ended
@@ -44,7 +44,7 @@ abbrev pub upload_reply : List (List ℕ × ℕ) → Refusal → List ℕ
 upload_reply kept why = reply_text (code_of why) Json true [] (upload_text kept (Some why))
 
 -- the reply to an upload that was refused
-abbrev pub IsUploadRefused : List (List ℕ × ℕ) → Came → List ℕ → Type 0
+abbrev pub IsUploadRefused : List (List ℕ × ℕ) → UploadEnd → List ℕ → Type 0
 IsUploadRefused kept (came.Refused why) text = text ≡ upload_reply kept why
 IsUploadRefused kept came.Whole text = ⊥
 IsUploadRefused kept (came.Full blobs pack) text = ⊥
@@ -52,7 +52,7 @@ IsUploadRefused kept came.Disk text = ⊥
 IsUploadRefused kept came.Memory text = ⊥
 IsUploadRefused kept (came.Ended end) text = ⊥
 
-abbrev pub IsUploadReply : List Part → Came → Outcome → List ℕ → Type 0
+abbrev pub IsUploadReply : List Part → UploadEnd → Outcome → List ℕ → Type 0
 IsUploadReply parts c Defined text = IsUploadRefused (sizes parts) c text
 IsUploadReply parts c Memory text = text ≡ memory_reply
 IsUploadReply parts c Disk text = (c ≡ came.Disk) × (text ≡ upload_reply (sizes parts) refusal.Disk)
@@ -64,7 +64,7 @@ IsUploadReply parts c (Damaged want is) text = ⊥
 
 -- What is made of how an upload came; none where the connection ends in it. An upload ends with no other ends than
 -- these two and a break of its chunks.
-abbrev pub UploadMade : Bool → List (List ℕ × ℕ) → Came → Result Made Ended → Type 0
+abbrev pub UploadMade : Bool → List (List ℕ × ℕ) → UploadEnd → Result ReplyText Ended → Type 0
 UploadMade closes kept came.Whole (Ok m) = IsTold Defined (json_reply closes (upload_text kept None)) m
 UploadMade closes kept (came.Refused why) (Ok m) = IsTold Defined (upload_reply kept why) m
 UploadMade closes kept (came.Full blobs pack) (Ok m) =
@@ -90,7 +90,7 @@ UploadMade closes kept (came.Ended (ends.BadHead n)) (Err e) = ⊥
 UploadMade closes kept (came.Ended (ends.TooLong n)) (Err e) = ⊥
 
 -- whether an upload was whole
-abbrev pub is_whole : Came → Bool
+abbrev pub is_whole : UploadEnd → Bool
 is_whole came.Whole = true
 is_whole (came.Refused why) = false
 is_whole (came.Full blobs pack) = false

@@ -20,8 +20,8 @@ use Rattle.blob_routes.specs.Queries.{question_of}
 use Rattle.search_query.specs.View.{question}
 use Rattle.http_wire.specs.Heads.{IsPlaceIn}
 use Rattle.http_wire.specs.Wires.{body_of}
-use Rattle.blob_http.specs.declared.questions.Question.{Question}
-use Rattle.blob_http.specs.declared.questions.Question.TheVariants.{Refused, Blob, Stat, Refs, Search}
+use Rattle.blob_http.specs.declared.operations.Operation.{Operation}
+use Rattle.blob_http.specs.declared.operations.Operation.TheVariants.{Refused, Blob, Stat, Refs, Search}
 
 -- the bytes of a place in a head
 abbrev pub piece : List ℕ → Piece → List ℕ
@@ -37,27 +37,27 @@ pub record HasPieces (text : List ℕ) (says : Head) : Type 0 where
 -- ---- before the body is read
 
 -- a refusal without methods
-abbrev pub refused : Refusal → Question
+abbrev pub refused : Refusal → Operation
 refused why = Refused why None
 
-abbrev pub refused_by : RouteFault → Question
+abbrev pub refused_by : RouteFault → Operation
 refused_by fault.NoRoute = refused refusal.NoRoute
 refused_by (fault.Method allow) = Refused refusal.Method (Some allow)
 
-abbrev pub early_by : Route → Result (Option (List ℕ)) Refusal → Result Route Question
+abbrev pub early_by : Route → Result (Option (List ℕ)) Refusal → Result Route Operation
 early_by r (Ok boundary) = Ok r
 early_by r (Err why) = Err (refused why)
 
-abbrev pub first_by : List ℕ → Head → Result Route RouteFault → Result Route Question
+abbrev pub first_by : List ℕ → Head → Result Route RouteFault → Result Route Operation
 first_by head says (Ok r) = early_by r (early_of r says.framing (option_map (piece head) says.content_type))
 first_by head says (Err why) = Err (refused_by why)
 
 -- the route of a request, or how it is refused before its body is read
-abbrev pub first_of : List ℕ → Head → Result Route Question
+abbrev pub first_of : List ℕ → Head → Result Route Operation
 first_of head says = first_by head says (route_of (piece head says.method) (piece head says.path))
 
 -- a page that is asked isn't too long
-abbrev pub IsFew : Question → Type 0
+abbrev pub IsFew : Operation → Type 0
 IsFew (Refused why allow) = Unit {0}
 IsFew (Blob r) = Unit {0}
 IsFew (Stat refs) = Unit {0}
@@ -73,16 +73,16 @@ is_upload route.Search = false
 
 -- ---- by the body too
 
-abbrev pub stat_of : Result (List (List ℕ)) Refusal → Question
+abbrev pub stat_of : Result (List (List ℕ)) Refusal → Operation
 stat_of (Ok refs) = Stat refs
 stat_of (Err why) = refused why
 
-abbrev pub refs_asked : Result Page Refusal → Question
+abbrev pub refs_asked : Result Page Refusal → Operation
 refs_asked (Ok page) = Refs page
 refs_asked (Err why) = refused why
 
 -- a query that means what the body asks, or the body's refusal
-abbrev pub IsSearch : List ℕ → Question → Type 0
+abbrev pub IsSearch : List ℕ → Operation → Type 0
 IsSearch body (Search query) = question_of body ≡ Ok (question query)
 IsSearch body (Refused why allow) = (question_of body ≡ Err why) × (allow ≡ None)
 IsSearch body (Blob r) = ⊥
@@ -90,7 +90,7 @@ IsSearch body (Stat refs) = ⊥
 IsSearch body (Refs page) = ⊥
 
 -- what is asked along a route that isn't an upload's
-abbrev pub IsAskedAt : Route → List ℕ → List ℕ → Question → Type 0
+abbrev pub IsAskedAt : Route → List ℕ → List ℕ → Operation → Type 0
 IsAskedAt (route.Blob r) query body q = q ≡ Blob r
 IsAskedAt (route.Stat posted) query body q = q ≡ stat_of (refs_of posted query body)
 IsAskedAt route.Page query body q = q ≡ refs_asked (page_of query)
@@ -98,10 +98,10 @@ IsAskedAt route.Search query body q = IsSearch body q
 IsAskedAt route.Upload query body q = ⊥
 
 -- a request that is refused before its body is read has no body to read
-abbrev pub IsAskedBy : Result Route Question → Framing → List ℕ → List ℕ → Question → Type 0
+abbrev pub IsAskedBy : Result Route Operation → Framing → List ℕ → List ℕ → Operation → Type 0
 IsAskedBy (Ok r) framing query body q = IsAskedAt r query body q
 IsAskedBy (Err first) framing query body q = (q ≡ first) × (body_of framing ≡ Done)
 
 -- what a request of this head and this body asks, as it was read to its end
-abbrev pub IsAsked : List ℕ → Head → List ℕ → Question → Type 0
+abbrev pub IsAsked : List ℕ → Head → List ℕ → Operation → Type 0
 IsAsked head says body q = IsAskedBy (first_of head says) says.framing (piece head says.query) body q

@@ -26,8 +26,8 @@ use Rattle.http_wire.specs.Speaking.{IsOpen, GoesOn, HasNoRequest, ClosesAtLast,
 use Rattle.blob_http.specs.declared.entries.Outcome.{Outcome}
 use Rattle.blob_http.specs.declared.entries.Outcome.TheVariants.{Defined, Memory, Disk, Full, Damaged}
 use Rattle.blob_http.specs.declared.entries.Answered.{Answered}
-use Rattle.blob_http.specs.declared.questions.Question.{Question}
-use Rattle.blob_http.specs.declared.questions.Question.TheVariants as question
+use Rattle.blob_http.specs.declared.operations.Operation.{Operation}
+use Rattle.blob_http.specs.declared.operations.Operation.TheVariants as question
 use Rattle.blob_http.specs.declared.serving.Ended.{Ended}
 use Rattle.blob_http.specs.declared.serving.Ended.TheVariants as ended
 use Rattle.blob_http.specs.Asked.{Asked, Whole, Front, Head, head_says}
@@ -41,8 +41,8 @@ use Rattle.answer_text.specs.Listings.{upload_text}
 use Rattle.histories.specs.StoreCalls.{sizes}
 use Rattle.multipart_read.specs.PartLists.{IsMultipart}
 use Rattle.blob_routes.specs.declared.routes.Route.TheVariants as route
-use Rattle.blob_upload.specs.declared.came.Came.{Came}
-use Rattle.blob_upload.specs.declared.came.Came.TheVariants as came
+use Rattle.blob_upload.specs.declared.upload_end.UploadEnd.{UploadEnd}
+use Rattle.blob_upload.specs.declared.upload_end.UploadEnd.TheVariants as came
 use Rattle.blob_upload.specs.Ends.{IsNotOver}
 use Rattle.blob_upload.specs.Comes.{Comes}
 use Rattle.blob_upload.specs.Adds.{Turns, IsAddedBy, IsNext}
@@ -60,7 +60,7 @@ IsBodyRefusal b after r =
 
 -- a reply that keeps nothing: the request is refused by its body as that is read, or before anything of it is read,
 -- where there is a body to read
-abbrev pub IsFrontDefined : Begun → Option (List ℕ) → Result Route Question → List ℕ → Type 0
+abbrev pub IsFrontDefined : Begun → Option (List ℕ) → Result Route Operation → List ℕ → Type 0
 IsFrontDefined b after (Err (question.Refused why allow)) text =
     (text ≡ refused_reply true (allow_text allow) why) × (b.framed ≡ []) × (body_of b.says.framing ≡ Done → ⊥)
 IsFrontDefined b after (Err (question.Blob r)) text = ⊥
@@ -86,7 +86,7 @@ IsHeadReply end (Damaged want is) text = ⊥
 
 -- An upload of which these bytes came, and these parts were kept, has added these entries to the store: Puts of its
 -- parts, and what shows why it ended.
-abbrev pub AddsParts : List ℕ → List ℕ → List Part → Came → List (Stamped StoreEvent) → Type 0
+abbrev pub AddsParts : List ℕ → List ℕ → List Part → UploadEnd → List (Stamped StoreEvent) → Type 0
 AddsParts boundary given parts came =
     All (λ (s : Stamped StoreEvent). IsAddedBy parts (IsNext boundary given parts) came s.entry)
 
@@ -105,7 +105,7 @@ IsWholeUpload blobs r kept turns added outcome text = (u : Kept r.head r.says bl
 abbrev pub IsFrontUpload : List Blob → Begun → Option (List ℕ) → ℕ → List ℕ → List (Stamped StoreEvent) → Outcome
     → List ℕ → Type 0
 IsFrontUpload blobs b after kept turns added outcome text = (u : Kept b.head b.says blobs kept)
-    × ((came : Came) × (wire : WireView) × (wire.body ≡ b.at) × Comes u.boundary b.given u.parts wire after came
+    × ((came : UploadEnd) × (wire : WireView) × (wire.body ≡ b.at) × Comes u.boundary b.given u.parts wire after came
     × Turns came kept (length turns) × IsUploadReply u.parts came outcome text
     × AddsParts u.boundary b.given u.parts came added)
 
@@ -122,7 +122,7 @@ pub record IsShown (h : List (Stamped StoreEvent)) (blobs : List Blob) (turns : 
   pub arrived : blobs ≡ arrivals seen
 
 -- what is answered from the store draws a turn of it first, and so does a search; it is over the blobs that this shows
-abbrev pub LooksAt : List (Stamped StoreEvent) → List Blob → Question → List ℕ → Type 0
+abbrev pub LooksAt : List (Stamped StoreEvent) → List Blob → Operation → List ℕ → Type 0
 LooksAt h blobs (question.Refused why allow) turns = Unit {0}
 LooksAt h blobs (question.Blob r) turns = IsShown h blobs turns
 LooksAt h blobs (question.Stat refs) turns = IsShown h blobs turns
@@ -134,7 +134,7 @@ abbrev pub IsReply : Bool → Accepts → List (Stamped StoreEvent) → List Blo
     → List (Stamped StoreEvent) → Outcome → List ℕ → Type 0
 IsReply tells accepts h blobs g (Whole r) kept turns added outcome text =
     IsWholeUpload blobs r kept turns added outcome text
-    ⊎ ((kept ≡ 0) × PutsNothing added × ((q : Question) × IsAsked r.head r.says r.body q
+    ⊎ ((kept ≡ 0) × PutsNothing added × ((q : Operation) × IsAsked r.head r.says r.body q
     × IsAnswer tells accepts blobs g r.says.closes q outcome text × LooksAt h blobs q turns))
 IsReply tells accepts h blobs g (Front b after) kept turns added outcome text =
     IsFrontUpload blobs b after kept turns added outcome text
@@ -258,7 +258,7 @@ AreAnswers asked requests (Unfinished b) rest =
 
 -- No refusal was due by what came of the request: its head has none; a body that is read as a whole was within its
 -- limit; the whole parts of an upload have no fault, and neither has its multipart body so far.
-abbrev pub HadNoRefusal : Begun → Result Route Question → Type 0
+abbrev pub HadNoRefusal : Begun → Result Route Operation → Type 0
 HadNoRefusal b (Err refused) = ⊥
 HadNoRefusal b (Ok route.Upload) =
     (boundary : List ℕ) × (boundary_at b.head b.says ≡ Some boundary) × IsNotOver boundary b.given

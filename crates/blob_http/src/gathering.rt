@@ -17,7 +17,7 @@ const PIECE: usize = 16_384;
 
 /// Why a body wasn't read to its end.
 #[derive(Clone, Copy, PartialEq, Eq)]
-pub enum Stopped {
+pub enum BodyFault {
     /// It has more than 1,048,576 bytes.
     Long,
     /// Its chunks are broken.
@@ -37,28 +37,26 @@ pub(crate) fn gather<S: Source>(
     wire: &mut Wire,
     source: &mut S,
     framing: Framing,
-) -> Result<Octets, Stopped>
+) -> Result<Octets, BodyFault>
     requires { wire.old.body ≡ body_of framing }
     ensures gathers { Gathers (S.left source.old) (S.left source.new) wire.old wire.new result }
-    ensures fault { IsErrOf result Stopped.ReadFault → Rose (S.faults source.old) (S.faults source.new) }
+    ensures fault { IsErrOf result BodyFault.ReadFault → Rose (S.faults source.old) (S.faults source.new) }
     ensures later { S.faults source.old ≤ S.faults source.new }
 {
     match framing {
         Framing::Empty => Ok(Octets::from_vec(Vec::new(alloc))),
-        Framing::Length(_) | Framing::Chunked | Framing::ToEnd => {
-            gather_on(alloc, wire, source)
-        }
+        Framing::Length(_) | Framing::Chunked | Framing::ToEnd => { gather_on(alloc, wire, source) }
     }
 }
 
 // The same of any framing.
-fn gather_on<S: Source>(alloc: Global, wire: &mut Wire, source: &mut S) -> Result<Octets, Stopped>
+fn gather_on<S: Source>(alloc: Global, wire: &mut Wire, source: &mut S) -> Result<Octets, BodyFault>
     ensures gathers { Gathers (S.left source.old) (S.left source.new) wire.old wire.new result }
-    ensures fault { IsErrOf result Stopped.ReadFault → Rose (S.faults source.old) (S.faults source.new) }
+    ensures fault { IsErrOf result BodyFault.ReadFault → Rose (S.faults source.old) (S.faults source.new) }
     ensures later { S.faults source.old ≤ S.faults source.new }
 {
     let Ok(mut space) = zeros(alloc) else {
-        return Err(Stopped::Memory);
+        return Err(BodyFault::Memory);
     };
     let buf = space.as_mut_slice();
     let mut bytes = Vec::new(alloc);
@@ -71,10 +69,10 @@ fn gather_on<S: Source>(alloc: Global, wire: &mut Wire, source: &mut S) -> Resul
             return Ok(Octets::from_vec(bytes));
         }
         if n > MOST_BODY as usize - bytes.len() {
-            return Err(Stopped::Long);
+            return Err(BodyFault::Long);
         }
         let Ok(()) = bytes.extend_from_slice(&buf[..n]) else {
-            return Err(Stopped::Memory);
+            return Err(BodyFault::Memory);
         };
     }
 }
@@ -87,16 +85,16 @@ fn zeros(alloc: Global) -> Result<Vec<u8>, AllocError>
 }
 
 // Why no more of a body was given.
-fn stopped_by(end: WireEnd) -> Stopped
+fn stopped_by(end: WireEnd) -> BodyFault
     requires { CanStop end }
     ensures says { (x : Option (List ℕ)) (ahead : List ℕ) (at : Body) (place : ℕ) → BodyEnds x at place end
         → (end ≡ WireEnd.ReadFault → Stops at ahead) → StopSays x ahead at place result }
-    ensures fault { result ≡ Stopped.ReadFault → end ≡ WireEnd.ReadFault }
+    ensures fault { result ≡ BodyFault.ReadFault → end ≡ WireEnd.ReadFault }
 {
     match end {
-        WireEnd::Cut { at } => Stopped::Cut { at },
-        WireEnd::BadLength { .. } => Stopped::Broken,
-        WireEnd::ReadFault => Stopped::ReadFault,
+        WireEnd::Cut { at } => BodyFault::Cut { at },
+        WireEnd::BadLength { .. } => BodyFault::Broken,
+        WireEnd::ReadFault => BodyFault::ReadFault,
         _ => unreachable!(),
     }
 }

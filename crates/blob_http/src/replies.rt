@@ -36,7 +36,7 @@ impl Kind {
 
 /// A reply that was made, or none where there was no memory for it.
 #[derive(Drop)]
-pub enum Made {
+pub enum ReplyText {
     Told {
         outcome: Outcome,
         head: Octets,
@@ -70,19 +70,19 @@ pub(crate) fn told(
     closes: bool,
     allow: Option<Allowed>,
     body: Octets,
-) -> Made
+) -> ReplyText
     requires code { IsStatusCode code }
     requires phrase { IsSome (reason_phrase code) }
     ensures { IsTold outcome (reply_text code kind closes (allow_text allow) body) result }
 {
     let len = body.as_slice().len() as u64;
     match reply_head(alloc, code, kind.text(), len, closes, allow_text(allow)) {
-        Ok(head) => Made::Told {
+        Ok(head) => ReplyText::Told {
             outcome,
             head,
             body,
         },
-        Err(_) => Made::Memory,
+        Err(_) => ReplyText::Memory,
     }
 }
 
@@ -93,11 +93,11 @@ pub(crate) fn refused(
     closes: bool,
     allow: Option<Allowed>,
     refusal: &Refusal,
-) -> Made
+) -> ReplyText
     ensures { IsTold outcome (refused_reply closes (allow_text allow) refusal.now) result }
 {
     let Ok(body) = refusal_text(alloc, refusal) else {
-        return Made::Memory;
+        return ReplyText::Memory;
     };
     told(
         alloc,
@@ -116,7 +116,7 @@ pub(crate) fn blob_reply(
     closes: bool,
     r: &Ref,
     fetched: Result<Option<Octets>, GetFault>,
-) -> Made
+) -> ReplyText
     ensures { BlobMade closes r.now fetched result }
 {
     match fetched {
@@ -141,7 +141,7 @@ pub(crate) fn blob_reply(
 }
 
 /// The reply where a blob can't be read.
-pub(crate) fn fault_reply(alloc: Global, closes: bool, fault: GetFault) -> Made
+pub(crate) fn fault_reply(alloc: Global, closes: bool, fault: GetFault) -> ReplyText
     ensures { FaultMade closes fault result }
 {
     match fault {
@@ -153,39 +153,43 @@ pub(crate) fn fault_reply(alloc: Global, closes: bool, fault: GetFault) -> Made
             None,
             &Refusal::Damaged { want, is },
         ),
-        GetFault::NoMemory => Made::Memory,
+        GetFault::NoMemory => ReplyText::Memory,
     }
 }
 
 /// The reply with this text.
-pub(crate) fn json(alloc: Global, closes: bool, text: Octets) -> Made
+pub(crate) fn json(alloc: Global, closes: bool, text: Octets) -> ReplyText
     ensures { IsTold Outcome.Defined (json_reply closes text) result }
 {
     told(alloc, Outcome::Defined, 200, Kind::Json, closes, None, text)
 }
 
 /// The reply to what a search gave.
-pub(crate) fn search_reply(alloc: Global, closes: bool, found: Result<RefList, NoMemory>) -> Made
+pub(crate) fn search_reply(
+    alloc: Global,
+    closes: bool,
+    found: Result<RefList, NoMemory>,
+) -> ReplyText
     ensures { TextMade closes search_text found result }
 {
     let Ok(refs) = found else {
-        return Made::Memory;
+        return ReplyText::Memory;
     };
     let Ok(text) = search_text(alloc, &refs) else {
-        return Made::Memory;
+        return ReplyText::Memory;
     };
     json(alloc, closes, text)
 }
 
 /// The reply to what stands of the refs that are asked after.
-pub(crate) fn stat_reply(alloc: Global, closes: bool, found: Result<Listing, NoMemory>) -> Made
+pub(crate) fn stat_reply(alloc: Global, closes: bool, found: Result<Listing, NoMemory>) -> ReplyText
     ensures { TextMade closes stat_text found result }
 {
     let Ok(listing) = found else {
-        return Made::Memory;
+        return ReplyText::Memory;
     };
     let Ok(text) = stat_text(alloc, &listing) else {
-        return Made::Memory;
+        return ReplyText::Memory;
     };
     json(alloc, closes, text)
 }
@@ -196,14 +200,14 @@ pub(crate) fn page_reply(
     closes: bool,
     limit: usize,
     found: Result<Listing, NoMemory>,
-) -> Made
+) -> ReplyText
     ensures { TextMade closes (cut_page limit) found result }
 {
     let Ok(listing) = found else {
-        return Made::Memory;
+        return ReplyText::Memory;
     };
     let Ok(text) = cut_page(alloc, limit, &listing) else {
-        return Made::Memory;
+        return ReplyText::Memory;
     };
     json(alloc, closes, text)
 }
@@ -239,14 +243,23 @@ fn last_ref(shown: &[(Ref, u64)]) -> Option<&Ref>
 const MOST_COPIED: usize = 16_384;
 
 /// Writes the reply, a short one by one call of the sink.
-pub(crate) fn write_made<K: Sink>(alloc: Global, sink: &mut K, made: &Made) -> Result<(), Failed>
+pub(crate) fn write_made<K: Sink>(
+    alloc: Global,
+    sink: &mut K,
+    made: &ReplyText,
+) -> Result<(), Failed>
     ensures whole { OnOk result (Took (K.written sink.old) (K.written sink.new) (text_of made.now)) }
     ensures front { TookFront (K.written sink.old) (K.written sink.new) (text_of made.now) }
     ensures cause { HasCause (K.faults sink.old) (K.faults sink.new) result }
 {
     match made {
-        Made::Told { head, body, .. } => write_told(alloc, sink, head.as_slice(), body.as_slice()),
-        Made::Memory => write_all(sink, memory_reply()),
+        ReplyText::Told { head, body, .. } => write_told(
+            alloc,
+            sink,
+            head.as_slice(),
+            body.as_slice(),
+        ),
+        ReplyText::Memory => write_all(sink, memory_reply()),
     }
 }
 

@@ -5,7 +5,7 @@ ghost use Rattle.http_wire.specs.Heads.{IsHeadText, HeadSays};
 ghost use Rattle.http_wire.specs.Stream.{Flow, stream};
 ghost use Rattle.http_wire.specs.Wires.{body_of};
 ghost use Rattle.http_wire.specs.declared.body.Body.{Body};
-ghost use Rattle.blob_http.specs.declared.questions.Question.{Question};
+ghost use Rattle.blob_http.specs.declared.operations.Operation.{Operation};
 ghost use Rattle.blob_http.specs.Asked.{head_says};
 ghost use Rattle.blob_http.specs.Questions.{IsFew};
 ghost use Rattle.blob_http.specs.Serving.{Passes};
@@ -13,10 +13,10 @@ ghost use Rattle.blob_http.specs.Handling.{Answers, Replies, ReadsHead, NoneCome
 ghost use Rattle.blob_http.specs.Handling.{is_read, is_memory};
 
 use crate::entries::{Answered, Outcome};
-use crate::gathering::{Stopped, gather};
+use crate::gathering::{BodyFault, gather};
 use crate::handling::answer;
-use crate::questions::{Question, ask, first, is_upload, refused};
-use crate::replies::Made;
+use crate::operations::{Operation, ask, first, is_upload, refused};
+use crate::replies::ReplyText;
 use crate::serving::Ended;
 use crate::uploads::reply_to_upload;
 use answer_text::Refusal;
@@ -30,9 +30,9 @@ use std::sync::Wait;
 
 /// What a request comes to: its entry, its reply, and whether the connection closes behind that.
 #[derive(Drop)]
-pub(crate) struct Replied {
+pub(crate) struct Response {
     pub(crate) entry: Answered,
-    pub(crate) made: Made,
+    pub(crate) made: ReplyText,
     pub(crate) closes: bool,
 }
 
@@ -44,7 +44,7 @@ pub(crate) fn reply_next<H: Home, S: Source, R: Wait>(
     pass: &mut H::Pass,
     wire: &mut Wire,
     source: &mut S,
-) -> Result<Replied, Ended>
+) -> Result<Response, Ended>
     requires belongs { H.belongs home.now pass.old }
     requires ready { wire.old.body ≡ Body.Done }
     ensures own { H.belongs home.now pass.new }
@@ -90,7 +90,7 @@ fn reply_to<H: Home, S: Source, R: Wait>(
     wire: &mut Wire,
     source: &mut S,
     head: &Head,
-) -> Result<Replied, Ended>
+) -> Result<Response, Ended>
     requires belongs { H.belongs home.now pass.old }
     requires read { HeadSays wire.old.head (Ok head.now) }
     requires ready { wire.old.body ≡ body_of head.now.framing }
@@ -147,8 +147,8 @@ fn reply_to_stop<H: Home, R: Wait>(
     alloc: Global,
     home: &H,
     pass: &mut H::Pass,
-    stopped: Stopped,
-) -> Result<Replied, Ended>
+    stopped: BodyFault,
+) -> Result<Response, Ended>
     requires { H.belongs home.now pass.old }
     ensures own { H.belongs home.now pass.new }
     ensures replies { IfOk result (λ replied. StopReplies (H.tells home.now) stopped (H.sight pass.old)
@@ -157,11 +157,11 @@ fn reply_to_stop<H: Home, R: Wait>(
     ensures ends { IfErr result (StopEnds stopped) }
 {
     let refusal = match stopped {
-        Stopped::Cut { at } => return Err(Ended::Cut { at }),
-        Stopped::ReadFault => return Err(Ended::ReadFault),
-        Stopped::Memory => return Ok(out_of_memory(home, pass)),
-        Stopped::Long => Refusal::TooLong { limit: MOST_BODY },
-        Stopped::Broken => Refusal::BadLength,
+        BodyFault::Cut { at } => return Err(Ended::Cut { at }),
+        BodyFault::ReadFault => return Err(Ended::ReadFault),
+        BodyFault::Memory => return Ok(out_of_memory(home, pass)),
+        BodyFault::Long => Refusal::TooLong { limit: MOST_BODY },
+        BodyFault::Broken => Refusal::BadLength,
     };
     Ok(reply_along(rt, alloc, home, pass, Ok(refused(refusal)), true))
 }
@@ -172,9 +172,9 @@ fn reply_along<H: Home, R: Wait>(
     alloc: Global,
     home: &H,
     pass: &mut H::Pass,
-    asked: Result<Question, NoMemory>,
+    asked: Result<Operation, NoMemory>,
     closes: bool,
-) -> Replied
+) -> Response
     requires belongs { H.belongs home.now pass.old }
     requires few { IfOk asked IsFew }
     ensures own { H.belongs home.now pass.new }
@@ -194,9 +194,9 @@ fn reply<H: Home, R: Wait>(
     alloc: Global,
     home: &H,
     pass: &mut H::Pass,
-    question: &Question,
+    question: &Operation,
     closes: bool,
-) -> Replied
+) -> Response
     requires belongs { H.belongs home.now pass.old }
     requires few { IsFew question.now }
     ensures own { H.belongs home.now pass.new }
@@ -206,7 +206,7 @@ fn reply<H: Home, R: Wait>(
 {
     let (entry, made) = answer(rt, alloc, home, pass, question, closes);
     let closes = closes || is_memory(&made);
-    Replied {
+    Response {
         entry,
         made,
         closes,
@@ -214,28 +214,28 @@ fn reply<H: Home, R: Wait>(
 }
 
 /// Whether there was no memory for the reply.
-pub(crate) fn is_memory(made: &Made) -> bool
+pub(crate) fn is_memory(made: &ReplyText) -> bool
     ensures { result ≡ is_memory made.now }
 {
-    matches!(made, Made::Memory)
+    matches!(made, ReplyText::Memory)
 }
 
 /// The reply where there is no memory to find out what is asked.
-pub(crate) fn out_of_memory<H: Home>(home: &H, pass: &H::Pass) -> Replied
-    ensures answers { (tells closes : Bool) (q : Question) → Answers tells closes q (H.sight pass.now)
+pub(crate) fn out_of_memory<H: Home>(home: &H, pass: &H::Pass) -> Response
+    ensures answers { (tells closes : Bool) (q : Operation) → Answers tells closes q (H.sight pass.now)
         (H.sight pass.now) result.entry result.made }
-    ensures made { result.made ≡ Made.Memory }
+    ensures made { result.made ≡ ReplyText.Memory }
     ensures closes { result.closes ≡ true }
 {
     let counts = home.seen(pass);
-    Replied {
+    Response {
         entry: Answered {
             store_count: counts.0,
             index_count: counts.1,
             kept: 0,
             outcome: Outcome::Memory,
         },
-        made: Made::Memory,
+        made: ReplyText::Memory,
         closes: true,
     }
 }

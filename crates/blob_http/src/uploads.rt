@@ -15,13 +15,13 @@ ghost use Rattle.blob_http.specs.Handling.{Replies, ReadsHead, NoneComes, IsUplo
 
 use crate::entries::Outcome;
 use crate::handling::entry;
-use crate::questions::content_type;
-use crate::replies::{Kind, Made, json, told};
-use crate::requests::{Replied, is_memory, out_of_memory};
+use crate::operations::content_type;
+use crate::replies::{Kind, ReplyText, json, told};
+use crate::requests::{Response, is_memory, out_of_memory};
 use crate::serving::Ended;
 use answer_text::{Refusal, upload_text};
 use blob_routes::Route;
-use blob_upload::{Came, take_parts};
+use blob_upload::{UploadEnd, take_parts};
 use blobref::{Listing, NoMemory, Octets};
 use edge_base::Source;
 use home_places::Home;
@@ -40,7 +40,7 @@ pub(crate) fn reply_to_upload<H: Home, S: Source, R: Wait>(
     wire: &mut Wire,
     source: &mut S,
     head: &Head,
-) -> Result<Replied, Ended>
+) -> Result<Response, Ended>
     requires belongs { H.belongs home.now pass.old }
     requires read { HeadSays wire.old.head (Ok head.now) }
     requires upload { first_of wire.old.head head.now ≡ Ok Route.Upload }
@@ -93,10 +93,10 @@ fn reply_to_came<H: Home>(
     alloc: Global,
     home: &H,
     pass: &H::Pass,
-    came: &Came,
+    came: &UploadEnd,
     kept: &Listing,
     closes: bool,
-) -> Result<Replied, Ended>
+) -> Result<Response, Ended>
     ensures made { IfOk result (λ replied. UploadMade closes kept.now came.now (Ok replied.made)) }
     ensures entry { IfOk result
         (λ replied. IsUploadEntry (H.sight pass.now) (length kept.now) replied.made replied.entry) }
@@ -111,40 +111,45 @@ fn reply_to_came<H: Home>(
     let counts = home.seen(pass);
     let entry = entry(counts.0, counts.1, kept.len() as u64, &made);
     let closes = closes_behind(closes, came, &made);
-    Ok(Replied {
+    Ok(Response {
         entry,
         made,
         closes,
     })
 }
 
-fn closes_behind(closes: bool, came: &Came, made: &Made) -> bool
+fn closes_behind(closes: bool, came: &UploadEnd, made: &ReplyText) -> bool
     ensures { result ≡ ((closes || not (is_whole came.now)) || is_memory made.now) }
 {
     closes || !is_whole(came) || is_memory(made)
 }
 
-fn is_whole(came: &Came) -> bool
+fn is_whole(came: &UploadEnd) -> bool
     ensures { result ≡ is_whole came.now }
 {
-    matches!(came, Came::Whole)
+    matches!(came, UploadEnd::Whole)
 }
 
 // The text of the reply, or how the connection ends in the upload.
-fn upload_made(alloc: Global, closes: bool, came: &Came, kept: &Listing) -> Result<Made, Ended>
+fn upload_made(
+    alloc: Global,
+    closes: bool,
+    came: &UploadEnd,
+    kept: &Listing,
+) -> Result<ReplyText, Ended>
     ensures { UploadMade closes kept.now came.now result }
 {
     match came {
-        Came::Whole => Ok(whole(alloc, closes, kept)),
-        Came::Refused(refusal) => Ok(part_kept(alloc, Outcome::Defined, refusal, kept)),
-        Came::Full { blobs, pack } => Ok(full(alloc, *blobs, *pack, kept)),
-        Came::Disk => Ok(part_kept(alloc, Outcome::Disk, &Refusal::Disk, kept)),
-        Came::Memory => Ok(Made::Memory),
-        Came::Ended(end) => ended(alloc, *end, kept),
+        UploadEnd::Whole => Ok(whole(alloc, closes, kept)),
+        UploadEnd::Refused(refusal) => Ok(part_kept(alloc, Outcome::Defined, refusal, kept)),
+        UploadEnd::Full { blobs, pack } => Ok(full(alloc, *blobs, *pack, kept)),
+        UploadEnd::Disk => Ok(part_kept(alloc, Outcome::Disk, &Refusal::Disk, kept)),
+        UploadEnd::Memory => Ok(ReplyText::Memory),
+        UploadEnd::Ended(end) => ended(alloc, *end, kept),
     }
 }
 
-fn full(alloc: Global, blobs: u64, pack: u32, kept: &Listing) -> Made
+fn full(alloc: Global, blobs: u64, pack: u32, kept: &Listing) -> ReplyText
     ensures { IsTold (Outcome.Full blobs pack) (upload_reply kept.now (Refusal.Full blobs pack)) result }
 {
     part_kept(
@@ -156,8 +161,8 @@ fn full(alloc: Global, blobs: u64, pack: u32, kept: &Listing) -> Made
 }
 
 // How the connection ends in an upload. A break of the chunks has been told as a refusal.
-fn ended(alloc: Global, end: WireEnd, kept: &Listing) -> Result<Made, Ended>
-    ensures { (closes : Bool) → UploadMade closes kept.now (Came.Ended end) result }
+fn ended(alloc: Global, end: WireEnd, kept: &Listing) -> Result<ReplyText, Ended>
+    ensures { (closes : Bool) → UploadMade closes kept.now (UploadEnd.Ended end) result }
 {
     match end {
         WireEnd::Cut { at } => Err(Ended::Cut { at }),
@@ -166,21 +171,21 @@ fn ended(alloc: Global, end: WireEnd, kept: &Listing) -> Result<Made, Ended>
     }
 }
 
-fn whole(alloc: Global, closes: bool, kept: &Listing) -> Made
+fn whole(alloc: Global, closes: bool, kept: &Listing) -> ReplyText
     ensures { IsTold Outcome.Defined (json_reply closes (upload_text kept.now None)) result }
 {
     let Ok(text) = upload_text(alloc, kept, None) else {
-        return Made::Memory;
+        return ReplyText::Memory;
     };
     json(alloc, closes, text)
 }
 
 // The reply to an upload that isn't whole.
-fn part_kept(alloc: Global, outcome: Outcome, refusal: &Refusal, kept: &Listing) -> Made
+fn part_kept(alloc: Global, outcome: Outcome, refusal: &Refusal, kept: &Listing) -> ReplyText
     ensures { IsTold outcome (upload_reply kept.now refusal.now) result }
 {
     let Ok(text) = upload_text(alloc, kept, Some(refusal)) else {
-        return Made::Memory;
+        return ReplyText::Memory;
     };
     told(alloc, outcome, refusal.code(), Kind::Json, true, None, text)
 }

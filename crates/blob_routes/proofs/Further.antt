@@ -6,7 +6,7 @@ use Rattle.std.proofs.lemmas.Bool.{cond-true, lt-ltb}
 use Rattle.std.proofs.lemmas.List.FromFn.{take-map-range_with_len}
 use Rattle.answer_text.specs.declared.refusal.Refusal.{Refusal}
 use Rattle.answer_text.specs.declared.refusal.Refusal.TheVariants.{TooLong}
-use Rattle.blob_routes.specs.declared.places.Place.{Place}
+use Rattle.blob_routes.specs.declared.places.AskedRef.{AskedRef}
 use Rattle.blob_routes.specs.Places.{asked_at, places_of}
 use Rattle.blob_routes.specs.Stats.{is_missing, refs_at, refs_in}
 use Rattle.blob_routes.specs.Laws.{FurtherTellNothing}
@@ -51,10 +51,10 @@ front p zero xs = inr (omega arith, omega arith)
 front p (suc k) [] = inl refl
 front p (suc k) (x ∷ xs) = by_head p k x xs (p x) refl (front p k xs)
 
-too_long : (most : ℕ) (places : List Place) → most + 1 ≤ length places → refs_at most places ≡ Err (TooLong most)
+too_long : (most : ℕ) (places : List AskedRef) → most + 1 ≤ length places → refs_at most places ≡ Err (TooLong most)
 too_long most places many = cond-true _ _ _ (lt-ltb most (length places) (omega (arith, many)))
 
-told : (most : ℕ) (places : List Place) → Tells is_missing (most + 1) places
+told : (most : ℕ) (places : List AskedRef) → Tells is_missing (most + 1) places
     → refs_at most (before_first is_missing places) ≡ refs_at most (before_first is_missing (take (most + 1) places))
 told most places (inl same) = ap (refs_at most) (sym same)
 told most places (inr many) = too_long most _ many.0 ∙ sym (too_long most _ many.1)
@@ -63,5 +63,5 @@ pub further : FurtherTellNothing
 unfolding places_of
 further most more pairs le =
     told most (map (asked_at pairs) (range_with_len 1 more)) (front is_missing (most + 1) _)
-    ∙ ap (λ (places : List Place). refs_at most (before_first is_missing places))
+    ∙ ap (λ (places : List AskedRef). refs_at most (before_first is_missing places))
     (take-map-range_with_len (asked_at pairs) 1 more (most + 1) le)

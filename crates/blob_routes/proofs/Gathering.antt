@@ -11,20 +11,20 @@ use Rattle.std.proofs.lemmas.List.{length-replicate, get_or-replicate}
 use Rattle.std.proofs.Math.Seq.{take-append_seam}
 use Rattle.std.proofs.lemmas.List.FromFn.{length-map-range_with_len, get_or-map-range_with_len}
 use Rattle.blobref.specs.Blobref.{blobref_in}
-use Rattle.blob_routes.specs.declared.places.Place.{Place}
-use Rattle.blob_routes.specs.declared.places.Place.TheVariants.{Missing, Wrong, Right}
+use Rattle.blob_routes.specs.declared.places.AskedRef.{AskedRef}
+use Rattle.blob_routes.specs.declared.places.AskedRef.TheVariants.{Missing, Wrong, Right}
 use Rattle.blob_routes.specs.Parameters.{meant, first_value}
 use Rattle.blob_routes.specs.Places.{name_of, ref_or_wrong, place_of, asked_at, places_of}
 use Rattle.blob_routes.specs.Taking.{number_of, earlier, kept, kept_under, taken}
 use Rattle.blob_routes.proofs.Named.{is_number, told_by_number}
 
-earlier-missing : (a : Place) → earlier a Missing ≡ a
+earlier-missing : (a : AskedRef) → earlier a Missing ≡ a
 earlier-missing Missing = refl
 earlier-missing Wrong = refl
 earlier-missing (Right r) = refl
 
 -- behind a text, nothing later counts
-earlier-text : (a : Place) (o : Option (List ℕ)) (later : Place)
+earlier-text : (a : AskedRef) (o : Option (List ℕ)) (later : AskedRef)
     → earlier (earlier a (ref_or_wrong o)) later ≡ earlier a (ref_or_wrong o)
 earlier-text Missing None later = refl
 earlier-text Missing (Some r) later = refl
@@ -32,25 +32,25 @@ earlier-text Wrong o later = refl
 earlier-text (Right r) o later = refl
 
 -- what stands at a place behind one parameter of another number, and of its own
-other_stays : (places : List Place) (k i : ℕ) (p : Place) (b : Bool) → nat_le 1 k && nat_le k (length places) ≡ b
+other_stays : (places : List AskedRef) (k i : ℕ) (p : AskedRef) (b : Bool) → nat_le 1 k && nat_le k (length places) ≡ b
     → k ≢ i + 1 → get_or (cond b (set places (k - 1) p) places) i Missing ≡ get_or places i Missing
 other_stays places k i p false h other = refl
 other_stays places k i p true h other =
     let some : 1 ≤ k = leb-true 1 k (and_parts (nat_le 1 k) (nat_le k (length places)) h).0 in
     get_or-set_other places (k - 1) i p Missing (λ e. other (omega (arith, some, e)))
 
-own_is_set : (places : List Place) (i : ℕ) (p : Place) → i < length places
+own_is_set : (places : List AskedRef) (i : ℕ) (p : AskedRef) → i < length places
     → get_or (cond (nat_le 1 (i + 1) && nat_le (i + 1) (length places)) (set places (i + 1 - 1) p) places) i Missing
     ≡ p
 own_is_set places i p fits =
     let within = and_from (nat_le 1 (i + 1)) (nat_le (i + 1) (length places)) (le-leb 1 (i + 1) (omega arith))
     (le-leb (i + 1) (length places) (omega (arith, fits))) in
     let at : i + 1 - 1 ≡ i = omega arith in
-    ap (λ (xs : List Place). get_or xs i Missing) (cond-true _ _ _ within)
+    ap (λ (xs : List AskedRef). get_or xs i Missing) (cond-true _ _ _ within)
     ∙ ap (λ (j : ℕ). get_or (set places j p) i Missing) at
     ∙ get_or-set_same places i p Missing fits
 
-by_number : (places : List Place) (i k : ℕ) (text : List ℕ) (later : Option (List ℕ)) (b : Bool) → (k == i + 1) ≡ b
+by_number : (places : List AskedRef) (i k : ℕ) (text : List ℕ) (later : Option (List ℕ)) (b : Bool) → (k == i + 1) ≡ b
     → i < length places → earlier (get_or (kept places k (place_of (Some text))) i Missing) (place_of later)
     ≡ earlier (get_or places i Missing) (place_of (cond b (Some text) later))
 by_number places i k text later true own fits =
@@ -58,33 +58,33 @@ by_number places i k text later true own fits =
     let text_at = place_of (Some text) in
     let at : i + 1 - 1 ≡ i = omega arith in
     ap (λ (n : ℕ). earlier (get_or (kept places n text_at) i Missing) (place_of later)) same
-    ∙ ap (λ (p : Place). earlier p (place_of later))
+    ∙ ap (λ (p : AskedRef). earlier p (place_of later))
     (own_is_set places i (earlier (get_or places (i + 1 - 1) Missing) text_at) fits)
     ∙ ap (λ (j : ℕ). earlier (earlier (get_or places j Missing) text_at) (place_of later)) at
     ∙ earlier-text (get_or places i Missing) (blobref_in text) (place_of later)
 by_number places i k text later false own fits =
     let other : k ≢ i + 1 = λ e. absurd (cc (sym own ∙ (Decides-eqb k (i + 1)).1 e)) in
-    ap (λ (p : Place). earlier p (place_of later))
+    ap (λ (p : AskedRef). earlier p (place_of later))
     (other_stays places k i (earlier (get_or places (k - 1) Missing) (place_of (Some text))) _ refl other)
 
-by_name : (places : List Place) (i : ℕ) (o : Option ℕ) (text : List ℕ) (later : Option (List ℕ))
+by_name : (places : List AskedRef) (i : ℕ) (o : Option ℕ) (text : List ℕ) (later : Option (List ℕ))
     → i < length places → earlier (get_or (kept_under places o (place_of (Some text))) i Missing) (place_of later)
     ≡ earlier (get_or places i Missing) (place_of (cond (is_number (i + 1) o) (Some text) later))
 by_name places i None text later fits = refl
 by_name places i (Some k) text later fits = by_number places i k text later (k == i + 1) refl fits
 
-length-kept : (places : List Place) (k : ℕ) (p : Place) (b : Bool)
+length-kept : (places : List AskedRef) (k : ℕ) (p : AskedRef) (b : Bool)
     → length (cond b (set places (k - 1) p) places) ≡ length places
 length-kept places k p true = length-set places (k - 1) p
 length-kept places k p false = refl
 
-length-kept_under : (places : List Place) (o : Option ℕ) (p : Place)
+length-kept_under : (places : List AskedRef) (o : Option ℕ) (p : AskedRef)
     → length (kept_under places o p) ≡ length places
 length-kept_under places None p = refl
 length-kept_under places (Some k) p =
     length-kept places k (earlier (get_or places (k - 1) Missing) p) (nat_le 1 k && nat_le k (length places))
 
-length-gathered : (pairs : List (List ℕ × List ℕ)) (places : List Place)
+length-gathered : (pairs : List (List ℕ × List ℕ)) (places : List AskedRef)
     → length (fold taken places pairs) ≡ length places
 length-gathered [] places = refl
 length-gathered (pair ∷ pairs) places =
@@ -92,7 +92,7 @@ length-gathered (pair ∷ pairs) places =
     ∙ length-kept_under places (number_of (meant pair.0)) (place_of (Some (meant pair.1)))
 
 -- each place has what stood there, or else what is asked first under its number
-gathered_at : (pairs : List (List ℕ × List ℕ)) (places : List Place) (i : ℕ) → i < length places
+gathered_at : (pairs : List (List ℕ × List ℕ)) (places : List AskedRef) (i : ℕ) → i < length places
     → length places < 10 ^ 9
     → get_or (fold taken places pairs) i Missing ≡ earlier (get_or places i Missing) (asked_at pairs (i + 1))
 gathered_at [] places i fits few = sym (earlier-missing (get_or places i Missing))
@@ -109,7 +109,7 @@ pub gathered : (most : ℕ) (pairs : List (List ℕ × List ℕ)) → most < 10 
     → fold taken (replicate most Missing) pairs ≡ places_of most pairs
 unfolding places_of
 gathered most pairs few =
-    let empty : List Place = replicate most Missing in
+    let empty : List AskedRef = replicate most Missing in
     let size : length empty ≡ most = length-replicate most Missing in
     let all : length (fold taken empty pairs) ≡ most = length-gathered pairs empty ∙ size in
     ext_get_or Missing (fold taken empty pairs) (map (asked_at pairs) (range_with_len 1 most))
@@ -117,16 +117,16 @@ gathered most pairs few =
     (λ i h.
     let fits : i < most = omega (arith, h, all) in
     gathered_at pairs empty i (omega (arith, fits, size)) (omega (arith, few, size))
-    ∙ ap (λ (p : Place). earlier p (asked_at pairs (i + 1))) (get_or-replicate most i Missing Missing fits)
+    ∙ ap (λ (p : AskedRef). earlier p (asked_at pairs (i + 1))) (get_or-replicate most i Missing Missing fits)
     ∙ sym (get_or-map-range_with_len (asked_at pairs) 1 most i (i + 1) Missing fits (omega arith)))
 
 -- the same where they are a front of a vector
-pub gathered_in : (most len : ℕ) (start items new : List Place) (pairs : List (List ℕ × List ℕ)) → most < 10 ^ 9
+pub gathered_in : (most len : ℕ) (start items new : List AskedRef) (pairs : List (List ℕ × List ℕ)) → most < 10 ^ 9
     → items ≡ replicate most Missing → len ≡ most → start ≡ items → new ≡ fold taken start pairs
     → take len (new ++ drop (length new) items) ≡ places_of most pairs
 gathered_in most len start items new pairs few empty size same is =
     let whole : new ≡ fold taken (replicate most Missing) pairs =
-    is ∙ ap (λ (xs : List Place). fold taken xs pairs) (same ∙ empty) in
+    is ∙ ap (λ (xs : List AskedRef). fold taken xs pairs) (same ∙ empty) in
     let long : length new ≡ len =
     ap length whole ∙ length-gathered pairs (replicate most Missing) ∙ length-replicate most Missing ∙ sym size in
     ap (λ (n : ℕ). take n (new ++ drop (length new) items)) (sym long)

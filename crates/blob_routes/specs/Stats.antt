@@ -5,8 +5,8 @@ use Rattle.std.specs.List.{before_first, list_any, flat_map}
 use Rattle.form_urlencoded.specs.Form.{raw_pairs}
 use Rattle.answer_text.specs.declared.refusal.Refusal.{Refusal}
 use Rattle.answer_text.specs.declared.refusal.Refusal.TheVariants.{BadVersion, BadRef, TooLong}
-use Rattle.blob_routes.specs.declared.places.Place.{Place}
-use Rattle.blob_routes.specs.declared.places.Place.TheVariants.{Missing, Wrong, Right}
+use Rattle.blob_routes.specs.declared.places.AskedRef.{AskedRef}
+use Rattle.blob_routes.specs.declared.places.AskedRef.TheVariants.{Missing, Wrong, Right}
 use Rattle.blob_routes.specs.Parameters.{first_value}
 use Rattle.blob_routes.specs.Places.{places_of}
 
@@ -14,23 +14,23 @@ use Rattle.blob_routes.specs.Places.{places_of}
 abbrev pub most_refs : ℕ
 most_refs = 1000
 
-abbrev pub is_missing : Place → Bool
+abbrev pub is_missing : AskedRef → Bool
 is_missing Missing = true
 is_missing Wrong = false
 is_missing (Right r) = false
 
-abbrev pub is_wrong : Place → Bool
+abbrev pub is_wrong : AskedRef → Bool
 is_wrong Missing = false
 is_wrong Wrong = true
 is_wrong (Right r) = false
 
-abbrev pub right_ref : Place → List (List ℕ)
+abbrev pub right_ref : AskedRef → List (List ℕ)
 right_ref Missing = []
 right_ref Wrong = []
 right_ref (Right r) = r ∷ []
 
 -- the refs of these places, of which so many may stand
-abbrev pub refs_at : ℕ → List Place → Result (List (List ℕ)) Refusal
+abbrev pub refs_at : ℕ → List AskedRef → Result (List (List ℕ)) Refusal
 refs_at most places =
     if nat_lt most (length places) then Err (TooLong most)
     else if list_any is_wrong places then Err BadRef

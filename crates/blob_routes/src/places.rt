@@ -14,7 +14,7 @@ use std::alloc::Global;
 
 /// What is asked under a number.
 #[derive(Clone, Copy)]
-pub enum Place {
+pub enum AskedRef {
     /// Nothing.
     Missing,
     /// A text that is no blobref.
@@ -36,28 +36,28 @@ fn number_of(name: &str) -> Option<usize>
 }
 
 // What a value asks.
-fn place_in(alloc: Global, value: &[u8]) -> Result<Place, NoMemory>
+fn place_in(alloc: Global, value: &[u8]) -> Result<AskedRef, NoMemory>
     ensures { IfOk result (λ place. place ≡ place_of (Some (meant value.now))) }
 {
     let text = meant(alloc, value)?;
     match Ref::read(text.as_bytes()) {
-        None => Ok(Place::Wrong),
-        Some(r) => Ok(Place::Right(r)),
+        None => Ok(AskedRef::Wrong),
+        Some(r) => Ok(AskedRef::Right(r)),
     }
 }
 
 // The one that comes first.
-fn earlier(first: Place, later: Place) -> Place
+fn earlier(first: AskedRef, later: AskedRef) -> AskedRef
     ensures { result ≡ earlier first later }
 {
     match first {
-        Place::Missing => later,
-        Place::Wrong | Place::Right(_) => first,
+        AskedRef::Missing => later,
+        AskedRef::Wrong | AskedRef::Right(_) => first,
     }
 }
 
 // Keeps what is asked under a number, where nothing was before.
-fn keep(places: &mut [Place], number: usize, place: Place)
+fn keep(places: &mut [AskedRef], number: usize, place: AskedRef)
     ensures { places.new ≡ kept places.old number place }
 {
     if number == 0 || number > places.len() {
@@ -67,7 +67,7 @@ fn keep(places: &mut [Place], number: usize, place: Place)
 }
 
 // Keeps what one parameter asks.
-fn take(alloc: Global, places: &mut [Place], name: &[u8], value: &[u8]) -> Result<(), NoMemory>
+fn take(alloc: Global, places: &mut [AskedRef], name: &[u8], value: &[u8]) -> Result<(), NoMemory>
     ensures { OnOk result (places.new ≡ taken places.old (name.now, value.now)) }
 {
     let name = meant(alloc, name)?;
@@ -79,7 +79,7 @@ fn take(alloc: Global, places: &mut [Place], name: &[u8], value: &[u8]) -> Resul
 }
 
 // Keeps what each parameter asks.
-fn take_all(alloc: Global, places: &mut [Place], text: &[u8]) -> Result<(), NoMemory>
+fn take_all(alloc: Global, places: &mut [AskedRef], text: &[u8]) -> Result<(), NoMemory>
     ensures { OnOk result (places.new ≡ fold taken places.old (raw_pairs text.now)) }
 {
     for pair in raw_pairs(text) {
@@ -89,11 +89,11 @@ fn take_all(alloc: Global, places: &mut [Place], text: &[u8]) -> Result<(), NoMe
 }
 
 /// What a text asks under the numbers from 1 to this one. Each parameter is looked at once.
-pub fn places_of(alloc: Global, text: &[u8], most: usize) -> Result<Vec<Place>, NoMemory>
+pub fn places_of(alloc: Global, text: &[u8], most: usize) -> Result<Vec<AskedRef>, NoMemory>
     requires { most < 10 ^ 9 }
     ensures { IfOk result (λ places. places.items ≡ places_of most (raw_pairs text.now)) }
 {
-    let mut places = vec![in alloc; Place::Missing; most]?;
+    let mut places = vec![in alloc; AskedRef::Missing; most]?;
     take_all(alloc, &mut places, text)?;
     Ok(places)
 }

@@ -8,7 +8,7 @@ ghost use Rattle.blob_routes.specs.Stats.{is_missing, is_wrong, right_ref, refs_
 
 use crate::faults::AskFault;
 use crate::parameters::first_value;
-use crate::places::{Place, places_of};
+use crate::places::{AskedRef, places_of};
 use answer_text::Refusal;
 use blobref::{NoMemory, RefList};
 use std::alloc::Global;
@@ -17,21 +17,21 @@ use std::borrow::CowStr;
 /// The most refs that may be asked after at once.
 pub const MOST_REFS: usize = 1000;
 
-fn is_missing(place: &Place) -> bool
+fn is_missing(place: &AskedRef) -> bool
     ensures { result ≡ is_missing place.now }
 {
-    matches!(place, Place::Missing)
+    matches!(place, AskedRef::Missing)
 }
 
 // Where the first place that is missing stands.
-fn missing_at(places: &[Place]) -> Option<usize>
+fn missing_at(places: &[AskedRef]) -> Option<usize>
     ensures { result ≡ position is_missing places.now }
 {
     places.iter().position(|place| is_missing(place))
 }
 
 // The places before it, or all.
-fn before_missing(places: &[Place]) -> &[Place]
+fn before_missing(places: &[AskedRef]) -> &[AskedRef]
     ensures { result.now ≡ before_first is_missing places.now }
 {
     match missing_at(places) {
@@ -40,28 +40,28 @@ fn before_missing(places: &[Place]) -> &[Place]
     }
 }
 
-fn is_wrong(place: &Place) -> bool
+fn is_wrong(place: &AskedRef) -> bool
     ensures { result ≡ is_wrong place.now }
 {
-    matches!(place, Place::Wrong)
+    matches!(place, AskedRef::Wrong)
 }
 
-fn some_wrong(places: &[Place]) -> bool
+fn some_wrong(places: &[AskedRef]) -> bool
     ensures { result ≡ list_any is_wrong places.now }
 {
     places.iter().any(|place| is_wrong(place))
 }
 
-fn push(refs: &mut RefList, place: &Place) -> Result<(), NoMemory>
+fn push(refs: &mut RefList, place: &AskedRef) -> Result<(), NoMemory>
     ensures { OnOk result (refs.new ≡ refs.old ++ right_ref place.now) }
 {
     match place {
-        Place::Missing | Place::Wrong => Ok(()),
-        Place::Right(r) => refs.push(*r),
+        AskedRef::Missing | AskedRef::Wrong => Ok(()),
+        AskedRef::Right(r) => refs.push(*r),
     }
 }
 
-fn all_refs(alloc: Global, places: &[Place]) -> Result<RefList, NoMemory>
+fn all_refs(alloc: Global, places: &[AskedRef]) -> Result<RefList, NoMemory>
     ensures { IfOk result (λ refs. refs ≡ flat_map right_ref places.now) }
 {
     let mut refs = RefList::empty(alloc);
@@ -71,7 +71,7 @@ fn all_refs(alloc: Global, places: &[Place]) -> Result<RefList, NoMemory>
     Ok(refs)
 }
 
-fn refs_at(alloc: Global, places: &[Place], most: usize) -> Result<RefList, AskFault>
+fn refs_at(alloc: Global, places: &[AskedRef], most: usize) -> Result<RefList, AskFault>
     ensures ok { IfOk result (λ refs. refs_at most places.now ≡ Ok refs) }
     ensures err { IfErr result (Refuses (refs_at most places.now)) }
 {

@@ -5,9 +5,9 @@ ghost use Rattle.blob_http.specs.Serving.{Longer};
 ghost use Rattle.blob_server.specs.Counting.{Adds, HasParts};
 ghost use Rattle.blob_server.specs.Stands.{Attends, Gives, counts_of, stand_of};
 
-use crate::counting::{Connections, Hand, Left};
+use crate::counting::{Connections, ConnectionsLeft, TakenShare};
 use crate::desk_list::Desk;
-use crate::sharing::Attend;
+use crate::sharing::DeskWork;
 use blob_http::{NoLog, serve_connection};
 use edge_listen::Listener;
 use home_places::Home;
@@ -26,12 +26,12 @@ pub struct Server<'a, H, G, J: Connections> {
     pub home: &'a H,
     pub gate: &'a G,
     /// The connections that are still to be taken.
-    pub left: Mutex<Left<J>>,
+    pub left: Mutex<ConnectionsLeft<J>>,
     /// How many workers haven't ended.
     pub workers: AtomicU64,
 }
 
-impl<'a, H: Home, G, L: Listener, J: Connections, R: Wait> Attend<Desk<H::Pass, L>, J, R>
+impl<'a, H: Home, G, L: Listener, J: Connections, R: Wait> DeskWork<Desk<H::Pass, L>, J, R>
     for Server<'a, H, G, J>
 where
     G: Gate + Copy,
@@ -43,7 +43,7 @@ where
     ghost does = { λ s d e taken dry. H.belongs s.home.now e.pass
         × Attends (stand_of H.sight L.accepted L.faults d) (stand_of H.sight L.accepted L.faults e) taken dry };
 
-    fn attend(&self, rt: &R, hand: &mut Hand<J>, desk: &mut Desk<H::Pass, L>) {
+    fn attend(&self, rt: &R, hand: &mut TakenShare<J>, desk: &mut Desk<H::Pass, L>) {
         let Desk {
             pass,
             listener,
@@ -67,8 +67,8 @@ fn work<H: Home, L: Listener, J: Connections, R: Wait>(
     rt: &R,
     alloc: Global,
     home: &H,
-    left: &Mutex<Left<J>>,
-    hand: &mut Hand<J>,
+    left: &Mutex<ConnectionsLeft<J>>,
+    hand: &mut TakenShare<J>,
     pass: &mut H::Pass,
     listener: &mut L,
 ) -> bool

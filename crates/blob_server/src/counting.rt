@@ -22,11 +22,11 @@ impl Connections for Brand {
 
 /// The ledger that counts how often none was found left. It has as many parts.
 #[derive(Drop)]
-pub struct Dry<J: Connections> {
+pub struct NoneLeft<J: Connections> {
     of: PhantomData<J>,
 }
 
-impl<J: Connections> Ledger for Dry<J> {
+impl<J: Connections> Ledger for NoneLeft<J> {
     ghost name = { J.dry_name };
 
     ghost parts = { J.parts };
@@ -34,14 +34,14 @@ impl<J: Connections> Ledger for Dry<J> {
 
 /// How many connections a thread took, and how often it found none left. It takes no bytes.
 #[derive(Drop)]
-pub struct Hand<J: Connections> {
+pub struct TakenShare<J: Connections> {
     pub taken: Share<J>,
-    pub dry: Share<Dry<J>>,
+    pub dry: Share<NoneLeft<J>>,
 }
 
-impl<J: Connections> Hand<J> {
+impl<J: Connections> TakenShare<J> {
     /// Some of its parts, with nothing taken.
-    pub fn split(&mut self, parts: u64) -> Hand<J>
+    pub fn split(&mut self, parts: u64) -> TakenShare<J>
         requires { (parts < self.old.taken.parts) × (parts < self.old.dry.parts) × (0 < parts) }
         ensures new { HasParts parts result.taken.parts result.dry.parts }
         ensures none { (result.taken.amount ≡ 0) × (result.dry.amount ≡ 0) }
@@ -50,20 +50,20 @@ impl<J: Connections> Hand<J> {
         ensures same { (self.new.taken.amount ≡ self.old.taken.amount)
             × (self.new.dry.amount ≡ self.old.dry.amount) }
     {
-        Hand {
+        TakenShare {
             taken: self.taken.split_off(parts, 0),
             dry: self.dry.split_off(parts, 0),
         }
     }
 
     /// Takes over what another thread took.
-    pub fn merge(&mut self, other: Hand<J>)
+    pub fn merge(&mut self, other: TakenShare<J>)
         ensures taken { (self.new.taken.amount ≡ self.old.taken.amount + other.taken.amount)
             × (self.new.taken.parts ≡ self.old.taken.parts + other.taken.parts) }
         ensures dry { (self.new.dry.amount ≡ self.old.dry.amount + other.dry.amount)
             × (self.new.dry.parts ≡ self.old.dry.parts + other.dry.parts) }
     {
-        let Hand { taken, dry } = other;
+        let TakenShare { taken, dry } = other;
         self.taken.merge(taken);
         self.dry.merge(dry);
     }
@@ -71,13 +71,13 @@ impl<J: Connections> Hand<J> {
 
 /// How many connections are left to take. Once none was found left, none is.
 #[derive(Drop)]
-pub struct Left<J: Connections> {
+pub struct ConnectionsLeft<J: Connections> {
     left: u64,
     taken: Book<J>,
-    dry: Book<Dry<J>>,
+    dry: Book<NoneLeft<J>>,
 }
 
-impl<J: Connections> Model for Left<J> {
+impl<J: Connections> Model for ConnectionsLeft<J> {
     ghost use Rattle.std.specs.Prelude.{◌≡◌, ◌+◌, ◌<◌, ℕ};
 
     ghost Value = { ℕ };
@@ -87,9 +87,9 @@ impl<J: Connections> Model for Left<J> {
     ghost invariant = { λ l. (l.left + l.taken.total ≡ J.all) × (0 < l.dry.total → l.left ≡ 0) };
 }
 
-impl<J: Connections> Left<J> {
+impl<J: Connections> ConnectionsLeft<J> {
     /// All connections, and a hand with every part.
-    pub fn open(connections: u64, taken: Blank, dry: Blank) -> (Left<J>, Hand<J>)
+    pub fn open(connections: u64, taken: Blank, dry: Blank) -> (ConnectionsLeft<J>, TakenShare<J>)
         requires names { (taken.name ≡ J.name) × (dry.name ≡ J.dry_name) }
         requires parts { (taken.parts ≡ J.parts) × (dry.parts ≡ J.parts) }
         requires all { connections ≡ J.all }
@@ -97,17 +97,17 @@ impl<J: Connections> Left<J> {
         ensures none { (result.1.taken.amount ≡ 0) × (result.1.dry.amount ≡ 0) }
     {
         let (taken_book, taken) = taken.open::<J>();
-        let (dry_book, dry) = dry.open::<Dry<J>>();
-        let left = Left {
+        let (dry_book, dry) = dry.open::<NoneLeft<J>>();
+        let left = ConnectionsLeft {
             left: connections,
             taken: taken_book,
             dry: dry_book,
         };
-        (left, Hand { taken, dry })
+        (left, TakenShare { taken, dry })
     }
 
     /// Takes a connection, if one is left.
-    pub fn take(&mut self, hand: &mut Hand<J>) -> bool
+    pub fn take(&mut self, hand: &mut TakenShare<J>) -> bool
         requires { (0 < hand.old.taken.parts) × (0 < hand.old.dry.parts) }
         ensures parts { (hand.new.taken.parts ≡ hand.old.taken.parts) × (hand.new.dry.parts ≡ hand.old.dry.parts) }
         ensures taken { result ≡ true → (hand.new.taken.amount ≡ hand.old.taken.amount + 1)
@@ -115,7 +115,7 @@ impl<J: Connections> Left<J> {
         ensures none { result ≡ false → (hand.new.taken.amount ≡ hand.old.taken.amount)
             × (hand.new.dry.amount ≡ hand.old.dry.amount + 1) }
     {
-        let Left { left, taken, dry } = self;
+        let ConnectionsLeft { left, taken, dry } = self;
         if *left == 0 {
             dry.add(&mut hand.dry, 1);
             return false;
@@ -126,7 +126,7 @@ impl<J: Connections> Left<J> {
     }
 
     /// What a hand with every part knows of all connections.
-    pub fn audit(&mut self, hand: &mut Hand<J>)
+    pub fn audit(&mut self, hand: &mut TakenShare<J>)
         requires { (hand.old.taken.parts ≡ J.parts) × (hand.old.dry.parts ≡ J.parts) }
         ensures most { hand.old.taken.amount ≤ J.all }
         ensures all { 0 < hand.old.dry.amount → hand.old.taken.amount ≡ J.all }

@@ -5,7 +5,7 @@ ghost use Rattle.blob_server.specs.Ends.{Ends, SettlesFirst, Serves, unsettled};
 ghost use Rattle.blob_server.specs.Stands.{stand_of};
 
 use crate::attending::Server;
-use crate::counting::{Connections, Left};
+use crate::counting::{Connections, ConnectionsLeft};
 use crate::desk_list::Desk;
 use crate::sharing::attend_all;
 use blobref::Ref;
@@ -149,7 +149,7 @@ where
         (map (stand_of H.sight L.accepted L.faults) desks.new) result }
 {
     let workers = desks.iter().filter(|d| d.listener.is_some()).count();
-    let (left, mut hand) = Left::<J>::open(connections, taken, dry);
+    let (left, mut hand) = ConnectionsLeft::<J>::open(connections, taken, dry);
     let server = Server {
         alloc,
         home,

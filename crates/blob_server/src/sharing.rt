@@ -4,12 +4,12 @@ ghost use Rattle.std.specs.Thread.{IsSync};
 ghost use denote.Param.Send.{IsSend};
 ghost use Rattle.blob_server.specs.Counting.{Adds, AddsTwice, Attended, HasParts};
 
-use crate::counting::{Connections, Hand};
+use crate::counting::{Connections, TakenShare};
 use std::sync::Wait;
 use std::thread::{Threads, join_mut};
 
 /// What is done at each desk, in any thread.
-pub trait Attend<D, J: Connections, R: Wait> {
+pub trait DeskWork<D, J: Connections, R: Wait> {
     /// At which desks it can be done.
     ghost may: { Self → D → Type 0 };
 
@@ -17,7 +17,7 @@ pub trait Attend<D, J: Connections, R: Wait> {
     ghost does: { Self → D → D → ℕ → ℕ → Type 0 };
 
     /// Does it.
-    fn attend(&self, rt: &R, hand: &mut Hand<J>, desk: &mut D)
+    fn attend(&self, rt: &R, hand: &mut TakenShare<J>, desk: &mut D)
         requires may { may self.now desk.old }
         requires parts { (0 < hand.old.taken.parts) × (0 < hand.old.dry.parts) }
         ensures does { Adds (does self.now desk.old desk.new)
@@ -32,8 +32,8 @@ pub fn attend_all<
     D: Send,
     J: Connections + Send + Sync,
     R: Threads + Wait + Sync,
-    A: Attend<D, J, R> + Sync,
->(rt: &R, work: &A, hand: &mut Hand<J>, desks: &mut [D])
+    A: DeskWork<D, J, R> + Sync,
+>(rt: &R, work: &A, hand: &mut TakenShare<J>, desks: &mut [D])
     requires some { 0 < length desks.old }
     requires may { All (A.may work.now) desks.old }
     requires parts { HasParts (length desks.old) hand.old.taken.parts hand.old.dry.parts }
@@ -55,8 +55,8 @@ fn attend_both<
     D: Send,
     J: Connections + Send + Sync,
     R: Threads + Wait + Sync,
-    A: Attend<D, J, R> + Sync,
->(rt: &R, work: &A, hand: &mut Hand<J>, front: &mut [D], back: &mut [D])
+    A: DeskWork<D, J, R> + Sync,
+>(rt: &R, work: &A, hand: &mut TakenShare<J>, front: &mut [D], back: &mut [D])
     requires some { (0 < length front.old) × (0 < length back.old) }
     requires parts { HasParts (length front.old + length back.old) hand.old.taken.parts hand.old.dry.parts }
     requires front { All (A.may work.now) front.old }

@@ -29,8 +29,8 @@ use Rattle.multipart_read.specs.Tokens.{Token}
 use Rattle.home_places.specs.Seats.{StoreGrew}
 use Rattle.home_places.specs.Passes.{Sight, StoreTurned, Spends}
 use Rattle.answer_text.specs.declared.refusal.Refusal.TheVariants.{BadRef, TooLong}
-use Rattle.blob_upload.specs.declared.came.Came.{Came}
-use Rattle.blob_upload.specs.declared.came.Came.TheVariants.{Whole, Refused, Full, Disk, Memory}
+use Rattle.blob_upload.specs.declared.upload_end.UploadEnd.{UploadEnd}
+use Rattle.blob_upload.specs.declared.upload_end.UploadEnd.TheVariants.{Whole, Refused, Full, Disk, Memory}
 use Rattle.blob_upload.specs.Faults.{most_bytes, came_of_part, came_of_wire, came_of_put}
 use Rattle.blob_upload.specs.Puts.{IsArrivalOf, Puts, EndsBy, LastPut}
 use Rattle.blob_upload.specs.Ends.{StopsAt, Told, StopsIn, Ends}
@@ -41,7 +41,7 @@ use Rattle.blob_upload.proofs.Putting.{stands, stands_longer, settled_by}
 -- ---- an upload that ends without a further put
 
 -- no turn more is drawn, and no entry shows why
-abbrev Quiet : Came → Type 0
+abbrev Quiet : UploadEnd → Type 0
 Quiet came = ((n : ℕ) → Turns came n n) × ((turns : List ℕ) (h : List (Stamped StoreEvent)) → ShowsWhy came turns h)
 
 quiet_part : (fault : PartFault) → Quiet (came_of_part fault)
@@ -59,7 +59,7 @@ quiet_wire (ends.TooLong limit) = (λ n. refl, λ turns h. tt)
 quiet_wire ends.ReadFault = (λ n. refl, λ turns h. tt)
 
 -- what was put, said of how the upload ended
-abbrev wider : (parts : List Part) (next : Part → Type 0) (came : Came) (v w : Sight)
+abbrev wider : (parts : List Part) (next : Part → Type 0) (came : UploadEnd) (v w : Sight)
     → StoreGrew (IsArrivalOf parts) v.store w.store → StoreGrew (IsAddedBy parts next came) v.store w.store
 wider parts next came v w g = record {
   longer = g.longer;
@@ -80,7 +80,7 @@ wider parts next came v w g = record {
     arrived (store.Full blobs pack) is = absurd is
 
 module _ (parts : List Part) (next : Part → Type 0) (v m w : Sight) (puts : Puts parts v m) where
-  adds_same : (came : Came) → Quiet came → Adds parts next came v m
+  adds_same : (came : UploadEnd) → Quiet came → Adds parts next came v m
   adds_same came quiet = record {
     grew = wider parts next came v m puts.grew;
     turns = subst (λ n. Turns came (length parts) n) (sym puts.turns) (quiet.0 (length parts));
@@ -91,7 +91,7 @@ module _ (parts : List Part) (next : Part → Type 0) (v m w : Sight) (puts : Pu
     spent = inl puts.spent;
   }
 
-  adds_quiet : (came is : Came) → Quiet is → came ≡ is → w ≡ m → Adds parts next came v w
+  adds_quiet : (came is : UploadEnd) → Quiet is → came ≡ is → w ≡ m → Adds parts next came v w
   adds_quiet came is quiet ends same =
       subst (λ x. Adds parts next came v x) (sym same)
       (subst (λ c. Adds parts next c v m) (sym ends) (adds_same is quiet))
@@ -109,7 +109,7 @@ stamped_stands h t entry e is =
 
 -- the entry that a put adds
 put_adds : (limits : StoreLimits) (parts : List Part) (next : Part → Type 0) (part : Part) (before : List Blob)
-    (o : Option (Result Put PutFault)) (answer : Result Put PutFault) (came : Came) (e : StoreEvent) → next part
+    (o : Option (Result Put PutFault)) (answer : Result Put PutFault) (came : UploadEnd) (e : StoreEvent) → next part
     → EndsBy answer came → PutAnswers limits part.0 part.1 before o answer (Some e) → IsAddedBy parts next came e
 put_adds limits parts next part before (Some settled) answer came e told ends said = absurd (cc (said.1))
 put_adds limits parts next part before None (Ok (Stored n)) came e told ends said =
@@ -143,12 +143,12 @@ never_big limits part before size entry few said =
     absurd (omega (arith, few, many))
 
 turned : (limits : StoreLimits) (part : Part) (before : List Blob) (answer : Result Put PutFault)
-    (entry : Option StoreEvent) (came : Came) (n : ℕ)
+    (entry : Option StoreEvent) (came : UploadEnd) (n : ℕ)
     → length part.1 ≤ max_size → PutSays limits part.0 part.1 before answer entry → EndsBy answer came
     → Turns came n (n + 1)
 turned limits part before answer entry came n few said ends = by answer ends said
   where
-    at : (is : Came) → Turns is n (n + 1) → came ≡ is → Turns came n (n + 1)
+    at : (is : UploadEnd) → Turns is n (n + 1) → came ≡ is → Turns came n (n + 1)
     at is turns same = subst (λ c. Turns c n (n + 1)) (sym same) turns
 
     by : (answer : Result Put PutFault) → EndsBy answer came → PutSays limits part.0 part.1 before answer entry
@@ -178,12 +178,12 @@ disk_by limits part before false true place entry said = absurd (cc (said.0))
 disk_by limits part before false false None entry said = said.1
 disk_by limits part before false false (Some n) entry said = absurd (cc (said.0))
 
-shows_why : (limits : StoreLimits) (part : Part) (answer : Result Put PutFault) (came : Came)
+shows_why : (limits : StoreLimits) (part : Part) (answer : Result Put PutFault) (came : UploadEnd)
     (h : List (Stamped StoreEvent)) (turns : List ℕ) (t : ℕ) (entry : Option StoreEvent) → EndsBy answer came
     → PutSays limits part.0 part.1 (arrivals h) answer entry → ShowsWhy came (turns ++ t ∷ []) (h ++ stamped t entry)
 shows_why limits part answer came h turns t entry ends said = by answer ends said
   where
-    at : (is : Came) → ShowsWhy is (turns ++ t ∷ []) (h ++ stamped t entry) → came ≡ is
+    at : (is : UploadEnd) → ShowsWhy is (turns ++ t ∷ []) (h ++ stamped t entry) → came ≡ is
         → ShowsWhy came (turns ++ t ∷ []) (h ++ stamped t entry)
     at is shows same = subst (λ c. ShowsWhy c (turns ++ t ∷ []) (h ++ stamped t entry)) (sym same) shows
 
@@ -204,7 +204,7 @@ shows_why limits part answer came h turns t entry ends said = by answer ends sai
         at Disk (t, is.0, has_rest turns (t ∷ []) t (has_one t), stands) ends
     by (Err put.NoMemory) ends said = at Memory tt ends
 
-module _ (parts : List Part) (next : Part → Type 0) (part : Part) (came : Came) (v m w : Sight) (puts : Puts parts v m)
+module _ (parts : List Part) (next : Part → Type 0) (part : Part) (came : UploadEnd) (v m w : Sight) (puts : Puts parts v m)
     (told : next part) (few : length part.1 ≤ max_size) where
   adds_turned : (answer : Result Put PutFault) → EndsBy answer came
       → StoreTurned (λ before entry. PutSays m.store.limits part.0 part.1 before answer entry) m w
@@ -261,7 +261,7 @@ module _ (parts : List Part) (next : Part → Type 0) (part : Part) (came : Came
       by (inl turn) = adds_turned last.answer last.ends turn
       by (inr spent) = adds_spent (memory last.answer (spent.0) last.ends) (spent.1)
 
-module _ (parts : List Part) (came : Came) (v m w : Sight) (puts : Puts parts v m) where
+module _ (parts : List Part) (came : UploadEnd) (v m w : Sight) (puts : Puts parts v m) where
   adds_at : (boundary given : List ℕ) (after : List Token) → Told boundary given parts after → StopsAt after came m w
       → Adds parts (IsNext boundary given parts) came v w
   adds_at boundary given after front (StopsAt.AtName name later told bad ends same) =

@@ -19,8 +19,8 @@ use Rattle.multipart_read.specs.PartLists.{Part, part_tokens}
 use Rattle.multipart_read.proofs.BodyEnds.{bodies_end}
 use Rattle.home_places.specs.Passes.{Sight, StoreTurned, Spends}
 use Rattle.answer_text.specs.declared.refusal.Refusal.TheVariants.{BadRef, BadDigest, TooLong}
-use Rattle.blob_upload.specs.declared.came.Came.{Came}
-use Rattle.blob_upload.specs.declared.came.Came.TheVariants.{Whole, Refused, Full, Disk, Memory}
+use Rattle.blob_upload.specs.declared.upload_end.UploadEnd.{UploadEnd}
+use Rattle.blob_upload.specs.declared.upload_end.UploadEnd.TheVariants.{Whole, Refused, Full, Disk, Memory}
 use Rattle.blob_upload.specs.Faults.{most_bytes, part_fault, came_of_part, came_of_wire}
 use Rattle.blob_upload.specs.Puts.{EndsBy}
 use Rattle.blob_upload.specs.Ends.{StopsAt, Told, Reads, StopsIn, EndsShort, Ends}
@@ -88,10 +88,10 @@ module _ (limits : StoreLimits) (part : Part) (before : List Blob) (named : is_b
 -- ---- each way to end
 
 module _ (boundary given : List ℕ) (parts : List Part) (wire : WireView) (x : Option (List ℕ)) where
-  abbrev comes : Came → Type 0
+  abbrev comes : UploadEnd → Type 0
   comes came = Comes boundary given parts wire x came
 
-  as_told : (came is : Came) → comes is → came ≡ is → comes came
+  as_told : (came is : UploadEnd) → comes is → came ≡ is → comes came
   as_told came is holds same = subst comes (sym same) holds
 
   -- a body has no fault of these
@@ -126,7 +126,7 @@ module _ (boundary given : List ℕ) (parts : List Part) (wire : WireView) (x : 
         subst (λ name. comes (Refused (BadDigest name is))) (sym (found.0)) (part.1, (later, told), found.1)
 
     at_put : (limits : StoreLimits) (answer : Result Put PutFault) (before : List Blob) (entry : Option StoreEvent)
-        (came : Came) → EndsBy answer came → PutSays limits part.0 part.1 before answer entry → comes came
+        (came : UploadEnd) → EndsBy answer came → PutSays limits part.0 part.1 before answer entry → comes came
     at_put limits (Ok stored) before entry came by says = as_told came Memory (part_tokens part ++ later, told) by
     at_put limits (Err (put.TooBig size)) before entry came by says =
         absurd (never_big limits part before size entry (contents_fit boundary given parts part later told) says)
@@ -140,7 +140,7 @@ module _ (boundary given : List ℕ) (parts : List Part) (wire : WireView) (x : 
         as_told came Disk (part, (later, told), disk_sound limits part before named entry says) by
     at_put limits (Err put.NoMemory) before entry came by says = as_told came Memory (part_tokens part ++ later, told) by
 
-    at_part : (came : Came) (v w : Sight) (answer : Result Put PutFault) → EndsBy answer came
+    at_part : (came : UploadEnd) (v w : Sight) (answer : Result Put PutFault) → EndsBy answer came
         → StoreTurned (λ before entry. PutSays v.store.limits part.0 part.1 before answer entry) v w
         ⊎ ((answer ≡ Err put.NoMemory) × Spends v w) → comes came
     at_part came v w answer by (inl t) =
@@ -148,7 +148,7 @@ module _ (boundary given : List ℕ) (parts : List Part) (wire : WireView) (x : 
     at_part came v w answer by (inr (none, spends)) =
         as_told came Memory (part_tokens part ++ later, told) (subst (λ a. EndsBy a came) none by)
 
-  at_token : (after : List Token) (came : Came) (v w : Sight) → Told boundary given parts after
+  at_token : (after : List Token) (came : UploadEnd) (v w : Sight) → Told boundary given parts after
       → StopsAt after came v w → comes came
   at_token after came v w told (StopsAt.AtName name later is bad by same) =
       as_told came (Refused BadRef) (name, later, subst (λ ts. Told boundary given parts ts) is told, bad) by
@@ -157,14 +157,14 @@ module _ (boundary given : List ℕ) (parts : List Part) (wire : WireView) (x : 
       last.call
   at_token after came v w told (StopsAt.ForMemory by same) = as_told came Memory (after, told) by
 
-  inside : (came : Came) (v w : Sight) → StopsIn boundary given parts came v w → comes came
+  inside : (came : UploadEnd) (v w : Sight) → StopsIn boundary given parts came v w → comes came
   inside came v w (StopsIn.AtToken after told stops) = at_token after came v w told stops
   inside came v w (StopsIn.AtFault fault faulty by same) =
       as_told came (came_of_part fault) (at_fault fault (inl faulty)) by
   inside came v w (StopsIn.AtLimit front rest whole full some reads by same) =
       as_told came (Refused (TooLong most_bytes)) (inr (refl, (front, rest, whole, full, some, reads))) by
 
-  at_last : (came : Came) (v w : Sight) → Ends boundary given parts wire x came v w → comes came
+  at_last : (came : UploadEnd) (v w : Sight) → Ends boundary given parts wire x came v w → comes came
   at_last came v w (Ends.Inside front piece whole few over stops) = inside came v w stops
   at_last came v w (Ends.AtClose done short is by same) = as_told came Whole (done, short, is) by
   at_last came v w (Ends.AtEnd fault done all by same) =

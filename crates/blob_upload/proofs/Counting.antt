@@ -13,7 +13,7 @@ use Rattle.multipart_read.specs.PartLists.{Part, part_tokens, cut_tokens}
 use Rattle.multipart_read.proofs.Existing.{some_reading}
 use Rattle.http_wire.specs.Wires.{WireView, to_come}
 use Rattle.home_places.specs.Passes.{Sight}
-use Rattle.blob_upload.specs.declared.came.Came.{Came}
+use Rattle.blob_upload.specs.declared.upload_end.UploadEnd.{UploadEnd}
 use Rattle.blob_upload.specs.Ends.{StopsIn, Ends}
 use Rattle.blob_upload.specs.Comes.{PartsAreFew}
 
@@ -136,7 +136,7 @@ parts_told boundary fed parts after reader tells = by (ltb 1000 (length parts)) 
         let many = ltb-true 1000 (length parts) is in
         omega (arith, all, count, front, each, many)))
 
-stops_few : (boundary given : List ℕ) (parts : List Part) (came : Came) (v w : Sight)
+stops_few : (boundary given : List ℕ) (parts : List Part) (came : UploadEnd) (v w : Sight)
     → StopsIn boundary given parts came v w → length parts ≤ 1000
 stops_few boundary given parts came v w (StopsIn.AtToken after told stops) =
     parts_told boundary told.fed parts after told.reader told.tells
@@ -145,7 +145,7 @@ stops_few boundary given parts came v w (StopsIn.AtFault fault faulty ends same)
 stops_few boundary given parts came v w (StopsIn.AtLimit front rest whole full some reads ends same) =
     parts_told boundary front parts (cut_tokens reads.cut) reads.reader reads.tells
 
-ends_few : (boundary given : List ℕ) (parts : List Part) (wire : WireView) (x : Option (List ℕ)) (came : Came)
+ends_few : (boundary given : List ℕ) (parts : List Part) (wire : WireView) (x : Option (List ℕ)) (came : UploadEnd)
     (v w : Sight)
     → Ends boundary given parts wire x came v w → length parts ≤ 1000
 ends_few boundary given parts wire x came v w (Ends.Inside front piece whole few over stops) =

@@ -23,8 +23,8 @@ use Rattle.multipart_read.specs.PartLists.{Part, between}
 use Rattle.multipart_read.proofs.Feeding.{fresh_waits}
 use Rattle.multipart_read.proofs.Unique.{whole_body}
 use Rattle.home_places.specs.Passes.{Sight}
-use Rattle.blob_upload.specs.declared.came.Came.{Came}
-use Rattle.blob_upload.specs.declared.came.Came.TheVariants.{Memory, Ended}
+use Rattle.blob_upload.specs.declared.upload_end.UploadEnd.{UploadEnd}
+use Rattle.blob_upload.specs.declared.upload_end.UploadEnd.TheVariants.{Memory, Ended}
 use Rattle.blob_upload.specs.declared.uploading.Reading.{Reading}
 use Rattle.blob_upload.specs.Faults.{most_bytes, came_of_put, came_of_part, came_of_wire}
 use Rattle.blob_upload.specs.Puts.{EndsBy}
@@ -79,19 +79,19 @@ end_otherwise : (last : End) (end : WireEnd) → came_of_end last ≡ Ended end 
 end_otherwise (Ok closed) end is = absurd cc
 end_otherwise (Err fault) end is = part_otherwise fault end is
 
-last_otherwise : (answer : Result Put PutFault) (came : Came) (end : WireEnd) → EndsBy answer came → came ≡ Ended end
+last_otherwise : (answer : Result Put PutFault) (came : UploadEnd) (end : WireEnd) → EndsBy answer came → came ≡ Ended end
     → ⊥
 last_otherwise (Ok stored) came end ends is = absurd (cc (ends, is))
 last_otherwise (Err fault) came end ends is = put_otherwise fault end (sym ends ∙ is)
 
-at_otherwise : (after : List Token) (came : Came) (v w : Sight) (end : WireEnd) → StopsAt after came v w
+at_otherwise : (after : List Token) (came : UploadEnd) (v w : Sight) (end : WireEnd) → StopsAt after came v w
     → came ≡ Ended end → ⊥
 at_otherwise after came v w end (StopsAt.AtName name later told bad ends same) is = absurd (cc (ends, is))
 at_otherwise after came v w end (StopsAt.AtPart part later told good last) is =
     last_otherwise last.answer came end last.ends is
 at_otherwise after came v w end (StopsAt.ForMemory ends same) is = absurd (cc (ends, is))
 
-stops_otherwise : (boundary given : List ℕ) (parts : List Part) (came : Came) (v w : Sight) (end : WireEnd)
+stops_otherwise : (boundary given : List ℕ) (parts : List Part) (came : UploadEnd) (v w : Sight) (end : WireEnd)
     → StopsIn boundary given parts came v w → came ≡ Ended end → ⊥
 stops_otherwise boundary given parts came v w end (StopsIn.AtToken after told stops) is =
     at_otherwise after came v w end stops is
@@ -202,7 +202,7 @@ module _ (boundary : List ℕ) (left left' left'' : Option (List ℕ)) (wire wir
   }
 
   -- the upload ends inside a piece
-  pub uploading_stops : (piece : List ℕ) (x : Sight) (kept'' : List (List ℕ × ℕ)) (reading' : Reading) (came : Came)
+  pub uploading_stops : (piece : List ℕ) (x : Sight) (kept'' : List (List ℕ × ℕ)) (reading' : Reading) (came : UploadEnd)
       → moves piece → length piece ≤ 65536 → TakesPiece piece reading reading' kept' kept'' w x (Err came)
       → Uploads boundary left left'' wire wire'' v x kept kept'' came
   uploading_stops piece x kept'' reading' came moved few takes =
@@ -221,7 +221,7 @@ module _ (boundary : List ℕ) (left left' left'' : Option (List ℕ)) (wire wir
       }
 
   -- it doesn't end there for the source
-  pub never_ended : (piece : List ℕ) (x : Sight) (kept'' : List (List ℕ × ℕ)) (reading' : Reading) (came : Came)
+  pub never_ended : (piece : List ℕ) (x : Sight) (kept'' : List (List ℕ × ℕ)) (reading' : Reading) (came : UploadEnd)
       (end : WireEnd)
       → TakesPiece piece reading reading' kept' kept'' w x (Err came) → came ≡ Ended end → ⊥
   never_ended piece x kept'' reading' came end takes is =
@@ -229,7 +229,7 @@ module _ (boundary : List ℕ) (left left' left'' : Option (List ℕ)) (wire wir
       stops_otherwise boundary (so_far.given ++ piece) halted.parts came halted.middle x end halted.stops is
 
   -- nor at the body's end
-  pub never_finished : (came : Came) (end : WireEnd) → Finishes reading.parts came → came ≡ Ended end → ⊥
+  pub never_finished : (came : UploadEnd) (end : WireEnd) → Finishes reading.parts came → came ≡ Ended end → ⊥
   never_finished came end finishes is =
       let finished = finishes boundary so_far.given so_far.going.tokens so_far.going.tells so_far.sound in
       end_otherwise (finished.0) end (sym (finished.2) ∙ is)
@@ -246,7 +246,7 @@ module _ (boundary : List ℕ) (left left' left'' : Option (List ℕ)) (wire wir
     ends = Ends.AtBreak end reads_given says short refl refl;
   }
 
-  ends_by : (end : End) (came : Came) → wire''.body ≡ Done → IsBody boundary so_far.given so_far.going.tokens end
+  ends_by : (end : End) (came : UploadEnd) → wire''.body ≡ Done → IsBody boundary so_far.given so_far.going.tokens end
       → came ≡ came_of_end end
       → Ends boundary so_far.given so_far.going.took.parts wire'' (to_come wire'' left'') came w w
   ends_by (Ok closed) came done is ends =
@@ -259,7 +259,7 @@ module _ (boundary : List ℕ) (left left' left'' : Option (List ℕ)) (wire wir
   }) ends refl
 
   -- the body's end
-  pub uploading_ends : (came : Came) → moves [] → wire''.body ≡ Done → Finishes reading.parts came
+  pub uploading_ends : (came : UploadEnd) → moves [] → wire''.body ≡ Done → Finishes reading.parts came
       → Uploads boundary left left'' wire wire'' v w kept kept' came
   uploading_ends came moved done finishes =
       let finished = finishes boundary so_far.given so_far.going.tokens so_far.going.tells so_far.sound in

@@ -15,8 +15,8 @@ use Rattle.multipart_read.proofs.Unique.{pieces_join}
 use Rattle.multipart_read.proofs.PartLaws.{told_in_order}
 use Rattle.home_places.specs.Passes.{Sight}
 use Rattle.answer_text.specs.declared.refusal.Refusal.TheVariants as refusal
-use Rattle.blob_upload.specs.declared.came.Came.{Came}
-use Rattle.blob_upload.specs.declared.came.Came.TheVariants.{Refused, Memory}
+use Rattle.blob_upload.specs.declared.upload_end.UploadEnd.{UploadEnd}
+use Rattle.blob_upload.specs.declared.upload_end.UploadEnd.TheVariants.{Refused, Memory}
 use Rattle.blob_upload.specs.declared.opened.Opened.{Opened}
 use Rattle.blob_upload.specs.Faults.{most_bytes, came_of_part}
 use Rattle.blob_upload.specs.Ends.{StopsAt, Told, IsFed, IsSound, Faulty, StopsIn}
@@ -48,7 +48,7 @@ faulty_longer boundary given more parts fault f = record {
   tells = f.tells;
 }
 
-stops_further : (boundary given more : List ℕ) (parts : List Part) (came : Came) (v w : Sight)
+stops_further : (boundary given more : List ℕ) (parts : List Part) (came : UploadEnd) (v w : Sight)
     → StopsIn boundary given parts came v w → StopsIn boundary (given ++ more) parts came v w
 stops_further boundary given more parts came v w (StopsIn.AtToken after told stops) =
     StopsIn.AtToken after (told_longer boundary given more parts after told) stops
@@ -58,7 +58,7 @@ stops_further boundary given more parts came v w (StopsIn.AtLimit front rest who
     StopsIn.AtLimit front (rest ++ more) (ap (λ l. l ++ more) whole ∙ append_assoc front rest more) full
     (omega (arith, length-append rest more, some)) reads ends same
 
-pub halted_longer : (boundary : List ℕ) (first : List (List ℕ × ℕ)) (u : Sight) (given more : List ℕ) (came : Came)
+pub halted_longer : (boundary : List ℕ) (first : List (List ℕ × ℕ)) (u : Sight) (given more : List ℕ) (came : UploadEnd)
     (kept : List (List ℕ × ℕ)) (w : Sight) → Halted boundary first u given came kept w
     → Halted boundary first u (given ++ more) came kept w
 halted_longer boundary first u given more came kept w h = record {
@@ -126,7 +126,7 @@ module _ (piece : List ℕ) (r s : Reader) (o p : Option Opened) (k l : List (Li
       )
 
   -- the upload ended at it
-  pub feed_stops : (these taken : List Token) (came : Came) → taken ≡ these → Tells r piece these s
+  pub feed_stops : (these taken : List Token) (came : UploadEnd) → taken ≡ these → Tells r piece these s
       → Takes taken o p k l v w (Err came) → Feeds SoundAtLast piece r s o p k l v w (Err came)
   feed_stops these taken came same tells take boundary first u given short going =
       let takes : Takes these o p k l v w (Err came) = subst (λ ts. Takes ts o p k l v w (Err came)) same take in
@@ -218,7 +218,7 @@ feeds_none r o k v boundary first u given short going =
 
 pub feeds_more : {S T : Type 0} (holds : S → Reader → Type 0) (then : T → Reader → Type 0) (xs ys : List ℕ)
     (r s t : Reader)
-    (o p q : Option Opened) (k l m : List (List ℕ × ℕ)) (u v w : Sight) (done : S) (result : Result T Came)
+    (o p q : Option Opened) (k l m : List (List ℕ × ℕ)) (u v w : Sight) (done : S) (result : Result T UploadEnd)
     → Feeds holds xs r s o p k l u v (Ok done) → Feeds then ys s t p q l m v w result
     → Feeds then (xs ++ ys) r t o q k m u w result
 feeds_more holds then xs ys r s t o p q k l m u v w done result f g boundary first start given short going =
@@ -249,7 +249,7 @@ module _ (piece : List ℕ) (n taken : ℕ) (within : n ≡ min (length piece) (
 
   module _ (r s : Reader) (o p : Option Opened) (k l : List (List ℕ × ℕ)) (v w : Sight) where
     -- what is said of a whole piece
-    abbrev says : Result (Unit {0}) Came → Type 0
+    abbrev says : Result (Unit {0}) UploadEnd → Type 0
     says result = (boundary : List ℕ) (first : List (List ℕ × ℕ)) (u : Sight) (given : List ℕ) → length given ≡ taken
         → Going boundary first u given r o k v
         → After result (λ done. Going boundary first u (given ++ piece) s p l w × IsSound s)
@@ -261,7 +261,7 @@ module _ (piece : List ℕ) (n taken : ℕ) (within : n ≡ min (length piece) (
         subst (λ l'. Going boundary first u (given ++ l') s p l w × IsSound s) (take_all n piece all)
         (f boundary first u given (front_short given count) going)
 
-    pub piece_stops : (came : Came) → Feeds (λ (done : Unit {0}). IsSound) (take n piece) r s o p k l v w (Err came)
+    pub piece_stops : (came : UploadEnd) → Feeds (λ (done : Unit {0}). IsSound) (take n piece) r s o p k l v w (Err came)
         → says (Err came)
     piece_stops came f boundary first u given count going =
         subst (λ l'. Halted boundary first u l' came l w)

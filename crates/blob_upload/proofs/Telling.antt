@@ -14,8 +14,8 @@ use Rattle.multipart_read.specs.Tokens.{Token, named, byte, ended, content, toke
 use Rattle.multipart_read.specs.PartLists.{Part, part_tokens, Cut, between, inside, cut_tokens, AreParts}
 use Rattle.home_places.specs.Passes.{Sight}
 use Rattle.answer_text.specs.declared.refusal.Refusal.TheVariants.{BadRef}
-use Rattle.blob_upload.specs.declared.came.Came.{Came}
-use Rattle.blob_upload.specs.declared.came.Came.TheVariants.{Refused, Memory}
+use Rattle.blob_upload.specs.declared.upload_end.UploadEnd.{UploadEnd}
+use Rattle.blob_upload.specs.declared.upload_end.UploadEnd.TheVariants.{Refused, Memory}
 use Rattle.blob_upload.specs.declared.opened.Opened.{Opened}
 use Rattle.blob_upload.specs.Puts.{Keeps}
 use Rattle.blob_upload.specs.Ends.{StopsAt, IsNamed}
@@ -72,7 +72,7 @@ bytes_named bytes between is = tt
 bytes_named bytes (inside n front) is = is
 
 pub name_takes : (n : List ℕ) (o o' : Option Opened) (k : List (List ℕ × ℕ)) (v : Sight)
-    (result : Result (Unit {0}) Came)
+    (result : Result (Unit {0}) UploadEnd)
     → OnOk result ((is_blobref n ≡ true) × (cut_of o' ≡ inside n []))
     → IfErr result (λ came. (came ≡ Refused BadRef) × (is_blobref n ≡ false)) → Takes (named n ∷ []) o o' k k v v result
 name_takes n o o' k v (Ok done) ok err first u tokens later order took =
@@ -96,7 +96,7 @@ name_takes n o o' k v (Err came) ok err first u tokens later order took =
     }
 
 pub content_takes : (bytes : List ℕ) (o o' : Option Opened) (k : List (List ℕ × ℕ)) (v : Sight)
-    (result : Result (Unit {0}) Came)
+    (result : Result (Unit {0}) UploadEnd)
     → OnOk result (cut_of o' ≡ with_bytes bytes (cut_of o)) → IfErr result (λ came. came ≡ Memory)
     → Takes (content bytes) o o' k k v v result
 content_takes bytes o o' k v (Ok done) ok err first u tokens later order took =
@@ -120,7 +120,7 @@ content_takes bytes o o' k v (Err came) ok err first u tokens later order took =
     }
 
 end_by : (cut : Cut) (o' : Option Opened) (k k' first : List (List ℕ × ℕ)) (u v w : Sight) (tokens : List Token)
-    (parts : List Part) (result : Result (Unit {0}) Came) → cut_of o' ≡ between → PutsOpen cut k k' v w result
+    (parts : List Part) (result : Result (Unit {0}) UploadEnd) → cut_of o' ≡ between → PutsOpen cut k k' v w result
     → Fits cut PartEnd
     → AreParts tokens parts cut → IsNamed cut → Keeps parts first k u v
     → After result (λ done. Took first u (tokens ++ ended ∷ []) o' k' w)
@@ -145,7 +145,7 @@ end_by (inside n front) o' k k' first u v w tokens parts (Err came) none puts fi
       stops = StopsAt.AtPart (n, front) [] (sym (append-nil (part_tokens (n, front)))) is (puts.1);
     }
 
-pub end_takes : (o o' : Option Opened) (k k' : List (List ℕ × ℕ)) (v w : Sight) (result : Result (Unit {0}) Came)
+pub end_takes : (o o' : Option Opened) (k k' : List (List ℕ × ℕ)) (v w : Sight) (result : Result (Unit {0}) UploadEnd)
     → cut_of o' ≡ between → PutsOpen (cut_of o) k k' v w result → Takes (ended ∷ []) o o' k k' v w result
 end_takes o o' k k' v w result none puts first u tokens later order took =
     end_by (cut_of o) o' k k' first u v w tokens took.parts result none puts
@@ -157,7 +157,7 @@ pub takes_none : (o : Option Opened) (k : List (List ℕ × ℕ)) (v : Sight) �
 takes_none o k v first u tokens later order took = subst (λ ts. Took first u ts o k v) (sym (append-nil tokens)) took
 
 pub takes_more : (xs ys : List Token) (o p q : Option Opened) (k l m : List (List ℕ × ℕ)) (v w x : Sight)
-    (result : Result (Unit {0}) Came) → Takes xs o p k l v w (Ok tt) → Takes ys p q l m w x result
+    (result : Result (Unit {0}) UploadEnd) → Takes xs o p k l v w (Ok tt) → Takes ys p q l m w x result
     → Takes (xs ++ ys) o q k m v x result
 takes_more xs ys o p q k l m v w x result h g first u tokens later order took =
     let far : IsInOrder (tokens ++ (xs ++ (ys ++ later))) =
@@ -169,7 +169,7 @@ takes_more xs ys o p q k l m v w x result h g first u tokens later order took =
     (g first u (tokens ++ xs) later near (h first u tokens (ys ++ later) far took))
 
 -- what is told behind a stop changes nothing
-pub stops_longer : (after more : List Token) (came : Came) (v w : Sight) → StopsAt after came v w
+pub stops_longer : (after more : List Token) (came : UploadEnd) (v w : Sight) → StopsAt after came v w
     → StopsAt (after ++ more) came v w
 stops_longer after more came v w (StopsAt.AtName n later is bad ends same) =
     StopsAt.AtName n (later ++ more) (ap (λ ts. ts ++ more) is) bad ends same
@@ -177,7 +177,7 @@ stops_longer after more came v w (StopsAt.AtPart part later is good put) =
     StopsAt.AtPart part (later ++ more) (ap (λ ts. ts ++ more) is ∙ append_assoc (part_tokens part) later more) good put
 stops_longer after more came v w (StopsAt.ForMemory ends same) = StopsAt.ForMemory ends same
 
-pub takes_stop : (xs ys : List Token) (o p : Option Opened) (k l : List (List ℕ × ℕ)) (v w : Sight) (came : Came)
+pub takes_stop : (xs ys : List Token) (o p : Option Opened) (k l : List (List ℕ × ℕ)) (v w : Sight) (came : UploadEnd)
     → Takes xs o p k l v w (Err came) → Takes (xs ++ ys) o p k l v w (Err came)
 takes_stop xs ys o p k l v w came h first u tokens later order took =
     let stopped = h first u tokens (ys ++ later)

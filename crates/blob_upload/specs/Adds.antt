@@ -12,14 +12,14 @@ use Rattle.home_places.specs.Seats.{StoreGrew}
 use Rattle.home_places.specs.Passes.{Sight}
 use Rattle.answer_text.specs.declared.refusal.Refusal.{Refusal}
 use Rattle.answer_text.specs.declared.refusal.Refusal.TheVariants.{BadDigest}
-use Rattle.blob_upload.specs.declared.came.Came.{Came}
-use Rattle.blob_upload.specs.declared.came.Came.TheVariants.{Whole, Refused, Full, Disk, Memory, Ended}
+use Rattle.blob_upload.specs.declared.upload_end.UploadEnd.{UploadEnd}
+use Rattle.blob_upload.specs.declared.upload_end.UploadEnd.TheVariants.{Whole, Refused, Full, Disk, Memory, Ended}
 use Rattle.blob_upload.specs.Ends.{Told}
 use Rattle.blob_upload.specs.Uploads.{Uploads}
 
 -- Arrivals of parts that were kept, and where memory was wanting of one that wasn't, as is said of the next. And why
 -- the upload ended, where the store or the disk is why.
-abbrev pub IsAddedBy : List Part → (Part → Type 0) → Came → StoreEvent → Type 0
+abbrev pub IsAddedBy : List Part → (Part → Type 0) → UploadEnd → StoreEvent → Type 0
 IsAddedBy parts next came (store.Put n r bytes) = Contains parts (r, bytes) ⊎ ((came ≡ Memory) × next (r, bytes))
 IsAddedBy parts next came (store.Fault f) = came ≡ Disk
 IsAddedBy parts next came (store.Damage want is) = ⊥
@@ -31,7 +31,7 @@ TurnsRefused (BadDigest said is) kept turns = turns ≡ kept + 1
 TurnsRefused refusal kept turns = turns ≡ kept
 
 -- one for each part that was kept, and one for the part that was tried at the end
-abbrev pub Turns : Came → ℕ → ℕ → Type 0
+abbrev pub Turns : UploadEnd → ℕ → ℕ → Type 0
 Turns Whole kept turns = turns ≡ kept
 Turns (Refused refusal) kept turns = TurnsRefused refusal kept turns
 Turns (Full blobs pack) kept turns = turns ≡ kept + 1
@@ -40,7 +40,7 @@ Turns Memory kept turns = (turns ≡ kept) ⊎ (turns ≡ kept + 1)
 Turns (Ended end) kept turns = turns ≡ kept
 
 -- the entry that shows that the store is full, or that the disk failed, stands in the history under one of these turns
-abbrev pub ShowsWhy : Came → List ℕ → List (Stamped StoreEvent) → Type 0
+abbrev pub ShowsWhy : UploadEnd → List ℕ → List (Stamped StoreEvent) → Type 0
 ShowsWhy Whole turns h = Unit {0}
 ShowsWhy (Refused refusal) turns h = Unit {0}
 ShowsWhy (Full blobs pack) turns h = (t : ℕ) × (has turns t ≡ true) × Contains h (stamp t (store.Full blobs pack))
@@ -53,7 +53,7 @@ abbrev pub IsNext : List ℕ → List ℕ → List Part → Part → Type 0
 IsNext boundary given parts part = (later : List Token) × Told boundary given parts (part_tokens part ++ later)
 
 -- `parts` are those that were kept, `next` says what may come next, and the pass was `v` before and is `w`
-pub record Adds (parts : List Part) (next : Part → Type 0) (came : Came) (v w : Sight) : Type 0 where
+pub record Adds (parts : List Part) (next : Part → Type 0) (came : UploadEnd) (v w : Sight) : Type 0 where
   pub grew : StoreGrew (IsAddedBy parts next came) v.store w.store
   pub turns : Turns came (length parts) (length grew.further)
   pub why : ShowsWhy came grew.further w.store.history
@@ -65,6 +65,6 @@ pub record Adds (parts : List Part) (next : Part → Type 0) (came : Came) (v w 
 -- each upload has added this; next is the part that its body tells behind those that were kept
 abbrev pub UploadsAdd : Type 0
 UploadsAdd = (boundary : List ℕ) (left left' : Option (List ℕ)) (wire wire' : WireView) (v w : Sight)
-    (kept kept' : List (List ℕ × ℕ)) (came : Came)
+    (kept kept' : List (List ℕ × ℕ)) (came : UploadEnd)
     → (upload : Uploads boundary left left' wire wire' v w kept kept' came)
     → Adds upload.parts (IsNext boundary upload.given upload.parts) came v w

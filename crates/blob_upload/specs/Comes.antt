@@ -12,8 +12,8 @@ use Rattle.multipart_read.specs.PartLists.{Part, part_tokens, IsMultipart}
 use Rattle.home_places.specs.Passes.{Sight}
 use Rattle.answer_text.specs.declared.refusal.Refusal.{Refusal}
 use Rattle.answer_text.specs.declared.refusal.Refusal.TheVariants.{BadRef, BadDigest, BadMultipart, TooLong, BadLength}
-use Rattle.blob_upload.specs.declared.came.Came.{Came}
-use Rattle.blob_upload.specs.declared.came.Came.TheVariants.{Whole, Refused, Full, Disk, Memory, Ended}
+use Rattle.blob_upload.specs.declared.upload_end.UploadEnd.{UploadEnd}
+use Rattle.blob_upload.specs.declared.upload_end.UploadEnd.TheVariants.{Whole, Refused, Full, Disk, Memory, Ended}
 use Rattle.blob_upload.specs.Faults.{most_bytes, part_fault}
 use Rattle.blob_upload.specs.Ends.{Told, Reads, Faulty, IsAll, EndsShort}
 use Rattle.blob_upload.specs.Uploads.{Uploads}
@@ -46,7 +46,7 @@ module _ (boundary given : List ℕ) (parts : List Part) (wire : WireView) (x : 
 
   -- What it came to behind these parts. Where the store had no room, or its disk failed, that was at a part without a
   -- fault.
-  abbrev pub Comes : Came → Type 0
+  abbrev pub Comes : UploadEnd → Type 0
   Comes Whole = (wire.body ≡ Done) × (length given ≤ most_bytes) × IsMultipart boundary given parts (Ok tt)
   Comes (Refused refusal) = Refuses refusal
   Comes (Full blobs pack) = (p : Part) × TellsPart p × (part_fault p ≡ None)
@@ -57,12 +57,12 @@ module _ (boundary given : List ℕ) (parts : List Part) (wire : WireView) (x : 
 -- each upload came to this
 abbrev pub UploadsCome : Type 0
 UploadsCome = (boundary : List ℕ) (left left' : Option (List ℕ)) (wire wire' : WireView) (v w : Sight)
-    (kept kept' : List (List ℕ × ℕ)) (came : Came)
+    (kept kept' : List (List ℕ × ℕ)) (came : UploadEnd)
     → (upload : Uploads boundary left left' wire wire' v w kept kept' came)
     → Comes boundary upload.given upload.parts wire' (to_come wire' left') came
 
 -- no upload keeps more than 1,000 parts
 abbrev pub PartsAreFew : Type 0
 PartsAreFew = (boundary : List ℕ) (left left' : Option (List ℕ)) (wire wire' : WireView) (v w : Sight)
-    (kept kept' : List (List ℕ × ℕ)) (came : Came)
+    (kept kept' : List (List ℕ × ℕ)) (came : UploadEnd)
     → (upload : Uploads boundary left left' wire wire' v w kept kept' came) → length upload.parts ≤ 1000

@@ -16,8 +16,8 @@ use Rattle.multipart_read.specs.Reader.{Reader, fresh, Tells, IsBody, AreLast}
 use Rattle.multipart_read.specs.PartLists.{Part, part_tokens, Cut, between, inside, cut_tokens, IsMultipart}
 use Rattle.home_places.specs.Passes.{Sight}
 use Rattle.answer_text.specs.declared.refusal.Refusal.TheVariants.{BadRef, TooLong}
-use Rattle.blob_upload.specs.declared.came.Came.{Came}
-use Rattle.blob_upload.specs.declared.came.Came.TheVariants.{Whole, Refused, Memory}
+use Rattle.blob_upload.specs.declared.upload_end.UploadEnd.{UploadEnd}
+use Rattle.blob_upload.specs.declared.upload_end.UploadEnd.TheVariants.{Whole, Refused, Memory}
 use Rattle.blob_upload.specs.Faults.{most_bytes, part_fault, came_of_part, came_of_wire}
 use Rattle.blob_upload.specs.Puts.{LastPut}
 
@@ -25,7 +25,7 @@ use Rattle.blob_upload.specs.Puts.{LastPut}
 
 -- At a name that is no blobref, as soon as it is told. At a part that wasn't put, or not kept, as soon as its end is
 -- told. Or memory was wanting.
-pub data StopsAt (after : List Token) (came : Came) (v w : Sight) : Type 0 where
+pub data StopsAt (after : List Token) (came : UploadEnd) (v w : Sight) : Type 0 where
   AtName : (name : List ℕ) (later : List Token) → after ≡ named name ∷ later → is_blobref name ≡ false
       → came ≡ Refused BadRef → w ≡ v → StopsAt after came v w
   AtPart : (part : Part) (later : List Token) → after ≡ part_tokens part ++ later → is_blobref part.0 ≡ true
@@ -81,7 +81,7 @@ pub record Faulty (boundary given : List ℕ) (parts : List Part) (fault : PartF
 
 -- Before the end of the body was looked for: at what was told, at a fault of the multipart body, or behind as many
 -- bytes as there may be
-pub data StopsIn (boundary given : List ℕ) (parts : List Part) (came : Came) (v w : Sight) : Type 0 where
+pub data StopsIn (boundary given : List ℕ) (parts : List Part) (came : UploadEnd) (v w : Sight) : Type 0 where
   AtToken : (after : List Token) → Told boundary given parts after → StopsAt after came v w
       → StopsIn boundary given parts came v w
   AtFault : (fault : PartFault) → Faulty boundary given parts fault → came ≡ came_of_part fault → w ≡ v
@@ -111,7 +111,7 @@ EndsShort wire end = end ≡ wire_ends.ReadFault → Stops wire.body wire.flow.b
 -- Inside the body: in the last piece that was read, of at most 64 KiB. At its close, at its end where its parts aren't
 -- closed, or at a break of what carries it.
 -- `wire` is the reader of the connection in the end, and `x` what is then still to come on the connection
-pub data Ends (boundary given : List ℕ) (parts : List Part) (wire : WireView) (x : Option (List ℕ)) (came : Came)
+pub data Ends (boundary given : List ℕ) (parts : List Part) (wire : WireView) (x : Option (List ℕ)) (came : UploadEnd)
     (v w : Sight) : Type 0 where
   Inside : (front piece : List ℕ) → given ≡ front ++ piece → length piece ≤ 65536 → IsNotOver boundary front
       → StopsIn boundary given parts came v w → Ends boundary given parts wire x came v w

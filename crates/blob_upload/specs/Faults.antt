@@ -11,8 +11,8 @@ use Rattle.multipart_read.specs.declared.events.PartFault.TheVariants as part
 use Rattle.multipart_read.specs.PartLists.{Part}
 use Rattle.answer_text.specs.declared.refusal.Refusal.{Refusal}
 use Rattle.answer_text.specs.declared.refusal.Refusal.TheVariants.{BadRef, BadDigest, BadMultipart, BadLength, TooLong}
-use Rattle.blob_upload.specs.declared.came.Came.{Came}
-use Rattle.blob_upload.specs.declared.came.Came.TheVariants.{Refused, Full, Disk, Memory, Ended}
+use Rattle.blob_upload.specs.declared.upload_end.UploadEnd.{UploadEnd}
+use Rattle.blob_upload.specs.declared.upload_end.UploadEnd.TheVariants.{Refused, Full, Disk, Memory, Ended}
 
 -- the most bytes that the body of an upload may have
 abbrev pub most_bytes : ℕ
@@ -26,7 +26,7 @@ part_fault part =
     else None
 
 -- What an upload ends with where a part isn't put. No part that is told of a body is too big.
-abbrev pub came_of_put : PutFault → Came
+abbrev pub came_of_put : PutFault → UploadEnd
 came_of_put (put.TooBig size) = Refused (TooLong max_size)
 came_of_put (put.BadDigest said is) = Refused (BadDigest said is)
 came_of_put (put.Full blobs pack) = Full blobs pack
@@ -34,14 +34,14 @@ came_of_put put.Disk = Disk
 came_of_put put.NoMemory = Memory
 
 -- what it ends with at a fault of the multipart body
-abbrev pub came_of_part : PartFault → Came
+abbrev pub came_of_part : PartFault → UploadEnd
 came_of_part part.BadBoundary = Refused (BadMultipart 0)
 came_of_part (part.Bad at) = Refused (BadMultipart at)
 came_of_part (part.TooLong limit) = Refused (TooLong limit)
 came_of_part part.NoMemory = Memory
 
 -- what it ends with where no more of the body is read
-abbrev pub came_of_wire : WireEnd → Came
+abbrev pub came_of_wire : WireEnd → UploadEnd
 came_of_wire (wire.BadLength at) = Refused BadLength
 came_of_wire wire.Closed = Ended wire.Closed
 came_of_wire (wire.Cut at) = Ended (wire.Cut at)

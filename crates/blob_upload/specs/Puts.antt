@@ -10,8 +10,8 @@ use Rattle.histories.specs.StoreCalls.{PutSays, sizes}
 use Rattle.multipart_read.specs.PartLists.{Part}
 use Rattle.home_places.specs.Seats.{StoreGrew}
 use Rattle.home_places.specs.Passes.{Sight, StoreCall}
-use Rattle.blob_upload.specs.declared.came.Came.{Came}
-use Rattle.blob_upload.specs.declared.came.Came.TheVariants.{Memory}
+use Rattle.blob_upload.specs.declared.upload_end.UploadEnd.{UploadEnd}
+use Rattle.blob_upload.specs.declared.upload_end.UploadEnd.TheVariants.{Memory}
 use Rattle.blob_upload.specs.Faults.{part_fault, came_of_put}
 
 -- the arrival of one of these parts
@@ -39,12 +39,12 @@ pub record Keeps (parts : List Part) (kept kept' : List (List ℕ × ℕ)) (v w 
 
 -- What an upload ends with by the answer to its last put. A part that was put isn't kept where there is no memory to
 -- list it.
-abbrev pub EndsBy : Result Put PutFault → Came → Type 0
+abbrev pub EndsBy : Result Put PutFault → UploadEnd → Type 0
 EndsBy (Ok put) came = came ≡ Memory
 EndsBy (Err fault) came = came ≡ came_of_put fault
 
 -- the put of a part that wasn't kept, within the limits of the store
-pub record LastPut (part : Part) (came : Came) (v w : Sight) : Type 0 where
+pub record LastPut (part : Part) (came : UploadEnd) (v w : Sight) : Type 0 where
   pub answer : Result Put PutFault
   pub ends : EndsBy answer came
   pub call : StoreCall (answer ≡ Err NoMemory)

@@ -8,8 +8,8 @@ use Rattle.multipart_read.specs.Body.{End}
 use Rattle.multipart_read.specs.Reader.{Reader, fresh, Tells, IsBody}
 use Rattle.multipart_read.specs.PartLists.{Part, part_tokens, Cut, between, inside, AreParts}
 use Rattle.home_places.specs.Passes.{Sight, StoreTurned}
-use Rattle.blob_upload.specs.declared.came.Came.{Came}
-use Rattle.blob_upload.specs.declared.came.Came.TheVariants.{Whole}
+use Rattle.blob_upload.specs.declared.upload_end.UploadEnd.{UploadEnd}
+use Rattle.blob_upload.specs.declared.upload_end.UploadEnd.TheVariants.{Whole}
 use Rattle.blob_upload.specs.declared.opened.Opened.{Opened}
 use Rattle.blob_upload.specs.declared.uploading.Reading.{Reading}
 use Rattle.blob_upload.specs.Faults.{most_bytes, came_of_part}
@@ -30,20 +30,20 @@ with_bytes bytes (inside name front) = inside name (front ++ bytes)
 
 -- a part was put, within the limits of the store, and kept; or that is what the upload ends with
 abbrev pub PutsPart : List ℕ → List ℕ → List (List ℕ × ℕ) → List (List ℕ × ℕ) → Sight → Sight
-    → Result (Unit {0}) Came → Type 0
+    → Result (Unit {0}) UploadEnd → Type 0
 PutsPart name content kept kept' v w (Ok done) = (put : Put) × (kept' ≡ kept ++ (name, length content) ∷ [])
     × StoreTurned (λ before entry. PutSays v.store.limits name content before (Ok put) entry) v w
 PutsPart name content kept kept' v w (Err came) = (kept' ≡ kept) × LastPut (name, content) came v w
 
 -- the same of what is open; nothing is, where none is
-abbrev pub PutsOpen : Cut → List (List ℕ × ℕ) → List (List ℕ × ℕ) → Sight → Sight → Result (Unit {0}) Came → Type 0
+abbrev pub PutsOpen : Cut → List (List ℕ × ℕ) → List (List ℕ × ℕ) → Sight → Sight → Result (Unit {0}) UploadEnd → Type 0
 PutsOpen between kept kept' v w result = Unit {0}
 PutsOpen (inside name content) kept kept' v w result = PutsPart name content kept kept' v w result
 
 -- ---- what was told
 
 -- what a step leads to: it goes on so, or the upload ends so
-abbrev pub After : {T : Type 0} → Result T Came → (T → Type 0) → (Came → Type 0) → Type 0
+abbrev pub After : {T : Type 0} → Result T UploadEnd → (T → Type 0) → (UploadEnd → Type 0) → Type 0
 After (Ok done) next stops = next done
 After (Err came) next stops = stops came
 
@@ -60,7 +60,7 @@ pub record Took (kept : List (List ℕ × ℕ)) (v : Sight) (tokens : List Token
   pub keeps : Keeps parts kept kept' v w
 
 -- the first parts of these tokens were put and kept, and at what follows the upload ends
-pub record Stopped (kept : List (List ℕ × ℕ)) (v : Sight) (tokens : List Token) (came : Came)
+pub record Stopped (kept : List (List ℕ × ℕ)) (v : Sight) (tokens : List Token) (came : UploadEnd)
     (kept' : List (List ℕ × ℕ)) (w : Sight) : Type 0 where
   pub parts : List Part
   pub after : List Token
@@ -71,7 +71,7 @@ pub record Stopped (kept : List (List ℕ × ℕ)) (v : Sight) (tokens : List To
 
 -- these tokens were taken, whatever was taken before, where they are in order
 abbrev pub Takes : List Token → Option Opened → Option Opened → List (List ℕ × ℕ) → List (List ℕ × ℕ) → Sight
-    → Sight → Result (Unit {0}) Came → Type 0
+    → Sight → Result (Unit {0}) UploadEnd → Type 0
 Takes these opened opened' kept kept' v w result = (first : List (List ℕ × ℕ)) (u : Sight) (tokens later : List Token)
     → IsInOrder (tokens ++ (these ++ later)) → Took first u tokens opened kept v
     → After result (λ done. Took first u (tokens ++ these) opened' kept' w)
@@ -88,7 +88,7 @@ pub record Going (boundary : List ℕ) (kept : List (List ℕ × ℕ)) (v : Sigh
   pub took : Took kept v tokens opened kept' w
 
 -- the upload ends inside these bytes
-pub record Halted (boundary : List ℕ) (kept : List (List ℕ × ℕ)) (v : Sight) (given : List ℕ) (came : Came)
+pub record Halted (boundary : List ℕ) (kept : List (List ℕ × ℕ)) (v : Sight) (given : List ℕ) (came : UploadEnd)
     (kept' : List (List ℕ × ℕ)) (w : Sight) : Type 0 where
   pub parts : List Part
   pub middle : Sight
@@ -98,7 +98,7 @@ pub record Halted (boundary : List ℕ) (kept : List (List ℕ × ℕ)) (v : Sig
 -- A piece was read, whatever was read before: all that it tells was taken, and `then` holds of the answer and of the
 -- reader; or the upload ends inside it.
 abbrev pub Feeds : {T : Type 0} → (T → Reader → Type 0) → List ℕ → Reader → Reader → Option Opened → Option Opened
-    → List (List ℕ × ℕ) → List (List ℕ × ℕ) → Sight → Sight → Result T Came → Type 0
+    → List (List ℕ × ℕ) → List (List ℕ × ℕ) → Sight → Sight → Result T UploadEnd → Type 0
 Feeds then piece reader reader' opened opened' kept kept' v w result =
     (boundary : List ℕ) (first : List (List ℕ × ℕ)) (u : Sight) (given : List ℕ)
     → length (given ++ piece) ≤ most_bytes → Going boundary first u given reader opened kept v
@@ -111,7 +111,7 @@ SoundAtLast more reader = more ≡ false → IsSound reader
 
 -- the same of a piece of any length, of which so many bytes were read before
 abbrev pub TakesPiece : List ℕ → Reading → Reading → List (List ℕ × ℕ) → List (List ℕ × ℕ) → Sight → Sight
-    → Result (Unit {0}) Came → Type 0
+    → Result (Unit {0}) UploadEnd → Type 0
 TakesPiece piece reading reading' kept kept' v w result =
     (boundary : List ℕ) (first : List (List ℕ × ℕ)) (u : Sight) (given : List ℕ)
     → length given ≡ reading.taken → Going boundary first u given reading.parts reading.opened kept v
@@ -120,11 +120,11 @@ TakesPiece piece reading reading' kept kept' v w result =
     (λ came. Halted boundary first u (given ++ piece) came kept' w)
 
 -- what an upload ends with at the end of its body
-abbrev pub came_of_end : End → Came
+abbrev pub came_of_end : End → UploadEnd
 came_of_end (Ok closed) = Whole
 came_of_end (Err fault) = came_of_part fault
 
 -- what an upload ends with where the body ends behind what was read
-abbrev pub Finishes : Reader → Came → Type 0
+abbrev pub Finishes : Reader → UploadEnd → Type 0
 Finishes reader came = (boundary given : List ℕ) (tokens : List Token) → Tells (fresh boundary) given tokens reader
     → IsSound reader → (end : End) × IsBody boundary given tokens end × (came ≡ came_of_end end)

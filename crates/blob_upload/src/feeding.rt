@@ -3,9 +3,9 @@ ghost use Rattle.std.specs.Prelude.{◌≡◌, ◌+◌, ◌<◌, ◌^◌, length
 ghost use Rattle.blob_upload.specs.Ends.{IsSound};
 ghost use Rattle.blob_upload.specs.Taking.{Feeds, SoundAtLast};
 
-use crate::came::{Came, came_of_part};
 use crate::opened::Opened;
 use crate::parts::take_events;
+use crate::upload_end::{UploadEnd, came_of_part};
 use blobref::Listing;
 use home_places::Home;
 use multipart_read::Parts;
@@ -22,7 +22,7 @@ fn feed_once<H: Home, R: Wait>(
     parts: &mut Parts,
     opened: &mut Option<Opened>,
     kept: &mut Listing,
-) -> Result<bool, Came>
+) -> Result<bool, UploadEnd>
     requires own { H.belongs home.now pass.old }
     requires few { parts.old.fed + length piece.now < 2 ^ 64 }
     ensures own { H.belongs home.now pass.new }
@@ -51,7 +51,7 @@ pub fn feed<H: Home, R: Wait>(
     parts: &mut Parts,
     opened: &mut Option<Opened>,
     kept: &mut Listing,
-) -> Result<(), Came>
+) -> Result<(), UploadEnd>
     requires own { H.belongs home.now pass.old }
     requires few { parts.old.fed + length piece.now < 2 ^ 64 }
     ensures own { H.belongs home.now pass.new }

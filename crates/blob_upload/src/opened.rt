@@ -4,7 +4,7 @@ ghost use Rattle.blobref.specs.Blobref.{is_blobref};
 ghost use Rattle.multipart_read.specs.PartLists.{inside};
 ghost use Rattle.blob_upload.specs.Taking.{cut_of, with_bytes};
 
-use crate::came::Came;
+use crate::upload_end::UploadEnd;
 use answer_text::Refusal;
 use blobref::Ref;
 use std::alloc::Global;
@@ -17,12 +17,12 @@ pub struct Opened {
 }
 
 /// Opens the part of this name, which has to be a blobref.
-pub fn open(alloc: Global, name: &[u8], opened: &mut Option<Opened>) -> Result<(), Came>
+pub fn open(alloc: Global, name: &[u8], opened: &mut Option<Opened>) -> Result<(), UploadEnd>
     ensures ok { OnOk result ((is_blobref name.now ≡ true) × (cut_of opened.new ≡ inside name.now [])) }
-    ensures err { IfErr result (λ came. (came ≡ Came.Refused Refusal.BadRef) × (is_blobref name.now ≡ false)) }
+    ensures err { IfErr result (λ came. (came ≡ UploadEnd.Refused Refusal.BadRef) × (is_blobref name.now ≡ false)) }
 {
     let Some(r) = Ref::read(name) else {
-        return Err(Came::Refused(Refusal::BadRef));
+        return Err(UploadEnd::Refused(Refusal::BadRef));
     };
     *opened = Some(Opened {
         r,
@@ -32,15 +32,15 @@ pub fn open(alloc: Global, name: &[u8], opened: &mut Option<Opened>) -> Result<(
 }
 
 /// Puts bytes behind the content of the open part, if one is open.
-pub fn extend(bytes: &[u8], opened: &mut Option<Opened>) -> Result<(), Came>
+pub fn extend(bytes: &[u8], opened: &mut Option<Opened>) -> Result<(), UploadEnd>
     ensures ok { OnOk result (cut_of opened.new ≡ with_bytes bytes.now (cut_of opened.old)) }
-    ensures err { IfErr result (λ came. came ≡ Came.Memory) }
+    ensures err { IfErr result (λ came. came ≡ UploadEnd.Memory) }
 {
     let Some(mut part) = opened.take() else {
         return Ok(());
     };
     if part.content.extend_from_slice(bytes).is_err() {
-        return Err(Came::Memory);
+        return Err(UploadEnd::Memory);
     }
     *opened = Some(part);
     Ok(())

@@ -4,8 +4,8 @@ ghost use Rattle.multipart_read.specs.Tokens.{tokens_in, tokens_of};
 ghost use Rattle.multipart_read.specs.PartLists.{between};
 ghost use Rattle.blob_upload.specs.Taking.{cut_of, PutsPart, PutsOpen, Takes};
 
-use crate::came::{Came, came_of_put};
 use crate::opened::{Opened, extend, open};
+use crate::upload_end::{UploadEnd, came_of_put};
 use blobref::{Listing, NoMemory, Ref};
 use home_places::Home;
 use multipart_read::PartEvent;
@@ -13,13 +13,13 @@ use std::alloc::Global;
 use std::sync::Wait;
 
 // Lists a blob behind those that were kept.
-fn keep(kept: &mut Listing, r: &Ref, size: u64) -> Result<(), Came>
+fn keep(kept: &mut Listing, r: &Ref, size: u64) -> Result<(), UploadEnd>
     ensures ok { OnOk result (kept.new ≡ kept.old ++ (r.now, size) ∷ []) }
-    ensures err { IfErr result (λ came. (came ≡ Came.Memory) × (kept.new ≡ kept.old)) }
+    ensures err { IfErr result (λ came. (came ≡ UploadEnd.Memory) × (kept.new ≡ kept.old)) }
 {
     match kept.push((*r, size)) {
         Ok(()) => Ok(()),
-        Err(NoMemory) => Err(Came::Memory),
+        Err(NoMemory) => Err(UploadEnd::Memory),
     }
 }
 
@@ -30,7 +30,7 @@ fn put<H: Home, R: Wait>(
     pass: &mut H::Pass,
     part: &Opened,
     kept: &mut Listing,
-) -> Result<(), Came>
+) -> Result<(), UploadEnd>
     requires { H.belongs home.now pass.old }
     ensures own { H.belongs home.now pass.new }
     ensures puts { PutsPart part.now.r part.now.content.items kept.old kept.new
@@ -49,7 +49,7 @@ fn close<H: Home, R: Wait>(
     pass: &mut H::Pass,
     opened: &mut Option<Opened>,
     kept: &mut Listing,
-) -> Result<(), Came>
+) -> Result<(), UploadEnd>
     requires { H.belongs home.now pass.old }
     ensures own { H.belongs home.now pass.new }
     ensures closed { cut_of opened.new ≡ between }
@@ -70,7 +70,7 @@ fn take_event<H: Home, R: Wait>(
     event: &PartEvent,
     opened: &mut Option<Opened>,
     kept: &mut Listing,
-) -> Result<(), Came>
+) -> Result<(), UploadEnd>
     requires { H.belongs home.now pass.old }
     ensures own { H.belongs home.now pass.new }
     ensures takes { Takes (tokens_in event.now) opened.old opened.new kept.old kept.new
@@ -92,7 +92,7 @@ pub fn take_events<H: Home, R: Wait>(
     events: &[PartEvent],
     opened: &mut Option<Opened>,
     kept: &mut Listing,
-) -> Result<(), Came>
+) -> Result<(), UploadEnd>
     requires { H.belongs home.now pass.old }
     ensures own { H.belongs home.now pass.new }
     ensures takes { Takes (tokens_of events.now) opened.old opened.new kept.old kept.new

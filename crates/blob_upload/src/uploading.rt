@@ -7,9 +7,9 @@ ghost use Rattle.blob_upload.specs.Faults.{most_bytes};
 ghost use Rattle.blob_upload.specs.Uploads.{Uploads};
 ghost use Rattle.blob_upload.specs.Taking.{TakesPiece, Finishes};
 
-use crate::came::{Came, came_of_part, came_of_wire};
 use crate::feeding::feed;
 use crate::opened::Opened;
+use crate::upload_end::{UploadEnd, came_of_part, came_of_wire};
 use answer_text::Refusal;
 use blobref::Listing;
 use edge_base::Source;
@@ -64,7 +64,7 @@ fn take_piece<H: Home, R: Wait>(
     piece: &[u8],
     reading: &mut Reading,
     kept: &mut Listing,
-) -> Result<(), Came>
+) -> Result<(), UploadEnd>
     requires own { H.belongs home.now pass.old }
     requires counted { reading.old.parts.fed ≡ reading.old.taken }
     requires short { reading.old.taken ≤ most_bytes }
@@ -90,18 +90,18 @@ fn take_piece<H: Home, R: Wait>(
         Err(came) => return Err(came),
     }
     if within < piece.len() {
-        return Err(Came::Refused(Refusal::TooLong { limit: MOST_BYTES }));
+        return Err(UploadEnd::Refused(Refusal::TooLong { limit: MOST_BYTES }));
     }
     reading.taken += within as u64;
     Ok(())
 }
 
 // What the end of the body says.
-fn finish(reading: Reading) -> Came
+fn finish(reading: Reading) -> UploadEnd
     ensures { Finishes reading.parts result }
 {
     match reading.parts.end() {
-        Ok(()) => Came::Whole,
+        Ok(()) => UploadEnd::Whole,
         Err(fault) => came_of_part(fault),
     }
 }
@@ -125,21 +125,21 @@ pub fn take_parts<H: Home, S: Source, R: Wait>(
     source: &mut S,
     boundary: &[u8],
     kept: &mut Listing,
-) -> Came
+) -> UploadEnd
     requires own { H.belongs home.now pass.old }
     requires boundary { is_boundary boundary.now ≡ true }
     ensures own { H.belongs home.now pass.new }
     ensures uploads { Uploads boundary.now (S.left source.old) (S.left source.new) wire.old wire.new
         (H.sight pass.old) (H.sight pass.new) kept.old kept.new result }
     ensures head { (wire.new.head ≡ wire.old.head) × (wire.new.begun ≡ wire.old.begun) }
-    ensures fault { result ≡ Came.Ended WireEnd.ReadFault → Rose (S.faults source.old) (S.faults source.new) }
+    ensures fault { result ≡ UploadEnd.Ended WireEnd.ReadFault → Rose (S.faults source.old) (S.faults source.new) }
     ensures later { S.faults source.old ≤ S.faults source.new }
 {
     let Some(mut reading) = begin(alloc, boundary) else {
-        return Came::Memory;
+        return UploadEnd::Memory;
     };
     let Ok(mut space) = room(alloc, wire.rest()) else {
-        return Came::Memory;
+        return UploadEnd::Memory;
     };
     let space = space.as_mut_slice();
     'pieces: loop {

@@ -1,4 +1,6 @@
 //! Replies that are read: their status, and the bytes of their bodies.
+ghost use Rattle.std.specs.Prelude.{◌<◌};
+
 use blobref::{NoMemory, Octets};
 use http_wire::{Wire, WireEnd};
 use piece_source::PieceSource;
@@ -114,7 +116,7 @@ const REPLIES: &str = "200|abc|HTTP/1.1 200 OK\r\nContent-Length: 3\r\n\r\nabcHT
     200||HTTP/1.1 200 OK\r\n\r\n%\
     closed||%\
     cut||HTTP/1.1 200 OK\r\nServer: a\r\n%\
-    cut||HTTP/1.1 200 OK\r\nContent-Length: 3\r\n\r\nab%\
+    cut|ab|HTTP/1.1 200 OK\r\nContent-Length: 3\r\n\r\nab%\
     bad head||HTTP/1.1 20 OK\r\n\r\n%\
     bad head||GET / HTTP/1.1\r\n\r\n%\
     bad length||HTTP/1.1 200 OK\r\nContent-Length: x\r\n\r\n%\

@@ -1,7 +1,7 @@
 use Rattle.std.proofs.Common.{◌≡◌, ◌++◌, ◌≤◌, [], List, ℕ, length, take, sym, ap, subst, ◌∙◌, arith, Ok, Err}
 use Rattle.std.proofs.lemmas.List.{append-nil}
 use Rattle.http_wire.specs.Bodies.{Moves}
-use Rattle.blob_http.specs.declared.gathering.Stopped.TheVariants as stopped
+use Rattle.blob_http.specs.declared.gathering.BodyFault.TheVariants as stopped
 use Rattle.blob_http.proofs.Bodies.{gathered, stop_says, too_long, still_few}
 use Rattle.http_wire.proofs.Leading.{Moves-chain}
 use Rattle.blob_http.proofs.gathering.gather_on.Goals as goal

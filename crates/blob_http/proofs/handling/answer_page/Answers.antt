@@ -1,7 +1,7 @@
 use Rattle.std.proofs.Common.{ℕ, ◌+◌, List, Option, IsErr, sym, subst}
 use Rattle.histories.specs.StoreCalls.{ListSays}
 use Rattle.home_places.specs.Passes.{StoreCall}
-use Rattle.blob_http.specs.declared.questions.Question.TheVariants as question
+use Rattle.blob_http.specs.declared.operations.Operation.TheVariants as question
 use Rattle.blob_http.specs.Handling.{Answers}
 use Rattle.blob_http.proofs.Answering.{page_answers}
 use Rattle.blob_http.proofs.handling.answer_page.Goals as goal

@@ -1,5 +1,5 @@
 use Rattle.std.proofs.Common.{sym, subst}
-use Rattle.blob_http.specs.declared.questions.Question.TheVariants as question
+use Rattle.blob_http.specs.declared.operations.Operation.TheVariants as question
 use Rattle.blob_http.specs.Handling.{Answers}
 use Rattle.blob_http.proofs.Answering.{refused_answers}
 use Rattle.blob_http.proofs.handling.answer_refused.Goals as goal

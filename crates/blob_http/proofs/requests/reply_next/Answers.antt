@@ -1,6 +1,6 @@
 use Rattle.std.proofs.Common.{true, Err, sym, ap, subst}
 use Rattle.http_wire.specs.Stream.{stream}
-use Rattle.blob_http.specs.declared.questions.Question.{Question}
+use Rattle.blob_http.specs.declared.operations.Operation.{Operation}
 use Rattle.blob_http.specs.Handling.{Answers}
 use Rattle.blob_http.proofs.Requesting.{head_replies, head_none, passes_none}
 use Rattle.blob_http.proofs.requests.reply_next.Goals as goal
@@ -15,7 +15,7 @@ returns-in-Ok-head_says-clause-replies g c =
     c.reply_along.result.entry c.reply_along.result.made c.in-Err.end c.in-Ok-head_says.refusal
     c.reply_along.result.closes (sym c.in-Ok-head_says.ensures)
     c.in-Err.ensures.same.0 c.in-Err.ensures.err
-    (subst (λ (q : Question). Answers tells true q v w c.reply_along.result.entry c.reply_along.result.made)
+    (subst (λ (q : Operation). Answers tells true q v w c.reply_along.result.entry c.reply_along.result.made)
     c.refused.ensures c.reply_along.ensures.answers)
     c.reply_along.ensures.closes
 

@@ -1,9 +1,9 @@
 use Rattle.std.proofs.Common.{sym, subst}
-use Rattle.blob_upload.specs.declared.came.Came.{Came}
+use Rattle.blob_upload.specs.declared.upload_end.UploadEnd.{UploadEnd}
 use Rattle.blob_http.specs.Keeping.{UploadMade}
 use Rattle.blob_http.proofs.uploads.upload_made.Goals as goal
 
 pub returns-in-Ended : goal.returns-in-Ended
 returns-in-Ended c =
-    subst (λ (z : Came). UploadMade c.args.closes c.args.kept.now z c.ended.result) (sym c.in-Ended.is)
+    subst (λ (z : UploadEnd). UploadMade c.args.closes c.args.kept.now z c.ended.result) (sym c.in-Ended.is)
     (c.ended.ensures c.args.closes)

@@ -6,7 +6,7 @@ use Rattle.blob_server.proofs.sharing.+halves.Goals as goal
 pub attend_all-returns-clause-does : goal.attend_all-returns-clause-does
 attend_all-returns-clause-does g t c =
     let d = c.attend_both.ensures.does in
-    let does = g.A.Attend.does c.args.work.now in
+    let does = g.A.DeskWork.does c.args.work.now in
     let front = c.split_at_mut-front.result.0.now in
     let back = c.split_at_mut-front.result.1.now in
     let after = c.attend_both.new.front ++ c.attend_both.new.back in

@@ -1,6 +1,6 @@
 use Rattle.std.proofs.Common.{ap, sym, subst, Err, nat_lt}
 use Rattle.multipart_read.specs.Tokens.{tokens_of}
-use Rattle.blob_upload.specs.declared.came.Came.{Came}
+use Rattle.blob_upload.specs.declared.upload_end.UploadEnd.{UploadEnd}
 use Rattle.blob_upload.specs.Taking.{Feeds, SoundAtLast}
 use Rattle.blob_upload.proofs.Pieces.{feed_takes, feed_stops, feed_refuses, sound_at_last}
 use Rattle.blob_upload.proofs.feeding.feed_once.Goals as goal
@@ -22,7 +22,7 @@ returns-in-Ok-clause-feeds g c =
 pub returns-clause-feeds : goal.returns-clause-feeds
 returns-clause-feeds g c =
     let v = g.H.Home.sight c.args.pass.now in
-    let P : Came → Type 0 = λ came.
+    let P : UploadEnd → Type 0 = λ came.
     Feeds SoundAtLast c.args.piece.now c.args.parts.now c.feed.new.self c.args.opened.now c.args.opened.now
     c.args.kept.now c.args.kept.now v v (Err came) in
     subst P (sym c.came_of_part.ensures)

@@ -2,7 +2,7 @@ use Rattle.std.proofs.Common.{ℕ, length, take, refl, sym, subst, ap, arith, �
 use Rattle.std.proofs.lemmas.List.{length-take}
 use Rattle.http_wire.specs.Bodies.{Moves}
 use Rattle.http_wire.specs.Wires.{to_come, BodyEnds}
-use Rattle.blob_upload.specs.declared.came.Came.{Came}
+use Rattle.blob_upload.specs.declared.upload_end.UploadEnd.{UploadEnd}
 use Rattle.blob_upload.specs.Uploads.{Uploads}
 use Rattle.blob_upload.proofs.Ending.{no_room, uploading_none, uploading_breaks, uploading_ends, uploading_more}
 use Rattle.blob_upload.proofs.Ending.{uploading_stops, never_ended, never_finished}
@@ -35,7 +35,7 @@ pieces-init g c = record {
 pub returns-in-Err-clause-uploads : goal.returns-in-Err-clause-uploads
 returns-in-Err-clause-uploads g c =
     let left = g.S.Source.left c.body.new.source in
-    let P : Came → Type 0 = λ came.
+    let P : UploadEnd → Type 0 = λ came.
     Uploads c.args.boundary.now (g.S.Source.left c.args.source.now) left c.args.wire.now c.body.new.self
     (g.H.Home.sight c.args.pass.now) (g.H.Home.sight c.pieces.pass) c.args.kept.now c.pieces.kept came in
     let Q : ℕ → Type 0 = λ begun. BodyEnds (to_come c.body.new.self left) c.body.new.self.body begun c.in-Err.end in

@@ -16,7 +16,7 @@ use std::alloc::Global;
 
 /// What is asked, or how it is refused.
 #[derive(Drop)]
-pub enum Question {
+pub enum Operation {
     /// Nothing that can be answered, with the methods to tell.
     Refused {
         refusal: Refusal,
@@ -41,7 +41,7 @@ pub enum Question {
 }
 
 /// The route of a request, or how it is refused before its body is read.
-pub(crate) fn first(wire: &Wire, head: &Head) -> Result<Route, Question>
+pub(crate) fn first(wire: &Wire, head: &Head) -> Result<Route, Operation>
     requires { HasPieces wire.now.head head.now }
     ensures first { result ≡ first_of wire.now.head head.now }
     ensures few { IfErr result IsFew }
@@ -56,15 +56,15 @@ pub(crate) fn first(wire: &Wire, head: &Head) -> Result<Route, Question>
     }
 }
 
-fn refused_by(fault: RouteFault) -> Question
+fn refused_by(fault: RouteFault) -> Operation
     ensures { result ≡ refused_by fault }
 {
     match fault {
-        RouteFault::NoRoute => Question::Refused {
+        RouteFault::NoRoute => Operation::Refused {
             refusal: Refusal::NoRoute,
             allow: None,
         },
-        RouteFault::Method { allow } => Question::Refused {
+        RouteFault::Method { allow } => Operation::Refused {
             refusal: Refusal::Method,
             allow: Some(allow),
         },
@@ -95,13 +95,13 @@ pub(crate) fn ask(
     found: &Route,
     query: &[u8],
     body: &[u8],
-) -> Result<Question, NoMemory>
+) -> Result<Operation, NoMemory>
     requires { is_upload found.now ≡ false }
     ensures asked { IfOk result (IsAskedAt found.now query.now body.now) }
     ensures few { IfOk result IsFew }
 {
     match found {
-        Route::Blob { r } => Ok(Question::Blob { r: *r }),
+        Route::Blob { r } => Ok(Operation::Blob { r: *r }),
         Route::Stat { posted } => stat(alloc, *posted, query, body),
         Route::Page => refs(alloc, query),
         Route::Search => search(alloc, body),
@@ -110,43 +110,43 @@ pub(crate) fn ask(
 }
 
 /// The question that is refused so, without methods to tell.
-pub(crate) fn refused(refusal: Refusal) -> Question
+pub(crate) fn refused(refusal: Refusal) -> Operation
     ensures { result ≡ refused refusal }
 {
-    Question::Refused {
+    Operation::Refused {
         refusal,
         allow: None,
     }
 }
 
-fn stat(alloc: Global, posted: bool, query: &[u8], body: &[u8]) -> Result<Question, NoMemory>
+fn stat(alloc: Global, posted: bool, query: &[u8], body: &[u8]) -> Result<Operation, NoMemory>
     ensures asked { IfOk result (λ q. q ≡ stat_of (refs_of posted query.now body.now)) }
     ensures few { IfOk result IsFew }
 {
     match refs_asked(alloc, posted, query, body) {
-        Ok(refs) => Ok(Question::Stat { refs }),
+        Ok(refs) => Ok(Operation::Stat { refs }),
         Err(AskFault::Refused(refusal)) => Ok(refused(refusal)),
         Err(AskFault::NoMemory) => Err(NoMemory),
     }
 }
 
-fn refs(alloc: Global, query: &[u8]) -> Result<Question, NoMemory>
+fn refs(alloc: Global, query: &[u8]) -> Result<Operation, NoMemory>
     ensures asked { IfOk result (λ q. q ≡ refs_asked (page_of query.now)) }
     ensures few { IfOk result IsFew }
 {
     match page_asked(alloc, query) {
-        Ok(page) => Ok(Question::Refs { page }),
+        Ok(page) => Ok(Operation::Refs { page }),
         Err(AskFault::Refused(refusal)) => Ok(refused(refusal)),
         Err(AskFault::NoMemory) => Err(NoMemory),
     }
 }
 
-fn search(alloc: Global, body: &[u8]) -> Result<Question, NoMemory>
+fn search(alloc: Global, body: &[u8]) -> Result<Operation, NoMemory>
     ensures asked { IfOk result (IsSearch body.now) }
     ensures few { IfOk result IsFew }
 {
     match query_asked(alloc, body) {
-        Ok(query) => Ok(Question::Search { query }),
+        Ok(query) => Ok(Operation::Search { query }),
         Err(AskFault::Refused(refusal)) => Ok(refused(refusal)),
         Err(AskFault::NoMemory) => Err(NoMemory),
     }

@@ -1,7 +1,7 @@
 use Rattle.std.proofs.Common.{arith}
 use Rattle.blob_server.specs.Stands.{counts_of}
 use Rattle.blob_server.proofs.Giving.{gives_none}
-use Rattle.blob_server.proofs.attending.ServerAttendDeskPass.attend.Goals as goal
+use Rattle.blob_server.proofs.attending.ServerDeskWorkDeskPass.attend.Goals as goal
 
 pub returns-in-None-clause-does : goal.returns-in-None-clause-does
 returns-in-None-clause-does g c = (

@@ -9,7 +9,7 @@ use multipart_read::PartFault;
 
 /// How an upload ended (`docs/http.md`).
 #[derive(Drop)]
-pub enum Came {
+pub enum UploadEnd {
     /// The body was read to its end, and every part was put.
     Whole,
     /// The body was refused: `BadRef`, `BadDigest`, `BadMultipart`, `TooLong` or `BadLength`.
@@ -25,36 +25,36 @@ pub enum Came {
 }
 
 /// What an upload ends with where a part isn't put. No part that is told of a body is too big.
-pub(crate) fn came_of_put(fault: PutFault) -> Came
+pub(crate) fn came_of_put(fault: PutFault) -> UploadEnd
     ensures { result ≡ came_of_put fault }
 {
     match fault {
-        PutFault::TooBig { .. } => Came::Refused(Refusal::TooLong { limit: 16_777_216 }),
-        PutFault::BadDigest { said, is } => Came::Refused(Refusal::BadDigest { said, is }),
-        PutFault::Full { blobs, pack } => Came::Full { blobs, pack },
-        PutFault::Disk => Came::Disk,
-        PutFault::NoMemory => Came::Memory,
+        PutFault::TooBig { .. } => UploadEnd::Refused(Refusal::TooLong { limit: 16_777_216 }),
+        PutFault::BadDigest { said, is } => UploadEnd::Refused(Refusal::BadDigest { said, is }),
+        PutFault::Full { blobs, pack } => UploadEnd::Full { blobs, pack },
+        PutFault::Disk => UploadEnd::Disk,
+        PutFault::NoMemory => UploadEnd::Memory,
     }
 }
 
 /// What an upload ends with at a fault of the multipart body. A body's fault is never its boundary's.
-pub(crate) fn came_of_part(fault: PartFault) -> Came
+pub(crate) fn came_of_part(fault: PartFault) -> UploadEnd
     ensures { result ≡ came_of_part fault }
 {
     match fault {
-        PartFault::BadBoundary => Came::Refused(Refusal::BadMultipart { at: 0 }),
-        PartFault::Bad { at } => Came::Refused(Refusal::BadMultipart { at }),
-        PartFault::TooLong { limit } => Came::Refused(Refusal::TooLong { limit }),
-        PartFault::NoMemory => Came::Memory,
+        PartFault::BadBoundary => UploadEnd::Refused(Refusal::BadMultipart { at: 0 }),
+        PartFault::Bad { at } => UploadEnd::Refused(Refusal::BadMultipart { at }),
+        PartFault::TooLong { limit } => UploadEnd::Refused(Refusal::TooLong { limit }),
+        PartFault::NoMemory => UploadEnd::Memory,
     }
 }
 
 /// What an upload ends with where no more of the body is read.
-pub(crate) fn came_of_wire(end: WireEnd) -> Came
+pub(crate) fn came_of_wire(end: WireEnd) -> UploadEnd
     ensures { result ≡ came_of_wire end }
 {
     match end {
-        WireEnd::BadLength { .. } => Came::Refused(Refusal::BadLength),
-        other => Came::Ended(other),
+        WireEnd::BadLength { .. } => UploadEnd::Refused(Refusal::BadLength),
+        other => UploadEnd::Ended(other),
     }
 }
