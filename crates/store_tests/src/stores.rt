@@ -1,4 +1,5 @@
 //! Stores on a disk in memory: what is put and read, and what outlives crashes.
+ghost use Rattle.std.specs.Prelude.{◌<◌};
 ghost use Rattle.pack_store.specs.Archive.{AreLimits};
 
 use crate::disks::{holds, synced};
@@ -7,7 +8,9 @@ use crate::names::{ABC, EMPTY, OLDER_ABC, OLDER_EMPTY, named};
 use blobref::{NoMemory, Ref, RefList};
 use edge_base::{CallList, Put, PutFault};
 use pack_disk::MemDisk;
-use pack_store::{Limits, OpenFault, Store, holds_content, lives_keep, puts_last, scan_pack};
+use pack_store::{
+    Limits, Onlooker, OpenFault, Store, holds_content, lives_keep, puts_last, scan_pack,
+};
 use salvage_scan::{Clean, Found, FoundList, Scanner};
 use std::alloc::Global;
 use std::test::Fail;
@@ -405,12 +408,56 @@ fn goes_on(store: &mut Store<MemDisk>, acknowledged: &[Ref]) -> bool {
     store.put(&named(ABC), b"abc") == Ok(Put::Stored { number })
 }
 
+// Counts the bytes of the blobs that it is shown.
+#[derive(Clone, Copy)]
+struct Witness {
+    bytes: u64,
+}
+
+impl Onlooker for Witness {
+    ghost saw = { λ witness seen. Unit {0} };
+
+    fn see(&mut self, _r: &Ref, bytes: &[u8]) -> Result<(), NoMemory> {
+        self.bytes = self.bytes.saturating_add(bytes.len() as u64);
+        Ok(())
+    }
+}
+
+// Opens a store of blobs of one byte in pieces of so many bytes, and says whether each blob was shown.
+fn opened_by(
+    alloc: Global,
+    disk: MemDisk,
+    piece: usize,
+) -> Result<(Store<MemDisk>, bool), OpenFault>
+    requires { 0 < piece }
+{
+    match Store::open_watched(alloc, disk, NARROW, piece, Witness { bytes: 0 }) {
+        Ok((store, witness)) => {
+            let shown = witness.bytes == store.count();
+            Ok((store, shown))
+        }
+        Err((_, fault)) => Err(fault),
+    }
+}
+
+// How many bytes are read at a time, by the number of a crash.
+fn piece_of(choice: u64) -> usize
+    ensures { 0 < result }
+{
+    match choice % 4 {
+        0 => 1,
+        1 => 2,
+        2 => 73,
+        _ => 65_536,
+    }
+}
+
 // Whether so many digits are acknowledged on a disk, and are there after a crash.
 fn outlives(alloc: Global, disk: MemDisk, choice: u64, want: usize) -> Result<bool, Fail> {
     let mut acknowledged = RefList::empty(alloc);
     let disk = put_digits(alloc, disk, &mut acknowledged)?;
-    let mut store = opened(alloc, disk.crash(choice)?, NARROW)?;
-    Ok(acknowledged.len() == want && goes_on(&mut store, acknowledged.as_slice()))
+    let (mut store, shown) = opened_by(alloc, disk.crash(choice)?, piece_of(choice))?;
+    Ok(shown && acknowledged.len() == want && goes_on(&mut store, acknowledged.as_slice()))
 }
 
 // How many digits are acknowledged by a disk that stops at its call 0, 1, .. 25. The first call is `packs`. Each
