@@ -96,6 +96,24 @@ def torn():
         yield answer(f"cut at {cut}", whole[:cut], tagged <= cut < len(whole))
 
 
+def filled(front):
+    """A blob more in front, so that 199 bytes behind this a piece that is read ends."""
+    room = (PACK_PIECE - 199 - len(front) - len(writing.header(bytes(10_000)))) % PACK_PIECE
+    return record(bytes(room if room >= 10_000 else room + PACK_PIECE)) + front
+
+
+def torn_behind_many():
+    """Many blobs, and then the claim and a delete of it, cut off behind each byte of these two. A piece that is read ends in the claim."""
+    chances = chance("torn behind many")
+    many = [chances.randbytes(chances.choice([1, 300, 9_000])) for _ in range(300)]
+    front = filled(pack(*many) + inputs.BEFORE_CLAIM)
+    whole = front + record(inputs.CLAIM) + record(inputs.DELETE)
+    check("no piece ends in the claim", len(front) // PACK_PIECE < (len(front) + 200) // PACK_PIECE)
+    tagged = len(front) + len(record(inputs.CLAIM))
+    for cut in range(len(front), len(whole) + 1):
+        yield answer(f"many blobs, cut at {cut}", whole[:cut], tagged <= cut < len(whole))
+
+
 def flipped():
     """One bit of the claim's record turned over, in each of its bytes."""
     start = len(inputs.EXAMPLE) - len(record(inputs.CLAIM))
@@ -336,6 +354,9 @@ def limits():
 
 PIECE = 1_048_576
 
+# How many bytes of a pack are read at a time.
+PACK_PIECE = 65_536
+
 
 # How many there are of each shape, and the seconds in which a search over it has to end.
 MEMBERS, DELETIONS, LATE, TREES, SOON = 20_000, 10_000, 50_000, 60, 60
@@ -404,7 +425,7 @@ def poured(program, what, length, status, **streams):
     return taken
 
 
-GROUPS = [example, salvage, torn, flipped, json, facts, dates, keys, claims, older, orders, words, keyrings]
+GROUPS = [example, salvage, torn, torn_behind_many, flipped, json, facts, dates, keys, claims, older, orders, words, keyrings]
 GROUPS += [random_packs]
 GROUPS_OF_CHECKS = [pages, random_stores, edges, limits, shapes]
 

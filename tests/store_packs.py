@@ -236,6 +236,9 @@ def torn(program):
     cases += [({0: older[:cut]}, (b"abc", b""), cut) for cut in range(len(older) + 1)]
     cases += [({0: CLEAN, 4: mixed[:cut]}, (b"one", b"two"), cut) for cut in range(len(pack(b"one")), len(mixed), 3)]
     checks = [lambda case=case: survives(program, f"cut at {case[2]}", *case) for case in cases]
+    many = pack(*(bytes([number]) * (number * 40) for number in range(100)))
+    last = pack(b"x" * 200, name_of=older_ref_of) + pack(b"y" * 300)
+    checks += [lambda cut=cut: lists_when_torn(program, many + last[:cut]) for cut in range(len(last) + 1)]
     schema = inputs.EXAMPLE + record(inputs.DELETE)
     cuts = chance("torn").sample(range(len(inputs.BEFORE_CLAIM), len(schema) + 1), 24)
     return checks + [lambda cut=cut: searched_when_torn(program, schema, cut) for cut in [len(inputs.EXAMPLE), *cuts]]
@@ -251,6 +254,11 @@ def survives(program, what, packs, blobs, seed):
         store.put(f"{what}, then another", b"newer")
         store.gets(f"{what}, then puts", [ref_of(b"newer"), ref_of(b"new")])
     store.lists(f"{what}, then puts")
+
+
+def lists_when_torn(program, content):
+    """Many blobs, and two more that are cut off behind any of their bytes."""
+    Store(program, {0: content}).lists(f"many blobs, {len(content)} bytes of them")
 
 
 def searched_when_torn(program, schema, cut):
