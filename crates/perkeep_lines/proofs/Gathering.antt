@@ -16,16 +16,12 @@ use Rattle.schema_json.specs.Facts.{fact_of}
 use Rattle.schema_fact.specs.Validity.{IsValid}
 use Rattle.schema_json.proofs.ValidFacts.{IsValidKind-kind_of}
 use Rattle.claim_model.specs.Facts.{Entry, AreDistinct, AreValid}
-use Rattle.salvage_scan.specs.declared.found.Found.{Found}
 use Rattle.salvage_scan.specs.Arrivals.{arrive, arrivals, content, blob_of}
 use Rattle.salvage_scan.specs.Salvage.{salvage}
-use Rattle.salvage_scan.specs.Scan.{place_of}
 use Rattle.salvage_scan.proofs.Arriving.{arrivals_are_firsts}
-use Rattle.salvage_scan.proofs.Slices.{blobs_at}
 use Rattle.pack_store.specs.declared.rows.Row.{Row}
-use Rattle.pack_store.specs.Reading.{ref_at}
 use Rattle.pack_store.specs.Rows.{AreNew}
-use Rattle.perkeep_lines.specs.Blobs.{Blob, entry_of, facts_of_content, pack_facts, blob_at, has_fact, with_blob, with_blobs, HasRefsOf}
+use Rattle.perkeep_lines.specs.Blobs.{Blob, entry_of, facts_of_content, pack_facts, has_fact, with_blob, with_blobs, HasRefsOf}
 
 -- ---- arrivals, as facts
 
@@ -52,12 +48,9 @@ entries-arrive (f ∷ fs) before =
     entries-arrive fs (cond (list_any (λ (a : Blob). pointwise nat_eq a.0 f.0) before) before (before ++ f ∷ []))
     ∙ ap (λ es. with_blobs es fs) (entries-one before f)
 
--- the facts at the places that a scan shows
-gathered : (pack : List ℕ) (places : List Found) → places ≡ map place_of (salvage pack) → with_blobs [] (map (blob_at pack) places) ≡ map entry_of (arrivals ((0, pack) ∷ []))
-gathered pack places is =
-    ap (with_blobs []) (ap (map (blob_at pack)) is ∙ blobs_at pack)
-    ∙ sym (entries-arrive (map blob_of (salvage pack)) [])
-    ∙ ap (λ fs. map entry_of (arrive [] fs)) (sym (append-nil (map blob_of (salvage pack))))
+-- the facts of the findings of a pack
+gathered : (pack : List ℕ) → with_blobs [] (map blob_of (salvage pack)) ≡ map entry_of (arrivals ((0, pack) ∷ []))
+gathered pack = sym (entries-arrive (map blob_of (salvage pack)) []) ∙ ap (λ fs. map entry_of (arrive [] fs)) (sym (append-nil (map blob_of (salvage pack))))
 
 -- ---- the same as a map
 
@@ -84,8 +77,8 @@ facts-content es = same_map nat_list_cmp_total same_ref _ _ alike
         ∙ ap (option_map fact_of) (sym (get-from_entries nat_list_cmp_total es q) ∙ get-entries blobs q)
         ∙ sym (get-from_entries nat_list_cmp_total (map entry_of (entries blobs)) q ∙ find-entries q (entries blobs))
 
-pub gathered_facts : (pack : List ℕ) (places : List Found) (facts : List Entry) → places ≡ map place_of (salvage pack) → facts ≡ with_blobs [] (map (blob_at pack) places) → from_entries facts ≡ pack_facts pack
-gathered_facts pack places facts shown is = ap from_entries (is ∙ gathered pack places shown) ∙ facts-content (arrivals ((0, pack) ∷ []))
+pub gathered_facts : (pack : List ℕ) (facts : List Entry) → facts ≡ with_blobs [] (map blob_of (salvage pack)) → from_entries facts ≡ pack_facts pack
+gathered_facts pack facts is = ap from_entries (is ∙ gathered pack) ∙ facts-content (arrivals ((0, pack) ∷ []))
 
 -- ---- no ref comes twice
 
@@ -101,8 +94,8 @@ distinct : (es : List Blob) → IsDistinct (pointwise nat_eq) (keys_of es) → A
 distinct [] h = tt
 distinct (e ∷ es) h = (apart e.0 es (IsDistinct-head (pointwise nat_eq) e.0 (keys_of es) h), distinct es (IsDistinct-tail (pointwise nat_eq) e.0 (keys_of es) h))
 
-pub gathered_distinct : (pack : List ℕ) (places : List Found) (facts : List Entry) → places ≡ map place_of (salvage pack) → facts ≡ with_blobs [] (map (blob_at pack) places) → AreDistinct facts
-gathered_distinct pack places facts shown is = subst AreDistinct (sym (is ∙ gathered pack places shown)) (distinct (arrivals ((0, pack) ∷ [])) (arrivals_are_firsts.distinct ((0, pack) ∷ [])))
+pub gathered_distinct : (pack : List ℕ) (facts : List Entry) → facts ≡ with_blobs [] (map blob_of (salvage pack)) → AreDistinct facts
+gathered_distinct pack facts is = subst AreDistinct (sym (is ∙ gathered pack)) (distinct (arrivals ((0, pack) ∷ [])) (arrivals_are_firsts.distinct ((0, pack) ∷ [])))
 
 -- ---- what is read is valid
 
@@ -111,8 +104,8 @@ unfolding fact_of
 valid [] = All-nil (λ (e : Entry). IsValid e.1)
 valid (e ∷ es) = All-cons (λ (f : Entry). IsValid f.1) (entry_of e) (map entry_of es) (IsValidKind-kind_of e.1) (valid es)
 
-pub gathered_valid : (pack : List ℕ) (places : List Found) (facts : List Entry) → places ≡ map place_of (salvage pack) → facts ≡ with_blobs [] (map (blob_at pack) places) → AreValid facts
-gathered_valid pack places facts shown is = subst AreValid (sym (is ∙ gathered pack places shown)) (valid (arrivals ((0, pack) ∷ [])))
+pub gathered_valid : (pack : List ℕ) (facts : List Entry) → facts ≡ with_blobs [] (map blob_of (salvage pack)) → AreValid facts
+gathered_valid pack facts is = subst AreValid (sym (is ∙ gathered pack)) (valid (arrivals ((0, pack) ∷ [])))
 
 -- ---- one blob more
 
@@ -141,36 +134,12 @@ drop_next [] number x at = absurd (cc at)
 drop_next {X = X} (a ∷ all) zero x at = let same : a ≡ x = cc at in ap (λ (b : X). b ∷ all) same
 drop_next (a ∷ all) (suc n) x at = let e : suc n + 1 ≡ suc (n + 1) = omega arith in rw e (drop_next all n x at)
 
--- what is made of the next of a list, behind what was made of those before it
-pub made_next : {X Y : Type 0} (f : X → Y) (all : List X) (number : ℕ) (x : X) (made now : List Y) → slice_get all number ≡ Some x → now ≡ made ++ f x ∷ []
-    → made ++ map f (drop number all) ≡ map f all → now ++ map f (drop (number + 1) all) ≡ map f all
-made_next f all number x made now at is so_far =
-    let rest = map f (drop (number + 1) all) in
-    ap (λ l. l ++ rest) is ∙ append_assoc made (f x ∷ []) rest ∙ ap (λ l. made ++ map f l) (sym (drop_next all number x at)) ∙ so_far
-
--- and of the whole list
-pub made_all : {X Y : Type 0} (f : X → Y) (all : List X) (number : ℕ) (made : List Y) → length all ≤ number → made ++ map f (drop number all) ≡ map f all → made ≡ map f all
-made_all f all number made whole is =
-    sym (ap (λ l. made ++ map f l) (drop_all number all whole) ∙ append-nil made) ∙ is
-
 -- the refs of facts, and of rows
-abbrev pub refs_of : List Entry → List (List ℕ)
+abbrev refs_of : List Entry → List (List ℕ)
 refs_of facts = map (λ (e : Entry). e.0) facts
 
-abbrev pub row_refs : List Row → List (List ℕ)
+abbrev row_refs : List Row → List (List ℕ)
 row_refs rows = map (λ (row : Row). row.r) rows
-
-row_at : (found : Option Row) (r : List ℕ) → option_map (λ (row : Row). row.r) found ≡ Some r → (row : Row) × (found ≡ Some row) × (row.r ≡ r)
-row_at None r is = absurd (cc is)
-row_at (Some row) r is = (row, refl, cc is)
-
--- a fact more stands under the ref of the next row
-pub refs_more : (facts pushed : List Entry) (blob : Blob) (rows : List Row) (number : ℕ) → pushed ≡ facts ++ entry_of blob ∷ [] → ref_at number rows ≡ Some blob.0
-    → refs_of facts ++ row_refs (drop number rows) ≡ row_refs rows → refs_of pushed ++ row_refs (drop (number + 1) rows) ≡ row_refs rows
-refs_more facts pushed blob rows number is at so_far =
-    let found = row_at (slice_get rows number) blob.0 at in
-    made_next (λ (row : Row). row.r) rows number found.0 (refs_of facts) (refs_of pushed) found.1
-    (ap refs_of is ∙ map-append (λ (e : Entry). e.0) facts (entry_of blob ∷ []) ∙ ap (λ r. refs_of facts ++ r ∷ []) (sym found.2)) so_far
 
 -- a ref that no row has differs from each one's
 differs : (r : List ℕ) (before : List Row) (row : Row) (after : List Row) (n : ℕ) → position_from (λ (x : Row). pointwise nat_eq r x.r) n (before ++ row ∷ after) ≡ None → bytes_eq r row.r ≡ false
@@ -209,8 +178,16 @@ distinct_behind (e ∷ facts) before (row ∷ rows) are new =
     let more : refs_of facts ≡ row_refs rows = cc are in
     (subst (λ r. IsTrue (list_all (λ (f : Entry). not (bytes_eq r f.0)) facts)) here (apart_from row facts rows before [] more new.1), distinct_behind facts (before ++ row ∷ []) rows more new.1)
 
-pub distinct_rows : (facts : List Entry) (rows : List Row) → refs_of facts ≡ row_refs rows → AreNew [] rows → AreDistinct facts
-distinct_rows facts rows are new = distinct_behind facts [] rows are new
+refs_entries : (blobs : List Blob) → refs_of (map entry_of blobs) ≡ map (λ (blob : Blob). blob.0) blobs
+refs_entries [] = refl
+refs_entries (blob ∷ blobs) = ap (λ l. blob.0 ∷ l) (refs_entries blobs)
+
+-- the facts of the blobs that were shown as the rows came
+pub distinct_shown : (facts : List Entry) (blobs : List Blob) (rows : List Row) → facts ≡ map entry_of blobs → row_refs rows ≡ map (λ (blob : Blob). blob.0) blobs → AreNew [] rows → AreDistinct facts
+distinct_shown facts blobs rows is refs new = distinct_behind facts [] rows (ap refs_of is ∙ refs_entries blobs ∙ sym refs) new
+
+pub valid_shown : (facts : List Entry) (blobs : List Blob) → facts ≡ map entry_of blobs → AreValid facts
+valid_shown facts blobs is = subst AreValid (sym is) (valid blobs)
 
 either_false : (a b : Bool) → (a || b) ≡ false → (a ≡ false) × (b ≡ false)
 either_false true b e = absurd (cc e)

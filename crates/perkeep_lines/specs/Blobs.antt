@@ -1,19 +1,12 @@
 -- What the blobs of a pack and of a store say (docs/formats/packs.md, docs/formats/schema.md).
-use Rattle.std.specs.Prelude.{◌≡◌, ◌≢◌, ℕ, Bool, List, [], ◌∷◌, ◌++◌, if◌then◌else◌, Option, None}
+use Rattle.std.specs.Prelude.{◌≡◌, ℕ, Bool, List, [], ◌∷◌, ◌++◌, if◌then◌else◌}
 use Rattle.std.specs.List.{list_any}
 use Rattle.std.specs.Str.{bytes_eq}
 use Rattle.std.specs.BTreeSet.{BTreeSet, contains}
-use Rattle.blobref.specs.Blobref.{ref_cmp, ref_like, ref_of}
-use Rattle.edge_base.specs.Edge.{Rose}
-use Rattle.edge_base.specs.declared.answers.GetFault.{GetFault}
-use Rattle.edge_base.specs.declared.answers.GetFault.TheVariants as fault
+use Rattle.blobref.specs.Blobref.{ref_cmp, ref_of}
 use Rattle.schema_json.specs.Facts.{fact_of}
 use Rattle.claim_model.specs.Facts.{Facts, Entry, Content, facts_of}
 use Rattle.salvage_scan.specs.Arrivals.{content}
-use Rattle.salvage_scan.specs.Scan.{bytes_at}
-use Rattle.salvage_scan.specs.declared.found.Found.{Found}
-use Rattle.pack_disk.specs.Packs.{Packs}
-use Rattle.pack_disk.specs.declared.disk.Disk.{Ghosts}
 
 -- a ref with its bytes
 abbrev pub Blob : Type 0
@@ -37,10 +30,6 @@ pack_facts pack = facts_of_content (content ((0, pack) ∷ []))
 
 -- ---- the steps of gathering them
 
--- the blob at a place of a pack
-abbrev pub blob_at : List ℕ → Found → Blob
-blob_at pack found = (found.r, bytes_at pack found)
-
 -- whether one of the facts stands under the ref
 abbrev pub has_fact : List Entry → List ℕ → Bool
 has_fact facts r = list_any (λ (e : Entry). bytes_eq e.0 r) facts
@@ -57,18 +46,3 @@ with_blobs facts (blob ∷ blobs) = with_blobs (with_blob facts blob) blobs
 -- the set has the refs of these facts
 abbrev pub HasRefsOf : BTreeSet (List ℕ) → List Entry → Type 0
 HasRefsOf seen facts = (r : List ℕ) → contains ref_cmp seen r ≡ has_fact facts r
-
--- ---- why those of a store weren't gathered
-
--- bytes were read in place of a blob, their ref is another one, and the disk doesn't tell its packs
-pub record IsDamage (told : Option Packs) (want is : List ℕ) : Type 0 where
-  pub bytes : List ℕ
-  pub named : is ≡ ref_like want bytes
-  pub other : is ≢ want
-  pub untold : told ≡ None
-
--- a blob of a store wasn't read, whose disk nothing changed, or no memory was left
-abbrev pub NotGathered : {D : Type 0} → Ghosts D → D → D → GetFault → Type 0
-NotGathered g old new fault.Disk = Rose (g.faults old) (g.faults new)
-NotGathered g old new (fault.Damaged want is) = IsDamage (g.packs old) want is
-NotGathered g old new fault.NoMemory = Unit {0}

@@ -1,49 +1,24 @@
-//! What the blobs of a pack and of a store say.
-ghost use Rattle.std.specs.Prelude.{◌≡◌, ◌≤◌, ◌<◌, [], ◌∷◌, ◌++◌, map, slice_get, All, IfOk, IfErr, OnOk, Some, None};
+//! What blobs say, and those of a store.
+ghost use Rattle.std.specs.Prelude.{◌≡◌, ◌≤◌, ◌^◌, [], ◌∷◌, ◌++◌, map, IfOk, IfErr, OnOk};
 ghost use Rattle.std.specs.Option.{ForSome};
-ghost use Rattle.std.specs.FinMap.{from_entries};
 ghost use Rattle.claim_model.specs.Facts.{AreDistinct, AreValid};
-ghost use Rattle.salvage_scan.specs.Scan.{LiesIn, bytes_at};
-ghost use Rattle.pack_store.specs.Archive.{count};
-ghost use Rattle.pack_store.specs.Reading.{StaysStill, ref_at};
+ghost use Rattle.edge_base.specs.Edge.{Rose};
+ghost use Rattle.pack_disk.specs.Disk.{last_number};
+ghost use Rattle.pack_disk.specs.Runs.{Stays};
+ghost use Rattle.pack_store.specs.Opening.{IsOpened};
 ghost use Rattle.pack_store.specs.Rows.{arrivals_in};
-ghost use Rattle.perkeep_lines.specs.Blobs.{pack_facts, blob_at, entry_of, named, with_blob, with_blobs, HasRefsOf, NotGathered};
+ghost use Rattle.perkeep_lines.specs.Blobs.{entry_of, named, with_blob, with_blobs, HasRefsOf};
 
 use blobref::{NoMemory, Octets, Ref};
 use claim_index::FactList;
-use edge_base::GetFault;
 use pack_disk::Disk;
-use pack_store::Store;
-use salvage_scan::{Found, scan};
+use pack_store::{Limits, Onlooker, OpenFault, Store};
 use schema_json::fact;
 use std::alloc::Global;
 use std::collections::BTreeSet;
 
-/// The facts of the blobs that are salvaged from a pack, each ref once: the first finding of a ref counts, and later
-/// ones are passed over (`docs/formats/packs.md`, `docs/formats/schema.md`). The pack is scanned once
-/// (`salvage_scan::scan`), and no bytes of it are copied. `NoMemory` comes only where no memory is left.
-#[tactic(auto, using(crate::proofs::Gathering::gathered_facts, crate::proofs::Gathering::gathered_distinct, crate::proofs::Gathering::gathered_valid))]
-pub fn pack_facts(alloc: Global, pack: &[u8]) -> Result<FactList, NoMemory>
-    ensures facts { IfOk result (λ facts. from_entries facts ≡ pack_facts pack.now) }
-    ensures distinct { IfOk result (λ facts. AreDistinct facts) }
-    ensures valid { IfOk result (λ facts. AreValid facts) }
-{
-    let (found, _clean) = scan(alloc, pack)?;
-    first_facts(alloc, pack, found.as_slice())
-}
-
-// The facts of the blobs at these places, each ref at its first.
-fn first_facts(alloc: Global, pack: &[u8], found: &[Found]) -> Result<FactList, NoMemory>
-    requires { All (LiesIn pack.now) found.now }
-    ensures { IfOk result (λ facts. facts ≡ with_blobs [] (map (blob_at pack.now) found.now)) }
-{
-    let mut seen = BTreeSet::new(alloc);
-    let mut facts = FactList::empty(alloc);
-    for place in found {
-        add_first(alloc, pack, place, &mut seen, &mut facts)?;
-    }
-    Ok(facts)
-}
+/// The most bytes that one read asks for.
+pub(crate) const PIECE: usize = 65_536;
 
 /// The facts of these blobs, each ref at its first. `NoMemory` comes only where no memory is left.
 pub(crate) fn facts_of(alloc: Global, blobs: &[Octets]) -> Result<FactList, NoMemory>
@@ -58,64 +33,57 @@ pub(crate) fn facts_of(alloc: Global, blobs: &[Octets]) -> Result<FactList, NoMe
     Ok(facts)
 }
 
-/// The facts of the blobs of a store, in the order in which they arrived. No two arrivals have one ref
-/// (`Store::arrivals_are_held`), so each ref comes once. Each blob is read and hashed (`Store::arrival`), and one is
-/// held at a time.
-///
-/// `Disk` comes only where the disk's count of faults rose; `Damaged` only where bytes were read in place of a blob
-/// whose ref is another one, and never where the disk tells; `NoMemory` only where no memory is left. Nothing is
-/// changed in the store, whatever is answered.
-pub fn store_facts<D: Disk>(alloc: Global, store: &mut Store<D>) -> Result<FactList, GetFault>
-    ensures facts { IfOk result (λ facts. ForSome (D.packs store.old.disk)
-        (λ held. facts ≡ map entry_of (arrivals_in held store.old.rows))) }
-    ensures distinct { IfOk result AreDistinct }
-    ensures valid { IfOk result AreValid }
-    ensures refused { IfErr result (NotGathered D.Disk store.old.disk store.new.disk) }
-    ensures stays { StaysStill D.Disk store.old store.new }
-    ensures later { D.faults store.old.disk ≤ D.faults store.new.disk }
+/// Opens the store that a disk holds, and gathers the facts of its blobs as they arrive, in their order: no byte is read
+/// for that but by the opening (`Store::open_watched`). No two arrivals have one ref (`Store::arrivals_are_held`), so each
+/// ref comes once. What else is said of the store and of the disk, and when each error comes, is as of `Store::open_on`.
+pub fn store_facts<D: Disk>(
+    alloc: Global,
+    disk: D,
+    limits: Limits,
+) -> Result<(Store<D>, FactList), (D, OpenFault)>
+    requires last_pack { limits.last_pack ≤ last_number }
+    requires pack_bytes { limits.pack_bytes ≤ 2 ^ 63 }
+    ensures facts { IfOk result (λ o. ForSome (D.packs disk)
+        (λ held. o.1 ≡ map entry_of (arrivals_in held o.0.rows))) }
+    ensures distinct { IfOk result (λ o. AreDistinct o.1) }
+    ensures valid { IfOk result (λ o. AreValid o.1) }
+    ensures opened { IfOk result (λ o. IsOpened D.Disk disk limits o.0) }
+    ensures stays { IfOk result (λ o. Stays D.Disk disk o.0.disk) }
+    ensures stays_err { IfErr result (λ e. Stays D.Disk disk e.0) }
+    ensures failed { IfErr result (λ e. e.1 ≡ OpenFault.Disk → Rose (D.faults disk) (D.faults e.0)) }
+    ensures later { IfOk result (λ o. D.faults disk ≤ D.faults o.0.disk) }
+    ensures later_err { IfErr result (λ e. D.faults disk ≤ D.faults e.0) }
 {
-    store.arrivals_are_held();
-    let mut facts = FactList::empty(alloc);
-    for number in 0..store.count() {
-        let (r, bytes) = arrival_at(store, number)?;
-        if let Err(NoMemory) = push_fact(alloc, r, bytes.as_slice(), &mut facts) {
-            return Err(GetFault::NoMemory);
+    let gathering = Gathered {
+        alloc,
+        facts: FactList::empty(alloc),
+    };
+    match Store::open_watched(alloc, disk, limits, PIECE, gathering) {
+        Ok(opened) => {
+            let (store, gathered) = opened;
+            store.arrivals_are_held();
+            Ok((store, gathered.facts))
         }
-    }
-    Ok(facts)
-}
-
-// The arrival of a number.
-fn arrival_at<D: Disk>(store: &mut Store<D>, number: u64) -> Result<(Ref, Octets), GetFault>
-    requires { number < count store.old }
-    ensures bytes { IfOk result (λ arrival. ForSome (D.packs store.old.disk)
-        (λ held. slice_get (arrivals_in held store.old.rows) number ≡ Some arrival)) }
-    ensures named { IfOk result (λ arrival. ref_at number store.old.rows ≡ Some arrival.0) }
-    ensures refused { IfErr result (NotGathered D.Disk store.old.disk store.new.disk) }
-    ensures stays { StaysStill D.Disk store.old store.new }
-    ensures later { D.faults store.old.disk ≤ D.faults store.new.disk }
-{
-    match store.arrival(number) {
-        Ok(Some(arrival)) => Ok(arrival),
-        Ok(None) => unreachable!(),
         Err(fault) => Err(fault),
     }
 }
 
-// Adds the fact of the blob at the place, unless its ref was seen.
-fn add_first(
+// The facts of the blobs that were shown.
+#[derive(Drop)]
+struct Gathered {
     alloc: Global,
-    pack: &[u8],
-    place: &Found,
-    seen: &mut BTreeSet<Ref>,
-    facts: &mut FactList,
-) -> Result<(), NoMemory>
-    requires lies { LiesIn pack.now place.now }
-    requires seen { HasRefsOf seen.old facts.old }
-    ensures facts { OnOk result (facts.new ≡ with_blob facts.old (blob_at pack.now place.now)) }
-    ensures seen { OnOk result (HasRefsOf seen.new facts.new) }
-{
-    add_blob(alloc, place.r, blob_bytes(pack, place), seen, facts)
+    facts: FactList,
+}
+
+impl Onlooker for Gathered {
+    ghost use Rattle.std.specs.Prelude.{◌≡◌, map};
+    ghost use Rattle.perkeep_lines.specs.Blobs.{entry_of};
+
+    ghost saw = { λ gathered blobs. gathered.facts ≡ map entry_of blobs };
+
+    fn see(&mut self, r: &Ref, bytes: &[u8]) -> Result<(), NoMemory> {
+        push_fact(self.alloc, *r, bytes, &mut self.facts)
+    }
 }
 
 // Adds the fact of a blob, unless its ref was seen.
@@ -143,12 +111,4 @@ fn push_fact(alloc: Global, r: Ref, bytes: &[u8], facts: &mut FactList) -> Resul
     let said = fact(alloc, bytes)?;
     facts.push((r, said))?;
     Ok(())
-}
-
-fn blob_bytes<'a>(pack: &'a [u8], place: &Found) -> &'a [u8]
-    requires { LiesIn pack.now place.now }
-    ensures { result.now ≡ bytes_at pack.now place.now }
-{
-    let start = place.at as usize;
-    &pack[start..start + place.size as usize]
 }

@@ -9,9 +9,9 @@ mod load;
 mod notes;
 mod search;
 
-pub use blobs::{pack_facts, store_facts};
-pub use incoming::{IncomingFault, source_facts};
+pub use blobs::store_facts;
+pub use incoming::source_facts;
 pub use lines::{ref_line, report_of, size_line, size_lines};
 pub use load::load_text;
 pub use notes::{Note, date_of, is_held, permanode_note, random_of, signed_note};
-pub use search::{pack_answer, query_line, search_line};
+pub use search::{query_line, search_line};

@@ -4,9 +4,8 @@ ghost use Rattle.std.specs.FinMap.{from_entries};
 ghost use Rattle.answer_text.specs.Search.{search_text};
 ghost use Rattle.claim_model.specs.Facts.{AreValid};
 ghost use Rattle.search_eval.specs.Answer.{answer};
-ghost use Rattle.perkeep_lines.specs.Search.{pack_answer, query_line, search_line};
+ghost use Rattle.perkeep_lines.specs.Search.{query_line, search_line};
 
-use crate::blobs::pack_facts;
 use answer_text::search_text;
 use blobref::{NoMemory, Octets, RefList};
 use claim_index::FactList;
@@ -15,23 +14,6 @@ use fact_search::answer_over;
 use schema_date::When;
 use search_query::Query;
 use std::alloc::Global;
-
-/// The line that answers a search for an attribute's value over the blobs of a pack (`pack_facts`), in the time of
-/// scanning it and of the search over its facts. `NoMemory` comes only where no memory is left.
-#[tactic(auto, unfolding(crate::specs::Search::pack_answer))]
-pub fn pack_answer<V: Verifier>(
-    alloc: Global,
-    attr: &str,
-    value: &str,
-    keys: &V,
-    pack: &[u8],
-) -> Result<Octets, NoMemory>
-    requires { attr.now ≢ [] }
-    ensures { IfOk result (λ line. line ≡ pack_answer attr.now value.now (V.accepts keys.now) pack.now) }
-{
-    let facts = pack_facts(alloc, pack)?;
-    search_line(alloc, facts, keys, attr, value, When::Always)
-}
 
 /// The line that answers a search for an attribute's value at a time over facts. Cost and error as of `query_line`.
 pub fn search_line<V: Verifier>(

@@ -10,7 +10,7 @@ invariant-reads g l =
     record {
       short : l.at ≤ l.limit;
       later : faults l.fn.source ≤ faults l.source;
-      came : Came (left l.fn.source) (left l.source) l.at l.incoming.scanner l.incoming.kept.at l.incoming.kept.bytes.items l.incoming.seen l.incoming.facts;
+      came : Came (left l.fn.source) (left l.source) l.at l.incoming.scanner l.incoming.seen l.incoming.facts;
     }
 
 abbrev pub decreases-reads : goal.decreases-reads
