@@ -16,7 +16,6 @@ use Rattle.perkeep_top.specs.declared.status.InputFault.TheVariants.{TooLong, Ba
 use Rattle.perkeep_top.specs.declared.status.Status.{Status}
 use Rattle.perkeep_top.specs.declared.status.Status.TheVariants as status
 use Rattle.perkeep_top.specs.Frame.{Meaning, opens_store, reads_first, GaveWhole, IsTooBig}
-use Rattle.perkeep_top.specs.Search.{RefusesFacts}
 
 -- the most bytes that a query may have
 abbrev pub longest_query : ℕ
@@ -50,7 +49,7 @@ query_meaning accepts = record {
   IsOutput = λ given told bytes. IsAnswerTo accepts given.input told bytes;
   streams = false;
   IsPart = λ given told bytes. bytes ≡ [];
-  Refuses = λ given told bytes gone answer. RefusesFacts told answer;
+  Refuses = λ given told bytes gone answer. ⊥;
 }
 
 -- ---- the step that reads it

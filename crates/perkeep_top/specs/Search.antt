@@ -1,17 +1,18 @@
 -- What `search` and `search-pack` mean (docs/commands.md).
 use Rattle.std.specs.Prelude.{◌≡◌, ℕ, false, List, [], Option, None}
+use Rattle.std.specs.FinMap.{from_entries}
 use Rattle.std.specs.Option.{ForSome}
+use Rattle.claim_model.specs.Facts.{Entry}
 use Rattle.claim_verify.specs.Verifier.{Accepts}
 use Rattle.schema_date.specs.declared.date.When.{When}
 use Rattle.pack_disk.specs.Packs.{Packs}
 use Rattle.pack_store.specs.Puts.{blobs_of}
-use Rattle.perkeep_lines.specs.Blobs.{IsDamage, facts_of_content}
+use Rattle.perkeep_lines.specs.Blobs.{facts_of_content}
 use Rattle.perkeep_lines.specs.Search.{pack_answer, search_line}
 use Rattle.perkeep_top.specs.declared.status.InputFault.TheVariants.{TooBig}
-use Rattle.perkeep_top.specs.declared.status.Status.{Status}
-use Rattle.perkeep_top.specs.declared.status.Status.TheVariants as status
 use Rattle.perkeep_top.specs.Asking.{asking}
 use Rattle.perkeep_top.specs.Frame.{Meaning, leaves_alone, reads_first}
+use Rattle.perkeep_top.specs.Steps.{NeverRefuses}
 
 -- ---- over a store
 
@@ -20,13 +21,12 @@ abbrev pub IsAnswer : Accepts → (attr value : List ℕ) → When → Option Pa
 IsAnswer accepts attr value at told bytes =
     ForSome told (λ held. bytes ≡ search_line (facts_of_content (blobs_of held)) accepts attr value at)
 
--- other bytes stand in place of a blob, on a disk that doesn't tell
-abbrev pub RefusesFacts : Option Packs → Status → Type 0
-RefusesFacts told (status.Damaged want is) = IsDamage told want is
-RefusesFacts told _ = ⊥
+-- the facts of the blobs that stand there, where the disk tells
+abbrev pub AreFacts : Option Packs → List Entry → Type 0
+AreFacts told facts = ForSome told (λ held. from_entries facts ≡ facts_of_content (blobs_of held))
 
 abbrev pub search_meaning : Accepts → (attr value : List ℕ) → When → Meaning
-search_meaning accepts attr value at = asking (IsAnswer accepts attr value at) RefusesFacts
+search_meaning accepts attr value at = asking (IsAnswer accepts attr value at) (λ told. NeverRefuses)
 
 -- ---- over one pack
 

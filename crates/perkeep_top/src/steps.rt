@@ -9,6 +9,7 @@ ghost use Rattle.claim_model.specs.Facts.{AreValid};
 ghost use Rattle.perkeep_lines.specs.Incoming.{GaveFacts};
 ghost use Rattle.perkeep_top.specs.Frame.{GaveWhole};
 ghost use Rattle.perkeep_top.specs.Limits.{limits};
+ghost use Rattle.perkeep_top.specs.Search.{AreFacts};
 ghost use Rattle.perkeep_top.specs.Steps.{RefusesInput, too_long_status, Finds, NeverRefuses, Writes};
 
 use crate::status::{InputFault, Status};
@@ -17,7 +18,7 @@ use claim_index::FactList;
 use edge_base::{Failed, Put, PutFault, ReadAllError, Sink, Source, read_all, write_all};
 use pack_disk::Disk;
 use pack_store::{Limits, Store, puts_last};
-use perkeep_lines::{IncomingFault, source_facts};
+use perkeep_lines::{source_facts, store_facts};
 use std::alloc::Global;
 
 /// How far the program's store may grow (`docs/formats/packs.md`).
@@ -74,11 +75,11 @@ pub(crate) fn read_facts<S: Source>(
 {
     match source_facts(alloc, source, most) {
         Ok(facts) => Ok(facts),
-        Err(IncomingFault::ReadFault) => Err(Status::ReadFault),
-        Err(IncomingFault::TooLong) => Err(Status::BadInput(InputFault::TooBig {
+        Err(ReadAllError::ReadFault) => Err(Status::ReadFault),
+        Err(ReadAllError::TooLong) => Err(Status::BadInput(InputFault::TooBig {
             size: most as u64 + 1,
         })),
-        Err(IncomingFault::NoMemory) => Err(Status::NoMemory),
+        Err(ReadAllError::NoMemory) => Err(Status::NoMemory),
     }
 }
 
@@ -93,6 +94,26 @@ pub(crate) fn opened<D: Disk>(alloc: Global, disk: D) -> Result<Store<D>, (D, St
 {
     match Store::open_on(alloc, disk, LIMITS) {
         Ok(store) => Ok(store),
+        Err((disk, fault)) => Err((disk, Status::from(fault))),
+    }
+}
+
+/// The facts of the blobs of the store that a disk holds, which are gathered as it is opened, with the disk. Nothing is
+/// made and nothing added.
+pub(crate) fn opened_facts<D: Disk>(alloc: Global, disk: D) -> Result<(D, FactList), (D, Status)>
+    ensures facts { IfOk result (λ o. AreFacts (D.packs disk) o.1) }
+    ensures valid { IfOk result (λ o. AreValid o.1) }
+    ensures stays { IfOk result (λ o. Stays D.Disk disk o.0) }
+    ensures later { IfOk result (λ o. D.faults disk ≤ D.faults o.0) }
+    ensures stays_err { IfErr result (λ e. Stays D.Disk disk e.0) }
+    ensures later_err { IfErr result (λ e. D.faults disk ≤ D.faults e.0) }
+    ensures refused { IfErr result (λ e. Finds D.Disk disk e.0 NeverRefuses e.1) }
+{
+    match store_facts(alloc, disk, LIMITS) {
+        Ok(opened) => {
+            let (store, facts) = opened;
+            Ok((store.give_back(), facts))
+        }
         Err((disk, fault)) => Err((disk, Status::from(fault))),
     }
 }

@@ -1,22 +1,15 @@
 //! `query DIR`
 ghost use Rattle.std.specs.Prelude.{◌≤◌, IfOk, IfErr};
-ghost use Rattle.pack_store.specs.Puts.{Stands};
-ghost use Rattle.pack_store.specs.Reading.{StaysStill};
 ghost use Rattle.perkeep_top.specs.Outside.{outside, world};
 ghost use Rattle.perkeep_top.specs.Frame.{Ends};
-ghost use Rattle.perkeep_top.specs.Limits.{limits};
-ghost use Rattle.perkeep_top.specs.Query.{query_meaning, IsAnswerOf, ReadsQuery, RefusesQuery};
-ghost use Rattle.perkeep_top.specs.Search.{RefusesFacts};
-ghost use Rattle.perkeep_top.specs.Steps.{Finds};
+ghost use Rattle.perkeep_top.specs.Query.{query_meaning, ReadsQuery, RefusesQuery};
 
 use crate::status::Status;
-use crate::steps::{opened, read_input, told_too_long, written};
-use blobref::Octets;
+use crate::steps::{opened_facts, read_input, told_too_long, written};
 use claim_verify::Verifier;
 use edge_base::{Clock, Dice, Sink, Source};
 use pack_disk::Disk;
-use pack_store::Store;
-use perkeep_lines::{query_line, store_facts};
+use perkeep_lines::query_line;
 use search_query::Query;
 use std::alloc::Global;
 
@@ -42,13 +35,13 @@ pub(crate) fn query<D: Disk, V: Verifier, S: Source, K: Sink, C: Clock, R: Dice>
         Ok(query) => query,
         Err(status) => return (disk, status),
     };
-    let mut store = match opened(alloc, disk) {
-        Ok(store) => store,
+    let (disk, facts) = match opened_facts(alloc, disk) {
+        Ok(opened) => opened,
         Err(end) => return end,
     };
-    match answer_line(alloc, &mut store, keys, &query) {
-        Ok(line) => (store.give_back(), written(line.as_slice(), sink)),
-        Err(status) => (store.give_back(), status),
+    match query_line(alloc, facts, keys, &query) {
+        Ok(line) => (disk, written(line.as_slice(), sink)),
+        Err(_) => (disk, Status::NoMemory),
     }
 }
 
@@ -64,26 +57,6 @@ fn read_query<S: Source>(alloc: Global, source: &mut S) -> Result<Query, Status>
     };
     match query_read::read(alloc, &text) {
         Ok(query) => Ok(query),
-        Err(fault) => Err(Status::from(fault)),
-    }
-}
-
-// The line of the answer over the blobs that stand in the store.
-fn answer_line<D: Disk, V: Verifier>(
-    alloc: Global,
-    store: &mut Store<D>,
-    keys: &V,
-    query: &Query,
-) -> Result<Octets, Status>
-    requires stands { Stands D.Disk limits store.old }
-    ensures line { IfOk result (IsAnswerOf (V.accepts keys.now) query.now (D.packs store.old.disk)) }
-    ensures refused { IfErr result (Finds D.Disk store.old.disk store.new.disk
-        (RefusesFacts (D.packs store.old.disk))) }
-    ensures still { StaysStill D.Disk store.old store.new }
-    ensures later { D.faults store.old.disk ≤ D.faults store.new.disk }
-{
-    match store_facts(alloc, store) {
-        Ok(facts) => Ok(query_line(alloc, facts, keys, query)?),
         Err(fault) => Err(Status::from(fault)),
     }
 }
