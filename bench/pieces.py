@@ -1,18 +1,19 @@
-"""Measures the peak memory of commands that go through a pack in pieces.
+"""Measures the peak memory of commands that go through a pack in pieces, and the processor time of searches beside a listing.
 
     pieces.py PROGRAM KIND FOLDER
 
 The folder holds what make_pack.py has written for the kind. Of `list` it is printed what that is for a blob, too, since an open
-store keeps a row for each. Ends with status 1 where an answer is wrong.
+store keeps a row for each. Times are those of a processor, the best of three, in turn. Ends with status 1 where an answer is wrong.
 """
 
 import os
 import pathlib
+import resource
 import subprocess
 import sys
 import tempfile
 
-from store import MIB, peak, reference
+from store import MIB, in_turn, peak, reference
 
 MOST_BLOBS = 4_194_304
 
@@ -36,6 +37,32 @@ def peak_of_search(program, folder):
         return int(told.read().split()[-1]) * 1_024
 
 
+def processor(words, source, answer):
+    """A job that answers the seconds of a processor that a program takes, whose output has to be this one where one is given."""
+    def job():
+        before = resource.getrusage(resource.RUSAGE_CHILDREN)
+        ended = subprocess.run(words, input=source, stdout=subprocess.PIPE, check=True)
+        after = resource.getrusage(resource.RUSAGE_CHILDREN)
+        if answer is not None and ended.stdout != answer:
+            sys.exit(f"{' '.join(map(str, words))}: a wrong answer")
+        return after.ru_utime + after.ru_stime - before.ru_utime - before.ru_stime
+    return job
+
+
+def compare_times(program, kind, store, folder):
+    """The processor time of a search and of a query, beside that of a listing."""
+    answer = (folder / "answer").read_bytes()
+    (store / "keyring").write_bytes((folder / "keyring").read_bytes())
+    query = b'{"constraint":{"permanode":{"attr":"tag","value":"t0"}}}'
+    jobs = [
+        processor([program, "list", str(store), "--limit=1"], b"", None),
+        processor([program, "search", str(store), "--attr", "tag", "--value", "t0"], b"", answer),
+        processor([program, "query", str(store)], query, answer),
+    ]
+    listing, search, asked = in_turn(*jobs)
+    print(f"{kind}: search: {search / listing:.2f} of the processor time of list, query: {asked / listing:.2f}", flush=True)
+
+
 def main(program, kind, folder):
     folder = pathlib.Path(folder)
     store = folder / "store"
@@ -48,6 +75,7 @@ def main(program, kind, folder):
     print(f"{kind}: list: peak {listing / MIB:.0f} MiB, {listing / blobs:.0f} bytes for each of {blobs} blobs", flush=True)
     print(f"{kind}: salvage: peak {peak([program, 'salvage', str(store)]) / MIB:.0f} MiB", flush=True)
     print(f"{kind}: search-pack: peak {peak_of_search(program, folder) / MIB:.0f} MiB", flush=True)
+    compare_times(program, kind, store, folder)
 
 
 if __name__ == "__main__":

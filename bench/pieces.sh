@@ -1,6 +1,7 @@
 #!/usr/bin/env bash
 # Measures the peak memory of `list`, `salvage` and `search-pack` over 512 MiB of 300-byte blobs and of 1 MiB ones: none of them
-# holds a pack. Prints the peaks, and how much that is for a blob. Ends with status 1 where an answer is wrong.
+# holds a pack. Prints the peaks, how much that is for a blob, and the processor time of `search` and `query` beside that of `list`.
+# Ends with status 1 where an answer is wrong.
 . "$(dirname "$0")/preamble.bash"
 for kind in small-blobs large-blobs; do
   python3 bench/make_pack.py "$kind" "$folder"

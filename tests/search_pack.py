@@ -327,8 +327,8 @@ def with_broken_source(program, what, line, front, **streams):
 
 
 def limits():
-    """A pack of the greatest length, and a longer one, of which the rest isn't read; one for whose last bytes there is no memory, and a
-    longer one for whose last bytes there is."""
+    """A pack of the greatest length, and a longer one, of which the rest isn't read; a record that doesn't fit into memory, one that does,
+    and a pack that takes none."""
 
     def greatest(program):
         poured(program, "a pack of the greatest length", reference.LARGEST_PACK, 0)
@@ -344,18 +344,24 @@ def limits():
             raise Difference(f"a longer pack: {taken} bytes were taken, at most {most} should be")
 
     def no_memory(program):
-        poured(program, "a pack whose last bytes don't fit into memory", 128 * PIECE, 1, front=limited_to(32))
+        poured(program, "a record that doesn't fit into memory", 128 * PIECE, 1, first=LONGEST, front=limited_to(16))
+
+    def memory(program):
+        poured(program, "a record that fits into memory", 128 * PIECE, 0, first=LONGEST, front=limited_to(64))
 
     def little_memory(program):
-        poured(program, "a pack of 512 MiB within 128 MiB", 512 * PIECE, 0, front=limited_to(128))
+        poured(program, "a pack of 512 MiB within 16 MiB", 512 * PIECE, 0, front=limited_to(16))
 
-    return [greatest, one_byte_longer, longer, no_memory, little_memory]
+    return [greatest, one_byte_longer, longer, no_memory, memory, little_memory]
 
 
 PIECE = 1_048_576
 
 # How many bytes of a pack are read at a time.
 PACK_PIECE = 65_536
+
+# A header of the longest blob, whose digest no zeros have.
+LONGEST = f"[sha224-{0:056x} {16 * PIECE}]".encode()
 
 
 # How many there are of each shape, and the seconds in which a search over it has to end.
@@ -407,14 +413,15 @@ def ends_soon(program, what, blobs, attribute, value, found):
     program.check(what, ("search-pack", attribute, value), out, source=pack(*blobs), folder=folder, seconds=SOON)
 
 
-def poured(program, what, length, status, **streams):
-    """Pours zeros into the program, in pieces of any size, until it ends or all are taken; answers how many were."""
+def poured(program, what, length, status, first=b"", **streams):
+    """Pours zeros into the program behind some first bytes, in pieces of any size, until it ends or all are taken; answers how many were."""
     folder = program.working_folder(inputs.KEYRING)
     streams |= {"stdin": subprocess.PIPE, "stdout": subprocess.PIPE, "bufsize": 0}
     process = program.start(("search-pack", "tag", "a"), folder, **streams)
     taken, sizes = 0, chance(what)
     zeros = memoryview(bytes(PIECE))
     try:
+        process.stdin.write(first)
         while taken < length:
             taken += process.stdin.write(zeros[: min(length - taken, sizes.randint(1, PIECE))])
     except BrokenPipeError:
