@@ -9,13 +9,14 @@ and the next puts succeed.
 import os
 
 import harness
+import inputs
 import reference
 from harness import check, compare, compare_ending
 from reference import pack_name, ref_of
 from stores import CLEAN, TORN, Store, lines_of
 from tracing import CUTS, LISTS, LOCKS, LOOKS, MAKES, OPENS, READS, SYNCS, WRITES
 from tracing import in_order, made_at, need_strace, places, trace, traced
-from writing import pack
+from writing import pack, record
 
 BLOB = bytes(range(256)) * 2
 STORES = {
@@ -33,7 +34,7 @@ def syncs(program):
     """In which order the program writes, syncs and prints. A killed program can't show it: the kernel still writes."""
     need_strace(program)
     orders = [lambda what=what: put_is_synced(program, what) for what in STORES]
-    return orders + [lambda check=check: check(program) for check in (readers_sync, salvage_syncs_nothing)]
+    return orders + [lambda check=check: check(program) for check in (readers_sync, each_byte_is_read_once, salvage_syncs_nothing)]
 
 
 def put_is_synced(program, what):
@@ -78,6 +79,25 @@ def readers_sync(program):
             first_read = min(places(calls, READS, path) + places(calls, WRITES, file=1))
             in_order(command, f"the sync of {path.name}", -1, places(calls, SYNCS, path), first_read)
             compare(command, f"writes to {path.name}", [], places(calls, WRITES, path))
+
+
+def each_byte_is_read_once(program):
+    """A listing and the searches read each pack whole, once, in pieces: nothing of a blob is read a second time."""
+    blobs = [bytes([number]) * (number * 40_000) for number in range(5)]
+    packs = {0: pack(*blobs), 3: inputs.EXAMPLE + record(inputs.DELETE), 4: pack(b"abc")[:-1]}
+    store = Store(program, packs, {"keyring": inputs.KEYRING})
+    query = b'{"constraint":{"permanode":{"attr":"tag","value":"a"}}}'
+    searched = store.words("search", "--attr", "tag", "--value", "a")
+    for words, source in [(store.words("list"), b""), (searched, b""), (store.words("query"), query)]:
+        calls = traced(program, words[0], words, source)
+        for number, content in packs.items():
+            got = [result_of(calls[place]) for place in places(calls, READS, store.path / pack_name(number))]
+            compare(words[0], f"bytes that are read of pack {number}", len(content), sum(got))
+            check(f"{words[0]}: a read of {max(got)} bytes", max(got) <= 65_536)
+
+
+def result_of(call):
+    return int(call.words.rpartition(" = ")[2].split()[0])
 
 
 def salvage_syncs_nothing(program):
