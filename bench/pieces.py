@@ -13,9 +13,12 @@ import subprocess
 import sys
 import tempfile
 
-from store import MIB, in_turn, peak, reference
+from store import MIB, in_turn, peak, record, reference
 
 MOST_BLOBS = 4_194_304
+# So many small blobs come a byte at a time, and twice as many.
+BY_BYTES = 20_000
+RECORD = len(record(bytes(300)))
 
 
 def lines_of(words):
@@ -37,11 +40,11 @@ def peak_of_search(program, folder):
         return int(told.read().split()[-1]) * 1_024
 
 
-def processor(words, source, answer):
+def processor(words, source, answer, **how):
     """A job that answers the seconds of a processor that a program takes, whose output has to be this one where one is given."""
     def job():
         before = resource.getrusage(resource.RUSAGE_CHILDREN)
-        ended = subprocess.run(words, input=source, stdout=subprocess.PIPE, check=True)
+        ended = subprocess.run(words, input=source, stdout=subprocess.PIPE, check=True, **how)
         after = resource.getrusage(resource.RUSAGE_CHILDREN)
         if answer is not None and ended.stdout != answer:
             sys.exit(f"{' '.join(map(str, words))}: a wrong answer")
@@ -63,6 +66,16 @@ def compare_times(program, kind, store, folder):
     print(f"{kind}: search: {search / listing:.2f} of the processor time of list, query: {asked / listing:.2f}", flush=True)
 
 
+def compare_bytes(program, folder):
+    """The processor time of `search-pack` where each read gives one byte, for a pack of small blobs and for its first half."""
+    with open(folder / "pack", "rb") as file:
+        pack = file.read(2 * BY_BYTES * RECORD)
+    how = {"cwd": folder, "env": {**os.environ, "LD_PRELOAD": str(folder / "one_byte.so")}}
+    words, answer = [program, "search-pack", "tag", "t0"], (folder / "answer").read_bytes()
+    half, whole = in_turn(*(processor(words, pack[:size], answer, **how) for size in (len(pack) // 2, len(pack))))
+    print(f"small-blobs: search-pack, a byte a read: {whole / half:.2f} of the processor time for twice the bytes", flush=True)
+
+
 def main(program, kind, folder):
     folder = pathlib.Path(folder)
     store = folder / "store"
@@ -76,6 +89,8 @@ def main(program, kind, folder):
     print(f"{kind}: salvage: peak {peak([program, 'salvage', str(store)]) / MIB:.0f} MiB", flush=True)
     print(f"{kind}: search-pack: peak {peak_of_search(program, folder) / MIB:.0f} MiB", flush=True)
     compare_times(program, kind, store, folder)
+    if kind == "small-blobs":
+        compare_bytes(program, folder)
 
 
 if __name__ == "__main__":
