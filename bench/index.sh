@@ -1,7 +1,8 @@
 #!/usr/bin/env bash
 # Times an index over 100,000 blobs, 25,000 of them permanodes, against openssl over the same bytes: inserts one by one,
 # in the order of the pack and with its last blob first, and all blobs at once; then `perkeep search` over a store of the
-# same blobs; and an index over claims of 1,000 changes, against one over as many claims of one change. The first program
+# same blobs; an index over claims of 1,000 changes, against one over as many claims of one change; and claims that come
+# in order on one permanode, against as many on as many permanodes. The first program
 # is crates/lab, which is built where it is missing or older than the sources, or what LAB names; the other one is
 # ./perkeep's, or what PERKEEP names. BEFORE names one more to be timed beside that, as that of an earlier commit.
 # BENCH_BLOBS is another number of blobs, to try the script: with a few thousand of them the peaks of memory say nothing.
@@ -14,3 +15,4 @@ perkeep=$program
 python3 bench/make_pack.py store "$folder"
 python3 bench/index.py "$program" "$perkeep" "$folder"
 python3 bench/several.py "$program" "$folder"
+python3 bench/appends.py "$program" "$folder"

@@ -1,3 +1,6 @@
+pub mod LastChange
+pub mod OneChange
+pub mod Followed
 pub mod Walking
 pub mod Noting
 pub mod Popping

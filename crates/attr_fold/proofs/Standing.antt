@@ -1,5 +1,5 @@
 -- What counts tell of a permanode and of a claim.
-use Rattle.std.proofs.Common.{arith, ◌≡◌, ℕ, zero, suc, Bool, true, not, ◌&&◌, List, Option, Some, None, nat_eq, nat_lt, refl, sym, ap, ◌∙◌}
+use Rattle.std.proofs.Common.{arith, ◌≡◌, ℕ, zero, suc, Bool, true, false, not, ◌&&◌, List, Option, Some, None, nat_eq, nat_lt, refl, sym, ap, ◌∙◌}
 use Rattle.std.proofs.lemmas.Bool.{false≢true, cond-true, lt-ltb, ne_eqb}
 use Rattle.std.specs.FinMap.{get}
 use Rattle.schema_date.specs.declared.date.When.TheVariants.{Always}
@@ -40,6 +40,14 @@ module _ (facts : Facts) (state : States) (deletes : Deletes) (counted : IsCount
   -- of what can be deleted the count alone tells whether it is
   by_count : (y : List ℕ) → is_deletable facts y ≡ true → has_deleters state y ≡ row_deleted facts deletes Always y
   by_count y can = ap (λ b. b && has_deleters state y) (sym can) ∙ counts_are_deletion facts deletes state counted y
+
+  -- a change whose claim has no delete claim that counts isn't deleted
+  pub lives : (p : List ℕ) (k : Moment) → IsChange facts state p k → false ≡ has_deleters state k.1
+      → row_deleted facts deletes Always k.1 ≡ false
+  lives p k change none = sym (by_count k.1 can) ∙ sym none
+    where
+      can : is_deletable facts k.1 ≡ true
+      can = ap (passes (λ (f : Fact). can_be_deleted f.kind)) change.found ∙ ap can_be_deleted change.says
 
   pub stands_is : (p : List ℕ) (row : StateRow) → true ≡ passes (λ fact. is_permanode fact.kind) (get facts p)
       → Some row ≡ get state p → row.genuine ≡ true

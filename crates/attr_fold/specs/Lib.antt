@@ -2,3 +2,4 @@ pub mod Moments
 pub mod AttributeTurns
 pub mod Turns
 pub mod Refolded
+pub mod Following

@@ -2,11 +2,13 @@
 #![tactic(auto)]
 
 mod attribute_turns;
+mod following;
 mod moments;
 mod refolding;
 mod turns;
 mod value_turns;
 mod values;
 
+pub use following::follow;
 pub use refolding::refold;
 pub use values::{fold_at, last_change_at};

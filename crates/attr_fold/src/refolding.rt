@@ -60,7 +60,7 @@ pub fn refold<L: Ledger>(
 }
 
 // Whether p isn't deleted, where it is a genuine permanode.
-fn standing<L: Ledger>(rows: &Rows, p: &Ref, steps: &mut Steps<L>) -> Option<bool>
+pub(crate) fn standing<L: Ledger>(rows: &Rows, p: &Ref, steps: &mut Steps<L>) -> Option<bool>
     requires { IsCounted rows.now.facts rows.now.deletes rows.now.state }
     ensures stands { result ≡ standing rows.now.facts rows.now.state rows.now.deletes p.now }
     ensures ticks { steps.new ≤ steps.old + 2 }
@@ -149,7 +149,11 @@ fn note_moment<L: Ledger>(
 }
 
 // Whether the row of a ref counts some delete claim.
-fn has_deleters<L: Ledger>(state: &RefRows<StateRow>, r: &Ref, steps: &mut Steps<L>) -> bool
+pub(crate) fn has_deleters<L: Ledger>(
+    state: &RefRows<StateRow>,
+    r: &Ref,
+    steps: &mut Steps<L>,
+) -> bool
     ensures some { result ≡ has_deleters state.now r.now }
     ensures ticks { steps.new ≡ steps.old + 1 }
 {

@@ -1,6 +1,7 @@
 -- Whoever is concerned is touched: it is new, or ends a chain, or is changed by a genuine claim that is new or ends one.
-use Rattle.std.proofs.Common.{◌≡◌, ◌≤◌, ℕ, Bool, true, false, ◌||◌, List, [], ◌∷◌, ◌++◌, filter, map, flat_map, nat_lt, cond, ◌&&◌, refl, sym, ap, ◌∙◌, ◌⊎◌, inl, inr, is_some, Ordering}
+use Rattle.std.proofs.Common.{◌≡◌, ◌≤◌, ℕ, Bool, true, false, ◌||◌, List, [], ◌∷◌, ◌++◌, filter, map, flat_map, nat_lt, cond, ◌&&◌, refl, sym, ap, ◌∙◌, ◌⊎◌, inl, inr, is_some, Ordering, arith}
 use Rattle.std.proofs.lemmas.Bool.{cases_Bool, false≢true, and_parts, lt-ltb}
+use Rattle.std.proofs.lemmas.List.Sums.{sum_by-cons}
 use Rattle.std.proofs.lemmas.Slice.Eq.{bytes_eq-Decides}
 use Rattle.std.specs.declared.cmp.Ordering.TheVariants.{Less, Equal, Greater}
 use Rattle.std.specs.Cmp.{eq_by_cmp_equiv}
@@ -16,8 +17,10 @@ use Rattle.claim_model.specs.Ready.{is_ready}
 use Rattle.index_rows.specs.Changes.{keys_alone}
 use Rattle.index_rows.specs.Touched.{becomes, became, changed_by, each_once, is_genuine_delete, new_refs, new_deletes, chain_end, chain_ends, changed_refs}
 use Rattle.index_rows.proofs.Orders.{ref_total, ref_same}
+use Rattle.index_rows.proofs.Sums.{sum_within}
 use Rattle.index_rows.proofs.Puts.{put_at, put_beside}
 use Rattle.claim_index.specs.Costs.{all_concerned, change_count, changed_where, ends_of, may_concern, put_steps, IsCovered}
+use Rattle.claim_index.specs.Following.{AreFewOn}
 use Rattle.claim_index.specs.Judging.{is_signed_at}
 use Rattle.claim_index.proofs.Changed.{group_some, puts_sum, signed_genuine}
 use Rattle.claim_index.proofs.LoopTicks.{or_cases, left, right, in_either, in_first, in_second}
@@ -126,6 +129,19 @@ module _ (facts more : Facts) (accepts : Accepts) (r : List ℕ) (known : list_a
   pub puts_covered : sum_by (put_steps more accepts) (became (is_ready facts) more) ≤ sum_by (change_count more accepts) (changed_refs facts more accepts r)
   puts_covered = puts_sum facts more accepts (changed_refs facts more accepts r) (λ x fact found new p t.
       one_changed x p (in_first x news ends (fresh_among facts more accepts r known x (in_filter (becomes (is_ready facts) more) x new (keys more) (in_keys more x (ap is_some found))))) t)
+
+  -- whatever a new claim changes has no more changes than all of these
+  pub few_changes : AreFewOn more accepts (became (is_ready facts) more) (sum_by (change_count more accepts) (changed_refs facts more accepts r))
+  few_changes x new p t =
+      let there = one_changed x p (in_first x news ends (fresh_among facts more accepts r known x new)) t in
+      let s = sum_within (change_count more accepts) (p ∷ []) (changed_refs facts more accepts r) (refl, tt)
+      (λ y u. ap (λ z. list_any (bytes_eq z) (changed_refs facts more accepts r)) ((bytes_eq-Decides y p).0 (sure (bytes_eq y p) u)) ∙ there) in
+      let one = sum_by-cons (change_count more accepts) p [] in
+      omega (arith, s, one)
+    where
+      sure : (a : Bool) → (a || false) ≡ true → a ≡ true
+      sure true t = refl
+      sure false t = t
 
   module _ (deletes concerned : List (List ℕ))
       (genuine : (d : List ℕ) → list_any (bytes_eq d) deletes ≡ true → is_genuine_delete more accepts d ≡ true)

@@ -11,6 +11,7 @@ pub mod Members
 pub mod Finishable
 pub mod OneEntered
 pub mod Refolds
+mod OneFollowed
 pub mod Texts
 pub mod Telling
 mod Whole

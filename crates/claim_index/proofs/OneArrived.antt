@@ -1,5 +1,5 @@
 -- What the tables mean once a ref has arrived.
-use Rattle.std.proofs.Common.{◌≡◌, ℕ, ℤ, Bool, true, false, ◌&&◌, ◌||◌, not, cond, List, [], ◌++◌, Option, Some, None, option_and_then, refl, sym, ap, ◌∙◌}
+use Rattle.std.proofs.Common.{◌≡◌, ℕ, ℤ, Bool, true, false, ◌&&◌, ◌||◌, not, cond, List, [], ◌∷◌, ◌++◌, Option, Some, None, option_and_then, refl, sym, ap, subst, ◌∙◌}
 use Rattle.std.proofs.lemmas.Bool.{and_parts, false≢true}
 use Rattle.std.proofs.lemmas.List.Folds.{list_any-append}
 use Rattle.std.specs.List.{list_any}
@@ -133,3 +133,24 @@ pub arrived_is : (rows new : Rows) → new.facts ≡ rows.facts → new.deletes 
     → with_arrived rows new.state new.waiters ≡ new
 arrived_is rows new facts deletes changes holders = λ i.
     record { facts = sym facts i; state = new.state; waiters = new.waiters; deletes = sym deletes i; changes = sym changes i; holders = sym holders i }
+
+-- the tables after a ref has arrived, whose order is at hand as a slice
+module _ (accepts : Accepts) (rows new : Rows) (facts : new.facts ≡ rows.facts) (same_deletes : new.deletes ≡ rows.deletes) (changes : new.changes ≡ rows.changes) (holders : new.holders ≡ rows.holders)
+    (r : List ℕ) (order refs deletes concerned : List (List ℕ)) (same : refs ≡ order) (h : IsHalfway accepts [] deletes concerned rows) (absent : get rows.state r ≡ None)
+    (came : HasArrived rows.facts rows.state new.state new.waiters r order) where
+  pub half_arrived : IsHalfway accepts refs deletes concerned new
+  half_arrived = subst (IsHalfway accepts refs deletes concerned) (arrived_is rows new facts same_deletes changes holders)
+      (subst (λ (xs : List (List ℕ)). IsHalfway accepts xs deletes concerned (with_arrived rows new.state new.waiters)) (sym same)
+      (left_to_judge accepts rows new.state new.waiters r order deletes concerned h absent came))
+
+  pub able_arrived : CanBeJudged refs new
+  able_arrived = subst (CanBeJudged refs) (arrived_is rows new facts same_deletes changes holders)
+      (subst (λ (xs : List (List ℕ)). CanBeJudged xs (with_arrived rows new.state new.waiters)) (sym same)
+      (can_be_judged accepts rows new.state new.waiters r order deletes concerned h absent came))
+
+  module _ (x : List ℕ) (whole : refs ≡ x ∷ []) where
+    pub one_half : IsHalfway accepts (x ∷ []) deletes concerned new
+    one_half = subst (λ (xs : List (List ℕ)). IsHalfway accepts xs deletes concerned new) whole half_arrived
+
+    pub one_able : CanBeJudged (x ∷ []) new
+    one_able = subst (λ (xs : List (List ℕ)). CanBeJudged xs new) whole able_arrived

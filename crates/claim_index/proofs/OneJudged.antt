@@ -169,7 +169,7 @@ module _ (accepts : Accepts) (rows : Rows) (x : List ℕ) (left deletes concerne
       one true t = refl
       one false t = t
 
-  fresh : says_genuine rows.state x ≡ false
+  pub fresh : says_genuine rows.state x ≡ false
   fresh = by (get rows.state x) refl
     where
       by : (o : Option StateRow) → get rows.state x ≡ o → passes (λ (row : StateRow). row.genuine) o ≡ false
@@ -180,7 +180,7 @@ module _ (accepts : Accepts) (rows : Rows) (x : List ℕ) (left deletes concerne
           none true b t = ap not t
           none false b t = refl
 
-  listed_now : IsListed rows.facts rows.state rows.changes
+  pub listed_now : IsListed rows.facts rows.state rows.changes
   listed_now = rows_stay_listed (taken rows) rows.facts rows.state rows.state rows.changes (arrived_within rows.facts rows.state) (λ y t. t)
       (rows_are_listed (taken rows) accepts (x ∷ left) rows.state rows.changes (arrived_is_known rows.facts rows.state h.waiting.known) h.judged h.changed)
 

@@ -44,7 +44,7 @@ abbrev pub AreHeldBut : List (List ℕ) → Rows → Type 0
 AreHeldBut but rows = IsHeldBut but rows.facts rows.state rows.deletes rows.changes rows.holders
 
 module _ (rows new : Rows) (same : IsSameBeside rows new) where
-  same_rows : with_holders rows new.holders ≡ new
+  pub same_rows : with_holders rows new.holders ≡ new
   same_rows i = record {
     facts = sym same.facts i;
     state = sym same.state i;

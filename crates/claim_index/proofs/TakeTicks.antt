@@ -1,5 +1,7 @@
 -- What became ready as a ref arrived, in terms of the facts.
-use Rattle.std.proofs.Common.{◌≡◌, ◌≤◌, ◌+◌, ℕ, true, ◌||◌, cond, List, [], None, sym, ap, subst, ◌∙◌, arith}
+use Rattle.std.proofs.Common.{◌≡◌, ◌≤◌, ◌+◌, ℕ, true, ◌||◌, cond, List, [], ◌∷◌, length, get_or, None, false, refl, sym, ap, subst, ◌∙◌, arith}
+use Rattle.std.proofs.lemmas.Slice.Eq.{bytes_eq-Decides}
+use Rattle.std.proofs.lemmas.List.Sums.{sum_by-cons}
 use Rattle.std.specs.List.{list_any, sum_by}
 use Rattle.std.specs.Str.{bytes_eq}
 use Rattle.std.specs.FinMap.{get, contains_key, same_map, get-retain_keys}
@@ -48,3 +50,21 @@ module _ (facts : Facts) (before after : States) (waiters : Waiters) (r : List �
       let s = freed_sum (look_steps facts accepts) in
       let e : sum_by (look_steps now accepts) slice ≡ sum_by (look_steps facts accepts) order = λ i. sum_by (look_steps (facts_same i) accepts) (same i) in
       omega (arith, a, b, s, e)
+
+  -- where one ref alone becomes ready
+  pub alone_among : (x : List ℕ) → x ∷ [] ≡ order → list_any (bytes_eq x) (freed facts before r) ≡ true
+  alone_among x same = among x (ap (list_any (bytes_eq x)) (sym same) ∙ ap (λ b. b || false) ((bytes_eq-Decides x x).1 refl))
+
+  pub alone_sum : (accepts : Accepts) (now : Facts) (x : List ℕ) → x ∷ [] ≡ order → now ≡ facts → (first mid last more : ℕ)
+      → mid ≤ first + arrival_steps facts before r → last ≤ mid + look_steps now accepts x + more → last ≤ first + taking_steps facts accepts before r + more
+  alone_sum accepts now x same facts_same first mid last more a b =
+      let s = freed_sum (look_steps facts accepts) in
+      let e : sum_by (look_steps now accepts) (x ∷ []) ≡ sum_by (look_steps facts accepts) order = λ i. sum_by (look_steps (facts_same i) accepts) (same i) in
+      let one = sum_by-cons (look_steps now accepts) x [] in
+      omega (arith, a, b, s, e, one)
+
+-- a list of one ref
+pub one_of : (xs : List (List ℕ)) (x : List ℕ) → length xs ≡ 1 → x ≡ get_or xs 0 x → xs ≡ x ∷ []
+one_of [] x n is = absurd (omega (arith, n))
+one_of (y ∷ []) x n is = ap (λ z. z ∷ []) (sym is)
+one_of (y ∷ z ∷ zs) x n is = absurd (omega (arith, n))

@@ -19,9 +19,10 @@ use Rattle.index_meaning.specs.Meaning.{delete_date}
 use Rattle.index_meaning.proofs.Arriving.{all_have_arrived}
 use Rattle.pending_deps.specs.Arriving.{arrived_with}
 use Rattle.claim_index.specs.Halfway.{taken, HasOneMore, IsGenuineDelete, IsHalfway}
-use Rattle.claim_index.specs.Costs.{look_steps, freed, taking_steps, finish_steps, all_concerned, may_concern, AddsFor, AreTaken, IsCovered}
+use Rattle.claim_index.specs.Costs.{look_steps, freed, taking_steps, finish_steps, change_count, all_concerned, may_concern, AddsFor, AreTaken, IsCovered}
+use Rattle.claim_index.specs.Following.{AreFewOn}
 use Rattle.claim_index.specs.Judging.{is_signed_at}
-use Rattle.claim_index.proofs.Concerned.{all_covered, in_keys, puts_covered}
+use Rattle.claim_index.proofs.Concerned.{all_covered, few_changes, in_keys, puts_covered}
 use Rattle.claim_index.proofs.TouchedSum.{heads, touched_sum}
 
 pub says_delete : (x : List ℕ) (kind : Kind) → is_some (delete_date x kind) ≡ true → is_delete kind ≡ true
@@ -74,8 +75,15 @@ module _ (accepts : Accepts) (rows : Rows) (r : List ℕ) (more : HasOneMore acc
   taking_is = ap (λ (f : Facts). 2 + 3 * length (needs_of rows.facts r) + length (became (is_ready (taken rows)) f) + 4 * length (namings f (becomes (is_ready (taken rows)) f))
       + sum_by (look_steps rows.facts accepts) (became (is_ready (taken rows)) f)) all_with
 
+  -- the genuine changes on all whom what is new changes
+  abbrev pub all_changes : ℕ
+  all_changes = sum_by (change_count rows.facts accepts) (changed_refs (taken rows) rows.facts accepts r)
+
+  pub few_freed : AreFewOn rows.facts accepts (freed rows.facts rows.state r) all_changes
+  few_freed = subst (λ (xs : List (List ℕ)). AreFewOn rows.facts accepts xs all_changes) (sym freed_is) (few_changes (taken rows) rows.facts accepts r known)
+
   -- where taking in ends for want of memory
-  pub taken_ticks : (first last : ℕ) → last ≤ first + taking_steps rows.facts accepts rows.state r → last ≤ first + 14 + 16 * length (touched_in (taken rows) rows.facts accepts r)
+  pub taken_ticks : (first last : ℕ) → last ≤ first + taking_steps rows.facts accepts rows.state r + 8 + 4 * all_changes → last ≤ first + 14 + 16 * length (touched_in (taken rows) rows.facts accepts r)
   taken_ticks first last h =
       let s = touched_sum (taken rows) rows.facts accepts r known [] tt (λ d t. absurd (false≢true t)) (λ d t. absurd (false≢true t)) (puts_covered (taken rows) rows.facts accepts r known) in
       let e = taking_is in
@@ -111,7 +119,7 @@ module _ (accepts : Accepts) (rows : Rows) (r : List ℕ) (more : HasOneMore acc
     covers_all = subst (λ (f : Facts). IsCovered f accepts (all_concerned f accepts deletes concerned) first_refs second_refs) (sym same)
         (all_covered (taken rows) rows.facts accepts r known deletes concerned genuine among by_fresh)
 
-    pub finished_ticks : (first mid last : ℕ) → mid ≤ first + taking_steps rows.facts accepts rows.state r
+    pub finished_ticks : (first mid last : ℕ) → mid ≤ first + taking_steps rows.facts accepts rows.state r + 8 + 4 * all_changes
         → last ≤ mid + finish_steps now.facts accepts deletes first_refs second_refs
         → last ≤ first + 14 + 16 * length (touched_in (taken rows) rows.facts accepts r)
     finished_ticks first mid last a b =

@@ -55,6 +55,11 @@ pub record CanBeJudged (left : List (List ℕ)) (rows : Rows) : Type 0 where
   pub reached : AreReached (taken rows) (was_judged rows left) [] left
   pub once : AreOnce left
 
+-- x is the next one to be judged, and some refs are left behind it
+abbrev pub IsNextToJudge : Accepts → List ℕ → List (List ℕ) → List (List ℕ) → Rows → Type 0
+IsNextToJudge accepts x deletes concerned rows =
+    (left : List (List ℕ)) × IsHalfway accepts (x ∷ left) deletes concerned rows × CanBeJudged (x ∷ left) rows
+
 -- what the tables tell without the meaning of keys: delete claims can be entered, and permanodes be looked at again
 pub record CanBeFinished (deletes concerned : List (List ℕ)) (rows : Rows) : Type 0 where
   pub counted : IsCounted rows.facts rows.deletes rows.state

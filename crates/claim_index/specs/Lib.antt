@@ -4,3 +4,4 @@ pub mod Halfway
 pub mod Indexed
 pub mod Told
 pub mod Costs
+pub mod Following

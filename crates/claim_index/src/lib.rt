@@ -3,6 +3,7 @@
 
 mod answers;
 mod finishing;
+mod following;
 mod genuine;
 mod index;
 mod judging;

@@ -6,7 +6,7 @@ ghost use Rattle.index_rows.specs.Touched.{touched_in};
 ghost use Rattle.claim_index.specs.Halfway.{taken, HasOneMore, IsHalfway, IsNext, IsTakenTo, Rests};
 
 use crate::finishing::finish;
-use crate::taking::take_in;
+use crate::taking::{take_in, take_last};
 use crate::work::Work;
 use blobref::{NoMemory, Ref};
 use claim_verify::Verifier;
@@ -35,7 +35,7 @@ pub(crate) fn take_up<V: Verifier, L: Ledger>(
         return rebuild(alloc, rows, keys, steps);
     }
     let mut work = Work::none(alloc);
-    take_in(alloc, rows, keys, r, &mut work, steps)?;
+    take_last(alloc, rows, keys, r, &mut work, steps)?;
     finish(alloc, rows, work, steps)
 }
 

@@ -1,12 +1,14 @@
 //! A ref that is taken up, and what becomes ready by it.
-ghost use Rattle.std.specs.Prelude.{◌≡◌, ◌≤◌, ◌+◌, ◌||◌, ◌∷◌, [], ℕ, List, OnOk};
+ghost use Rattle.std.specs.Prelude.{◌≡◌, ◌≤◌, ◌+◌, ◌*◌, ◌||◌, ◌∷◌, [], ℕ, List, true, false, OnOk};
 ghost use Rattle.std.specs.List.{sum_by};
 ghost use Rattle.std.specs.Str.{bytes_eq};
 ghost use Rattle.std.specs.FinMap.{contains_key};
 ghost use Rattle.pending_deps.specs.Arriving.{IsNew};
-ghost use Rattle.claim_index.specs.Costs.{look_steps, freed, taking_steps, AddsFor};
-ghost use Rattle.claim_index.specs.Halfway.{IsHalfway, CanBeJudged};
+ghost use Rattle.claim_index.specs.Costs.{look_steps, freed, taking_steps, AddsFor, AreTaken};
+ghost use Rattle.claim_index.specs.Halfway.{IsHalfway, CanBeJudged, IsNextToJudge};
+ghost use Rattle.claim_index.specs.Following.{AreFew, AreFewOn};
 
+use crate::following::take_changes;
 use crate::judging::{Judged, judge};
 use crate::touching::concern;
 use crate::work::Work;
@@ -42,11 +44,47 @@ pub(crate) fn take_in<V: Verifier, L: Ledger>(
         + taking_steps rows.old.facts (V.accepts keys.now) rows.old.state r.now }
 {
     let order = arrive(alloc, rows, r, steps)?;
-    judge_all(rows, keys, order.as_slice(), work, steps)
+    judge_all(alloc, rows, keys, order.as_slice(), work, steps)
+}
+
+// Takes up a ref as `take_in` does, the last one whose fact stands. Where it alone becomes ready, what it changes is
+// written at once, if that is enough.
+pub(crate) fn take_last<V: Verifier, L: Ledger>(
+    alloc: Global,
+    rows: &mut Rows,
+    keys: &V,
+    r: &Ref,
+    work: &mut Work,
+    steps: &mut Steps<L>,
+) -> Result<(), NoMemory>
+    requires halfway { IsHalfway (V.accepts keys.now) [] work.old.deletes work.old.concerned rows.old }
+    requires fresh { IsNew rows.old.facts rows.old.state r.now }
+    requires others { (y : List ℕ)
+        → contains_key rows.old.facts y ≡ (bytes_eq y r.now || contains_key rows.old.state y) }
+    ensures facts { rows.new.facts ≡ rows.old.facts }
+    ensures taken { OnOk result ((y : List ℕ)
+        → contains_key rows.new.state y ≡ (bytes_eq y r.now || contains_key rows.old.state y)) }
+    ensures halfway { OnOk result
+        (IsHalfway (V.accepts keys.now) [] work.new.deletes work.new.concerned rows.new) }
+    ensures adds { OnOk result (AddsFor rows.old.facts (V.accepts keys.now)
+        (freed rows.old.facts rows.old.state r.now)
+        work.old.deletes work.new.deletes work.old.concerned work.new.concerned) }
+    ensures ticks { (n : ℕ) → AreFewOn rows.old.facts (V.accepts keys.now)
+        (freed rows.old.facts rows.old.state r.now) n
+        → steps.new ≤ steps.old
+        + taking_steps rows.old.facts (V.accepts keys.now) rows.old.state r.now + 8 + 4 * n }
+{
+    let order = arrive(alloc, rows, r, steps)?;
+    let refs = order.as_slice();
+    if refs.len() == 1 {
+        return judge_one(alloc, rows, keys, &refs[0], true, work, steps);
+    }
+    judge_all(alloc, rows, keys, refs, work, steps)
 }
 
 // Judges refs in their order.
 fn judge_all<V: Verifier, L: Ledger>(
+    alloc: Global,
     rows: &mut Rows,
     keys: &V,
     order: &[Ref],
@@ -64,19 +102,24 @@ fn judge_all<V: Verifier, L: Ledger>(
     ensures ticks { steps.new ≤ steps.old + sum_by (look_steps rows.old.facts (V.accepts keys.now)) order.now }
 {
     for x in order {
-        judge_one(rows, keys, x, work, steps)?;
+        judge_one(alloc, rows, keys, x, false, work, steps)?;
     }
     Ok(())
 }
 
-// Judges a ref, and adds what is left to do for it to the work.
+// Judges a ref, and adds what is left to do for it to the work. Where it alone became ready, what it changes is written
+// at once, if that is enough.
 fn judge_one<V: Verifier, L: Ledger>(
+    alloc: Global,
     rows: &mut Rows,
     keys: &V,
     x: &Ref,
+    alone: bool,
     work: &mut Work,
     steps: &mut Steps<L>,
 ) -> Result<(), NoMemory>
+    requires { alone ≡ true
+        → IsNextToJudge (V.accepts keys.now) x.now work.old.deletes work.old.concerned rows.old }
     ensures facts { rows.new.facts ≡ rows.old.facts }
     ensures taken { OnOk result ((y : List ℕ) → contains_key rows.new.state y ≡ contains_key rows.old.state y) }
     ensures halfway { OnOk result ((left : List (List ℕ))
@@ -88,11 +131,16 @@ fn judge_one<V: Verifier, L: Ledger>(
         → CanBeJudged (x.now ∷ left) rows.old → CanBeJudged left rows.new) }
     ensures adds { OnOk result (AddsFor rows.old.facts (V.accepts keys.now) (x.now ∷ [])
         work.old.deletes work.new.deletes work.old.concerned work.new.concerned) }
-    ensures ticks { steps.new ≤ steps.old + look_steps rows.old.facts (V.accepts keys.now) x.now }
+    ensures ticks { alone ≡ false → steps.new ≤ steps.old + look_steps rows.old.facts (V.accepts keys.now) x.now }
+    ensures more_ticks { IsHalfway (V.accepts keys.now) (x.now ∷ []) work.old.deletes work.old.concerned rows.old
+        → CanBeJudged (x.now ∷ []) rows.old → AreTaken rows.old
+        → (n : ℕ) → AreFew rows.old.facts (V.accepts keys.now) x.now n
+        → steps.new ≤ steps.old + look_steps rows.old.facts (V.accepts keys.now) x.now + 8 + 4 * n }
 {
     match judge(rows, keys, x, steps)? {
         Judged::Nothing => Ok(()),
         Judged::Delete => work.deletes.push(*x),
-        Judged::Permanode | Judged::Changes => concern(rows, x, &mut work.concerned, steps),
+        Judged::Permanode => concern(rows, x, &mut work.concerned, steps),
+        Judged::Changes => take_changes(alloc, rows, x, alone, &mut work.concerned, steps),
     }
 }

@@ -3,7 +3,7 @@ use Rattle.std.specs.FinMap.{contains_key}
 use Rattle.claim_model.specs.Facts.{Facts}
 use Rattle.index_rows.specs.Touched.{changed_refs}
 use Rattle.claim_index.specs.Halfway.{taken}
-use Rattle.claim_index.proofs.TakeUp.{taken_ticks, finished_ticks, are_taken, covers_all}
+use Rattle.claim_index.proofs.TakeUp.{few_freed, taken_ticks, finished_ticks, are_taken, covers_all}
 use Rattle.claim_index.proofs.TouchedSum.{heads}
 use Rattle.claim_index.proofs.Finishable.{can_be_finished}
 use Rattle.claim_index.proofs.OneJudged.{ok_then}
@@ -11,30 +11,32 @@ use Rattle.claim_index.proofs.Whole.{rests_once}
 use Rattle.claim_index.proofs.rebuilding.take_up.Goals as goal
 
 pub finish-requires : goal.finish-requires
-finish-requires g c = can_be_finished (g.V.Verifier.accepts c.args.keys.now) c.take_in.new.work.deletes c.take_in.new.work.concerned c.take_in.new.rows c.in_ok-take_in.ensures.halfway
+finish-requires g c = can_be_finished (g.V.Verifier.accepts c.args.keys.now) c.take_last.new.work.deletes c.take_last.new.work.concerned c.take_last.new.rows c.in_ok-take_last.ensures.halfway
 
 pub returns-clause-rest : goal.returns-clause-rest
 returns-clause-rest g c =
     let a = g.V.Verifier.accepts c.args.keys.now in
     let more = c.requires c.if-stale.false in
-    rests_once c.finish.result a c.take_in.new.rows c.finish.new.rows c.finish.ensures.facts
-    (λ y. c.in_ok-take_in.ensures.taken y ∙ sym (more.others y) ∙ ap (λ (f : Facts). contains_key f y) (sym c.in_ok-take_in.ensures.facts)) c.finish.ensures.taken
-    (ok_then c.finish.result (λ f. f a c.in_ok-take_in.ensures.halfway) c.finish.ensures.halfway)
+    rests_once c.finish.result a c.take_last.new.rows c.finish.new.rows c.finish.ensures.facts
+    (λ y. c.in_ok-take_last.ensures.taken y ∙ sym (more.others y) ∙ ap (λ (f : Facts). contains_key f y) (sym c.in_ok-take_last.ensures.facts)) c.finish.ensures.taken
+    (ok_then c.finish.result (λ f. f a c.in_ok-take_last.ensures.halfway) c.finish.ensures.halfway)
 
-pub returns-in_err-take_in-clause-ticks : goal.returns-in_err-take_in-clause-ticks
-returns-in_err-take_in-clause-ticks g c = λ fresh.
-    taken_ticks (g.V.Verifier.accepts c.args.keys.now) c.args.rows.now c.args.r.now (c.requires fresh) c.args.steps.now c.take_in.new.steps c.take_in.ensures.ticks
+pub returns-in_err-take_last-clause-ticks : goal.returns-in_err-take_last-clause-ticks
+returns-in_err-take_last-clause-ticks g c = λ fresh.
+    taken_ticks (g.V.Verifier.accepts c.args.keys.now) c.args.rows.now c.args.r.now (c.requires fresh) c.args.steps.now c.take_last.new.steps
+    (c.take_last.ensures.ticks _ (few_freed (g.V.Verifier.accepts c.args.keys.now) c.args.rows.now c.args.r.now (c.requires fresh)))
 
 pub returns-clause-ticks : goal.returns-clause-ticks
 returns-clause-ticks g c = λ fresh.
     let a = g.V.Verifier.accepts c.args.keys.now in
     let rows = c.args.rows.now in
     let r = c.args.r.now in
-    let told = c.in_ok-take_in.ensures in
-    let work = c.take_in.new.work in
+    let told = c.in_ok-take_last.ensures in
+    let work = c.take_last.new.work in
     let none = c.none-work.result in
     let done = c.finish.ensures.ticks a (heads (taken rows) rows.facts a r) (changed_refs (taken rows) rows.facts a r) told.halfway
-    (are_taken a rows r (c.requires fresh) c.take_in.new.rows told.facts told.taken none.deletes none.concerned work.deletes work.concerned c.none-work.ensures.deletes c.none-work.ensures.concerned told.adds told.halfway)
-    (covers_all a rows r (c.requires fresh) c.take_in.new.rows told.facts told.taken none.deletes none.concerned work.deletes work.concerned c.none-work.ensures.deletes c.none-work.ensures.concerned told.adds told.halfway) in
-    finished_ticks a rows r (c.requires fresh) c.take_in.new.rows told.facts told.taken none.deletes none.concerned work.deletes work.concerned c.none-work.ensures.deletes c.none-work.ensures.concerned told.adds told.halfway
-    c.args.steps.now c.take_in.new.steps c.finish.new.steps c.take_in.ensures.ticks done
+    (are_taken a rows r (c.requires fresh) c.take_last.new.rows told.facts told.taken none.deletes none.concerned work.deletes work.concerned c.none-work.ensures.deletes c.none-work.ensures.concerned told.adds told.halfway)
+    (covers_all a rows r (c.requires fresh) c.take_last.new.rows told.facts told.taken none.deletes none.concerned work.deletes work.concerned c.none-work.ensures.deletes c.none-work.ensures.concerned told.adds told.halfway) in
+    finished_ticks a rows r (c.requires fresh) c.take_last.new.rows told.facts told.taken none.deletes none.concerned work.deletes work.concerned c.none-work.ensures.deletes c.none-work.ensures.concerned told.adds told.halfway
+    c.args.steps.now c.take_last.new.steps c.finish.new.steps
+    (c.take_last.ensures.ticks _ (few_freed a rows r (c.requires fresh))) done

@@ -1,31 +1,19 @@
-use Rattle.std.proofs.Common.{ℕ, List, sym, subst}
 use Rattle.std.proofs.lemmas.Result.{on_ok_weaker}
 use Rattle.claim_index.proofs.TakeTicks.{freed_adds, taking_sum}
-use Rattle.claim_index.specs.Halfway.{IsHalfway, CanBeJudged}
-use Rattle.claim_index.proofs.OneArrived.{left_to_judge, can_be_judged, arrived_is, with_arrived}
+use Rattle.claim_index.proofs.OneArrived.{half_arrived, able_arrived}
 use Rattle.claim_index.proofs.taking.take_in.Goals as goal
 
 pub judge_all-requires-clause-halfway : goal.judge_all-requires-clause-halfway
 judge_all-requires-clause-halfway g c =
-    let a = g.V.Verifier.accepts c.args.keys.now in
-    let old = c.args.rows.now in
-    let new = c.arrive.new.rows in
-    let work = c.args.work.now in
     let e = c.in_ok-order.ensures in
-    subst (IsHalfway a c.as_slice.result.now work.deletes work.concerned) (arrived_is old new e.facts e.deletes e.changes e.holders)
-    (subst (λ (order : List (List ℕ)). IsHalfway a order work.deletes work.concerned (with_arrived old new.state new.waiters)) (sym c.as_slice.ensures)
-    (left_to_judge a old new.state new.waiters c.args.r.now _ work.deletes work.concerned c.requires.halfway c.requires.fresh.absent e.arrived))
+    half_arrived (g.V.Verifier.accepts c.args.keys.now) c.args.rows.now c.arrive.new.rows e.facts e.deletes e.changes e.holders c.args.r.now _ c.as_slice.result.now
+    c.args.work.now.deletes c.args.work.now.concerned c.as_slice.ensures c.requires.halfway c.requires.fresh.absent e.arrived
 
 pub judge_all-requires-clause-reached : goal.judge_all-requires-clause-reached
 judge_all-requires-clause-reached g c =
-    let a = g.V.Verifier.accepts c.args.keys.now in
-    let old = c.args.rows.now in
-    let new = c.arrive.new.rows in
-    let work = c.args.work.now in
     let e = c.in_ok-order.ensures in
-    subst (CanBeJudged c.as_slice.result.now) (arrived_is old new e.facts e.deletes e.changes e.holders)
-    (subst (λ (order : List (List ℕ)). CanBeJudged order (with_arrived old new.state new.waiters)) (sym c.as_slice.ensures)
-    (can_be_judged a old new.state new.waiters c.args.r.now _ work.deletes work.concerned c.requires.halfway c.requires.fresh.absent e.arrived))
+    able_arrived (g.V.Verifier.accepts c.args.keys.now) c.args.rows.now c.arrive.new.rows e.facts e.deletes e.changes e.holders c.args.r.now _ c.as_slice.result.now
+    c.args.work.now.deletes c.args.work.now.concerned c.as_slice.ensures c.requires.halfway c.requires.fresh.absent e.arrived
 
 pub returns-clause-adds : goal.returns-clause-adds
 returns-clause-adds g c =

@@ -1,0 +1,75 @@
+"""What claims that come in the order of their dates cost an index on one permanode, beside as many on as many permanodes.
+
+    appends.py LAB FOLDER
+
+Both packs of a line have the same permanodes, and are inserted blob by blob in their order. Prints the times of the first,
+those of the second being 1; each is the best of three, taken in turn, and has the reading of the blobs in it. Ends with
+status 1 where an answer is wrong.
+"""
+
+import pathlib
+import sys
+
+from compare import TIMES, run
+from make_pack import reference
+from writing import FIRST_MOMENT, claim, key_blob, keyring_line, pack, permanode
+
+ATTRIBUTES = 10
+
+
+def adds(number):
+    return "add", "tag", f"v{number}"
+
+
+def sets_in_turn(number):
+    """The asked attribute is the first one's, which is set as often as each other."""
+    return "set", "tag" if number % ATTRIBUTES == 0 else f"a{number % ATTRIBUTES}", f"v{number}"
+
+
+SHAPES = {"10,000 additions": (10_000, adds), "100,000 additions": (100_000, adds), "10,000 sets of 10 attributes": (10_000, sets_in_turn)}
+
+
+def blobs_of(count, change_of, node_of):
+    nodes = [permanode(f"{number:032x}") for number in range(count)]
+    refs = list(map(reference.ref_of, nodes))
+    claims = []
+    for number in range(count):
+        act, attr, value = change_of(number)
+        claims.append(claim(act, refs[node_of(number)], attr, value, reference.date_text(FIRST_MOMENT + number * 10**9)))
+    return [key_blob(), *nodes, *claims]
+
+
+def folder_of(folder, name, blobs):
+    path = folder / name
+    path.mkdir()
+    (path / "pack").write_bytes(pack(*blobs))
+    return path, len(blobs)
+
+
+def seconds(lab, packs, asked):
+    """The best time of each of the packs."""
+    best = [None] * len(packs)
+    for _ in range(TIMES):
+        for number, (path, count) in enumerate(packs):
+            took, _, status, out = run([lab, "insert", keyring_line().decode(), "tag", asked], path)
+            if (status, out) != (0, f"{count} 1\n".encode()):
+                sys.exit(f"{path.name}: the answer is wrong: {out}")
+            best[number] = took if best[number] is None else min(best[number], took)
+    return best
+
+
+def main(lab, folder):
+    folder = pathlib.Path(folder)
+    print("Claims in order on one permanode; times against those of as many additions, each on its own permanode")
+    for place, (shape, (count, change_of)) in enumerate(SHAPES.items()):
+        asked = f"v{count - ATTRIBUTES}"
+        packs = [
+            folder_of(folder, f"one-{place}", blobs_of(count, change_of, lambda number: 0)),
+            folder_of(folder, f"each-{place}", blobs_of(count, adds, lambda number: number)),
+        ]
+        took, other = seconds(lab, packs, asked)
+        print(f"{shape:40} {took / other:8.2f}  {took:8.2f} s {other:8.2f} s", flush=True)
+
+
+if __name__ == "__main__":
+    main(*sys.argv[1:])

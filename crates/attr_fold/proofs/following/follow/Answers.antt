@@ -1,0 +1,33 @@
+use Rattle.std.proofs.Common.{◌≡◌, true, sym, ap, subst, ◌∙◌, refl}
+use Rattle.std.proofs.lemmas.Result.{IfOk-weaker}
+use Rattle.index_rows.specs.Changes.{Changes, changes_after}
+use Rattle.index_rows.specs.Holders.{IsHeldBut}
+use Rattle.std.specs.Prelude.{Some, [], ℕ, List}
+use Rattle.attr_fold.proofs.Followed.{nothing_held, followed}
+use Rattle.attr_fold.proofs.Walking.{change_is}
+use Rattle.attr_fold.proofs.Standing.{lives}
+use Rattle.attr_fold.proofs.following.follow.Goals as goal
+
+pub returns-then-not-holds_values-clause-followed :
+    goal.returns-then-not-holds_values-clause-followed
+returns-then-not-holds_values-clause-followed g c = λ done but before one was.
+    let old = c.args.rows.now in
+    subst (λ (cs : Changes). IsHeldBut but old.facts old.state old.deletes cs old.holders) (sym one.more)
+    (nothing_held before c.args.p.now c.args.moment.now one.fresh old.facts old.state old.deletes but old.holders was
+    (sym c.if-not-holds_values.ensures.holds))
+
+pub returns-clause-followed : goal.returns-clause-followed
+returns-clause-followed g c =
+    let old = c.args.rows.now in
+    let p = c.args.p.now in
+    let k = c.args.moment.now in
+    let change = c.requires.listed p k c.requires.there in
+    IfOk-weaker c.follow_last.result _ _
+    (λ answer told done but before one was.
+    let last : changes_after (_) p (Some k) ≡ [] = ap (λ (cs : Changes). changes_after cs p (Some k)) (sym one.more) ∙ c.if-not-is_last.ensures.last refl in
+    let live = lives old.facts old.state old.deletes c.requires.counted p k change c.if-has_deleters.ensures.some in
+    subst (λ (cs : Changes). IsHeldBut but old.facts old.state old.deletes cs c.follow_last.new.rows.holders) (sym one.more)
+    (followed before p k one.fresh old.facts old.state old.deletes but old.holders was last
+    change live (sym c.if-not-holds_values.ensures.holds) c.follow_last.new.rows.holders
+    (told done change.change (change_is old.facts old.state p k change) _)))
+    c.follow_last.ensures.followed

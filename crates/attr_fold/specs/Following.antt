@@ -1,0 +1,41 @@
+-- What one change more does to the rows of a permanode.
+use Rattle.std.specs.Prelude.{◌≡◌, ℕ, ◌+◌, ◌*◌, ◌&&◌, ◌||◌, Bool, true, false, not, List, [], ◌∷◌, ◌++◌, length, map, filter, None}
+use Rattle.std.specs.List.{filter_map}
+use Rattle.std.specs.Str.{bytes_eq}
+use Rattle.std.specs.FinMap.{contains_key, insert}
+use Rattle.schema_date.specs.declared.date.When.TheVariants.{Always}
+use Rattle.schema_fact.specs.declared.changes.Change.{Change}
+use Rattle.claim_model.specs.Facts.{Facts}
+use Rattle.claim_model.specs.Changes.{gives, has_after}
+use Rattle.claim_model.specs.Claims.{Moment}
+use Rattle.index_rows.specs.Changes.{Changes, changes_after}
+use Rattle.index_rows.specs.Deletes.{Deletes, row_deleted}
+use Rattle.index_rows.specs.Holders.{Holders, says_permanode}
+use Rattle.index_rows.specs.States.{States}
+use Rattle.index_rows.specs.Values.{change_at, moment_counts}
+
+-- whether p is a permanode whose row says that it is genuine, and isn't deleted, by claims of every date
+abbrev pub holds_values : Facts → States → Deletes → List ℕ → Bool
+holds_values facts state deletes p = says_permanode facts state p && not (row_deleted facts deletes Always p)
+
+-- those of the changes of some moments that count
+abbrev pub counted : Facts → Deletes → List Moment → List Change
+counted facts deletes ks = filter_map (change_at facts) (filter (moment_counts facts deletes Always) ks)
+
+-- these are the changes before, and that of p at the moment
+pub record IsOneMore (before changes : Changes) (p : List ℕ) (k : Moment) : Type 0 where
+  pub fresh : contains_key before (p, k) ≡ false
+  pub more : changes ≡ insert before (p, k) tt
+
+-- the rows of p that were right behind some changes are right behind one change more, and no other row changed
+pub record IsFollowed (p : List ℕ) (c : Change) (said : List Change) (before after : Holders) : Type 0 where
+  pub others : (name value q : List ℕ) → (bytes_eq name c.attr && bytes_eq q p) ≡ false
+      → contains_key after (name, value, q) ≡ contains_key before (name, value, q)
+  pub own : (value : List ℕ) → contains_key before (c.attr, value, p) ≡ has_after c.attr value said
+      → contains_key after (c.attr, value, p) ≡ has_after c.attr value (said ++ c ∷ [])
+  pub given : (value : List ℕ) → contains_key after (c.attr, value, p) ≡ true
+      → (contains_key before (c.attr, value, p) || gives c.attr value c) ≡ true
+
+-- seven, and four for each change of p
+abbrev pub follow_steps : Changes → List ℕ → ℕ
+follow_steps changes p = 7 + 4 * length (changes_after changes p None)

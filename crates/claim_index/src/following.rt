@@ -1,0 +1,100 @@
+//! What is done about a change that has its row: the rows of its values are written at once where that is enough.
+ghost use Rattle.std.specs.Prelude.{◌≡◌, ◌≤◌, ◌+◌, ◌*◌, ℕ, OnOk, IfOk, false, true};
+ghost use Rattle.schema_fact.specs.Changes.{changes_of};
+ghost use Rattle.claim_index.specs.Following.{change_by, kind_change, only_change, CanBeFollowed, IsFollowed, IsNumbered, IsTaken};
+
+use crate::touching::concern;
+use attr_fold::follow;
+use blobref::{NoMemory, Ref, RefList};
+use edge_base::Steps;
+use index_rows::{FactRows, Moment, Rows};
+use schema_date::Date;
+use schema_fact::{Kind, What};
+use std::alloc::Global;
+use std::sync::ledger::Ledger;
+
+// Adds the permanodes that the claim x changes to the list. Where x alone became ready, what its change does is written
+// at once instead, if that is enough.
+pub(crate) fn take_changes<L: Ledger>(
+    alloc: Global,
+    rows: &mut Rows,
+    x: &Ref,
+    alone: bool,
+    concerned: &mut RefList,
+    steps: &mut Steps<L>,
+) -> Result<(), NoMemory>
+    requires { alone ≡ true → CanBeFollowed rows.old x.now }
+    ensures facts { rows.new.facts ≡ rows.old.facts }
+    ensures state { rows.new.state ≡ rows.old.state }
+    ensures waiters { rows.new.waiters ≡ rows.old.waiters }
+    ensures deletes { rows.new.deletes ≡ rows.old.deletes }
+    ensures changes { rows.new.changes ≡ rows.old.changes }
+    ensures taken { OnOk result (IsTaken rows.old rows.new.holders x.now concerned.old concerned.new) }
+    ensures ticks { alone ≡ false → steps.new ≤ steps.old + 2 }
+    ensures more_ticks { (n : ℕ) → IsNumbered rows.old.facts rows.old.changes x.now n
+        → steps.new ≤ steps.old + 10 + 4 * n }
+{
+    if !alone {
+        return concern(rows, x, concerned, steps);
+    }
+    if follow_claim(alloc, rows, x, steps)? {
+        return Ok(());
+    }
+    concern(rows, x, concerned, steps)
+}
+
+// Writes what the change of the claim x does, if it has one change alone, and that can be told by itself.
+fn follow_claim<L: Ledger>(
+    alloc: Global,
+    rows: &mut Rows,
+    x: &Ref,
+    steps: &mut Steps<L>,
+) -> Result<bool, NoMemory>
+    requires { CanBeFollowed rows.old x.now }
+    ensures facts { rows.new.facts ≡ rows.old.facts }
+    ensures state { rows.new.state ≡ rows.old.state }
+    ensures waiters { rows.new.waiters ≡ rows.old.waiters }
+    ensures deletes { rows.new.deletes ≡ rows.old.deletes }
+    ensures changes { rows.new.changes ≡ rows.old.changes }
+    ensures followed { IfOk result (λ done. done ≡ true → IsFollowed rows.old rows.new.holders x.now) }
+    ensures left { IfOk result (λ done. done ≡ false → rows.new.holders ≡ rows.old.holders) }
+    ensures ticks { (n : ℕ) → IsNumbered rows.old.facts rows.old.changes x.now n
+        → steps.new ≤ steps.old + 8 + 4 * n }
+{
+    let Some(change) = change_by(&rows.facts, x, steps) else {
+        return Ok(false);
+    };
+    follow(alloc, rows, &change.0, &change.1, steps)
+}
+
+// The permanode that the claim x changes, and the moment of that, where it has one change alone.
+fn change_by<L: Ledger>(facts: &FactRows, x: &Ref, steps: &mut Steps<L>) -> Option<(Ref, Moment)>
+    ensures change { result ≡ change_by facts.now x.now }
+    ensures ticks { steps.new ≡ steps.old + 1 }
+{
+    match facts.row(x, steps) {
+        Some(fact) => kind_change(x, &fact.kind),
+        None => None,
+    }
+}
+
+fn kind_change(x: &Ref, kind: &Kind) -> Option<(Ref, Moment)>
+    ensures { result ≡ kind_change x.now kind.now }
+{
+    match kind {
+        Kind::Claim { date, what, .. } => only_change(x, date, what),
+        _ => None,
+    }
+}
+
+fn only_change(x: &Ref, date: &Date, what: &What) -> Option<(Ref, Moment)>
+    ensures { result ≡ only_change x.now date.now (changes_of what.now) }
+{
+    if what.change_count() != 1 {
+        return None;
+    }
+    match what.change(0) {
+        Some(change) => Some((*change.on, (date.ns(), *x, 0))),
+        None => None,
+    }
+}
