@@ -1,5 +1,5 @@
 -- The rows of a permanode stay right where one change more is written behind all others.
-use Rattle.std.proofs.Common.{◌≡◌, ℕ, Bool, true, false, not, ◌&&◌, ◌||◌, cond, T, List, [], ◌∷◌, ◌++◌, map, filter, Option, Some, None, refl, sym, ap, subst, ◌∙◌, ◌⊎◌, inl, inr, is_some}
+use Rattle.std.proofs.Common.{◌≡◌, ℕ, Bool, true, false, not, ◌&&◌, ◌||◌, cond, T, List, [], ◌∷◌, ◌++◌, map, filter, Option, Some, None, refl, sym, ap, subst, ◌∙◌, ◌⊎◌, inl, inr, is_some, Ordering}
 use Rattle.std.proofs.Math.Bool.{and-false}
 use Rattle.std.proofs.lemmas.Bool.{and_parts, and_from, or_cases, false≢true, cases_Bool}
 use Rattle.std.proofs.lemmas.Cmp.{tied_itself}
@@ -7,8 +7,9 @@ use Rattle.std.proofs.lemmas.List.{map-append}
 use Rattle.std.proofs.lemmas.List.Elements.{filter-append, filter_map-append}
 use Rattle.std.proofs.lemmas.List.Folds.{list_any-append}
 use Rattle.std.proofs.lemmas.Slice.Eq.{bytes_eq-Decides}
+use Rattle.std.specs.declared.cmp.Ordering.TheVariants.{Less, Equal, Greater}
 use Rattle.std.specs.List.{filter_map, cons_option, list_any}
-use Rattle.std.specs.Ordering.{is_lt, ordering_then}
+use Rattle.std.specs.Ordering.{is_eq, is_lt, eq_by_cmp, ordering_then, ordering_reverse}
 use Rattle.std.specs.Str.{bytes_eq}
 use Rattle.std.specs.FinMap.{get, insert, entries, contains_key, entries-insert, get-entries, entries_sorted, find, is_sorted}
 use Rattle.blobref.specs.Blobref.{ref_cmp}
@@ -17,14 +18,14 @@ use Rattle.schema_fact.specs.declared.changes.Change.{Change}
 use Rattle.claim_model.specs.Facts.{Facts, passes}
 use Rattle.claim_model.specs.Changes.{gives, has_after, values_after}
 use Rattle.claim_model.specs.Claims.{Moment, moment_cmp}
-use Rattle.index_rows.specs.Changes.{Changes, ChangeKey, change_cmp, changes_after, is_later}
+use Rattle.index_rows.specs.Changes.{Changes, ChangeKey, change_cmp, changes_after, changes_before}
 use Rattle.index_rows.specs.Deletes.{Deletes, row_deleted}
 use Rattle.index_rows.specs.Holders.{Holders, is_given, row_holds, says_permanode, IsHeldBut}
 use Rattle.index_rows.specs.States.{States}
 use Rattle.index_rows.specs.Values.{change_at, moment_counts, row_moments, row_values, IsChange}
-use Rattle.index_rows.proofs.Orders.{ref_total, change_total}
-use Rattle.attr_fold.specs.Following.{counted, holds_values, IsFollowed, IsOneMore}
-use Rattle.attr_fold.proofs.LastChange.{put_beside, put_last, put_more}
+use Rattle.index_rows.proofs.Orders.{ref_total, change_total, moment_total}
+use Rattle.attr_fold.specs.Following.{counted, counted_before, holds_values, IsFollowed}
+use Rattle.attr_fold.proofs.LastChange.{put_before, put_beside, put_last, put_more}
 use Rattle.attr_fold.proofs.OneChange.{own_bytes, beside}
 use Rattle.attr_fold.proofs.Walking.{Row, change_is}
 
@@ -73,6 +74,33 @@ module _ (before : Changes) (p : List ℕ) (k : Moment) (fresh : contains_key be
         (λ (x : ChangeKey). bytes_eq p x.0 && is_lt (moment_cmp k x.1)) behind (ap (λ b. b && true) (own_bytes p))
         (entries before) (true_of (is_sorted change_cmp (entries before)) (entries_sorted before)) new
         (ap (filter (λ (e : Row). bytes_eq p e.0.0 && is_lt (moment_cmp k e.0.1))) (sym (entries-insert change_total before (p, k) tt)) ∙ last)
+
+    -- the changes before the last one are those before it came
+    before_own : changes_before now p k ≡ changes_after before p None
+    before_own =
+        ap (filter (λ (e : Row). bytes_eq p e.0.0 && is_lt (moment_cmp e.0.1 k))) (entries-insert change_total before (p, k) tt)
+        ∙ put_before change_total (λ (x : ChangeKey). bytes_eq p x.0 && true) (λ (x : ChangeKey). bytes_eq p x.0 && is_lt (moment_cmp x.1 k))
+        (λ (x : ChangeKey). bytes_eq p x.0 && is_lt (moment_cmp k x.1)) (p, k) tt
+        (λ x t. ap (λ b. b && true) (and_parts (bytes_eq p x.0) (is_lt (moment_cmp x.1 k)) t).0) earlier
+        (ap (λ r. bytes_eq p p && is_lt r) (tied_itself moment_total k) ∙ and-false (bytes_eq p p))
+        (ap (λ r. bytes_eq p p && is_lt r) (tied_itself moment_total k) ∙ and-false (bytes_eq p p))
+        (entries before) new
+        (ap (filter (λ (e : Row). bytes_eq p e.0.0 && is_lt (moment_cmp k e.0.1))) (sym (entries-insert change_total before (p, k) tt)) ∙ last)
+      where
+        earlier : (x : ChangeKey) → (bytes_eq p x.0 && true) ≡ true → (bytes_eq p x.0 && is_lt (moment_cmp k x.1)) ≡ false
+            → eq_by_cmp change_cmp (p, k) x ≡ false → (bytes_eq p x.0 && is_lt (moment_cmp x.1 k)) ≡ true
+        earlier x of behind apart = by (moment_cmp k x.1) refl
+          where
+            own : bytes_eq p x.0 ≡ true
+            own = (and_parts (bytes_eq p x.0) true of).0
+
+            tied : change_cmp (p, k) x ≡ moment_cmp k x.1
+            tied = ap (λ r. ordering_then r (moment_cmp k x.1)) (ap (λ y. ref_cmp y x.0) ((bytes_eq-Decides p x.0).0 own) ∙ tied_itself ref_total x.0)
+
+            by : (r : Ordering) → moment_cmp k x.1 ≡ r → (bytes_eq p x.0 && is_lt (moment_cmp x.1 k)) ≡ true
+            by Less e = absurd (false≢true (sym behind ∙ and_from (bytes_eq p x.0) (is_lt (moment_cmp k x.1)) own (ap is_lt e)))
+            by Equal e = absurd (false≢true (sym apart ∙ ap is_eq (tied ∙ e)))
+            by Greater e = and_from (bytes_eq p x.0) (is_lt (moment_cmp x.1 k)) own (ap is_lt (moment_total.antisymm x.1 k ∙ ap ordering_reverse e))
 
     module _ (facts : Facts) (state : States) (deletes : Deletes) (is : IsChange facts state p k)
         (live : row_deleted facts deletes Always k.1 ≡ false) where
@@ -214,3 +242,7 @@ module _ (before : Changes) (p : List ℕ) (k : Moment) (fresh : contains_key be
                   )
                 ]
             given name value h (inr out) = inl (sym (still name value out) ∙ h)
+
+        pub followed_before : (after : Holders) → IsFollowed p is.change (counted_before facts deletes now p k) holders after → IsHeldBut but facts state deletes now after
+        followed_before after f = followed after
+            (subst (λ (es : List Row). IsFollowed p is.change (counted facts deletes (map (λ (e : Row). e.0.1) es)) holders after) (before_own last) f)

@@ -1,5 +1,5 @@
 -- One entry more in a map, and the entries that pass a test.
-use Rattle.std.proofs.Common.{◌≡◌, Bool, true, false, ◌&&◌, ◌||◌, cond, T, List, [], ◌∷◌, ◌++◌, filter, None, Some, refl, sym, ap, subst, ◌∙◌, Ordering, inl, inr, ◌⊎◌}
+use Rattle.std.proofs.Common.{◌≡◌, Bool, true, false, cond, List, [], ◌∷◌, ◌++◌, filter, None, Some, refl, sym, ap, ◌∙◌, Ordering, inl, inr}
 use Rattle.std.proofs.lemmas.Bool.{and_parts, and_from, cond-true, cond-false, or_right, or_left, or_cases, false≢true}
 use Rattle.std.specs.declared.cmp.Ordering.TheVariants.{Less, Equal, Greater}
 use Rattle.std.specs.List.{list_any}
@@ -113,3 +113,34 @@ module _ {K X : Type 0} {R : K → K → Ordering} (o : IsTotalOrder R) (f : K �
         by Greater is empty more =
             joined (f e.0) (passing (put R k v es)) (passing es) ((k, v) ∷ [])
             (more (new_there e es new is) (none_of (l e.0) e (filter (λ e. l e.0) (put R k v es)) empty))
+
+-- the entries that pass a narrower test, which the new entry doesn't, where what passes the wider test and not the third one passes it too
+module _ {K X : Type 0} {R : K → K → Ordering} (o : IsTotalOrder R) (f g l : K → Bool) (k : K) (v : X)
+    (narrower : (x : K) → g x ≡ true → f x ≡ true) (enough : (x : K) → f x ≡ true → l x ≡ false → eq_by_cmp R k x ≡ false → g x ≡ true) where
+  as_many : (es : List (K × X)) → find R k es ≡ None → filter (λ e. l e.0) es ≡ [] → filter (λ e. g e.0) es ≡ filter (λ e. f e.0) es
+  as_many [] h none = refl
+  as_many (e ∷ es) h none = by (f e.0) refl (g e.0) refl (as_many es (there (eq_by_cmp R k e.0) h) (none_of (l e.0) e (filter (λ e. l e.0) es) none))
+    where
+      there : (b : Bool) → cond b (Some e.1) (find R k es) ≡ None → find R k es ≡ None
+      there true h = absurd (let d : Some e.1 ≡ None = h in cc d)
+      there false h = h
+
+      apart : (b : Bool) → eq_by_cmp R k e.0 ≡ b → cond b (Some e.1) (find R k es) ≡ None → eq_by_cmp R k e.0 ≡ false
+      apart true is h = absurd (let d : Some e.1 ≡ None = h in cc d)
+      apart false is h = is
+
+      out : (b : Bool) → l e.0 ≡ b → cond b (e ∷ filter (λ e. l e.0) es) (filter (λ e. l e.0) es) ≡ [] → l e.0 ≡ false
+      out true is h = absurd (let d : e ∷ filter (λ e. l e.0) es ≡ [] = h in cc d)
+      out false is h = is
+
+      by : (a : Bool) → f e.0 ≡ a → (b : Bool) → g e.0 ≡ b → filter (λ e. g e.0) es ≡ filter (λ e. f e.0) es
+          → cond b (e ∷ filter (λ e. g e.0) es) (filter (λ e. g e.0) es) ≡ cond a (e ∷ filter (λ e. f e.0) es) (filter (λ e. f e.0) es)
+      by true fs true gs more = ap (λ xs. e ∷ xs) more
+      by true fs false gs more = absurd (false≢true (sym gs ∙ enough e.0 fs (out (l e.0) refl none) (apart (eq_by_cmp R k e.0) refl h)))
+      by false fs true gs more = absurd (false≢true (sym fs ∙ narrower e.0 gs))
+      by false fs false gs more = more
+
+  pub put_before : g k ≡ false → l k ≡ false → (es : List (K × X)) → find R k es ≡ None → filter (λ e. l e.0) (put R k v es) ≡ []
+      → filter (λ e. g e.0) (put R k v es) ≡ filter (λ e. f e.0) es
+  put_before beside_g beside_l es h none =
+      put_beside o g k v beside_g es h ∙ as_many es h (sym (put_beside o l k v beside_l es h) ∙ none)

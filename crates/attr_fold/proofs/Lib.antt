@@ -1,5 +1,6 @@
 pub mod LastChange
 pub mod OneChange
+pub mod Dropping
 pub mod Followed
 pub mod Walking
 pub mod Noting

@@ -1,17 +1,16 @@
 -- What one change more does to the rows of its own attribute.
 use Rattle.std.proofs.Common.{◌≡◌, ◌==◌, ℕ, Bool, true, false, not, ◌&&◌, ◌||◌, List, [], ◌∷◌, ◌++◌, length, refl, sym, ap, ◌∙◌, ◌⊎◌, inl, inr}
 use Rattle.std.proofs.lemmas.Bool.{and_parts, and_from, or_cases, or_left, or_right, false≢true, cond-false}
-use Rattle.std.proofs.lemmas.Cmp.{tied_itself}
 use Rattle.std.proofs.lemmas.List.Sums.{fold-append}
 use Rattle.std.proofs.lemmas.Slice.Eq.{bytes_eq-Decides}
 use Rattle.std.specs.List.{list_any}
-use Rattle.std.specs.Ordering.{is_eq, eq_by_cmp}
+use Rattle.std.specs.Ordering.{eq_by_cmp}
 use Rattle.std.specs.Cmp.{both_ways, eq_by_cmp_equiv}
 use Rattle.std.specs.Str.{bytes_eq}
 use Rattle.std.specs.FinMap.{insert, remove, contains_key}
-use Rattle.schema_fact.specs.declared.changes.Act.TheVariants.{Set as sets, Add as adds, Del as removes}
+use Rattle.schema_fact.specs.declared.changes.Act.TheVariants.{Add as adds, Del as removes}
 use Rattle.schema_fact.specs.declared.changes.Change.{Change}
-use Rattle.claim_model.specs.Changes.{left_by, change_values, values_after, gives, has_after}
+use Rattle.claim_model.specs.Changes.{left_by, change_values, values_after, has_after}
 use Rattle.claim_model.proofs.Changes.{add_last, del_last}
 use Rattle.index_look.proofs.Order.{is_Equal}
 use Rattle.index_rows.specs.Holders.{HolderKey, Holders, holder_cmp, holder_total}

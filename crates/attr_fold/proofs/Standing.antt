@@ -41,13 +41,18 @@ module _ (facts : Facts) (state : States) (deletes : Deletes) (counted : IsCount
   by_count : (y : List ℕ) → is_deletable facts y ≡ true → has_deleters state y ≡ row_deleted facts deletes Always y
   by_count y can = ap (λ b. b && has_deleters state y) (sym can) ∙ counts_are_deletion facts deletes state counted y
 
+  deletable : (p : List ℕ) (k : Moment) → IsChange facts state p k → is_deletable facts k.1 ≡ true
+  deletable p k change = ap (passes (λ (f : Fact). can_be_deleted f.kind)) change.found ∙ ap can_be_deleted change.says
+
   -- a change whose claim has no delete claim that counts isn't deleted
   pub lives : (p : List ℕ) (k : Moment) → IsChange facts state p k → false ≡ has_deleters state k.1
       → row_deleted facts deletes Always k.1 ≡ false
-  lives p k change none = sym (by_count k.1 can) ∙ sym none
-    where
-      can : is_deletable facts k.1 ≡ true
-      can = ap (passes (λ (f : Fact). can_be_deleted f.kind)) change.found ∙ ap can_be_deleted change.says
+  lives p k change none = sym (by_count k.1 (deletable p k change)) ∙ sym none
+
+  -- and one with such a claim is
+  pub dies : (p : List ℕ) (k : Moment) → IsChange facts state p k → true ≡ has_deleters state k.1
+      → row_deleted facts deletes Always k.1 ≡ true
+  dies p k change some = sym (by_count k.1 (deletable p k change)) ∙ sym some
 
   pub stands_is : (p : List ℕ) (row : StateRow) → true ≡ passes (λ fact. is_permanode fact.kind) (get facts p)
       → Some row ≡ get state p → row.genuine ≡ true
@@ -70,6 +75,5 @@ module _ (facts : Facts) (state : States) (deletes : Deletes) (counted : IsCount
       → (c : Change) (has : Bool) → Some c ≡ change_said facts k.1 k.2 → has ≡ has_deleters state k.1
       → noted turns c.act (not has) (c.attr, c.value, p) n ≡ moment_noted facts deletes p turns k n
   noted_is p turns k n change c has found is =
-      let can : is_deletable facts k.1 ≡ true = ap (passes (λ (f : Fact). can_be_deleted f.kind)) change.found
-      ∙ ap can_be_deleted change.says in
+      let can : is_deletable facts k.1 ≡ true = deletable p k change in
       (λ i. change_noted turns p (found i) (not ((is ∙ by_count k.1 can) i)) n)

@@ -1,14 +1,16 @@
 -- What one change more does to the rows of a permanode.
-use Rattle.std.specs.Prelude.{◌≡◌, ℕ, ◌+◌, ◌*◌, ◌&&◌, ◌||◌, Bool, true, false, not, List, [], ◌∷◌, ◌++◌, length, map, filter, None}
+use Rattle.std.specs.Prelude.{◌≡◌, ℕ, ◌+◌, ◌*◌, ◌&&◌, ◌||◌, ◌==◌, Bool, true, false, not, List, [], ◌∷◌, ◌++◌, length, map, filter, None}
 use Rattle.std.specs.List.{filter_map}
 use Rattle.std.specs.Str.{bytes_eq}
 use Rattle.std.specs.FinMap.{contains_key, insert}
 use Rattle.schema_date.specs.declared.date.When.TheVariants.{Always}
+use Rattle.schema_fact.specs.declared.changes.Act.{Act}
+use Rattle.schema_fact.specs.declared.changes.Act.TheVariants.{Set as sets, Add as adds, Del as removes}
 use Rattle.schema_fact.specs.declared.changes.Change.{Change}
 use Rattle.claim_model.specs.Facts.{Facts}
 use Rattle.claim_model.specs.Changes.{gives, has_after}
 use Rattle.claim_model.specs.Claims.{Moment}
-use Rattle.index_rows.specs.Changes.{Changes, changes_after}
+use Rattle.index_rows.specs.Changes.{Changes, changes_after, changes_before}
 use Rattle.index_rows.specs.Deletes.{Deletes, row_deleted}
 use Rattle.index_rows.specs.Holders.{Holders, says_permanode}
 use Rattle.index_rows.specs.States.{States}
@@ -21,6 +23,31 @@ holds_values facts state deletes p = says_permanode facts state p && not (row_de
 -- those of the changes of some moments that count
 abbrev pub counted : Facts → Deletes → List Moment → List Change
 counted facts deletes ks = filter_map (change_at facts) (filter (moment_counts facts deletes Always) ks)
+
+-- the changes of p before a moment that count
+abbrev pub counted_before : Facts → Deletes → Changes → List ℕ → Moment → List Change
+counted_before facts deletes changes p k = counted facts deletes (map (λ e. e.0.1) (changes_before changes p k))
+
+-- whether a change leaves no value of its attribute that was there before it
+abbrev pub is_end : Act → List ℕ → Bool
+is_end sets value = true
+is_end adds value = false
+is_end removes value = length value == 0
+
+-- at most rows of values of this attribute of p were dropped
+pub record AreFewer (attr p : List ℕ) (before after : Holders) : Type 0 where
+  pub others : (name value q : List ℕ) → (bytes_eq name attr && bytes_eq q p) ≡ false
+      → contains_key after (name, value, q) ≡ contains_key before (name, value, q)
+  pub fewer : (value : List ℕ) → contains_key after (attr, value, p) ≡ true → contains_key before (attr, value, p) ≡ true
+
+-- each value with a row that is there behind some changes was there before them; if these are all that matter, there is none
+abbrev pub IsTakenBack : List ℕ → List ℕ → List Change → Bool → Holders → Type 0
+IsTakenBack attr p said done holders = (value : List ℕ) (front : List Change) → contains_key holders (attr, value, p) ≡ true
+    → has_after attr value (front ++ said) ≡ true → (done ≡ false) × (has_after attr value front ≡ true)
+
+-- none of the rows is of a value that is there behind these changes
+abbrev pub AreGone : List ℕ → List ℕ → List Change → Holders → Type 0
+AreGone attr p said holders = (value : List ℕ) → contains_key holders (attr, value, p) ≡ true → has_after attr value said ≡ false
 
 -- these are the changes before, and that of p at the moment
 pub record IsOneMore (before changes : Changes) (p : List ℕ) (k : Moment) : Type 0 where

@@ -1,32 +1,35 @@
 //! The rows of what a permanode holds, where one change came behind all others.
-ghost use Rattle.std.specs.Prelude.{◌≡◌, ◌≤◌, ◌+◌, [], ℕ, List, Some, true, false, IfOk};
+ghost use Rattle.std.specs.Prelude.{◌≡◌, ◌≤◌, ◌+◌, ◌*◌, ◌∷◌, [], ℕ, List, length, Some, true, false, IfOk, OnOk};
 ghost use Rattle.std.specs.FinMap.{contains_key};
 ghost use Rattle.schema_fact.specs.declared.changes.Change.{Change};
-ghost use Rattle.schema_fact.specs.declared.changes.Act.TheVariants.{Del as removes};
-ghost use Rattle.index_rows.specs.Changes.{Changes, changes_after};
+ghost use Rattle.schema_fact.specs.declared.changes.Act.TheVariants.{Set as sets, Del as removes};
+ghost use Rattle.index_rows.specs.Changes.{Changes, changes_after, changes_before};
 ghost use Rattle.index_rows.specs.Counted.{IsCounted};
 ghost use Rattle.index_rows.specs.Holders.{IsHeldBut};
-ghost use Rattle.index_rows.specs.Values.{change_at, IsListed};
-ghost use Rattle.attr_fold.specs.Following.{follow_steps, holds_values, IsFollowed, IsOneMore};
+ghost use Rattle.index_rows.specs.Values.{change_at, IsChange, IsListed};
+ghost use Rattle.attr_fold.specs.Following.{counted, counted_before, follow_steps, holds_values, is_end, AreFewer, AreGone, IsFollowed, IsOneMore, IsTakenBack};
 
 use crate::refolding::{has_deleters, standing};
 use blobref::{NoMemory, Ref};
 use edge_base::Steps;
 use index_look::claim::change_said;
-use index_rows::{ChangeRows, HolderKey, HolderRows, Moment, Rows};
+use index_rows::{ChangeRows, HolderKey, Moment, Rows};
 use schema_fact::Act;
 use std::alloc::Global;
 use std::sync::ledger::Ledger;
 
-/// Writes what one change more does to the row of its value in `holders`, where that can be told without a look at the
-/// other changes. It answers whether it could: the rows of p are then right with this change exactly where they were
-/// right without it. It can't where another change of p comes behind this one, where the change's claim is deleted, and
-/// where the change leaves a value alone or removes all values; nothing changes then, and p has to be folded again.
+/// Writes what one change more does to the rows of its attribute in `holders`, where that can be told without a look at
+/// all changes. It answers whether it could: the rows of p are then right with this change exactly where they were right
+/// without it. It can't where another change of p comes behind this one, and where the change's claim is deleted;
+/// nothing changes then, and p has to be folded again.
 ///
 /// The counts of delete claims must be right, each row of `changes` be that of a change of a genuine claim, and the
 /// change have its row. Rows of other permanodes stay as they are, also after `NoMemory`. No other table changes.
 ///
-/// It takes at most six look-ups, steps and changes, and memory for one key.
+/// An addition, or the removal of one value, takes at most six look-ups, steps and changes. Where the change leaves its
+/// value alone, or removes all values, it walks back over the changes of p to the last one that did so for the same
+/// attribute, or to the first of all: that takes at most four for each, and the whole never more than 7 + 4 k where p
+/// has k changes. It takes memory for two keys.
 pub fn follow<L: Ledger>(
     alloc: Global,
     rows: &mut Rows,
@@ -84,7 +87,7 @@ fn is_last<L: Ledger>(changes: &ChangeRows, p: &Ref, moment: &Moment, steps: &mu
     }
 }
 
-// Writes what the change of a moment does, where that is a matter of one row.
+// Writes what the change of a moment does, the last one of p.
 fn follow_last<L: Ledger>(
     alloc: Global,
     rows: &mut Rows,
@@ -92,57 +95,186 @@ fn follow_last<L: Ledger>(
     moment: &Moment,
     steps: &mut Steps<L>,
 ) -> Result<bool, NoMemory>
+    requires counted { IsCounted rows.old.facts rows.old.deletes rows.old.state }
+    requires listed { IsListed rows.old.facts rows.old.state rows.old.changes }
     ensures facts { rows.new.facts ≡ rows.old.facts }
     ensures state { rows.new.state ≡ rows.old.state }
     ensures waiters { rows.new.waiters ≡ rows.old.waiters }
     ensures deletes { rows.new.deletes ≡ rows.old.deletes }
     ensures changes { rows.new.changes ≡ rows.old.changes }
     ensures followed { IfOk result (λ done. done ≡ true → (c : Change) → change_at rows.old.facts moment.now ≡ Some c
-        → (said : List Change) → IsFollowed p.now c said rows.old.holders rows.new.holders) }
+        → IsFollowed p.now c
+        (counted_before rows.old.facts rows.old.deletes rows.old.changes p.now moment.now)
+        rows.old.holders rows.new.holders) }
     ensures left { IfOk result (λ done. done ≡ false → rows.new.holders ≡ rows.old.holders) }
-    ensures ticks { steps.new ≤ steps.old + 2 }
+    ensures ticks { steps.new ≤ steps.old + 3 + 4 * length (changes_before rows.old.changes p.now moment.now) }
 {
     let Some(change) = change_said(&rows.facts, &moment.1, moment.2 as usize, steps) else {
         return Ok(false);
     };
     let act = change.act;
     let key = HolderKey::copy(alloc, change.attr.as_str(), change.value.as_str(), p)?;
-    write_change(&mut rows.holders, act, key, steps)
+    write_change(alloc, rows, moment, act, key, steps)?;
+    Ok(true)
 }
 
-// Puts the row of a value that a change adds, and drops that of one that it removes.
+// Writes what a change does, the last one of the key's permanode.
 fn write_change<L: Ledger>(
-    holders: &mut HolderRows,
+    alloc: Global,
+    rows: &mut Rows,
+    moment: &Moment,
     act: Act,
     key: HolderKey,
     steps: &mut Steps<L>,
-) -> Result<bool, NoMemory>
-    ensures followed { IfOk result (λ done. done ≡ true → (on : List ℕ) (said : List Change)
-        → IsFollowed key.2 (record { on = on; act = act; attr = key.0; value = key.1 }) said holders.old holders.new) }
-    ensures left { IfOk result (λ done. done ≡ false → holders.new ≡ holders.old) }
-    ensures ticks { steps.new ≤ steps.old + 1 }
+) -> Result<(), NoMemory>
+    requires counted { IsCounted rows.old.facts rows.old.deletes rows.old.state }
+    requires listed { IsListed rows.old.facts rows.old.state rows.old.changes }
+    ensures facts { rows.new.facts ≡ rows.old.facts }
+    ensures state { rows.new.state ≡ rows.old.state }
+    ensures waiters { rows.new.waiters ≡ rows.old.waiters }
+    ensures deletes { rows.new.deletes ≡ rows.old.deletes }
+    ensures changes { rows.new.changes ≡ rows.old.changes }
+    ensures followed { OnOk result ((on : List ℕ)
+        → IsFollowed key.2 (record { on = on; act = act; attr = key.0; value = key.1 })
+        (counted_before rows.old.facts rows.old.deletes rows.old.changes key.2 moment.now)
+        rows.old.holders rows.new.holders) }
+    ensures ticks { steps.new ≤ steps.old + 2 + 4 * length (changes_before rows.old.changes key.2 moment.now) }
 {
     match act {
-        Act::Set => Ok(false),
-        Act::Add => {
-            holders.put(key, steps)?;
-            Ok(true)
-        }
-        Act::Del => Ok(drop_value(holders, &key, steps)),
+        Act::Set => set_value(alloc, rows, moment, key, steps),
+        Act::Add => rows.holders.put(key, steps),
+        Act::Del => remove_value(alloc, rows, moment, &key, steps),
     }
 }
 
+// Leaves the row of one value alone.
+fn set_value<L: Ledger>(
+    alloc: Global,
+    rows: &mut Rows,
+    moment: &Moment,
+    key: HolderKey,
+    steps: &mut Steps<L>,
+) -> Result<(), NoMemory>
+    requires counted { IsCounted rows.old.facts rows.old.deletes rows.old.state }
+    requires listed { IsListed rows.old.facts rows.old.state rows.old.changes }
+    ensures facts { rows.new.facts ≡ rows.old.facts }
+    ensures state { rows.new.state ≡ rows.old.state }
+    ensures waiters { rows.new.waiters ≡ rows.old.waiters }
+    ensures deletes { rows.new.deletes ≡ rows.old.deletes }
+    ensures changes { rows.new.changes ≡ rows.old.changes }
+    ensures followed { OnOk result ((on : List ℕ)
+        → IsFollowed key.2 (record { on = on; act = sets; attr = key.0; value = key.1 })
+        (counted_before rows.old.facts rows.old.deletes rows.old.changes key.2 moment.now)
+        rows.old.holders rows.new.holders) }
+    ensures ticks { steps.new ≤ steps.old + 2 + 4 * length (changes_before rows.old.changes key.2 moment.now) }
+{
+    drop_values(alloc, rows, moment, &key, steps)?;
+    rows.holders.put(key, steps)
+}
+
 // Drops the row of a value that is removed; an empty value stands for all values.
-fn drop_value<L: Ledger>(holders: &mut HolderRows, key: &HolderKey, steps: &mut Steps<L>) -> bool
-    ensures followed { result ≡ true → (on : List ℕ) (said : List Change)
-        → IsFollowed key.now.2 (record { on = on; act = removes; attr = key.now.0; value = key.now.1 }) said
-        holders.old holders.new }
-    ensures left { result ≡ false → holders.new ≡ holders.old }
-    ensures ticks { steps.new ≤ steps.old + 1 }
+fn remove_value<L: Ledger>(
+    alloc: Global,
+    rows: &mut Rows,
+    moment: &Moment,
+    key: &HolderKey,
+    steps: &mut Steps<L>,
+) -> Result<(), NoMemory>
+    requires counted { IsCounted rows.old.facts rows.old.deletes rows.old.state }
+    requires listed { IsListed rows.old.facts rows.old.state rows.old.changes }
+    ensures facts { rows.new.facts ≡ rows.old.facts }
+    ensures state { rows.new.state ≡ rows.old.state }
+    ensures waiters { rows.new.waiters ≡ rows.old.waiters }
+    ensures deletes { rows.new.deletes ≡ rows.old.deletes }
+    ensures changes { rows.new.changes ≡ rows.old.changes }
+    ensures followed { OnOk result ((on : List ℕ)
+        → IsFollowed key.now.2 (record { on = on; act = removes; attr = key.now.0; value = key.now.1 })
+        (counted_before rows.old.facts rows.old.deletes rows.old.changes key.now.2 moment.now)
+        rows.old.holders rows.new.holders) }
+    ensures ticks { steps.new ≤ steps.old + 2 + 4 * length (changes_before rows.old.changes key.now.2 moment.now) }
 {
     if key.value().is_empty() {
-        return false;
+        return drop_values(alloc, rows, moment, key, steps);
     }
-    holders.drop_row(key, steps);
-    true
+    rows.holders.drop_row(key, steps);
+    Ok(())
+}
+
+// Drops the rows of all values of the key's attribute that its permanode has before a moment. It walks back to the last
+// change that left no other value.
+fn drop_values<L: Ledger>(
+    alloc: Global,
+    rows: &mut Rows,
+    moment: &Moment,
+    key: &HolderKey,
+    steps: &mut Steps<L>,
+) -> Result<(), NoMemory>
+    requires counted { IsCounted rows.old.facts rows.old.deletes rows.old.state }
+    requires listed { IsListed rows.old.facts rows.old.state rows.old.changes }
+    ensures facts { rows.new.facts ≡ rows.old.facts }
+    ensures state { rows.new.state ≡ rows.old.state }
+    ensures waiters { rows.new.waiters ≡ rows.old.waiters }
+    ensures deletes { rows.new.deletes ≡ rows.old.deletes }
+    ensures changes { rows.new.changes ≡ rows.old.changes }
+    ensures fewer { OnOk result (AreFewer key.now.0 key.now.2 rows.old.holders rows.new.holders) }
+    ensures gone { OnOk result (AreGone key.now.0 key.now.2
+        (counted_before rows.old.facts rows.old.deletes rows.old.changes key.now.2 moment.now)
+        rows.new.holders) }
+    ensures ticks { steps.new ≤ steps.old + 1 + 4 * length (changes_before rows.old.changes key.now.2 moment.now) }
+{
+    let mut at = *moment;
+    'walk: while let Some(before) = rows.changes.prev_of(key.permanode(), &at, steps) {
+        if take_back(alloc, rows, &before, key, steps)? {
+            return Ok(());
+        }
+        at = before;
+    }
+    Ok(())
+}
+
+// Drops the row of the value that the change of a moment gives to the key's attribute. It answers whether that change
+// left no other value.
+fn take_back<L: Ledger>(
+    alloc: Global,
+    rows: &mut Rows,
+    moment: &Moment,
+    key: &HolderKey,
+    steps: &mut Steps<L>,
+) -> Result<bool, NoMemory>
+    requires counted { IsCounted rows.old.facts rows.old.deletes rows.old.state }
+    requires change { IsChange rows.old.facts rows.old.state key.now.2 moment.now }
+    ensures facts { rows.new.facts ≡ rows.old.facts }
+    ensures state { rows.new.state ≡ rows.old.state }
+    ensures waiters { rows.new.waiters ≡ rows.old.waiters }
+    ensures deletes { rows.new.deletes ≡ rows.old.deletes }
+    ensures changes { rows.new.changes ≡ rows.old.changes }
+    ensures fewer { OnOk result (AreFewer key.now.0 key.now.2 rows.old.holders rows.new.holders) }
+    ensures back { IfOk result (λ done. IsTakenBack key.now.0 key.now.2
+        (counted rows.old.facts rows.old.deletes (moment.now ∷ [])) done rows.new.holders) }
+    ensures ticks { steps.new ≤ steps.old + 3 }
+{
+    let Some(change) = change_said(&rows.facts, &moment.1, moment.2 as usize, steps) else {
+        return Ok(false);
+    };
+    if change.attr.as_str() != key.attr() {
+        return Ok(false);
+    }
+    if has_deleters(&rows.state, &moment.1, steps) {
+        return Ok(false);
+    }
+    let ends = is_end(change.act, change.value.as_str());
+    let given = HolderKey::copy(alloc, key.attr(), change.value.as_str(), key.permanode())?;
+    rows.holders.drop_row(&given, steps);
+    Ok(ends)
+}
+
+// Whether a change leaves no value of its attribute that was there before it.
+fn is_end(act: Act, value: &str) -> bool
+    ensures { result ≡ is_end act value.now }
+{
+    match act {
+        Act::Set => true,
+        Act::Add => false,
+        Act::Del => value.is_empty(),
+    }
 }

@@ -25,7 +25,7 @@ module _ {K : Type 0} where
       by true h = refl
       by false h = h
 
-  filter-alone : (p : K → Bool) (ks : List K) → filter (λ e. p e.0) (keys_alone ks) ≡ keys_alone (filter p ks)
+  pub filter-alone : (p : K → Bool) (ks : List K) → filter (λ e. p e.0) (keys_alone ks) ≡ keys_alone (filter p ks)
   filter-alone p [] = refl
   filter-alone p (k ∷ ks) = by (p k) (filter-alone p ks)
     where
@@ -35,7 +35,7 @@ module _ {K : Type 0} where
       by true h = ap (λ es. (k, tt) ∷ es) h
       by false h = h
 
-  keys_of-alone : (ks : List K) → keys_of (keys_alone ks) ≡ ks
+  pub keys_of-alone : (ks : List K) → keys_of (keys_alone ks) ≡ ks
   keys_of-alone [] = refl
   keys_of-alone (k ∷ ks) = ap (λ js. k ∷ js) (keys_of-alone ks)
 

@@ -7,6 +7,7 @@ pub mod Once
 pub mod Groups
 pub mod Alone
 pub mod Walks
+pub mod WalksBack
 pub mod HolderGroups
 pub mod Deleting
 pub mod DeletionWalk

@@ -59,6 +59,13 @@ changes_from m start = filter (λ e. is_from_start change_cmp start e.0) (entrie
 abbrev pub changes_above : Changes → ChangeKey → List (ChangeKey × Unit {0})
 changes_above m k = filter (λ e. is_lt (change_cmp k e.0)) (entries m)
 
+-- the changes of p before a moment
+abbrev pub changes_before : Changes → List ℕ → Moment → List (ChangeKey × Unit {0})
+changes_before m p k = filter (λ e. bytes_eq p e.0.0 && is_lt (moment_cmp e.0.1 k)) (entries m)
+
+abbrev pub changes_below : Changes → ChangeKey → List (ChangeKey × Unit {0})
+changes_below m k = filter (λ e. is_lt (change_cmp e.0 k)) (entries m)
+
 -- a moment is told apart by its parts
 abbrev pub moment_code : Coded Moment
 moment_code =

@@ -1,7 +1,7 @@
 //! Which claims change a permanode, and when.
-ghost use Rattle.std.specs.Prelude.{◌≡◌, ◌+◌, ◌∷◌, [], Some, OnOk, OnErr, IfSome, IfNone, option_copied};
+ghost use Rattle.std.specs.Prelude.{◌≡◌, ◌+◌, ◌∷◌, ◌++◌, [], Some, OnOk, OnErr, IfSome, IfNone, option_copied};
 ghost use Rattle.std.specs.FinMap as finite;
-ghost use Rattle.index_rows.specs.Changes.{changes_above, changes_after, changes_from, changes_start, AllFromFirst, IsFromFirst};
+ghost use Rattle.index_rows.specs.Changes.{changes_above, changes_after, changes_before, changes_below, changes_from, changes_start, AllFromFirst, IsFromFirst};
 
 use blobref::{NoMemory, Ref};
 use edge_base::Steps;
@@ -83,6 +83,47 @@ impl ChangeRows {
     {
         match self.next_from(p, after, steps) {
             Some(key) => if *p == key.0 { Some(key.1) } else { None },
+            None => None,
+        }
+    }
+
+    /// The last moment of p before another; `None` exactly where there is none.
+    pub fn prev_of<L: Ledger>(
+        &self,
+        p: &Ref,
+        before: &Moment,
+        steps: &mut Steps<L>,
+    ) -> Option<Moment>
+        ensures prev { IfSome result (λ k. changes_before self.now p.now before.now
+            ≡ changes_before self.now p.now k ++ ((p.now, k), tt) ∷ []) }
+        ensures first { IfNone result (changes_before self.now p.now before.now ≡ []) }
+        ensures ticks { steps.new ≡ steps.old + 1 }
+    {
+        match self.prev_from(p, before, steps) {
+            Some(key) => if *p == key.0 { Some(key.1) } else { None },
+            None => None,
+        }
+    }
+
+    // The greatest key of p before a moment, or of another permanode below p.
+    fn prev_from<L: Ledger>(
+        &self,
+        p: &Ref,
+        before: &Moment,
+        steps: &mut Steps<L>,
+    ) -> Option<(Ref, Moment)>
+        ensures prev { IfSome result (λ k. changes_below self.now (p.now, before.now)
+            ≡ changes_below self.now k ++ (k, tt) ∷ []) }
+        ensures first { IfNone result (changes_below self.now (p.now, before.now) ≡ []) }
+        ensures ticks { steps.new ≡ steps.old + 1 }
+    {
+        steps.tick();
+        match self
+            .rows
+            .range((Bound::Unbounded, Bound::Excluded((*p, *before))))
+            .next_back()
+        {
+            Some(key) => Some(*key),
             None => None,
         }
     }

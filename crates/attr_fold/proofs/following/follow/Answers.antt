@@ -1,11 +1,13 @@
-use Rattle.std.proofs.Common.{◌≡◌, true, sym, ap, subst, ◌∙◌, refl}
+use Rattle.std.proofs.Common.{◌≡◌, sym, ap, subst, ◌∙◌, refl, arith}
 use Rattle.std.proofs.lemmas.Result.{IfOk-weaker}
 use Rattle.index_rows.specs.Changes.{Changes, changes_after}
 use Rattle.index_rows.specs.Holders.{IsHeldBut}
-use Rattle.std.specs.Prelude.{Some, [], ℕ, List}
-use Rattle.attr_fold.proofs.Followed.{nothing_held, followed}
+use Rattle.std.specs.Prelude.{Some, []}
+use Rattle.attr_fold.specs.Following.{counted_before, IsFollowed}
+use Rattle.attr_fold.proofs.Followed.{nothing_held, followed_before}
 use Rattle.attr_fold.proofs.Walking.{change_is}
 use Rattle.attr_fold.proofs.Standing.{lives}
+use Rattle.attr_fold.proofs.Dropping.{fewer_before}
 use Rattle.attr_fold.proofs.following.follow.Goals as goal
 
 pub returns-then-not-holds_values-clause-followed :
@@ -27,7 +29,17 @@ returns-clause-followed g c =
     let last : changes_after (_) p (Some k) ≡ [] = ap (λ (cs : Changes). changes_after cs p (Some k)) (sym one.more) ∙ c.if-not-is_last.ensures.last refl in
     let live = lives old.facts old.state old.deletes c.requires.counted p k change c.if-has_deleters.ensures.some in
     subst (λ (cs : Changes). IsHeldBut but old.facts old.state old.deletes cs c.follow_last.new.rows.holders) (sym one.more)
-    (followed before p k one.fresh old.facts old.state old.deletes but old.holders was last
+    (followed_before before p k one.fresh old.facts old.state old.deletes but old.holders was last
     change live (sym c.if-not-holds_values.ensures.holds) c.follow_last.new.rows.holders
-    (told done change.change (change_is old.facts old.state p k change) _)))
+    (subst (λ (cs : Changes). IsFollowed p change.change (counted_before old.facts old.deletes cs p k) old.holders c.follow_last.new.rows.holders) one.more
+    (told done change.change (change_is old.facts old.state p k change)))))
     c.follow_last.ensures.followed
+
+pub returns-clause-ticks : goal.returns-clause-ticks
+returns-clause-ticks g c =
+    let f = fewer_before c.args.rows.now.changes c.args.p.now c.args.moment.now in
+    let a = c.holds_values.ensures.ticks in
+    let b = c.has_deleters.ensures.ticks in
+    let d = c.is_last.ensures.ticks in
+    let e = c.follow_last.ensures.ticks in
+    omega (arith, a, b, d, e, f)
