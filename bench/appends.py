@@ -1,10 +1,10 @@
-"""What claims that come in the order of their dates cost an index on one permanode, beside as many on as many permanodes.
+"""What claims in the order of their dates cost an index on one permanode, beside as many on as many permanodes.
 
     appends.py LAB FOLDER
 
-Both packs of a line have the same permanodes, and are inserted blob by blob in their order. Prints the times of the first,
-those of the second being 1; each is the best of three, taken in turn, and has the reading of the blobs in it. Ends with
-status 1 where an answer is wrong.
+Both packs of a line have the same permanodes, and are inserted blob by blob in their order. Prints the times of the
+first, those of the second being 1; each is the best of three, taken in turn, and has the reading of the blobs in it.
+Ends with status 1 where an answer is wrong.
 """
 
 import pathlib
@@ -26,7 +26,11 @@ def sets_in_turn(number):
     return "set", "tag" if number % ATTRIBUTES == 0 else f"a{number % ATTRIBUTES}", f"v{number}"
 
 
-SHAPES = {"10,000 additions": (10_000, adds), "100,000 additions": (100_000, adds), "10,000 sets of 10 attributes": (10_000, sets_in_turn)}
+SHAPES = {
+    "10,000 additions": (10_000, adds),
+    "100,000 additions": (100_000, adds),
+    "10,000 sets of 10 attributes": (10_000, sets_in_turn),
+}
 
 
 def blobs_of(count, change_of, node_of):
@@ -35,7 +39,8 @@ def blobs_of(count, change_of, node_of):
     claims = []
     for number in range(count):
         act, attr, value = change_of(number)
-        claims.append(claim(act, refs[node_of(number)], attr, value, reference.date_text(FIRST_MOMENT + number * 10**9)))
+        date = reference.date_text(FIRST_MOMENT + number * 10**9)
+        claims.append(claim(act, refs[node_of(number)], attr, value, date))
     return [key_blob(), *nodes, *claims]
 
 

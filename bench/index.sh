@@ -1,10 +1,10 @@
 #!/usr/bin/env bash
 # Times an index over 100,000 blobs, 25,000 of them permanodes, against openssl over the same bytes: inserts one by one,
 # in the order of the pack and with its last blob first, and all blobs at once; then `perkeep search` over a store of the
-# same blobs; an index over claims of 1,000 changes, against one over as many claims of one change; and claims that come
-# in order on one permanode, against as many on as many permanodes. The first program
-# is crates/lab, which is built where it is missing or older than the sources, or what LAB names; the other one is
-# ./perkeep's, or what PERKEEP names. BEFORE names one more to be timed beside that, as that of an earlier commit.
+# same blobs; an index over claims of 1,000 changes, against one over as many claims of one change; and claims in order
+# on one permanode, against as many on as many permanodes. The first program is crates/lab, which is built where it is
+# missing or older than the sources, or what LAB names; the other one is ./perkeep's, or what PERKEEP names. BEFORE names
+# one more to be timed beside that, as that of an earlier commit.
 # BENCH_BLOBS is another number of blobs, to try the script: with a few thousand of them the peaks of memory say nothing.
 #
 # Prints ratios within this run, inserts a second, and the bytes that a fact takes: the peak memory above that of reading

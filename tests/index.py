@@ -26,6 +26,21 @@ def members():
     return checks("members", [KEY, NODE, *claims], ("fill",), "camliMember", refs[MEMBERS // 2], 1)
 
 
+def in_order():
+    """Claims on a permanode in the order of their dates, one by one: additions, and sets of ten attributes in turn."""
+    changes = {
+        "additions": [("add", "tag", f"v{number}") for number in range(MEMBERS)],
+        "sets in turn": [("set", f"a{n % 10}" if n % 10 else "tag", f"v{n}") for n in range(MEMBERS)],
+    }
+    dates = [writing.date_text(number * 10**9) for number in range(MEMBERS)]
+    return [
+        check
+        for what, acts in changes.items()
+        for claims in [[writing.claim(act, ref_of(NODE), *rest, date) for (act, *rest), date in zip(acts, dates)]]
+        for check in checks(f"{what} in order", [KEY, NODE, *claims], ("insert",), "tag", f"v{MEMBERS - 10}", 1)
+    ]
+
+
 def deletions():
     return chain_checks(DELETIONS, ("insert-backwards", "fill")) + chain_checks(DELETIONS_IN_ORDER, ("insert",))
 
@@ -84,7 +99,7 @@ def checks(what, blobs, words, attribute, value, holders):
 
 
 # They are timed, so nothing else runs beside them.
-GROUPS = [members, deletions, late_key, several_changes, shared_trees]
+GROUPS = [members, in_order, deletions, late_key, several_changes, shared_trees]
 
 
 def checks_of(program, group):

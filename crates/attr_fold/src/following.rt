@@ -19,8 +19,8 @@ use std::alloc::Global;
 use std::sync::ledger::Ledger;
 
 /// Writes what one change more does to the rows of its attribute in `holders`, where that can be told without a look at
-/// all changes. It answers whether it could: the rows of p are then right with this change exactly where they were right
-/// without it. It can't where another change of p comes behind this one, and where the change's claim is deleted;
+/// all changes. It answers whether it could: the rows of p are then right with this change exactly where they were
+/// right without it. It can't where another change of p comes behind this one, and where the change's claim is deleted;
 /// nothing changes then, and p has to be folded again.
 ///
 /// The counts of delete claims must be right, each row of `changes` be that of a change of a genuine claim, and the

@@ -113,8 +113,12 @@ impl<V: Verifier> Index<V> {
     /// may be stale. It answers by the facts all the same, and the next insert makes the tables anew.
     ///
     /// It looks at what waited for the ref, at what became ready and the delete claims that this concerns, and at the
-    /// changes of each permanode that is concerned, once each. Where the index isn't stale it takes at most 16 (1 + n)
-    /// steps, whatever it answers, for n entries of `touched` in `index_rows/specs/Touched.antt`.
+    /// changes of each permanode that is concerned, once each. Where a claim of one change is all that becomes ready,
+    /// and comes behind all others on its permanode, it looks at no more than the changes since the attribute was last
+    /// set or emptied, and at none of them for an addition or the removal of one value.
+    ///
+    /// Where the index isn't stale it takes at most 16 (1 + n) steps, whatever it answers, for n entries of `touched`
+    /// in `index_rows/specs/Touched.antt`.
     pub fn insert<L: Ledger>(
         &mut self,
         number: u64,
