@@ -1,3 +1,4 @@
 pub mod Walk
+pub mod Beginning
 pub mod Orders
 pub mod Asked

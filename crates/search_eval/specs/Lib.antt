@@ -1,3 +1,4 @@
 pub mod Answer
+pub mod Held
 pub mod Walk
 pub mod Laws

@@ -1,12 +1,17 @@
 //! The answer to a query.
-ghost use Rattle.std.specs.Prelude.{◌≡◌, ◌++◌, ◌∷◌, [], ℕ, List, IfOk, OnOk, filter, not};
+ghost use Rattle.std.specs.Prelude.{◌≡◌, ◌≤◌, ◌+◌, ◌*◌, ◌++◌, ◌∷◌, [], ℕ, List, Some, true, IfOk, OnOk, filter, length};
+ghost use Rattle.std.specs.Prelude.{not, take};
 ghost use Rattle.std.specs.List.Sorted.{IsStrictlySortedBy};
 ghost use Rattle.blobref.specs.Blobref.{ref_cmp};
 ghost use Rattle.claim_model.specs.Deleted.{is_deleted};
+ghost use Rattle.claim_model.specs.Claims.{holders};
+ghost use Rattle.search_query.specs.View.{view};
 ghost use Rattle.search_eval.specs.Answer.{answer, found};
+ghost use Rattle.search_eval.specs.Held.{AsksForValue, held_at, is_plain};
 ghost use Rattle.search_eval.specs.Walk.{has_enough, up_to};
 ghost use Rattle.search_eval.specs.Walk.{is_found};
 
+use crate::held::{held_at, is_plain};
 use crate::ordering::{falling, rising};
 use blobref::{NoMemory, Ref, RefList};
 use edge_base::Steps;
@@ -23,17 +28,24 @@ const FIRST_ASKED: usize = 1_024;
 /// The refs that the query asks for, in its order, at most its limit (`docs/search.md`). `NoMemory` comes only where
 /// no memory is left. `steps` counts the steps of the index.
 ///
-/// The time is at most that of (parts of the constraint) x (refs) x (values or parents of a ref), and of a walk over all
-/// permanodes for each part that asks for parents at a date, however deep the constraint nests (`search_meets::met`). In
-/// the order `Sort::Ref` the permanodes are asked by and by, each time twice as many, until `limit` of them are found;
-/// so that time may come as often as their number can be halved.
+/// The time is at most that of (parts of the constraint) x (refs) x (values or parents of a ref), and of a walk over
+/// all permanodes for each part that asks for parents at a date, however deep the constraint nests
+/// (`search_meets::met`). In the order `Sort::Ref` the permanodes are asked by and by, each time twice as many, until
+/// `limit` of them are found; so that time may come as often as their number can be halved.
+///
+/// The refs are all permanodes. Where the constraint asks for a value of an attribute, by itself or in what it joins by
+/// `and`, and no date is asked, they are those alone that hold the value, in any order of the answer. A query for one
+/// value and nothing else, at no date and in the order `Sort::Ref`, takes at most 8 (1 + n) steps where the index is
+/// quick and n permanodes hold the value, whatever it answers.
 pub fn answer<K: Look, L: Ledger>(
     alloc: Global,
     look: &K,
     query: &Query,
     steps: &mut Steps<L>,
 ) -> Result<RefList, NoMemory>
-    ensures { IfOk result (λ refs. refs ≡ answer (K.facts look.now) (K.accepts look.now) query.now) }
+    ensures refs { IfOk result (λ refs. refs ≡ answer (K.facts look.now) (K.accepts look.now) query.now) }
+    ensures ticks { (name value : List ℕ) → AsksForValue query.now name value → K.quick look.now
+        → steps.new ≤ steps.old + 8 * (1 + length (holders (K.facts look.now) (K.accepts look.now) name value)) }
 {
     match query.sort {
         Sort::Ref => found(alloc, look, query, Some(query.limit), steps),
@@ -81,6 +93,24 @@ fn found<K: Look, L: Ledger>(
 ) -> Result<RefList, NoMemory>
     ensures all { IfOk result (λ refs. refs ≡ up_to stop (found (K.facts look.now) (K.accepts look.now) query.now)) }
     ensures ascending { IfOk result (λ refs. IsStrictlySortedBy ref_cmp refs) }
+    ensures ticks { (name value : List ℕ) → AsksForValue query.now name value → K.quick look.now
+        → steps.new ≤ steps.old + 8 * (1 + length (holders (K.facts look.now) (K.accepts look.now) name value)) }
+{
+    match held_at(look, &query.constraint, &query.at, steps)? {
+        None => found_among_all(alloc, look, query, stop, steps),
+        Some(refs) => found_among(alloc, look, query, stop, refs, steps),
+    }
+}
+
+// The same among all permanodes.
+fn found_among_all<K: Look, L: Ledger>(
+    alloc: Global,
+    look: &K,
+    query: &Query,
+    stop: Option<u32>,
+    steps: &mut Steps<L>,
+) -> Result<RefList, NoMemory>
+    ensures { IfOk result (λ refs. refs ≡ up_to stop (found (K.facts look.now) (K.accepts look.now) query.now)) }
 {
     let mut walk = start(alloc, stop);
     let mut after = None;
@@ -93,6 +123,78 @@ fn found<K: Look, L: Ledger>(
     }
     ask(alloc, look, query, stop, &mut walk, steps)?;
     Ok(walk.found)
+}
+
+// The same among those that the constraint begins from.
+fn found_among<K: Look, L: Ledger>(
+    alloc: Global,
+    look: &K,
+    query: &Query,
+    stop: Option<u32>,
+    refs: RefList,
+    steps: &mut Steps<L>,
+) -> Result<RefList, NoMemory>
+    requires { Some refs ≡ held_at (K.facts look.now) (K.accepts look.now) query.now.at (view query.now.constraint) }
+    ensures all { IfOk result (λ refs. refs ≡ up_to stop (found (K.facts look.now) (K.accepts look.now) query.now)) }
+    ensures ticks { is_plain (view query.now.constraint) ≡ true → steps.new ≡ steps.old }
+{
+    if is_plain(&query.constraint) {
+        return cut(alloc, refs, stop);
+    }
+    asked_among(alloc, look, query, stop, refs.as_slice(), steps)
+}
+
+// Those of the refs that the query asks for, the first ones where so many are enough.
+fn asked_among<K: Look, L: Ledger>(
+    alloc: Global,
+    look: &K,
+    query: &Query,
+    stop: Option<u32>,
+    refs: &[Ref],
+    steps: &mut Steps<L>,
+) -> Result<RefList, NoMemory>
+    ensures { IfOk result (λ found. found
+        ≡ up_to stop (filter (is_found (K.facts look.now) (K.accepts look.now) query.now) refs.now)) }
+{
+    let mut walk = start(alloc, stop);
+    for p in refs {
+        come_to(alloc, look, query, stop, &mut walk, *p, steps)?;
+        if is_full(stop, &walk.found) {
+            return Ok(walk.found);
+        }
+    }
+    ask(alloc, look, query, stop, &mut walk, steps)?;
+    Ok(walk.found)
+}
+
+// The refs, or the first ones where so many are enough.
+fn cut(alloc: Global, refs: RefList, stop: Option<u32>) -> Result<RefList, NoMemory>
+    ensures { IfOk result (λ cut. cut ≡ up_to stop refs) }
+{
+    match stop {
+        None => Ok(refs),
+        Some(limit) => cut_at(alloc, refs, limit as usize),
+    }
+}
+
+fn cut_at(alloc: Global, refs: RefList, limit: usize) -> Result<RefList, NoMemory>
+    ensures { IfOk result (λ cut. cut ≡ take limit refs) }
+{
+    if refs.len() <= limit {
+        Ok(refs)
+    } else {
+        copied(alloc, &refs.as_slice()[..limit])
+    }
+}
+
+fn copied(alloc: Global, refs: &[Ref]) -> Result<RefList, NoMemory>
+    ensures { IfOk result (λ copy. copy ≡ refs.now) }
+{
+    let mut copy = RefList::empty(alloc);
+    for r in refs {
+        copy.push(*r)?;
+    }
+    Ok(copy)
 }
 
 // Whether as many refs were found as are enough.

@@ -1,7 +1,10 @@
 //! Laws of answers.
-ghost use Rattle.std.specs.Prelude.{◌≡◌};
+ghost use Rattle.std.specs.Prelude.{◌≡◌, ℕ, List};
+ghost use Rattle.schema_date.specs.declared.date.When.TheVariants.{Always};
+ghost use Rattle.search_query.specs.Queries.{value_query};
 ghost use Rattle.search_query.specs.declared.query.Query.{Query};
 ghost use Rattle.search_eval.specs.Answer.{answer, answer_bytes};
+ghost use Rattle.search_eval.specs.Held.{AsksForValue};
 ghost use Rattle.search_eval.specs.Laws.{AnswersAreAsked};
 
 use index_look::Look;
@@ -22,4 +25,10 @@ pub fn same_answers<A: Look, B: Look>(a: &A, b: &B)
 /// only where there are `limit` refs, each of which comes before it in that order.
 pub fn answers_are_asked()
     ensures { AnswersAreAsked }
+{}
+
+/// The query of `Query::for_value` at no date asks for that value of the attribute and for nothing else, so what
+/// `answer` says of its steps holds for it.
+pub fn value_queries_ask()
+    ensures { (name value : List ℕ) → AsksForValue (value_query name value Always) name value }
 {}

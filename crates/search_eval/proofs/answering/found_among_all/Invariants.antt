@@ -4,7 +4,7 @@ use Rattle.claim_model.specs.Genuine.{permanodes}
 use Rattle.search_eval.specs.Walk.{up_to}
 use Rattle.search_eval.specs.Walk.{is_found}
 use Rattle.search_eval.proofs.Walk.{whole}
-use Rattle.search_eval.proofs.answering.found.Given as goal
+use Rattle.search_eval.proofs.answering.found_among_all.Given as goal
 
 -- no more was found than is enough; and what was found, with what is found among the permanodes to be asked and still to come, begins as
 -- all that is found
