@@ -39,7 +39,8 @@ use Rattle.blob_http.specs.declared.operations.Operation.{Operation}
 use Rattle.blob_http.specs.declared.operations.Operation.TheVariants as question
 use Rattle.blob_http.specs.declared.replies.ReplyText.{ReplyText}
 use Rattle.blob_http.specs.declared.replies.ReplyText.TheVariants as made
-use Rattle.blob_http.specs.Replies.{json_reply, blob_reply, refused_reply}
+use Rattle.http_exchange.specs.Replies.{json_reply, bytes_reply, refused_reply}
+use Rattle.http_exchange.specs.Written.{reply_bytes}
 use Rattle.blob_http.specs.Answers.{IsAnswer, IsBlobReply, IsDefined, reads_blobs, allow_text, outcome_of, IsTold}
 use Rattle.blob_http.specs.Answers.{IsMemory, FaultMade, BlobMade, TextMade, page_answer, cut_page, more_after}
 use Rattle.blob_http.specs.Serving.{HasCauseIn, LooksAt, Longer, PutsNothing, IsShown}
@@ -188,20 +189,20 @@ refused_answers tells closes why allow m v counts is count = record {
     refused_looked : (m : ReplyText)
         → Looked v.store.history (take counts.0 (arrivals v.store.history)) (question.Refused why allow) m []
     refused_looked made.Memory = tt
-    refused_looked (made.Told o head body) = tt
+    refused_looked (made.Told o reply) = tt
 
     refused_made : (m : ReplyText) → IsTold Defined (refused_reply closes (allow_text allow) why) m
         → (blobs : List Blob) (g : List Insertion)
         → IsMade tells v.index.accepts blobs g closes (question.Refused why allow) m
     refused_made made.Memory is blobs g = tt
-    refused_made (made.Told o head body) is blobs g =
+    refused_made (made.Told o reply) is blobs g =
         subst (λ (z : Outcome). IsAnswer tells v.index.accepts blobs g closes (question.Refused why allow) z
-        (head ++ body)) (sym is.0) is.1
+        (reply_bytes reply)) (sym is.0) is.1
 
     refused_cause : (m : ReplyText) → IsTold Defined (refused_reply closes (allow_text allow) why) m
         → HasCauseIn [] v.store.history (outcome_of m)
     refused_cause made.Memory is = tt
-    refused_cause (made.Told o head body) is = subst (HasCauseIn [] v.store.history) (sym is.0) tt
+    refused_cause (made.Told o reply) is = subst (HasCauseIn [] v.store.history) (sym is.0) tt
 
 -- there was no memory to find out what is asked
 pub memory_answers : (tells closes : Bool) (q : Operation) (v : Sight) (counts : ℕ × ℕ) → Counts v counts
@@ -229,17 +230,17 @@ memory_made : (tells : Bool) (accepts : Accepts) (blobs : List Blob) (g : List I
     (q : Operation) (m : ReplyText)
     → IsMemory m → IsMade tells accepts blobs g closes q m
 memory_made tells accepts blobs g closes q made.Memory is = tt
-memory_made tells accepts blobs g closes q (made.Told o head body) is = absurd is
+memory_made tells accepts blobs g closes q (made.Told o reply) is = absurd is
 
 memory_cause : (turns : List ℕ) (h : List (Stamped StoreEvent)) (m : ReplyText) → IsMemory m
     → HasCauseIn turns h (outcome_of m)
 memory_cause turns h made.Memory is = tt
-memory_cause turns h (made.Told o head body) is = absurd is
+memory_cause turns h (made.Told o reply) is = absurd is
 
 memory_looked : (h : List (Stamped StoreEvent)) (blobs : List Blob) (q : Operation) (turns : List ℕ) (m : ReplyText)
     → IsMemory m → Looked h blobs q m turns
 memory_looked h blobs q turns made.Memory is = tt
-memory_looked h blobs q turns (made.Told o head body) is = absurd is
+memory_looked h blobs q turns (made.Told o reply) is = absurd is
 
 looks_at : (h : List (Stamped StoreEvent)) (blobs : List Blob) (q : Operation) (turns : List ℕ)
     → IsShown h blobs turns → LooksAt h blobs q turns
@@ -252,7 +253,7 @@ looks_at h blobs (question.Search query) turns is = is
 looked_at : (h : List (Stamped StoreEvent)) (blobs : List Blob) (q : Operation) (m : ReplyText) (turns : List ℕ)
     → IsShown h blobs turns → Looked h blobs q m turns
 looked_at h blobs q made.Memory turns is = tt
-looked_at h blobs q (made.Told o head body) turns is = looks_at h blobs q turns is
+looked_at h blobs q (made.Told o reply) turns is = looks_at h blobs q turns is
 
 -- what a look has shown is what is counted before anything else is done
 shown_by : (o v w : Sight) (n : ℕ) (further : List ℕ) (look : Looks o v) → n ≡ length (arrivals v.store.history)
@@ -380,19 +381,19 @@ fault_made : (tells : Bool) (accepts : Accepts) (blobs : List Blob) (g : List In
     (q : Operation) (f : GetFault) (m : ReplyText)
     → reads_blobs q ≡ true → FaultMade closes f m → IsMade tells accepts blobs g closes q m
 fault_made tells accepts blobs g closes q f made.Memory reads is = tt
-fault_made tells accepts blobs g closes q unread.Disk (made.Told o head body) reads is =
-    subst (λ (z : Outcome). IsAnswer tells accepts blobs g closes q z (head ++ body)) (sym is.0) (reads, is.1)
-fault_made tells accepts blobs g closes q (unread.Damaged want was) (made.Told o head body) reads is =
-    subst (λ (z : Outcome). IsAnswer tells accepts blobs g closes q z (head ++ body)) (sym is.0) (reads, is.1)
-fault_made tells accepts blobs g closes q unread.NoMemory (made.Told o head body) reads is = absurd is
+fault_made tells accepts blobs g closes q unread.Disk (made.Told o reply) reads is =
+    subst (λ (z : Outcome). IsAnswer tells accepts blobs g closes q z (reply_bytes reply)) (sym is.0) (reads, is.1)
+fault_made tells accepts blobs g closes q (unread.Damaged want was) (made.Told o reply) reads is =
+    subst (λ (z : Outcome). IsAnswer tells accepts blobs g closes q z (reply_bytes reply)) (sym is.0) (reads, is.1)
+fault_made tells accepts blobs g closes q unread.NoMemory (made.Told o reply) reads is = absurd is
 
 told_cause : (turns : List ℕ) (h : List (Stamped StoreEvent)) (closes : Bool) (f : GetFault) (m : ReplyText)
     → FaultMade closes f m
     → Caused f turns h → HasCauseIn turns h (outcome_of m)
 told_cause turns h closes f made.Memory is c = tt
-told_cause turns h closes unread.Disk (made.Told o head body) is c = subst (HasCauseIn turns h) (sym is.0) c
-told_cause turns h closes (unread.Damaged a b) (made.Told o head body) is c = subst (HasCauseIn turns h) (sym is.0) c
-told_cause turns h closes unread.NoMemory (made.Told o head body) is c = absurd is
+told_cause turns h closes unread.Disk (made.Told o reply) is c = subst (HasCauseIn turns h) (sym is.0) c
+told_cause turns h closes (unread.Damaged a b) (made.Told o reply) is c = subst (HasCauseIn turns h) (sym is.0) c
+told_cause turns h closes unread.NoMemory (made.Told o reply) is c = absurd is
 
 fails_caused : (tells : Bool) (asked : Option (List ℕ)) (f : GetFault) (h : List (Stamped StoreEvent)) (t : ℕ)
     (e : Option StoreEvent)
@@ -404,14 +405,14 @@ fails_caused tells asked unread.NoMemory h t e c = tt
 defined_cause : (turns : List ℕ) (h : List (Stamped StoreEvent)) (text : List ℕ) (m : ReplyText) → IsTold Defined text m
     → HasCauseIn turns h (outcome_of m)
 defined_cause turns h text made.Memory is = tt
-defined_cause turns h text (made.Told o head body) is = subst (HasCauseIn turns h) (sym is.0) tt
+defined_cause turns h text (made.Told o reply) is = subst (HasCauseIn turns h) (sym is.0) tt
 
 defined_made : (tells : Bool) (accepts : Accepts) (blobs : List Blob) (g : List Insertion) (closes : Bool)
     (q : Operation) (text : List ℕ) (m : ReplyText)
     → IsTold Defined text m → IsDefined tells accepts blobs g closes q text → IsMade tells accepts blobs g closes q m
 defined_made tells accepts blobs g closes q text made.Memory is d = tt
-defined_made tells accepts blobs g closes q text (made.Told o head body) is d =
-    subst (λ (z : Outcome). IsAnswer tells accepts blobs g closes q z (head ++ body)) (sym is.0)
+defined_made tells accepts blobs g closes q text (made.Told o reply) is d =
+    subst (λ (z : Outcome). IsAnswer tells accepts blobs g closes q z (reply_bytes reply)) (sym is.0)
     (subst (λ (t : List ℕ). IsDefined tells accepts blobs g closes q t) (sym is.1) d)
 
 module _ (tells closes : Bool) (r : List ℕ) where
@@ -426,8 +427,8 @@ module _ (tells closes : Bool) (r : List ℕ) where
       (sym here) refl)
   blob_made (Ok (Some bytes)) m is accepts before blobs g e same says =
       let here : bytes_of r blobs ≡ Some says.0.0 = ap (bytes_of r) (same says.1) ∙ says.0.1 in
-      defined_made tells accepts blobs g closes (question.Blob r) (blob_reply closes bytes) m is
-      (subst (λ (z : Option (List ℕ)). IsBlobReply tells r closes z (blob_reply closes bytes)) (sym here)
+      defined_made tells accepts blobs g closes (question.Blob r) (bytes_reply closes bytes) m is
+      (subst (λ (z : Option (List ℕ)). IsBlobReply tells r closes z (bytes_reply closes bytes)) (sym here)
       (bytes, says.0.2, refl))
   blob_made (Err f) m is accepts before blobs g e same says = fault_made tells accepts blobs g closes
       (question.Blob r) f m refl is

@@ -32,7 +32,7 @@ use Rattle.multipart_read.proofs.Unique.{one_reading}
 use Rattle.multipart_read.proofs.PartLaws.{bodies_have_parts, one_list_of_parts}
 use Rattle.blob_routes.specs.declared.routes.Route.{Route}
 use Rattle.blob_routes.specs.declared.routes.Route.TheVariants as route
-use Rattle.blob_routes.specs.Before.{most_body}
+use Rattle.http_exchange.specs.Before.{most_body}
 use Rattle.blob_upload.specs.declared.upload_end.UploadEnd.{UploadEnd}
 use Rattle.blob_upload.specs.declared.upload_end.UploadEnd.TheVariants as came
 use Rattle.blob_upload.specs.Faults.{most_bytes, part_fault}
@@ -42,7 +42,7 @@ use Rattle.blob_upload.proofs.Fronts.{told_first}
 use Rattle.blob_http.specs.declared.entries.Outcome.{Outcome}
 use Rattle.blob_http.specs.declared.entries.Outcome.TheVariants.{Defined, Memory, Disk, Full, Damaged}
 use Rattle.blob_http.specs.declared.operations.Operation.{Operation}
-use Rattle.blob_http.specs.Asked.{Asked, Whole, Front, Head as NoHead}
+use Rattle.http_exchange.specs.Asked.{Asked, Whole, Front, Head as NoHead}
 use Rattle.blob_http.specs.Questions.{first_of}
 use Rattle.blob_http.specs.Keeping.{boundary_at, Kept, IsUploadReply}
 use Rattle.blob_http.specs.Serving.{HasCauseIn, IsBodyRefusal, IsFrontDefined, IsReply}

@@ -13,15 +13,18 @@ use Rattle.http_wire.specs.Wires.{WireView}
 use Rattle.http_wire.specs.Speaking.{Begun, text_of as text_in}
 use Rattle.blob_http.specs.declared.entries.Answered.{Answered}
 use Rattle.blob_http.specs.declared.replies.ReplyText.{ReplyText}
-use Rattle.blob_http.specs.declared.serving.Ended.{Ended}
-use Rattle.blob_http.specs.declared.serving.Ended.TheVariants as ended
+use Rattle.http_exchange.specs.declared.ended.Ended.{Ended}
+use Rattle.http_exchange.specs.declared.ended.Ended.TheVariants as ended
 use Rattle.blob_http.specs.Answers.{text_of}
-use Rattle.blob_http.specs.Serving.{Serves, Open, Heard, Wrote, fresh_flow, IsRest, HasNone, Passes, CutUpload}
-use Rattle.blob_http.specs.Handling.{Replies, NoneComes}
+use Rattle.blob_http.specs.Serving.{Serves, Heard, IsRest, HasNone, Passes, CutUpload}
+use Rattle.http_exchange.specs.Hearing.{Open, Wrote, fresh_flow}
+use Rattle.blob_http.specs.Handling.{Replies}
+use Rattle.blob_http.specs.Serving.{NoneComes, IsFair}
 use Rattle.std.proofs.lemmas.List.{append-nil}
 use Rattle.blob_http.proofs.Staying.{longer_none, owns_none}
-use Rattle.blob_http.proofs.Stepping.{serves_none, serves_more, serves_ends, took_none, TookFront-chain}
-use Rattle.blob_http.proofs.Hearing.{open_none, heard_none, heard_full, heard_more, heard_last, heard_breaks}
+use Rattle.blob_http.proofs.Stepping.{serves_none, serves_more, serves_ends}
+use Rattle.http_exchange.proofs.Taking.{took_none, TookFront-chain}
+use Rattle.http_exchange.proofs.Hearing.{open_none, heard_none, heard_full, heard_more, heard_last, heard_breaks}
 
 -- ---- what stands in the rest of a stream stands in the stream
 
@@ -107,7 +110,7 @@ module _ (tells : Bool) (v w : Sight) (noted noted' : List Answered → Type 0) 
   step_closes x entry m x2 w2 new closes adds r closed took =
       serves_more tells v w x noted noted' (Open x0 x1 fresh_flow flow) (Heard x0 x2 ended.Closed) (Took w0 w1)
       (Wrote w0 w2 ended.Closed) r.asked entry (text_of m) s r.handles adds
-      (λ before o. heard_last x0 x1 x2 flow new.flow before r.asked o r.comes (sym r.closing ∙ closed))
+      (λ before o. heard_last IsFair x0 x1 x2 flow new.flow before r.asked o r.comes (sym r.closing ∙ closed))
       (λ texts t. Took-chain w0 w1 w2 texts (text_of m) t took)
 
   -- the reply wasn't written whole
@@ -118,7 +121,7 @@ module _ (tells : Bool) (v w : Sight) (noted noted' : List Answered → Type 0) 
   step_breaks x entry m x2 w2 new closes adds r took =
       serves_more tells v w x noted noted' (Open x0 x1 fresh_flow flow) (Heard x0 x2 ended.WriteFault) (Took w0 w1)
       (Wrote w0 w2 ended.WriteFault) r.asked entry (text_of m) s r.handles adds
-      (λ before o. heard_breaks x0 x1 x2 flow new.flow before r.asked closes o r.comes (sym r.closing))
+      (λ before o. heard_breaks IsFair x0 x1 x2 flow new.flow before r.asked closes o r.comes (sym r.closing))
       (λ texts t. TookFront-chain w0 w1 w2 texts (text_of m) t took)
 
   -- no request came, or one that has no answer
@@ -129,7 +132,7 @@ module _ (tells : Bool) (v w : Sight) (noted noted' : List Answered → Type 0) 
   step_ends x x2 end same none passes =
       serves_ends tells v w x noted noted' (Open x0 x1 fresh_flow flow) (Heard x0 x2 end) (Took w0 w1)
       (Wrote w0 w1 end) (IsRest x0 0 end) passes.turns passes.added s same
-      (λ asked o. heard_none x0 x1 x2 flow asked end o none) (written end none) passes.drawn passes.owned
+      (λ asked o. heard_none IsFair x0 x1 x2 flow asked end o none) (written end none) passes.drawn passes.owned
       (rest_behind x0 (stream flow.bytes x1) (flat_map text_in s.heard.requests) 0 flow.taken
       (gave_from x0 (stream flow.bytes x1) (flat_map text_in s.heard.requests) s.heard.passed.gave)
       s.heard.passed.taken end passes.turns passes.added passes.rest)
@@ -150,7 +153,7 @@ module _ (tells : Bool) (v w : Sight) (noted noted' : List Answered → Type 0) 
   step_full same =
       serves_ends tells v w w noted noted' (Open x0 x1 fresh_flow flow) (Heard x0 x1 ended.NoMemory) (Took w0 w1)
       (Wrote w0 w1 ended.NoMemory) (IsRest x0 0 ended.NoMemory) [] [] s same
-      (λ asked o. heard_full x0 x1 flow asked o) (λ texts t. t) (sym (append-nil w.store.turns)) (owns_none w)
+      (λ asked o. heard_full IsFair x0 x1 flow asked o) (λ texts t. t) (sym (append-nil w.store.turns)) (owns_none w)
       (refl, refl) (longer_none w)
 
 -- a connection for which there was no memory

@@ -27,8 +27,9 @@ use Rattle.blob_http.specs.declared.entries.Outcome.{Outcome}
 use Rattle.blob_http.specs.declared.entries.Outcome.TheVariants.{Defined}
 use Rattle.blob_http.specs.declared.operations.Operation.{Operation}
 use Rattle.blob_http.specs.declared.operations.Operation.TheVariants as question
-use Rattle.blob_http.specs.Asked.{Asked, Whole}
-use Rattle.blob_http.specs.Questions.{IsAskedBy, IsAsked, IsSearch, first_of, piece, stat_of, refs_asked}
+use Rattle.http_exchange.specs.Asked.{Asked, Whole}
+use Rattle.blob_http.specs.Questions.{IsAskedBy, IsAsked, IsSearch, first_of, stat_of, refs_asked}
+use Rattle.http_exchange.specs.HeadPlaces.{piece}
 use Rattle.blob_http.specs.Answers.{IsAnswer}
 use Rattle.blob_http.specs.Serving.{IsShown, LooksAt, IsReply}
 use Rattle.blob_http.specs.Finding.{IsPutAt, IsFound, FindsShown, SearchesFind}

@@ -1,13 +1,10 @@
-pub mod Bodies
 pub mod Staying
 pub mod Stepping
-pub mod Noting
-pub mod Hearing
-pub mod Codes
 pub mod Answering
 pub mod Requesting
 pub mod Pages
 pub mod Connecting
 pub mod Uploading
 pub mod Finds
+pub mod Firsts
 pub mod Completing

@@ -4,7 +4,8 @@ use Rattle.std.proofs.Common.{Result, Ok, Err, refl, subst, arith, codes}
 use Rattle.form_urlencoded.specs.Form.{raw_pairs}
 use Rattle.answer_text.specs.declared.refusal.Refusal.{Refusal}
 use Rattle.blob_routes.specs.declared.pages.Page.{Page}
-use Rattle.blob_routes.specs.Parameters.{first_value, number_in}
+use Rattle.http_exchange.specs.Parameters.{first_value}
+use Rattle.blob_routes.specs.Numbers.{number_in}
 use Rattle.blob_routes.specs.Pages.{page_of, page_after, page_at, after_of, limit_of, limit_or_fault, most_page}
 
 by_test : (b : Bool) (n limit : ℕ) (why : Refusal) → (if b then Ok (min n most_page) else Err why) ≡ Ok limit

@@ -1,8 +1,7 @@
 -- What one request comes to, from its head to its reply.
-use Rattle.std.proofs.Common.{◌≡◌, ℕ, if◌then◌else◌, List, [], ◌++◌, take, Bool, true, false, ◌||◌, not, Option, Some}
-use Rattle.std.proofs.Common.{None, Result, Ok, Err, IfOk, refl, ap, sym, subst, ◌∙◌, inl, inr, append_assoc}
+use Rattle.std.proofs.Common.{◌≡◌, ℕ, List, [], take, Bool, true, false, ◌||◌, not, Option}
+use Rattle.std.proofs.Common.{None, Result, Ok, Err, IfOk, refl, ap, sym, subst, ◌∙◌, inl, inr}
 use Rattle.std.proofs.Common.{◌≤◌, length}
-use Rattle.std.specs.Option.{IfSome, option_map}
 use Rattle.std.proofs.lemmas.List.{append-nil}
 use Rattle.blobref.specs.declared.memory.NoMemory.{NoMemory}
 use Rattle.claim_verify.specs.Verifier.{Accepts}
@@ -16,71 +15,49 @@ use Rattle.home_places.specs.Passes.{Sight}
 use Rattle.http_wire.specs.declared.body.Body.{Body}
 use Rattle.http_wire.specs.declared.body.Body.TheVariants as body
 use Rattle.http_wire.specs.declared.head.Head.{Head}
-use Rattle.http_wire.specs.declared.head.Piece.{Piece}
-use Rattle.http_wire.specs.declared.head.Framing.{Framing}
-use Rattle.http_wire.specs.declared.head.Framing.TheVariants.{Empty, Length, Chunked, ToEnd}
 use Rattle.http_wire.specs.declared.ends.WireEnd.{WireEnd}
-use Rattle.http_wire.specs.declared.ends.WireEnd.TheVariants as ends
 use Rattle.http_wire.specs.Stream.{Flow, Passed, stream}
-use Rattle.http_wire.specs.Heads.{HeadSays, IsFirstOf, IsPlaceIn}
-use Rattle.http_wire.specs.Bodies.{Moves, Leads, Stops}
-use Rattle.http_wire.specs.Wires.{WireView, body_of, HeadEnds, LacksHead, to_come}
-use Rattle.http_wire.specs.Speaking.{Request, Begun, IsBegun}
-use Rattle.http_wire.proofs.Passing.{Passed-chain}
-use Rattle.http_wire.proofs.Refusals.{short_head}
-use Rattle.http_wire.proofs.Unfinished.{no_whole_request}
+use Rattle.http_wire.specs.Heads.{HeadSays}
+use Rattle.http_wire.specs.Bodies.{Moves, Leads}
+use Rattle.http_wire.specs.Wires.{WireView, body_of, HeadEnds, to_come}
+use Rattle.http_wire.specs.Speaking.{Request, Begun}
 use Rattle.http_wire.proofs.Speaking.{request_read}
-use Rattle.edge_base.specs.Edge.{Gave}
 use Rattle.blob_routes.specs.declared.routes.Route.{Route}
 use Rattle.blob_routes.specs.declared.routes.Route.TheVariants as route
 use Rattle.blob_routes.specs.declared.routes.Allowed.{Allowed}
-use Rattle.blob_routes.specs.declared.routes.RouteFault.{RouteFault}
-use Rattle.blob_routes.specs.declared.routes.RouteFault.TheVariants as fault
-use Rattle.blob_routes.specs.Routes.{route_of}
-use Rattle.blob_routes.specs.Before.{most_body, early_of}
+use Rattle.http_exchange.specs.Before.{most_body, is_read}
 use Rattle.blob_http.specs.declared.entries.Outcome.{Outcome}
 use Rattle.blob_http.specs.declared.entries.Outcome.TheVariants.{Defined, Memory, Disk, Full, Damaged}
 use Rattle.blob_http.specs.declared.entries.Answered.{Answered}
-use Rattle.blob_http.specs.declared.gathering.BodyFault.{BodyFault}
-use Rattle.blob_http.specs.declared.gathering.BodyFault.TheVariants as stopped
+use Rattle.http_exchange.specs.declared.gathering.BodyFault.{BodyFault}
+use Rattle.http_exchange.specs.declared.gathering.BodyFault.TheVariants as stopped
 use Rattle.blob_http.specs.declared.operations.Operation.{Operation}
 use Rattle.blob_http.specs.declared.operations.Operation.TheVariants as question
 use Rattle.blob_http.specs.declared.replies.ReplyText.{ReplyText}
 use Rattle.blob_http.specs.declared.replies.ReplyText.TheVariants as made
-use Rattle.blob_http.specs.declared.serving.Ended.{Ended}
-use Rattle.blob_http.specs.declared.serving.Ended.TheVariants as ended
-use Rattle.blob_http.specs.Asked.{Asked, Whole, Front, Head as Refused, Comes, head_says}
-use Rattle.blob_http.specs.Gathering.{Gathers}
-use Rattle.blob_http.specs.Questions.{HasPieces, is_upload, piece, first_of, first_by, early_by, refused_by, refused}
+use Rattle.http_exchange.specs.declared.ended.Ended.{Ended}
+use Rattle.http_exchange.specs.declared.ended.Ended.TheVariants as ended
+use Rattle.http_exchange.specs.Asked.{Asked, Whole, Head as Refused, head_says}
+use Rattle.http_exchange.specs.Gathering.{Gathers}
+use Rattle.blob_http.specs.Questions.{is_upload, first_of, refused}
+use Rattle.http_exchange.specs.HeadPlaces.{HasPieces, piece, ReadsHead}
 use Rattle.blob_http.specs.Questions.{IsAskedAt, IsAskedBy, IsAsked}
-use Rattle.blob_http.specs.Replies.{refused_reply, memory_reply}
+use Rattle.http_exchange.specs.Replies.{refused_reply, memory_reply}
 use Rattle.blob_http.specs.Answers.{allow_text, outcome_of, text_of}
-use Rattle.blob_http.specs.Serving.{HasCauseIn, IsRest, Passes, IsReply, IsFrontDefined, IsBodyRefusal, Handles, IsCut}
-use Rattle.blob_http.specs.Serving.{IsReadShort, HadNoRefusal, PutsNothing}
-use Rattle.blob_http.specs.Handling.{IsMade, Looked, is_memory, is_read, Answers, ReadsHead, Replies, AlongSays, StopReplies}
-use Rattle.blob_http.specs.Handling.{StopEnds, NoneComes}
+use Rattle.blob_http.specs.Serving.{HasCauseIn, IsRest, Passes, IsReply, IsFrontDefined, IsBodyRefusal, Handles}
+use Rattle.http_exchange.specs.Hearing.{StopEnds}
+use Rattle.blob_http.specs.Serving.{HadNoRefusal, PutsNothing}
+use Rattle.blob_http.specs.Handling.{IsMade, Looked, is_memory, Answers, Replies, AlongSays, StopReplies}
+use Rattle.blob_http.specs.Serving.{NoneComes, IsFair}
 use Rattle.blob_http.proofs.Staying.{longer_none, owns_none}
-use Rattle.blob_http.proofs.Bodies.{moves_none}
+use Rattle.http_exchange.proofs.Bodies.{moves_none}
+use Rattle.http_exchange.proofs.Reading.{true_not, begun, is_begun, passed, front, front_comes, read_done, not_done}
+use Rattle.http_exchange.proofs.Reading.{stop_none as none_stops, has_pieces as pieces_of}
+use Rattle.blob_http.proofs.Firsts.{first_refused}
 
-pub true_not : true ≡ false → ⊥
-true_not e = absurd (cc e)
-
--- ---- the places of a head
-
-content_place : (text : List ℕ) (found : List (List ℕ)) (p : Option Piece) → IsFirstOf text found p
-    → IfSome p (IsPlaceIn text)
-content_place text found None is = tt
-content_place text found (Some p) is = (is.3.0, is.3.1)
-
+-- the places of a head lie in its text
 pub has_pieces : (text : List ℕ) (says : Head) → HeadSays text (Ok says) → HasPieces text says
-has_pieces text says h =
-    let at = h.3 in
-    record {
-      method = (at.method.0, at.method.1);
-      path = (at.path.0, at.path.1);
-      query = (at.query.0, at.query.1);
-      content_type = content_place text _ says.content_type at.content_type;
-    }
+has_pieces text says h = pieces_of text says h
 
 -- ---- from an answer to what is handled
 
@@ -127,12 +104,12 @@ refused_says : (tells : Bool) (accepts : Accepts) (blobs : List Blob) (g : List 
     (P : Outcome → List ℕ → Type 0) → P Defined (refused_reply true (allow_text allow) why) → P Memory memory_reply
     → (m : ReplyText) → IsMade tells accepts blobs g true (question.Refused why allow) m → P (outcome_of m) (text_of m)
 refused_says tells accepts blobs g why allow P defined memory made.Memory is = memory
-refused_says tells accepts blobs g why allow P defined memory (made.Told Defined head body) is = subst (P Defined)
+refused_says tells accepts blobs g why allow P defined memory (made.Told Defined reply) is = subst (P Defined)
     (sym is) defined
-refused_says tells accepts blobs g why allow P defined memory (made.Told Memory head body) is = absurd is
-refused_says tells accepts blobs g why allow P defined memory (made.Told Disk head body) is = absurd (cc is.0)
-refused_says tells accepts blobs g why allow P defined memory (made.Told (Full n pack) head body) is = absurd is
-refused_says tells accepts blobs g why allow P defined memory (made.Told (Damaged want was) head body) is = absurd
+refused_says tells accepts blobs g why allow P defined memory (made.Told Memory reply) is = absurd is
+refused_says tells accepts blobs g why allow P defined memory (made.Told Disk reply) is = absurd (cc is.0)
+refused_says tells accepts blobs g why allow P defined memory (made.Told (Full n pack) reply) is = absurd is
+refused_says tells accepts blobs g why allow P defined memory (made.Told (Damaged want was) reply) is = absurd
     (cc is.0)
 
 -- ---- a head that is refused
@@ -154,72 +131,16 @@ head_replies x0 x1 flow new tells v w entry m end why closes says passed stands 
   ready = λ open_still. absurd (true_not (sym closing ∙ open_still));
 }
 
-gave_same : (a b : Option (List ℕ)) → Gave a b [] → b ≡ a
-gave_same None b h = h
-gave_same (Some x) b h = h.1 ∙ ap Some (sym h.2)
-
-cut_head : (o : Option (List ℕ)) (place n : ℕ) → HeadEnds o place (ends.Cut n) → IfSome o (IsCut place n)
-cut_head None place n h = tt
-cut_head (Some x) place n h = inl h
-
--- the bytes that were read ahead of the source
-gave_ahead : (left : Option (List ℕ)) (ahead x : List ℕ) → stream ahead left ≡ Some x → Gave (Some x) left ahead
-gave_ahead None ahead x is = absurd (cc is)
-gave_ahead (Some rest) ahead x is = (rest, refl, sym (cc is))
-
-read_short_of_head : (o left : Option (List ℕ)) (ahead : List ℕ) → stream ahead left ≡ o → LacksHead ahead
-    → IfSome o (IsReadShort left)
-read_short_of_head None left ahead is lacks = tt
-read_short_of_head (Some x) left ahead is lacks =
-    (ahead, gave_ahead left ahead x is, short_head ahead lacks, inl lacks)
-
--- no head came
-pub head_none : (x0 x1 : Option (List ℕ)) (flow : Flow) (new : WireView) (end : WireEnd) (ends_so : Ended)
-    → head_says end ≡ Err ends_so
-    → Passed x0 x1 flow new.flow [] → HeadEnds (to_come new x1) flow.taken end
-    → (end ≡ ends.ReadFault → LacksHead new.flow.bytes)
-    → NoneComes (stream flow.bytes x0) x1 flow.taken ends_so
-head_none x0 x1 flow new end ends_so says passed stood short =
-    let same : to_come new x1 ≡ stream flow.bytes x0 = gave_same (stream flow.bytes x0) (to_come new x1) passed.gave in
-    none_at (stream flow.bytes x0) flow.taken end ends_so says
-    (subst (λ (z : Option (List ℕ)). HeadEnds z flow.taken end) same stood)
-    (λ is. read_short_of_head (stream flow.bytes x0) x1 new.flow.bytes same (short is))
-  where
-    none_at : (o : Option (List ℕ)) (place : ℕ) (end : WireEnd) (e : Ended) → head_says end ≡ Err e
-        → HeadEnds o place end → (end ≡ ends.ReadFault → IfSome o (IsReadShort x1)) → NoneComes o x1 place e
-    none_at o place ends.Closed e says h s =
-        let is : ended.Closed ≡ e = cc says in subst (NoneComes o x1 place) is h
-    none_at o place (ends.Cut n) e says h s =
-        let is : ended.Cut n ≡ e = cc says in subst (NoneComes o x1 place) is (cut_head o place n h)
-    none_at o place (ends.BadHead n) e says h s = absurd (cc says)
-    none_at o place (ends.BadLength n) e says h s = absurd (cc says)
-    none_at o place (ends.TooLong limit) e says h s = absurd (cc says)
-    none_at o place ends.ReadFault e says h s =
-        let is : ended.ReadFault ≡ e = cc says in subst (NoneComes o x1 place) is (s refl)
-
 -- ---- a request, as far as it was read
 
 module _ (x0 x1 x2 : Option (List ℕ)) (flow : Flow) (mid new : WireView) (says : Head)
     (head : ReadsHead x0 x1 flow mid says)
     (given : List ℕ) (moved : Moves x1 x2 mid.flow new.flow mid.body new.body given) where
-  abbrev pub begun : Begun
-  begun = record { head = mid.head; says = says; framed = moved.0; given = given; at = new.body }
+  abbrev this : Begun
+  this = begun x0 x1 x2 flow mid new says head given moved
 
-  pub is_begun : IsBegun begun
-  is_begun = record {
-    lines = head.lines;
-    read = head.read;
-    leads = subst (λ (b : Body). Leads b new.body moved.0 given) head.ready moved.2;
-  }
-
-  pub passed : Passed x0 x2 flow new.flow (mid.head ++ moved.0)
-  passed = Passed-chain x0 x1 x2 flow mid.flow new.flow mid.head moved.0 head.passed moved.1
-
-  abbrev front : Asked
-  front = Front begun (stream new.flow.bytes x2)
-
-  front_comes : Comes x0 x2 flow new.flow front
-  front_comes = (is_begun, passed, refl)
+  abbrev asked_so : Asked
+  asked_so = front x0 x1 x2 flow mid new says head given moved
 
   module _ (tells : Bool) (v w : Sight) (entry : Answered) (m : ReplyText) where
     -- the connection closes in any case
@@ -227,12 +148,12 @@ module _ (x0 x1 x2 : Option (List ℕ)) (flow : Flow) (mid new : WireView) (says
         → ((accepts : Accepts) (h : List (Stamped StoreEvent)) (blobs : List Blob) (g : List Insertion)
         (turns : List ℕ) (added : List (Stamped StoreEvent))
         → IsMade tells accepts blobs g with_closes q m → Looked h blobs q m turns → PutsNothing added
-        → IsReply tells accepts h blobs g front 0 turns added (outcome_of m) (text_of m))
+        → IsReply tells accepts h blobs g asked_so 0 turns added (outcome_of m) (text_of m))
         → closes ≡ true → Replies x0 x2 flow new tells v w entry m closes
     front_replies closes with_closes q a replied closing = record {
-      asked = front;
-      comes = front_comes;
-      handles = handles_of tells with_closes q v w entry m front a replied;
+      asked = asked_so;
+      comes = front_comes x0 x1 x2 flow mid new says head given moved;
+      handles = handles_of tells with_closes q v w entry m asked_so a replied;
       closing = closing;
       ready = λ still. absurd (true_not (sym closing ∙ still));
     }
@@ -242,17 +163,17 @@ module _ (x0 x1 x2 : Option (List ℕ)) (flow : Flow) (mid new : WireView) (says
         → closes ≡ true → Replies x0 x2 flow new tells v w entry m closes
     memory_replies closes with_closes q a none closing = front_replies closes with_closes q a
         (λ accepts h blobs g turns added is looked nothing. subst
-        (λ (z : ReplyText). IsReply tells accepts h blobs g front 0 turns added (outcome_of z) (text_of z)) (sym none)
+        (λ (z : ReplyText). IsReply tells accepts h blobs g asked_so 0 turns added (outcome_of z) (text_of z)) (sym none)
         (inr (refl, nothing, refl))) closing
 
     refused_replies : (closes : Bool) (why : Refusal) (allow : Option Allowed)
         → Answers tells true (question.Refused why allow) v w entry m
-        → IsFrontDefined begun (stream new.flow.bytes x2) (first_of mid.head says)
+        → IsFrontDefined this (stream new.flow.bytes x2) (first_of mid.head says)
         (refused_reply true (allow_text allow) why)
         → closes ≡ true → Replies x0 x2 flow new tells v w entry m closes
     refused_replies closes why allow a defined closing = front_replies closes true (question.Refused why allow) a
         (λ accepts h blobs g turns added is looked nothing. refused_says tells accepts blobs g why allow
-        (λ o text. IsReply tells accepts h blobs g front 0 turns added o text) (inr (refl, nothing, defined))
+        (λ o text. IsReply tells accepts h blobs g asked_so 0 turns added o text) (inr (refl, nothing, defined))
         (inr (refl, nothing, refl)) m is) closing
 
   -- the whole body was read
@@ -266,10 +187,13 @@ module _ (x0 x1 x2 : Option (List ℕ)) (flow : Flow) (mid new : WireView) (says
         or_true : (b : Bool) → (b || true) ≡ true
         or_true true = refl
         or_true false = refl
-    whole_replies (made.Told o text rest) closes q done asked a closing = record {
+    whole_replies (made.Told o reply) closes q done asked a closing = record {
       asked = Whole request;
-      comes = (request_read mid.head moved.0 given says head.lines head.read leads, passed);
-      handles = handles_of tells says.closes q v w entry (made.Told o text rest) (Whole request) a
+      comes = (
+        request_read mid.head moved.0 given says head.lines head.read leads,
+        passed x0 x1 x2 flow mid new says head given moved,
+      );
+      handles = handles_of tells says.closes q v w entry (made.Told o reply) (Whole request) a
           (λ accepts h blobs g turns added is looked nothing. inr (refl, nothing, (q, asked, is, looked)));
       closing = closing ∙ or_false says.closes;
       ready = λ still. done;
@@ -279,44 +203,12 @@ module _ (x0 x1 x2 : Option (List ℕ)) (flow : Flow) (mid new : WireView) (says
         request = record { head = mid.head; says = says; framed = moved.0; body = given }
 
         leads : Leads (body_of says.framing) body.Done moved.0 given
-        leads = subst (λ (b : Body). Leads (body_of says.framing) b moved.0 given) done is_begun.leads
+        leads = subst (λ (b : Body). Leads (body_of says.framing) b moved.0 given) done
+            (is_begun x0 x1 x2 flow mid new says head given moved).leads
 
         or_false : (b : Bool) → (b || false) ≡ b
         or_false true = refl
         or_false false = refl
-
--- what is refused before the body is read
-first_refused : (head : List ℕ) (says : Head) (q : Operation) → first_of head says ≡ Err q
-    → (why : Refusal) × (allow : Option Allowed) × (q ≡ question.Refused why allow)
-first_refused head says q is = by_route (route_of (piece head says.method) (piece head says.path)) is
-  where
-    by_early : (r : Route) (e : Result (Option (List ℕ)) Refusal) → early_by r e ≡ Err q
-        → (why : Refusal) × (allow : Option Allowed) × (q ≡ question.Refused why allow)
-    by_early r (Ok boundary) is = absurd (cc is)
-    by_early r (Err why) is = (why, None, sym (cc is))
-
-    by_fault : (f : RouteFault) → refused_by f ≡ q
-        → (why : Refusal) × (allow : Option Allowed) × (q ≡ question.Refused why allow)
-    by_fault fault.NoRoute is = (refusal.NoRoute, None, sym is)
-    by_fault (fault.Method allow) is = (refusal.Method, Some allow, sym is)
-
-    by_route : (r : Result Route RouteFault) → first_by head says r ≡ Err q
-        → (why : Refusal) × (allow : Option Allowed) × (q ≡ question.Refused why allow)
-    by_route (Ok r) is = by_early r (early_of r says.framing (option_map (piece head) says.content_type)) is
-    by_route (Err f) is = by_fault f (cc is)
-
-read_done : (f : Framing) → is_read f ≡ true → body_of f ≡ body.Done
-read_done Empty e = refl
-read_done (Length n) e = ap (λ (b : Bool). if b then body.Done else body.Exactly n) e
-read_done Chunked e = absurd (true_not (sym e))
-read_done ToEnd e = absurd (true_not (sym e))
-
-not_done : (f : Framing) → is_read f ≡ false → body_of f ≡ body.Done → ⊥
-not_done Empty e done = true_not e
-not_done (Length n) e done =
-    absurd (cc (sym (ap (λ (b : Bool). if b then body.Done else body.Exactly n) e) ∙ done))
-not_done Chunked e done = absurd (cc done)
-not_done ToEnd e done = absurd (cc done)
 
 -- a request that is refused before its body is read
 pub early_replies : (x0 x1 : Option (List ℕ)) (flow : Flow) (mid : WireView) (says : Head)
@@ -466,36 +358,6 @@ passes_none x start end v = record {
   longer = longer_none v;
 }
 
-pub cut_body : (before now : Option (List ℕ)) (place n : ℕ) (b : Begun) → IsBegun b
-    → Gave before now (b.head ++ b.framed) → n ≡ place
-    → IfSome now (Stops b.at) → HadNoRefusal b (first_of b.head b.says) → IfSome before (IsCut place n)
-cut_body None now place n b is gave at stops due = tt
-cut_body (Some x) now place n b is gave at stops due =
-    inr (
-      at,
-      (
-        b,
-        gave.0,
-        is,
-        gave.2
-            ∙ append_assoc b.head b.framed gave.0,
-        subst (λ (z : Option (List ℕ)). IfSome z (Stops b.at)) gave.1 stops,
-        due,
-      ),
-    )
-
--- a read failed inside the body
-pub read_short_of_body : (before left : Option (List ℕ)) (ahead : List ℕ) (b : Begun) → IsBegun b
-    → Gave before (stream ahead left) (b.head ++ b.framed) → Stops b.at ahead → IfSome before (IsReadShort left)
-read_short_of_body None left ahead b is gave stops = tt
-read_short_of_body (Some x) left ahead b is gave stops =
-    let all : List ℕ = b.head ++ (b.framed ++ ahead) in
-    let more : Gave (Some gave.0) left ahead = gave_ahead left ahead gave.0 gave.1 in
-    let whole : x ≡ all ++ more.0 = gave.2 ∙ ap (λ (z : List ℕ). (b.head ++ b.framed) ++ z) more.2
-    ∙ sym (append_assoc (b.head ++ b.framed) ahead more.0)
-    ∙ ap (λ (z : List ℕ). z ++ more.0) (append_assoc b.head b.framed ahead) in
-    (all, (more.0, more.1, whole), no_whole_request all ahead b is refl (inl stops), inr (b, ahead, is, refl, stops))
-
 -- a body that is read as a whole was within its limit
 none_due : (b : Begun) (first : Result Route Operation) (r : Route) → first ≡ Ok r → is_upload r ≡ false
     → length b.given ≤ most_body → HadNoRefusal b first
@@ -513,24 +375,10 @@ pub stop_none : (x0 x1 x2 : Option (List ℕ)) (flow : Flow) (mid new : WireView
     → (why : BodyFault) → Gathers x1 x2 mid new (Err why) → (r : Route) → first_of mid.head says ≡ Ok r
     → is_upload r ≡ false → (end : Ended) → StopEnds why end
     → NoneComes (stream flow.bytes x0) x2 flow.taken end
-stop_none x0 x1 x2 flow mid new says head stopped.Long gathered r first other end is = absurd is
-stop_none x0 x1 x2 flow mid new says head stopped.Broken gathered r first other end is = absurd is
-stop_none x0 x1 x2 flow mid new says head stopped.Memory gathered r first other end is = absurd is
-stop_none x0 x1 x2 flow mid new says head (stopped.Cut n) gathered r first other end is =
-    subst (NoneComes (stream flow.bytes x0) x2 flow.taken) (sym is)
-    (cut_body (stream flow.bytes x0) (stream new.flow.bytes x2) flow.taken n
-    (begun x0 x1 x2 flow mid new says head gathered.given gathered.moved)
-    (is_begun x0 x1 x2 flow mid new says head gathered.given gathered.moved)
-    (passed x0 x1 x2 flow mid new says head gathered.given gathered.moved).gave
-    (gathered.says.1.0 ∙ head.begun) gathered.says.1.1
-    (none_due (begun x0 x1 x2 flow mid new says head gathered.given gathered.moved) (first_of mid.head says) r first
-    other gathered.says.0))
-stop_none x0 x1 x2 flow mid new says head stopped.ReadFault gathered r first other end is =
-    subst (NoneComes (stream flow.bytes x0) x2 flow.taken) (sym is)
-    (read_short_of_body (stream flow.bytes x0) x2 new.flow.bytes
-    (begun x0 x1 x2 flow mid new says head gathered.given gathered.moved)
-    (is_begun x0 x1 x2 flow mid new says head gathered.given gathered.moved)
-    (passed x0 x1 x2 flow mid new says head gathered.given gathered.moved).gave gathered.says)
+stop_none x0 x1 x2 flow mid new says head why gathered r first other end is =
+    none_stops IsFair x0 x1 x2 flow mid new says head why gathered
+    (λ few. none_due (begun x0 x1 x2 flow mid new says head gathered.given gathered.moved) (first_of mid.head says) r
+    first other few) end is
 
 pub passes_same : (x : Option (List ℕ)) (start : ℕ) (end : Ended) (v w : Sight) → w ≡ v → Passes x start end v w
 passes_same x start end v w same =

@@ -22,7 +22,7 @@ use Rattle.blob_http.specs.declared.entries.Outcome.{Outcome}
 use Rattle.blob_http.specs.declared.entries.Outcome.TheVariants.{Defined, Memory, Disk, Full, Damaged}
 use Rattle.blob_http.specs.declared.operations.Operation.{Operation}
 use Rattle.blob_http.specs.declared.operations.Operation.TheVariants as question
-use Rattle.blob_http.specs.Asked.{Asked, Whole, Front, Head}
+use Rattle.http_exchange.specs.Asked.{Asked, Whole, Front, Head}
 use Rattle.blob_http.specs.Serving.{IsShown, LooksAt}
 use Rattle.blob_http.specs.Serving.{IsReply, HasCauseIn, IsAnswered, Longer, Answer, AnswerHolds, Climbs, Owns}
 

@@ -1,13 +1,11 @@
 -- One more answer extends what was served.
-use Rattle.std.proofs.Common.{◌≡◌, ℕ, ◌≤◌, List, [], ◌∷◌, ◌++◌, length, Bool, refl, ap, sym, subst, ◌∙◌, arith}
-use Rattle.std.proofs.Common.{append_assoc, All, true, Option, Some, None}
+use Rattle.std.proofs.Common.{◌≡◌, ℕ, List, [], ◌∷◌, ◌++◌, length, Bool, refl, ap, sym, subst, ◌∙◌, arith}
+use Rattle.std.proofs.Common.{append_assoc, All, true}
 use Rattle.std.specs.List.{flat_map}
 use Rattle.std.proofs.lemmas.List.{append-nil}
 use Rattle.std.proofs.lemmas.List.Concat.{flat_map-append}
 use Rattle.std.proofs.lemmas.List.Elements.{All-push, All-nil}
 use mathlib.Core.List.{map-append}
-use Rattle.edge_base.specs.Edge.{Took, TookFront, Rose, one_more}
-use Rattle.edge_base.proofs.Moves.{Took-chain}
 use Rattle.histories.specs.declared.stamped.Stamped.{Stamped}
 use Rattle.histories.specs.declared.events.StoreEvent.{StoreEvent}
 use Rattle.histories.specs.History.{has}
@@ -17,26 +15,10 @@ use Rattle.histories.proofs.Growing.{has_front, has_rest}
 use Rattle.histories.proofs.Standing.{arrivals_prefix}
 use Rattle.home_places.specs.Passes.{Sight}
 use Rattle.blob_http.specs.declared.entries.Answered.{Answered}
-use Rattle.blob_http.specs.declared.serving.Ended.{Ended}
-use Rattle.blob_http.specs.declared.serving.Ended.TheVariants as ended
-use Rattle.blob_http.specs.Asked.{Asked}
-use Rattle.blob_http.specs.Serving.{IsAnswered, Handles, Longer, Answer, AnswerHolds, Serves, HasNone, EndCause, Owns}
+use Rattle.http_exchange.specs.Asked.{Asked}
+use Rattle.blob_http.specs.Serving.{IsAnswered, Handles, Longer, Answer, AnswerHolds, Serves, HasNone, Owns}
 use Rattle.blob_http.proofs.Staying.{all_stay, longer_none, longer_chain, climbs_more, climbs_stay, owns_none}
 use Rattle.blob_http.proofs.Staying.{owns_chain}
-
-pub took_none : (w : Option (List ℕ)) → Took w w []
-took_none None = refl
-took_none (Some w) = ap Some (sym (append-nil w))
-
-pub TookFront-chain : (a b c : Option (List ℕ)) (xs ys : List ℕ) → Took a b xs → TookFront b c ys
-    → TookFront a c (xs ++ ys)
-TookFront-chain a b c xs ys h k =
-    (xs ++ k.0, k.1, ap (λ (z : List ℕ). xs ++ z) k.2 ∙ sym (append_assoc xs k.0 k.1), Took-chain a b c xs k.0 h k.3)
-
--- a front of the first text is a front of both
-pub TookFront-more : (a b : Option (List ℕ)) (xs ys : List ℕ) → TookFront a b xs → TookFront a b (xs ++ ys)
-TookFront-more a b xs ys h =
-    (h.0, h.1 ++ ys, ap (λ (z : List ℕ). z ++ ys) h.2 ∙ append_assoc h.0 h.1 ys, h.3)
 
 flat_push : {A B : Type 0} (f : A → List B) (xs : List A) (x : A) → flat_map f (xs ++ x ∷ []) ≡ flat_map f xs ++ f x
 flat_push f xs x = flat_map-append f xs (x ∷ []) ∙ ap (λ (t : List _). flat_map f xs ++ t) (append-nil (f x))
@@ -162,14 +144,3 @@ module _ (tells : Bool) where
           let plain : w ≡ v ++ all = drawn ∙ ap (λ (z : List ℕ). v ++ (all ++ z)) none
           ∙ ap (λ (z : List ℕ). v ++ z) (append-nil all) in
           ap (λ (z : List ℕ). z ++ turns) plain ∙ append_assoc v all turns
-
-rose_since : (a b c : ℕ) → a ≤ b → Rose b c → Rose a c
-rose_since a b c le r = let h : one_more b ≤ c = r in omega (arith, h)
-
--- the cause of the last step is one of the whole
-pub cause_since : (a b c d e f : ℕ) (end : Ended) → a ≤ b → d ≤ e → EndCause b c e f end → EndCause a c d f end
-cause_since a b c d e f ended.Closed p q h = tt
-cause_since a b c d e f (ended.Cut n) p q h = tt
-cause_since a b c d e f ended.ReadFault p q h = rose_since a b c p h
-cause_since a b c d e f ended.WriteFault p q h = rose_since d e f q h
-cause_since a b c d e f ended.NoMemory p q h = tt

@@ -2,11 +2,10 @@
 use Rattle.std.proofs.Common.{◌≡◌, ℕ, List, [], ◌++◌, length, take, Bool, true, false, ◌||◌, not, Option, Some, None}
 use Rattle.std.proofs.Common.{Result, Ok, Err, IfOk, IfErr, IsErrOf, refl, ap, sym, subst, ◌∙◌, inl, inr, ◌⊎◌, arith}
 use Rattle.std.proofs.Common.{if◌then◌else◌, codes, All, append_assoc}
-use Rattle.std.specs.Option.{option_map, IfSome}
+use Rattle.std.specs.Option.{IfSome}
 use Rattle.edge_base.specs.Edge.{Gave}
 use Rattle.std.proofs.lemmas.List.{append-nil, take_all, length-map}
 use Rattle.std.proofs.lemmas.List.Elements.{All-weaker}
-use Rattle.answer_text.specs.declared.refusal.Refusal.{Refusal}
 use Rattle.answer_text.specs.declared.refusal.Refusal.TheVariants as refusal
 use Rattle.histories.specs.declared.stamped.Stamped.{Stamped}
 use Rattle.histories.specs.declared.events.StoreEvent.{StoreEvent}
@@ -20,7 +19,6 @@ use Rattle.home_places.specs.Passes.{Sight}
 use Rattle.http_wire.specs.declared.body.Body.{Body}
 use Rattle.http_wire.specs.declared.body.Body.TheVariants as body
 use Rattle.http_wire.specs.declared.head.Head.{Head}
-use Rattle.http_wire.specs.declared.head.Framing.{Framing}
 use Rattle.http_wire.specs.declared.ends.WireEnd.{WireEnd}
 use Rattle.http_wire.specs.declared.ends.WireEnd.TheVariants as ends
 use Rattle.http_wire.specs.Stream.{Flow, stream, counted as counted_on}
@@ -30,11 +28,8 @@ use Rattle.http_wire.specs.Speaking.{Request}
 use Rattle.http_wire.proofs.Speaking.{request_read}
 use Rattle.multipart_read.specs.PartLists.{Part}
 use Rattle.multipart_read.specs.Parameters.{if_boundary, is_boundary, value_of}
-use Rattle.blob_routes.specs.declared.routes.Route.{Route}
 use Rattle.blob_routes.specs.declared.routes.Route.TheVariants as route
-use Rattle.blob_routes.specs.declared.routes.RouteFault.{RouteFault}
-use Rattle.blob_routes.specs.Routes.{route_of}
-use Rattle.blob_routes.specs.Before.{early_of, upload_of, boundary_in}
+use Rattle.blob_routes.specs.Before.{boundary_in}
 use Rattle.blob_upload.specs.declared.upload_end.UploadEnd.{UploadEnd}
 use Rattle.blob_upload.specs.declared.upload_end.UploadEnd.TheVariants as came
 use Rattle.blob_upload.specs.Comes.{Comes}
@@ -48,48 +43,22 @@ use Rattle.blob_http.specs.declared.entries.Outcome.TheVariants.{Defined, Disk, 
 use Rattle.blob_http.specs.declared.entries.Answered.{Answered}
 use Rattle.blob_http.specs.declared.replies.ReplyText.{ReplyText}
 use Rattle.blob_http.specs.declared.replies.ReplyText.TheVariants as made
-use Rattle.blob_http.specs.declared.serving.Ended.{Ended}
-use Rattle.blob_http.specs.declared.serving.Ended.TheVariants as ended
-use Rattle.blob_http.specs.Asked.{Asked, Whole, Front}
-use Rattle.blob_http.specs.Questions.{piece, first_of, first_by, early_by}
+use Rattle.http_exchange.specs.declared.ended.Ended.{Ended}
+use Rattle.http_exchange.specs.declared.ended.Ended.TheVariants as ended
+use Rattle.http_exchange.specs.Asked.{Asked, Whole, Front}
+use Rattle.blob_http.specs.Questions.{first_of}
+use Rattle.http_exchange.specs.HeadPlaces.{ReadsHead}
+use Rattle.http_exchange.specs.declared.replies.Reply.{Reply}
+use Rattle.http_exchange.specs.Written.{reply_bytes}
 use Rattle.blob_http.specs.Answers.{outcome_of, text_of, IsTold}
 use Rattle.blob_http.specs.Keeping.{boundary_at, Kept, IsUploadReply, UploadMade, is_whole}
 use Rattle.blob_http.specs.Serving.{HasCauseIn, IsRest, Passes, IsReply, Longer, Handles, HadNoRefusal, AddsParts}
 use Rattle.blob_http.specs.Serving.{CutUpload}
-use Rattle.blob_http.specs.Handling.{is_memory, ReadsHead, Replies, NoneComes, IsUploadEntry}
-use Rattle.blob_http.proofs.Requesting.{begun, is_begun, passed, cut_body, read_short_of_body, true_not}
+use Rattle.blob_http.specs.Handling.{is_memory, Replies, IsUploadEntry}
+use Rattle.blob_http.specs.Serving.{NoneComes, IsFair}
+use Rattle.http_exchange.proofs.Reading.{begun, is_begun, passed, cut_body, read_short_of_body, true_not}
 
 -- ---- the boundary
-
-bounded : (o : Option (List ℕ)) (framing : Framing) (b : Option (List ℕ)) → upload_of framing o ≡ Ok b
-    → (c : List ℕ) × (o ≡ Some c)
-bounded None framing b e = absurd (cc e)
-bounded (Some c) framing b e = (c, refl)
-
-upload_bounded : (framing : Framing) (content_type b : Option (List ℕ))
-    → early_of route.Upload framing content_type ≡ Ok b
-    → (c : List ℕ) × (boundary_in content_type ≡ Some c)
-unfolding early_of
-upload_bounded framing content_type b e = bounded (boundary_in content_type) framing b e
-
--- an upload that isn't refused has a boundary
-pub has_boundary : (head : List ℕ) (says : Head) → first_of head says ≡ Ok route.Upload
-    → (b : List ℕ) × (boundary_at head says ≡ Some b)
-has_boundary head says is = by_route (route_of (piece head says.method) (piece head says.path)) is
-  where
-    by_early : (r : Route) (e : Result (Option (List ℕ)) Refusal)
-        → early_of r says.framing (option_map (piece head) says.content_type) ≡ e
-        → early_by r e ≡ Ok route.Upload → (b : List ℕ) × (boundary_at head says ≡ Some b)
-    by_early r (Ok b) so is =
-        let same : r ≡ route.Upload = cc is in
-        upload_bounded says.framing (option_map (piece head) says.content_type) b
-        (subst (λ (z : Route). early_of z says.framing (option_map (piece head) says.content_type) ≡ Ok b) same so)
-    by_early r (Err why) so is = absurd (cc is)
-
-    by_route : (r : Result Route RouteFault) → first_by head says r ≡ Ok route.Upload
-        → (b : List ℕ) × (boundary_at head says ≡ Some b)
-    by_route (Ok r) is = by_early r (early_of r says.framing (option_map (piece head) says.content_type)) refl is
-    by_route (Err f) is = absurd (cc is)
 
 -- a boundary is one
 pub boundary_is : (o : Option (List ℕ)) (b : List ℕ) → boundary_in o ≡ Some b → is_boundary b ≡ true
@@ -110,31 +79,31 @@ told_cause : (turns : List ℕ) (h : List (Stamped StoreEvent)) (o : Outcome) (t
     → IsTold o text m → HasCauseIn turns h o
     → HasCauseIn turns h (outcome_of m)
 told_cause turns h o text made.Memory is c = tt
-told_cause turns h o text (made.Told p head rest) is c = subst (HasCauseIn turns h) (sym is.0) c
+told_cause turns h o text (made.Told p reply) is c = subst (HasCauseIn turns h) (sym is.0) c
 
 upload_cause : (closes : Bool) (kept : List (List ℕ × ℕ)) (c : UploadEnd) (m : ReplyText) (turns : List ℕ)
     (h : List (Stamped StoreEvent))
     → UploadMade closes kept c (Ok m) → ShowsWhy c turns h → HasCauseIn turns h (outcome_of m)
 upload_cause closes kept c made.Memory turns h is why = tt
-upload_cause closes kept came.Whole (made.Told o head rest) turns h is why = told_cause turns h Defined _
-    (made.Told o head rest) is tt
-upload_cause closes kept (came.Refused r) (made.Told o head rest) turns h is why = told_cause turns h Defined _
-    (made.Told o head rest) is tt
-upload_cause closes kept (came.Full n pack) (made.Told o head rest) turns h is why = told_cause turns h
-    (Full n pack) _ (made.Told o head rest) is why
-upload_cause closes kept came.Disk (made.Told o head rest) turns h is why = told_cause turns h Disk _
-    (made.Told o head rest) is why
-upload_cause closes kept came.Memory (made.Told o head rest) turns h is why = absurd is
+upload_cause closes kept came.Whole (made.Told o reply) turns h is why = told_cause turns h Defined _
+    (made.Told o reply) is tt
+upload_cause closes kept (came.Refused r) (made.Told o reply) turns h is why = told_cause turns h Defined _
+    (made.Told o reply) is tt
+upload_cause closes kept (came.Full n pack) (made.Told o reply) turns h is why = told_cause turns h
+    (Full n pack) _ (made.Told o reply) is why
+upload_cause closes kept came.Disk (made.Told o reply) turns h is why = told_cause turns h Disk _
+    (made.Told o reply) is why
+upload_cause closes kept came.Memory (made.Told o reply) turns h is why = absurd is
 upload_cause closes kept (came.Ended ends.Closed)
-    (made.Told o head rest) turns h is why = told_cause turns h Defined _ (made.Told o head rest) is tt
-upload_cause closes kept (came.Ended (ends.Cut n)) (made.Told o head rest) turns h is why = absurd is
+    (made.Told o reply) turns h is why = told_cause turns h Defined _ (made.Told o reply) is tt
+upload_cause closes kept (came.Ended (ends.Cut n)) (made.Told o reply) turns h is why = absurd is
 upload_cause closes kept (came.Ended (ends.BadHead n))
-    (made.Told o head rest) turns h is why = told_cause turns h Defined _ (made.Told o head rest) is tt
+    (made.Told o reply) turns h is why = told_cause turns h Defined _ (made.Told o reply) is tt
 upload_cause closes kept (came.Ended (ends.BadLength n))
-    (made.Told o head rest) turns h is why = told_cause turns h Defined _ (made.Told o head rest) is tt
+    (made.Told o reply) turns h is why = told_cause turns h Defined _ (made.Told o reply) is tt
 upload_cause closes kept (came.Ended (ends.TooLong n))
-    (made.Told o head rest) turns h is why = told_cause turns h Defined _ (made.Told o head rest) is tt
-upload_cause closes kept (came.Ended ends.ReadFault) (made.Told o head rest) turns h is why = absurd is
+    (made.Told o reply) turns h is why = told_cause turns h Defined _ (made.Told o reply) is tt
+upload_cause closes kept (came.Ended ends.ReadFault) (made.Told o reply) turns h is why = absurd is
 
 not_whole : is_whole came.Whole ≡ false → ⊥
 not_whole e = true_not e
@@ -181,54 +150,54 @@ upload_said : (boundary given : List ℕ) (parts : List Part) (wire : WireView) 
     × AddsParts boundary given parts d added
 upload_said boundary given parts wire x closes c made.Memory n t added is comes turns part adds =
     (c, comes, turns, refl, adds)
-upload_said boundary given parts wire x closes came.Whole (made.Told o head rest) n t added is comes turns part adds =
+upload_said boundary given parts wire x closes came.Whole (made.Told o reply) n t added is comes turns part adds =
     absurd (elim part [ inl e ↦ not_whole e | inr e ↦ cc e ])
 upload_said boundary given parts wire x closes (came.Refused why)
-    (made.Told o head rest) n t added is comes turns part adds = (
+    (made.Told o reply) n t added is comes turns part adds = (
       came.Refused why,
       comes,
       turns,
-      subst (λ (z : Outcome). IsUploadReply parts (came.Refused why) z (head ++ rest))
+      subst (λ (z : Outcome). IsUploadReply parts (came.Refused why) z (reply_bytes reply))
           (sym is.0) is.1,
       adds,
     )
 upload_said boundary given parts wire x closes (came.Full k pack)
-    (made.Told o head rest) n t added is comes turns part adds = (
+    (made.Told o reply) n t added is comes turns part adds = (
       came.Full k pack,
       comes,
       turns,
-      subst (λ (z : Outcome). IsUploadReply parts (came.Full k pack) z (head ++ rest))
+      subst (λ (z : Outcome). IsUploadReply parts (came.Full k pack) z (reply_bytes reply))
           (sym is.0) (refl, is.1),
       adds,
     )
-upload_said boundary given parts wire x closes came.Disk (made.Told o head rest) n t added is comes turns part adds = (
+upload_said boundary given parts wire x closes came.Disk (made.Told o reply) n t added is comes turns part adds = (
   came.Disk,
   comes,
   turns,
-  subst (λ (z : Outcome). IsUploadReply parts came.Disk z (head ++ rest)) (sym is.0)
+  subst (λ (z : Outcome). IsUploadReply parts came.Disk z (reply_bytes reply)) (sym is.0)
       (refl, is.1),
   adds,
 )
 upload_said boundary given parts wire x closes came.Memory
-    (made.Told o head rest) n t added is comes turns part adds = absurd is
+    (made.Told o reply) n t added is comes turns part adds = absurd is
 upload_said boundary given parts wire x closes (came.Ended ends.Closed)
-    (made.Told o head rest) n t added is comes turns part adds = absurd comes.1
+    (made.Told o reply) n t added is comes turns part adds = absurd comes.1
 upload_said boundary given parts wire x closes (came.Ended (ends.Cut k))
-    (made.Told o head rest) n t added is comes turns part adds = absurd is
+    (made.Told o reply) n t added is comes turns part adds = absurd is
 upload_said boundary given parts wire x closes (came.Ended (ends.BadHead k))
-    (made.Told o head rest) n t added is comes turns part adds = absurd comes.1
+    (made.Told o reply) n t added is comes turns part adds = absurd comes.1
 upload_said boundary given parts wire x closes (came.Ended (ends.BadLength k))
-    (made.Told o head rest) n t added is comes turns part adds = (
+    (made.Told o reply) n t added is comes turns part adds = (
       came.Refused refusal.BadLength,
       (comes.0, comes.1.1),
       turns,
-      subst (λ (z : Outcome). IsUploadReply parts (came.Refused refusal.BadLength) z (head ++ rest)) (sym is.0) is.1,
+      subst (λ (z : Outcome). IsUploadReply parts (came.Refused refusal.BadLength) z (reply_bytes reply)) (sym is.0) is.1,
       broken_adds boundary given parts (ends.BadLength k) added adds (came.Refused refusal.BadLength),
     )
 upload_said boundary given parts wire x closes (came.Ended (ends.TooLong k))
-    (made.Told o head rest) n t added is comes turns part adds = absurd comes.1
+    (made.Told o reply) n t added is comes turns part adds = absurd comes.1
 upload_said boundary given parts wire x closes (came.Ended ends.ReadFault)
-    (made.Told o head rest) n t added is comes turns part adds = absurd is
+    (made.Told o reply) n t added is comes turns part adds = absurd is
 
 added_longer : (parts : List Part) (next : Part → Type 0) (c : UploadEnd) (v w : Sight) → Adds parts next c v w → Longer v w
 added_longer parts next c v w adds = record {
@@ -345,14 +314,14 @@ module _ (x0 x1 x2 : Option (List ℕ)) (flow : Flow) (mid new : WireView) (says
       }
 
   -- a whole upload
-  whole_replies : (entry : Answered) (o : Outcome) (text rest : List ℕ) (closes : Bool) → c ≡ came.Whole
-      → UploadMade says.closes listed c (Ok (made.Told o text rest))
-      → IsUploadEntry w (length listed) (made.Told o text rest) entry
-      → closes ≡ says.closes → Replies x0 x2 flow new tells v w entry (made.Told o text rest) closes
-  whole_replies entry o text rest closes whole is e closing =
+  whole_replies : (entry : Answered) (o : Outcome) (reply : Reply) (closes : Bool) → c ≡ came.Whole
+      → UploadMade says.closes listed c (Ok (made.Told o reply))
+      → IsUploadEntry w (length listed) (made.Told o reply) entry
+      → closes ≡ says.closes → Replies x0 x2 flow new tells v w entry (made.Told o reply) closes
+  whole_replies entry o reply closes whole is e closing =
       let done = subst (λ (z : UploadEnd). Comes boundary u.given u.parts new (to_come new x2) z) whole comes in
-      let told = subst (λ (z : UploadEnd). UploadMade says.closes (sizes u.parts) z (Ok (made.Told o text rest))) whole
-      (made_so (made.Told o text rest) is) in
+      let told = subst (λ (z : UploadEnd). UploadMade says.closes (sizes u.parts) z (Ok (made.Told o reply))) whole
+      (made_so (made.Told o reply) is) in
       let count = subst (λ (z : UploadEnd). Turns z (length u.parts) (length turns)) whole adds.turns in
       let r : Request = record { head = mid.head; says = says; framed = u.moved.0; body = u.given } in
       let begins = is_begun x0 x1 x2 flow mid new says head u.given u.moved in
@@ -365,7 +334,7 @@ module _ (x0 x1 x2 : Option (List ℕ)) (flow : Flow) (mid new : WireView) (says
           passed x0 x1 x2 flow mid new
               says head u.given u.moved,
         );
-        handles = handles (Whole r) entry (made.Told o text rest) is e
+        handles = handles (Whole r) entry (made.Told o reply) is e
             (λ g. inl (
               kept entry.kept e.kept,
               done.2,
@@ -387,7 +356,7 @@ module _ (x0 x1 x2 : Option (List ℕ)) (flow : Flow) (mid new : WireView) (says
       or_true : (b : Bool) → (b || true) ≡ true
       or_true true = refl
       or_true false = refl
-  upload_replies entry (made.Told o text rest) closes is e closing = by_whole (is_whole c) refl
+  upload_replies entry (made.Told o reply) closes is e closing = by_whole (is_whole c) refl
     where
       or_true : (b : Bool) → ((b || true) || false) ≡ true
       or_true true = refl
@@ -405,10 +374,10 @@ module _ (x0 x1 x2 : Option (List ℕ)) (flow : Flow) (mid new : WireView) (says
       whole_is came.Memory is = absurd (true_not (sym is))
       whole_is (came.Ended end) is = absurd (true_not (sym is))
 
-      by_whole : (b : Bool) → is_whole c ≡ b → Replies x0 x2 flow new tells v w entry (made.Told o text rest) closes
-      by_whole true whole = whole_replies entry o text rest closes (whole_is c whole) is e
+      by_whole : (b : Bool) → is_whole c ≡ b → Replies x0 x2 flow new tells v w entry (made.Told o reply) closes
+      by_whole true whole = whole_replies entry o reply closes (whole_is c whole) is e
           (closing ∙ ap (λ (b : Bool). (says.closes || not b) || false) whole ∙ or_false says.closes)
-      by_whole false part = part_replies entry (made.Told o text rest) closes is e (inl part)
+      by_whole false part = part_replies entry (made.Told o reply) closes is e (inl part)
           (closing ∙ ap (λ (b : Bool). (says.closes || not b) || false) part ∙ or_true says.closes)
 
   -- an upload in which the connection ends leaves the turns that it drew, and what they added
@@ -475,7 +444,7 @@ module _ (x0 x1 x2 : Option (List ℕ)) (flow : Flow) (mid new : WireView) (says
       by_came (came.Ended ends.Closed) end is said = absurd is
       by_came (came.Ended (ends.Cut n)) end is said =
           subst (NoneComes (stream flow.bytes x0) x2 flow.taken) (sym is)
-          (cut_body (stream flow.bytes x0) (stream new.flow.bytes x2) flow.taken n
+          (cut_body IsFair (stream flow.bytes x0) (stream new.flow.bytes x2) flow.taken n
           (begun x0 x1 x2 flow mid new says head u.given u.moved)
           (is_begun x0 x1 x2 flow mid new says head u.given u.moved)
           (passed x0 x1 x2 flow mid new says head u.given u.moved).gave

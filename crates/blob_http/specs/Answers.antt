@@ -1,5 +1,5 @@
 -- What is answered to a question, over the blobs that arrived and the Inserts.
-use Rattle.std.specs.Prelude.{◌≡◌, ℕ, ◌+◌, ◌-◌, List, [], ◌++◌, length, take, slice_get, Bool, true, false, nat_lt}
+use Rattle.std.specs.Prelude.{◌≡◌, ℕ, ◌+◌, ◌-◌, List, [], length, take, slice_get, Bool, true, false, nat_lt}
 use Rattle.std.specs.Prelude.{if◌then◌else◌, Option, Some, None, Result, Ok, Err}
 use Rattle.std.specs.Option.{option_map}
 use Rattle.std.specs.List.{filter_map}
@@ -22,7 +22,8 @@ use Rattle.blob_http.specs.declared.operations.Operation.{Operation}
 use Rattle.blob_http.specs.declared.operations.Operation.TheVariants as question
 use Rattle.blob_http.specs.declared.replies.ReplyText.{ReplyText}
 use Rattle.blob_http.specs.declared.replies.ReplyText.TheVariants as made
-use Rattle.blob_http.specs.Replies.{json_reply, blob_reply, refused_reply, memory_reply}
+use Rattle.http_exchange.specs.Replies.{json_reply, bytes_reply, refused_reply, memory_reply}
+use Rattle.http_exchange.specs.Written.{reply_bytes}
 
 -- the methods to tell
 abbrev pub allow_text : Option Allowed → List ℕ
@@ -33,7 +34,7 @@ allow_text (Some allow) = allowed_text allow
 abbrev pub IsBlobReply : Bool → List ℕ → Bool → Option (List ℕ) → List ℕ → Type 0
 IsBlobReply tells r closes None text = text ≡ refused_reply closes [] (refusal.Absent r)
 IsBlobReply tells r closes (Some own) text =
-    (bytes : List ℕ) × IsRead tells r own bytes × (text ≡ blob_reply closes bytes)
+    (bytes : List ℕ) × IsRead tells r own bytes × (text ≡ bytes_reply closes bytes)
 
 -- the last ref of a page
 abbrev pub last_ref : List (List ℕ × ℕ) → Option (List ℕ)
@@ -90,19 +91,19 @@ IsAnswer tells accepts blobs g closes q (Damaged want is) text =
 -- ---- as a reply is made
 
 abbrev pub outcome_of : ReplyText → Outcome
-outcome_of (made.Told outcome head body) = outcome
+outcome_of (made.Told outcome reply) = outcome
 outcome_of made.Memory = Memory
 
 abbrev pub text_of : ReplyText → List ℕ
-text_of (made.Told outcome head body) = head ++ body
+text_of (made.Told outcome reply) = reply_bytes reply
 text_of made.Memory = memory_reply
 
 abbrev pub IsTold : Outcome → List ℕ → ReplyText → Type 0
-IsTold outcome text (made.Told o head body) = (o ≡ outcome) × (head ++ body ≡ text)
+IsTold outcome text (made.Told o reply) = (o ≡ outcome) × (reply_bytes reply ≡ text)
 IsTold outcome text made.Memory = Unit {0}
 
 abbrev pub IsMemory : ReplyText → Type 0
-IsMemory (made.Told o head body) = ⊥
+IsMemory (made.Told o reply) = ⊥
 IsMemory made.Memory = Unit {0}
 
 abbrev pub FaultMade : Bool → GetFault → ReplyText → Type 0
@@ -113,7 +114,7 @@ FaultMade closes unread.NoMemory m = IsMemory m
 
 abbrev pub BlobMade : Bool → List ℕ → Result (Option (List ℕ)) GetFault → ReplyText → Type 0
 BlobMade closes r (Ok None) m = IsTold Defined (refused_reply closes [] (refusal.Absent r)) m
-BlobMade closes r (Ok (Some bytes)) m = IsTold Defined (blob_reply closes bytes) m
+BlobMade closes r (Ok (Some bytes)) m = IsTold Defined (bytes_reply closes bytes) m
 BlobMade closes r (Err f) m = FaultMade closes f m
 
 -- of what is listed or found, by the text that it has

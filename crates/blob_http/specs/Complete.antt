@@ -16,16 +16,16 @@ use Rattle.multipart_read.specs.PartLists.{Part, IsMultipart}
 use Rattle.blob_routes.specs.declared.routes.Allowed.{Allowed}
 use Rattle.blob_routes.specs.declared.routes.Route.{Route}
 use Rattle.blob_routes.specs.declared.routes.Route.TheVariants as route
-use Rattle.blob_routes.specs.Before.{most_body}
+use Rattle.http_exchange.specs.Before.{most_body}
 use Rattle.blob_upload.specs.Faults.{most_bytes, part_fault}
 use Rattle.blob_http.specs.declared.entries.Outcome.{Outcome}
 use Rattle.blob_http.specs.declared.entries.Outcome.TheVariants.{Defined, Memory}
 use Rattle.blob_http.specs.declared.operations.Operation.{Operation}
 use Rattle.blob_http.specs.declared.operations.Operation.TheVariants.{Refused}
-use Rattle.blob_http.specs.Asked.{Asked, Whole, Front, Head}
+use Rattle.http_exchange.specs.Asked.{Asked, Whole, Front, Head}
 use Rattle.blob_http.specs.Questions.{IsAsked, first_of}
 use Rattle.blob_http.specs.Answers.{IsDefined}
-use Rattle.blob_http.specs.Replies.{json_reply, memory_reply}
+use Rattle.http_exchange.specs.Replies.{json_reply, memory_reply}
 use Rattle.blob_http.specs.Keeping.{boundary_at}
 use Rattle.blob_http.specs.Serving.{Answer, AnswerHolds}
 

@@ -11,7 +11,7 @@ use Rattle.histories.specs.Indexes.{Insertion, has_number}
 use Rattle.http_wire.specs.Speaking.{Request}
 use Rattle.blob_http.specs.declared.entries.Outcome.TheVariants.{Defined}
 use Rattle.blob_http.specs.declared.operations.Operation.TheVariants.{Search}
-use Rattle.blob_http.specs.Asked.{Whole}
+use Rattle.http_exchange.specs.Asked.{Whole}
 use Rattle.blob_http.specs.Questions.{IsAsked}
 use Rattle.blob_http.specs.Serving.{IsShown, Answer, AnswerHolds}
 

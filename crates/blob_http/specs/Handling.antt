@@ -1,6 +1,6 @@
 -- What one request comes to.
-use Rattle.std.specs.Prelude.{◌≡◌, ◌≤◌, ℕ, List, [], ◌∷◌, ◌++◌, length, take, Bool, true, false, Option, IfSome, Result}
-use Rattle.std.specs.Prelude.{Ok, Err, ◌==◌, All}
+use Rattle.std.specs.Prelude.{◌≡◌, ◌≤◌, ℕ, List, [], ◌∷◌, ◌++◌, length, take, Bool, true, false, Option, Result}
+use Rattle.std.specs.Prelude.{Ok, Err, All}
 use Rattle.claim_verify.specs.Verifier.{Accepts}
 use Rattle.histories.specs.declared.stamped.Stamped.{Stamped}
 use Rattle.histories.specs.declared.events.StoreEvent.{StoreEvent}
@@ -9,40 +9,35 @@ use Rattle.histories.specs.Stores.{Blob, arrivals}
 use Rattle.histories.specs.Indexes.{Insertion}
 use Rattle.home_places.specs.Passes.{Sight}
 use Rattle.http_wire.specs.declared.body.Body.TheVariants as body
-use Rattle.http_wire.specs.declared.head.Head.{Head}
-use Rattle.http_wire.specs.declared.head.Framing.{Framing}
-use Rattle.http_wire.specs.declared.head.Framing.TheVariants.{Empty, Length, Chunked, ToEnd}
-use Rattle.http_wire.specs.Stream.{Flow, Passed}
-use Rattle.http_wire.specs.Heads.{IsHeadText, HeadSays}
-use Rattle.http_wire.specs.Wires.{WireView, body_of}
+use Rattle.http_wire.specs.Stream.{Flow}
+use Rattle.http_wire.specs.Wires.{WireView}
 use Rattle.blobref.specs.declared.memory.NoMemory.{NoMemory}
 use Rattle.answer_text.specs.declared.refusal.Refusal.TheVariants as refusal
-use Rattle.blob_routes.specs.Before.{most_body}
-use Rattle.blob_http.specs.declared.gathering.BodyFault.{BodyFault}
-use Rattle.blob_http.specs.declared.gathering.BodyFault.TheVariants as stopped
+use Rattle.http_exchange.specs.Before.{most_body}
+use Rattle.http_exchange.specs.declared.gathering.BodyFault.{BodyFault}
+use Rattle.http_exchange.specs.declared.gathering.BodyFault.TheVariants as stopped
 use Rattle.blob_http.specs.declared.entries.Answered.{Answered}
 use Rattle.blob_http.specs.Questions.{refused}
 use Rattle.blob_http.specs.declared.operations.Operation.{Operation}
 use Rattle.blob_http.specs.declared.replies.ReplyText.{ReplyText}
 use Rattle.blob_http.specs.declared.replies.ReplyText.TheVariants as made
-use Rattle.blob_http.specs.declared.serving.Ended.{Ended}
-use Rattle.blob_http.specs.declared.serving.Ended.TheVariants as ended
-use Rattle.blob_http.specs.Asked.{Asked, Comes, closes_of}
+use Rattle.http_exchange.specs.Asked.{Asked, Comes, closes_of}
+use Rattle.http_exchange.specs.Written.{reply_bytes}
 use Rattle.blob_http.specs.Answers.{IsAnswer, outcome_of, text_of}
-use Rattle.blob_http.specs.Serving.{HasCauseIn, LooksAt, Longer, Handles, IsCut, IsReadShort, Owns, PutsNothing}
+use Rattle.blob_http.specs.Serving.{HasCauseIn, LooksAt, Longer, Handles, Owns, PutsNothing}
 
 abbrev pub IsMade : Bool → Accepts → List Blob → List Insertion → Bool → Operation → ReplyText → Type 0
-IsMade tells accepts blobs g closes q (made.Told o head body) = IsAnswer tells accepts blobs g closes q o (head ++ body)
+IsMade tells accepts blobs g closes q (made.Told o reply) = IsAnswer tells accepts blobs g closes q o (reply_bytes reply)
 IsMade tells accepts blobs g closes q made.Memory = Unit {0}
 
 abbrev pub is_memory : ReplyText → Bool
-is_memory (made.Told o head body) = false
+is_memory (made.Told o reply) = false
 is_memory made.Memory = true
 
 -- what was answered from the store drew a turn of it first, and so did a search
 abbrev pub Looked : List (Stamped StoreEvent) → List Blob → Operation → ReplyText → List ℕ → Type 0
 Looked h blobs q made.Memory turns = Unit {0}
-Looked h blobs q (made.Told o head body) turns = LooksAt h blobs q turns
+Looked h blobs q (made.Told o reply) turns = LooksAt h blobs q turns
 
 -- a turn of the store was drawn, which shows what had arrived, and added nothing
 pub record Looks (v w : Sight) : Type 0 where
@@ -83,21 +78,6 @@ pub record IsUploadEntry (v : Sight) (n : ℕ) (m : ReplyText) (entry : Answered
   pub kept : entry.kept ≡ n
   pub outcome : entry.outcome ≡ outcome_of m
 
--- the body is read at once
-abbrev pub is_read : Framing → Bool
-is_read Empty = true
-is_read (Length n) = n == 0
-is_read Chunked = false
-is_read ToEnd = false
-
--- a head was read from a flow
-pub record ReadsHead (before now : Option (List ℕ)) (old : Flow) (new : WireView) (says : Head) : Type 0 where
-  pub passed : Passed before now old new.flow new.head
-  pub lines : IsHeadText new.head
-  pub read : HeadSays new.head (Ok says)
-  pub begun : new.begun ≡ old.taken
-  pub ready : new.body ≡ body_of says.framing
-
 -- something was answered: what it was, and that the entry and the reply are those to it
 pub record Replies (before now : Option (List ℕ)) (old : Flow) (new : WireView) (tells : Bool) (v w : Sight)
     (entry : Answered) (m : ReplyText) (closes : Bool) : Type 0 where
@@ -119,19 +99,3 @@ StopReplies tells stopped.Broken v w entry m = Answers tells true (refused refus
 StopReplies tells stopped.Memory v w entry m = (m ≡ made.Memory) × ((q : Operation) → Answers tells true q v w entry m)
 StopReplies tells (stopped.Cut n) v w entry m = ⊥
 StopReplies tells stopped.ReadFault v w entry m = ⊥
-
--- how the connection ends there
-abbrev pub StopEnds : BodyFault → Ended → Type 0
-StopEnds stopped.Long end = ⊥
-StopEnds stopped.Broken end = ⊥
-StopEnds stopped.Memory end = ⊥
-StopEnds (stopped.Cut n) end = end ≡ ended.Cut n
-StopEnds stopped.ReadFault end = end ≡ ended.ReadFault
-
--- why nothing was answered, of the stream before, of which this is left in the source, and which is at this place
-abbrev pub NoneComes : Option (List ℕ) → Option (List ℕ) → ℕ → Ended → Type 0
-NoneComes x left place ended.Closed = IfSome x (λ bytes. bytes ≡ [])
-NoneComes x left place (ended.Cut n) = IfSome x (IsCut place n)
-NoneComes x left place ended.ReadFault = IfSome x (IsReadShort left)
-NoneComes x left place ended.WriteFault = ⊥
-NoneComes x left place ended.NoMemory = ⊥

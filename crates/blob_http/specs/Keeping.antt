@@ -18,11 +18,12 @@ use Rattle.blob_upload.specs.Faults.{part_fault}
 use Rattle.blob_http.specs.declared.entries.Outcome.{Outcome}
 use Rattle.blob_http.specs.declared.entries.Outcome.TheVariants.{Defined, Memory, Disk, Full, Damaged}
 use Rattle.blob_http.specs.declared.replies.ReplyText.{ReplyText}
-use Rattle.blob_http.specs.declared.replies.Kind.TheVariants.{Json}
-use Rattle.blob_http.specs.declared.serving.Ended.{Ended}
-use Rattle.blob_http.specs.declared.serving.Ended.TheVariants as ended
-use Rattle.blob_http.specs.Questions.{piece, first_of}
-use Rattle.blob_http.specs.Replies.{reply_text, json_reply, memory_reply}
+use Rattle.http_exchange.specs.declared.replies.Kind.TheVariants.{Json}
+use Rattle.http_exchange.specs.declared.ended.Ended.{Ended}
+use Rattle.http_exchange.specs.declared.ended.Ended.TheVariants as ended
+use Rattle.blob_http.specs.Questions.{first_of}
+use Rattle.http_exchange.specs.HeadPlaces.{piece}
+use Rattle.http_exchange.specs.Replies.{reply_text, json_reply, memory_reply}
 use Rattle.blob_http.specs.Answers.{IsTold, IsMemory}
 
 -- the boundary of an upload, by its head

@@ -1,6 +1,3 @@
-pub mod Gathering
-pub mod Asked
-pub mod Replies
 pub mod Questions
 pub mod Answers
 pub mod Keeping

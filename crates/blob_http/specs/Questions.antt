@@ -1,12 +1,10 @@
 -- What a request asks, by its head and its body.
-use Rattle.std.specs.Prelude.{◌≡◌, ◌≤◌, ℕ, List, slice_range, Bool, true, false, Option, Some, None, IfSome}
-use Rattle.std.specs.Prelude.{option_map, Result, Ok, Err}
+use Rattle.std.specs.Prelude.{◌≡◌, ◌≤◌, ℕ, List, Bool, true, false, Some, None, option_map, Result, Ok, Err}
 use Rattle.answer_text.specs.declared.refusal.Refusal.{Refusal}
 use Rattle.answer_text.specs.declared.refusal.Refusal.TheVariants as refusal
 use Rattle.http_wire.specs.declared.body.Body.TheVariants.{Done}
 use Rattle.http_wire.specs.declared.head.Head.{Head}
 use Rattle.http_wire.specs.declared.head.Framing.{Framing}
-use Rattle.http_wire.specs.declared.head.Piece.{Piece}
 use Rattle.blob_routes.specs.declared.routes.Route.{Route}
 use Rattle.blob_routes.specs.declared.routes.Route.TheVariants as route
 use Rattle.blob_routes.specs.declared.routes.RouteFault.{RouteFault}
@@ -18,21 +16,10 @@ use Rattle.blob_routes.specs.Stats.{refs_of}
 use Rattle.blob_routes.specs.Pages.{page_of, most_page}
 use Rattle.blob_routes.specs.Queries.{question_of}
 use Rattle.search_query.specs.View.{question}
-use Rattle.http_wire.specs.Heads.{IsPlaceIn}
 use Rattle.http_wire.specs.Wires.{body_of}
+use Rattle.http_exchange.specs.HeadPlaces.{piece}
 use Rattle.blob_http.specs.declared.operations.Operation.{Operation}
 use Rattle.blob_http.specs.declared.operations.Operation.TheVariants.{Refused, Blob, Stat, Refs, Search}
-
--- the bytes of a place in a head
-abbrev pub piece : List ℕ → Piece → List ℕ
-piece head p = slice_range head p.start p.end
-
--- the places of a head lie in its text
-pub record HasPieces (text : List ℕ) (says : Head) : Type 0 where
-  pub method : IsPlaceIn text says.method
-  pub path : IsPlaceIn text says.path
-  pub query : IsPlaceIn text says.query
-  pub content_type : IfSome says.content_type (IsPlaceIn text)
 
 -- ---- before the body is read
 
@@ -44,17 +31,25 @@ abbrev pub refused_by : RouteFault → Operation
 refused_by fault.NoRoute = refused refusal.NoRoute
 refused_by (fault.Method allow) = Refused refusal.Method (Some allow)
 
-abbrev pub early_by : Route → Result (Option (List ℕ)) Refusal → Result Route Operation
-early_by r (Ok boundary) = Ok r
+-- the route of a request by its method and its path, or how it is refused by these
+abbrev pub routed_by : Result Route RouteFault → Result Route Operation
+routed_by (Ok r) = Ok r
+routed_by (Err why) = Err (refused_by why)
+
+abbrev pub routed_of : List ℕ → Head → Result Route Operation
+routed_of head says = routed_by (route_of (piece head says.method) (piece head says.path))
+
+abbrev pub early_by : Route → Result (Unit {0}) Refusal → Result Route Operation
+early_by r (Ok fine) = Ok r
 early_by r (Err why) = Err (refused why)
 
-abbrev pub first_by : List ℕ → Head → Result Route RouteFault → Result Route Operation
+abbrev pub first_by : List ℕ → Head → Result Route Operation → Result Route Operation
 first_by head says (Ok r) = early_by r (early_of r says.framing (option_map (piece head) says.content_type))
-first_by head says (Err why) = Err (refused_by why)
+first_by head says (Err q) = Err q
 
 -- the route of a request, or how it is refused before its body is read
 abbrev pub first_of : List ℕ → Head → Result Route Operation
-first_of head says = first_by head says (route_of (piece head says.method) (piece head says.path))
+first_of head says = first_by head says (routed_of head says)
 
 -- a page that is asked isn't too long
 abbrev pub IsFew : Operation → Type 0

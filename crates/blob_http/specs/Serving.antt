@@ -3,7 +3,6 @@ use Rattle.std.specs.Prelude.{◌≡◌, ◌≤◌, ◌<◌, ◌⊎◌, ℕ, Lis
 use Rattle.std.specs.Prelude.{None, IfSome, Result, Ok, Err, true, Contains}
 use Rattle.std.specs.List.{flat_map}
 use mathlib.Core.List.{IsPrefix}
-use Rattle.edge_base.specs.Edge.{Gave, Took, TookFront, Rose}
 use Rattle.edge_base.specs.declared.answers.GetFault.TheVariants as unread
 use Rattle.claim_verify.specs.Verifier.{Accepts}
 use Rattle.answer_text.specs.declared.refusal.Refusal.{Refusal}
@@ -17,25 +16,24 @@ use Rattle.histories.specs.Indexes.{Insertion}
 use Rattle.home_places.specs.Passes.{Sight, Caused, IsTrouble}
 use Rattle.http_wire.specs.declared.body.Body.TheVariants.{Done}
 use Rattle.http_wire.specs.declared.ends.WireEnd.{WireEnd}
-use Rattle.http_wire.specs.declared.ends.WireEnd.TheVariants as ends
-use Rattle.http_wire.specs.Stream.{Flow, Passed, counted}
-use Rattle.http_wire.specs.Bodies.{Stops, Breaks}
-use Rattle.http_wire.specs.Wires.{WireView, HeadEnds, LacksHead, body_of}
-use Rattle.http_wire.specs.Speaking.{Request, IsRequest, Speaks, Begun, IsBegun, Last, Nothing, Refused, Unfinished}
-use Rattle.http_wire.specs.Speaking.{IsOpen, GoesOn, HasNoRequest, ClosesAtLast, place_behind, text_of}
+use Rattle.http_wire.specs.Stream.{Flow, counted}
+use Rattle.http_wire.specs.Bodies.{Breaks}
+use Rattle.http_wire.specs.Wires.{WireView, body_of}
+use Rattle.http_wire.specs.Speaking.{Request, Begun, IsBegun, Refused}
 use Rattle.blob_http.specs.declared.entries.Outcome.{Outcome}
 use Rattle.blob_http.specs.declared.entries.Outcome.TheVariants.{Defined, Memory, Disk, Full, Damaged}
 use Rattle.blob_http.specs.declared.entries.Answered.{Answered}
 use Rattle.blob_http.specs.declared.operations.Operation.{Operation}
 use Rattle.blob_http.specs.declared.operations.Operation.TheVariants as question
-use Rattle.blob_http.specs.declared.serving.Ended.{Ended}
-use Rattle.blob_http.specs.declared.serving.Ended.TheVariants as ended
-use Rattle.blob_http.specs.Asked.{Asked, Whole, Front, Head, head_says}
+use Rattle.http_exchange.specs.declared.ended.Ended.{Ended}
+use Rattle.http_exchange.specs.declared.ended.Ended.TheVariants as ended
+use Rattle.http_exchange.specs.Asked.{Asked, Whole, Front, Head, head_says}
+use Rattle.http_exchange.specs.Hearing as hearing
 use Rattle.blob_routes.specs.declared.routes.Route.{Route}
-use Rattle.blob_routes.specs.Before.{most_body}
+use Rattle.http_exchange.specs.Before.{most_body}
 use Rattle.blob_http.specs.Questions.{IsAsked, first_of}
 use Rattle.blob_http.specs.Answers.{IsAnswer, allow_text}
-use Rattle.blob_http.specs.Replies.{json_reply, refused_reply, memory_reply}
+use Rattle.http_exchange.specs.Replies.{json_reply, refused_reply, memory_reply}
 use Rattle.blob_http.specs.Keeping.{boundary_at, Kept, IsUploadReply}
 use Rattle.answer_text.specs.Listings.{upload_text}
 use Rattle.histories.specs.StoreCalls.{sizes}
@@ -206,10 +204,6 @@ Climbs m n [] p q = (m ≤ p) × (n ≤ q)
 Climbs m n (a ∷ rest) p q = (m ≤ a.entry.store_count) × (n ≤ a.entry.index_count)
     × Climbs a.entry.store_count a.entry.index_count rest p q
 
--- the log has taken these entries: behind whatever it told before, it tells them
-abbrev pub Notes : {L : Type 0} → (L → List Answered → Type 0) → L → L → List Answered → Type 0
-Notes tells old new entries = (before : List Answered) → tells old before → tells new (before ++ entries)
-
 -- What was served, over the histories that the pass has seen by now: the entries, in order, what was asked, and what
 -- was written are as is said; each reply is the one that is defined; the counts never fall; and the turns of the store
 -- that were drawn are those of the requests, and then such as are said. Under the turns that the pass has drawn stand
@@ -232,30 +226,6 @@ pub record Serves (tells : Bool) (v w : Sight) (notes : List Answered → Type 0
 
 -- ---- the stream
 
--- where a connection begins
-abbrev pub fresh_flow : Flow
-fresh_flow = record { bytes = []; taken = 0 }
-
--- these whole requests were answered, each of which leaves the connection open
-pub record Stays (asked : List Asked) (requests : List Request) : Type 0 where
-  pub answered : asked ≡ map Whole requests
-  pub are : All IsRequest requests
-  pub stay : All IsOpen requests
-
--- while the connection stays open: these requests were taken from the stream
-pub record Open (before now : Option (List ℕ)) (old new : Flow) (asked : List Asked) : Type 0 where
-  pub requests : List Request
-  pub stays : Stays asked requests
-  pub passed : Passed before now old new (flat_map text_of requests)
-
--- the answers are those to the whole requests, and to what is answered last
-abbrev pub AreAnswers : List Asked → List Request → Last → List ℕ → Type 0
-AreAnswers asked requests Nothing rest = asked ≡ map Whole requests
-AreAnswers asked requests (Refused end) rest = asked ≡ map Whole requests ++ Head end ∷ []
-AreAnswers asked requests (Unfinished b) rest =
-    (after : List ℕ) × (asked ≡ map Whole requests ++ Front b (Some after) ∷ [])
-    × (rest ≡ b.head ++ (b.framed ++ after))
-
 -- No refusal was due by what came of the request: its head has none; a body that is read as a whole was within its
 -- limit; the whole parts of an upload have no fault, and neither has its multipart body so far.
 abbrev pub HadNoRefusal : Begun → Result Route Operation → Type 0
@@ -267,61 +237,15 @@ HadNoRefusal b (Ok (route.Stat posted)) = length b.given ≤ most_body
 HadNoRefusal b (Ok route.Page) = length b.given ≤ most_body
 HadNoRefusal b (Ok route.Search) = length b.given ≤ most_body
 
--- The source ended inside the request at this place: inside its head; or inside its body, where no refusal was due.
-abbrev pub IsCut : ℕ → ℕ → List ℕ → Type 0
-IsCut place n rest = HeadEnds (Some rest) place (ends.Cut n)
-    ⊎ ((n ≡ place) × ((b : Begun) × (after : List ℕ) × IsBegun b × (rest ≡ b.head ++ (b.framed ++ after))
-    × Stops b.at after × HadNoRefusal b (first_of b.head b.says)))
-
--- these bytes end before a request does: before or inside its head, or inside its body
-abbrev pub EndsShort : List ℕ → Type 0
-EndsShort bytes = LacksHead bytes ⊎ ((b : Begun) × (after : List ℕ) × IsBegun b
-    × (bytes ≡ b.head ++ (b.framed ++ after)) × Stops b.at after)
-
--- what was read of these bytes, of which this is left in the source, ends before a request does
-abbrev pub IsReadShort : Option (List ℕ) → List ℕ → Type 0
-IsReadShort left rest = (ahead : List ℕ) × Gave (Some rest) left ahead × HasNoRequest ahead × EndsShort ahead
-
--- no further request was taken, and the connection was open
-abbrev pub StoodOpen : List Request → Last → Type 0
-StoodOpen requests last = All IsOpen requests × (last ≡ Nothing)
-
--- the connection closes behind the last reply: its request says so, or isn't a whole one
-abbrev pub ClosesBehind : List Request → Last → Type 0
-ClosesBehind requests Nothing = ClosesAtLast requests
-ClosesBehind requests (Refused end) = Unit {0}
-ClosesBehind requests (Unfinished b) = Unit {0}
-
--- what follows the requests that were answered, and what is left of that in the source
-abbrev pub Follows : Ended → ℕ → List Request → Last → List ℕ → Option (List ℕ) → Type 0
-Follows ended.Closed place requests last rest left =
-    GoesOn place requests last rest × ((StoodOpen requests last × (rest ≡ [])) ⊎ ClosesBehind requests last)
-Follows (ended.Cut n) place requests last rest left = StoodOpen requests last × HasNoRequest rest × IsCut place n rest
-Follows ended.ReadFault place requests last rest left = StoodOpen requests last × IsReadShort left rest
-Follows ended.WriteFault place requests last rest left = StoodOpen requests last ⊎ GoesOn place requests last rest
-Follows ended.NoMemory place requests last rest left = StoodOpen requests last
-
--- the stream is these requests, of which each was answered, and what follows them. Where the connection was closed,
--- `speaks` and `follows` are that the stream speaks to the requests and the last, and that nothing follows them or the
--- last reply closes
-pub record Hears (x : List ℕ) (left : Option (List ℕ)) (asked : List Asked) (end : Ended) : Type 0 where
-  pub requests : List Request
-  pub last : Last
-  pub rest : List ℕ
-  pub speaks : Speaks x requests rest
-  pub answers : AreAnswers asked requests last rest
-  pub follows : Follows end (place_behind requests) requests last rest left
+-- no refusal was due by what came of a request
+abbrev pub IsFair : Begun → Type 0
+IsFair b = HadNoRefusal b (first_of b.head b.says)
 
 abbrev pub Heard : Option (List ℕ) → Option (List ℕ) → Ended → List Asked → Type 0
-Heard x left end asked = IfSome x (λ bytes. Hears bytes left asked end)
+Heard = hearing.Heard IsFair
 
--- what the sink got: the replies, and at a failed write a front of them
-abbrev pub Wrote : Option (List ℕ) → Option (List ℕ) → Ended → List ℕ → Type 0
-Wrote before now ended.WriteFault texts = TookFront before now texts
-Wrote before now ended.Closed texts = Took before now texts
-Wrote before now (ended.Cut n) texts = Took before now texts
-Wrote before now ended.ReadFault texts = Took before now texts
-Wrote before now ended.NoMemory texts = Took before now texts
+abbrev pub NoneComes : Option (List ℕ) → Option (List ℕ) → ℕ → Ended → Type 0
+NoneComes = hearing.NoneComes IsFair
 
 -- An upload at this place was read so far, of a stream that has this place. It drew a turn for each of its parts that
 -- were told, and under these stand Puts of such parts alone.
@@ -362,28 +286,11 @@ pub record Passes (x : Option (List ℕ)) (start : ℕ) (end : Ended) (v w : Sig
   pub rest : IsRest x start end turns added
   pub longer : Longer v w
 
--- why it ended
-abbrev pub EndCause : ℕ → ℕ → ℕ → ℕ → Ended → Type 0
-EndCause read read' wrote wrote' ended.ReadFault = Rose read read'
-EndCause read read' wrote wrote' ended.WriteFault = Rose wrote wrote'
-EndCause read read' wrote wrote' ended.Closed = Unit {0}
-EndCause read read' wrote wrote' (ended.Cut n) = Unit {0}
-EndCause read read' wrote wrote' ended.NoMemory = Unit {0}
-
 -- ---- one step of a connection: none, where it goes on
 
 abbrev pub HeardBy : Option (List ℕ) → Option (List ℕ) → Flow → Flow → Option Ended → List Asked → Type 0
-HeardBy before now old new None asked = Open before now old new asked
-HeardBy before now old new (Some end) asked = Heard before now end asked
-
-abbrev pub WroteBy : Option (List ℕ) → Option (List ℕ) → Option Ended → List ℕ → Type 0
-WroteBy before now None texts = Took before now texts
-WroteBy before now (Some end) texts = Wrote before now end texts
+HeardBy = hearing.HeardBy IsFair
 
 abbrev pub RestBy : Option (List ℕ) → Option Ended → List ℕ → List (Stamped StoreEvent) → Type 0
 RestBy x None turns added = HasNone turns added
 RestBy x (Some end) turns added = IsRest x 0 end turns added
-
-abbrev pub StepCause : ℕ → ℕ → ℕ → ℕ → Option Ended → Type 0
-StepCause read read' wrote wrote' None = Unit {0}
-StepCause read read' wrote wrote' (Some end) = EndCause read read' wrote wrote' end

@@ -17,7 +17,7 @@ pub enum Outcome {
 }
 
 /// The entry of a request that was answered: over how many blobs and how many inserts, how many parts of an upload were
-/// kept, and how it was answered.
+/// kept, and how it was answered. It takes 88 bytes.
 #[derive(Clone, Copy)]
 pub struct Answered {
     pub store_count: u64,

@@ -1,9 +1,7 @@
 //! Serves the requests of a connection over any home (`docs/http.md`).
 #![tactic(auto)]
 
-mod answer_log;
 mod entries;
-mod gathering;
 mod handling;
 mod laws;
 mod operations;
@@ -12,10 +10,9 @@ mod requests;
 mod serving;
 mod uploads;
 
-pub use answer_log::{AnswerLog, NoLog};
 pub use entries::{Answered, Outcome};
-pub use gathering::BodyFault;
+pub use http_exchange::{AnswerLog, Ended, NoLog};
 pub use laws::{searches_find, valid_requests_are_served};
 pub use operations::Operation;
-pub use replies::{Kind, ReplyText};
-pub use serving::{Ended, serve_connection};
+pub use replies::ReplyText;
+pub use serving::serve_connection;

@@ -1,13 +1,14 @@
 //! What a request asks, by its head and its body.
-ghost use Rattle.std.specs.Prelude.{◌≡◌, ℕ, List, false, Ok, IfOk, IfErr, option_map, option_copied};
+ghost use Rattle.std.specs.Prelude.{◌≡◌, false, IfOk, IfErr};
 ghost use Rattle.blob_routes.specs.Stats.{refs_of};
 ghost use Rattle.blob_routes.specs.Pages.{page_of};
-ghost use Rattle.blob_http.specs.Questions.{IsFew, piece, first_of, refused_by, refused, stat_of, refs_asked};
-ghost use Rattle.blob_http.specs.Questions.{IsSearch, IsAskedAt, HasPieces, is_upload};
+ghost use Rattle.http_exchange.specs.HeadPlaces.{HasPieces};
+ghost use Rattle.blob_http.specs.Questions.{IsFew, routed_of, refused_by, refused, stat_of, refs_asked};
+ghost use Rattle.blob_http.specs.Questions.{IsSearch, IsAskedAt, is_upload};
 
 use answer_text::Refusal;
 use blob_routes::{
-    Allowed, AskFault, Page, Route, RouteFault, early, page_asked, query_asked, refs_asked,
+    Allowed, AskFault, Page, Route, RouteFault, page_asked, query_asked, refs_asked,
 };
 use blobref::{NoMemory, Ref, RefList};
 use http_wire::{Head, Wire};
@@ -40,19 +41,15 @@ pub enum Operation {
     },
 }
 
-/// The route of a request, or how it is refused before its body is read.
-pub(crate) fn first(wire: &Wire, head: &Head) -> Result<Route, Operation>
+/// The route of a request by its method and its path, or how it is refused by these.
+pub(crate) fn route_of_head(wire: &Wire, head: &Head) -> Result<Route, Operation>
     requires { HasPieces wire.now.head head.now }
-    ensures first { result ≡ first_of wire.now.head head.now }
+    ensures routed { result ≡ routed_of wire.now.head head.now }
     ensures few { IfErr result IsFew }
 {
-    let found = match Route::of(wire.piece(&head.method), wire.piece(&head.path)) {
-        Ok(found) => found,
-        Err(fault) => return Err(refused_by(fault)),
-    };
-    match early(&found, &head.framing, content_type(wire, head)) {
-        Ok(_) => Ok(found),
-        Err(refusal) => Err(refused(refusal)),
+    match Route::of(wire.piece(&head.method), wire.piece(&head.path)) {
+        Ok(found) => Ok(found),
+        Err(fault) => Err(refused_by(fault)),
     }
 }
 
@@ -71,17 +68,6 @@ fn refused_by(fault: RouteFault) -> Operation
     }
 }
 
-/// The value of the first content type.
-pub(crate) fn content_type<'a>(wire: &'a Wire, head: &Head) -> Option<&'a [u8]>
-    requires { HasPieces wire.now.head head.now }
-    ensures { option_copied result ≡ option_map (piece wire.now.head) head.now.content_type }
-{
-    match head.content_type {
-        Some(place) => Some(wire.piece(&place)),
-        None => None,
-    }
-}
-
 /// Whether the route is an upload's.
 pub(crate) fn is_upload(found: &Route) -> bool
     ensures { result ≡ is_upload found.now }
@@ -90,7 +76,7 @@ pub(crate) fn is_upload(found: &Route) -> bool
 }
 
 /// What is asked along a route that isn't an upload's, by the query and the body.
-pub(crate) fn ask(
+pub(crate) fn operation_of(
     alloc: Global,
     found: &Route,
     query: &[u8],

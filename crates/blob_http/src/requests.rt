@@ -1,30 +1,29 @@
 //! One request, from its head to its reply.
-ghost use Rattle.std.specs.Prelude.{◌≡◌, ◌≤◌, ◌||◌, not, ℕ, List, Option, Bool, true, Ok, IfOk, IfErr, IsErrOf};
+ghost use Rattle.std.specs.Prelude.{◌≡◌, ◌≤◌, ◌||◌, ℕ, List, Option, Bool, true, false, Ok, Err, IfOk, IfErr, IsErrOf};
 ghost use Rattle.edge_base.specs.Edge.{Rose};
-ghost use Rattle.http_wire.specs.Heads.{IsHeadText, HeadSays};
+ghost use Rattle.http_wire.specs.Heads.{HeadSays};
 ghost use Rattle.http_wire.specs.Stream.{Flow, stream};
-ghost use Rattle.http_wire.specs.Wires.{body_of};
+ghost use Rattle.http_wire.specs.Wires.{WireView, body_of};
 ghost use Rattle.http_wire.specs.declared.body.Body.{Body};
+ghost use Rattle.http_exchange.specs.HeadPlaces.{ReadsHead};
+ghost use Rattle.http_exchange.specs.Hearing.{StopEnds};
 ghost use Rattle.blob_http.specs.declared.operations.Operation.{Operation};
-ghost use Rattle.blob_http.specs.Asked.{head_says};
-ghost use Rattle.blob_http.specs.Questions.{IsFew};
-ghost use Rattle.blob_http.specs.Serving.{Passes};
-ghost use Rattle.blob_http.specs.Handling.{Answers, Replies, ReadsHead, NoneComes, AlongSays, StopReplies, StopEnds};
-ghost use Rattle.blob_http.specs.Handling.{is_read, is_memory};
+ghost use Rattle.blob_http.specs.Questions.{IsFew, first_of, routed_of, is_upload};
+ghost use Rattle.blob_http.specs.Serving.{Passes, NoneComes};
+ghost use Rattle.blob_http.specs.Handling.{Answers, Replies, AlongSays, StopReplies, is_memory};
 
 use crate::entries::{Answered, Outcome};
-use crate::gathering::{BodyFault, gather};
 use crate::handling::answer;
-use crate::operations::{Operation, ask, first, is_upload, refused};
+use crate::operations::{Operation, is_upload, operation_of, refused, route_of_head};
 use crate::replies::ReplyText;
-use crate::serving::Ended;
 use crate::uploads::reply_to_upload;
 use answer_text::Refusal;
-use blob_routes::MOST_BODY;
+use blob_routes::Route;
 use blobref::NoMemory;
 use edge_base::Source;
 use home_places::Home;
-use http_wire::{Framing, Head, Wire, WireEnd};
+use http_exchange::{BodyFault, Ended, MOST_BODY, check_length, closes_early, gather, head_says};
+use http_wire::{Head, Wire};
 use std::alloc::Global;
 use std::sync::Wait;
 
@@ -67,20 +66,6 @@ pub(crate) fn reply_next<H: Home, S: Source, R: Wait>(
     }
 }
 
-// What is refused where no head is read, or how the connection ends.
-fn head_says(end: WireEnd) -> Result<Refusal, Ended>
-    ensures { result ≡ head_says end }
-{
-    match end {
-        WireEnd::Closed => Err(Ended::Closed),
-        WireEnd::Cut { at } => Err(Ended::Cut { at }),
-        WireEnd::BadHead { .. } => Ok(Refusal::BadHead),
-        WireEnd::BadLength { .. } => Ok(Refusal::BadLength),
-        WireEnd::TooLong { limit } => Ok(Refusal::TooLong { limit }),
-        WireEnd::ReadFault => Err(Ended::ReadFault),
-    }
-}
-
 // The reply to a request whose head was read.
 fn reply_to<H: Home, S: Source, R: Wait>(
     rt: &R,
@@ -106,39 +91,76 @@ fn reply_to<H: Home, S: Source, R: Wait>(
     ensures fault { IsErrOf result Ended.ReadFault → Rose (S.faults source.old) (S.faults source.new) }
     ensures later { S.faults source.old ≤ S.faults source.new }
 {
-    let found = match first(wire, head) {
+    let found = match route_of_head(wire, head) {
         Ok(found) => found,
-        Err(question) => {
-            return Ok(reply_along(rt, alloc, home, pass, Ok(question), closes_early(head)));
-        }
+        Err(question) => return Ok(reply_early(rt, alloc, home, pass, head, question)),
     };
     if is_upload(&found) {
         return reply_to_upload(rt, alloc, home, pass, wire, source, head);
+    }
+    reply_to_question(rt, alloc, home, pass, wire, source, head, &found)
+}
+
+// The reply to a request along a route that isn't an upload's, whose body is read as a whole.
+fn reply_to_question<H: Home, S: Source, R: Wait>(
+    rt: &R,
+    alloc: Global,
+    home: &H,
+    pass: &mut H::Pass,
+    wire: &mut Wire,
+    source: &mut S,
+    head: &Head,
+    found: &Route,
+) -> Result<Response, Ended>
+    requires belongs { H.belongs home.now pass.old }
+    requires read { HeadSays wire.old.head (Ok head.now) }
+    requires ready { wire.old.body ≡ body_of head.now.framing }
+    requires routed { routed_of wire.old.head head.now ≡ Ok found.now }
+    requires other { is_upload found.now ≡ false }
+    ensures own { H.belongs home.now pass.new }
+    ensures replies { (x0 : Option (List ℕ)) (flow : Flow) → ReadsHead x0 (S.left source.old) flow wire.old head.now
+        → IfOk result (λ replied. Replies x0 (S.left source.new) flow wire.new (H.tells home.now) (H.sight pass.old)
+        (H.sight pass.new) replied.entry replied.made replied.closes) }
+    ensures passes { (x0 : Option (List ℕ)) (flow : Flow) → ReadsHead x0 (S.left source.old) flow wire.old head.now
+        → IfErr result (λ ended. Passes (stream flow.bytes x0) flow.taken ended (H.sight pass.old)
+        (H.sight pass.new)) }
+    ensures none { (x0 : Option (List ℕ)) (flow : Flow) → ReadsHead x0 (S.left source.old) flow wire.old head.now
+        → IfErr result (NoneComes (stream flow.bytes x0) (S.left source.new) flow.taken) }
+    ensures fault { IsErrOf result Ended.ReadFault → Rose (S.faults source.old) (S.faults source.new) }
+    ensures later { S.faults source.old ≤ S.faults source.new }
+{
+    match check_length(MOST_BODY, &head.framing) {
+        Ok(()) => {}
+        Err(refusal) => {
+            return Ok(reply_early(rt, alloc, home, pass, head, refused(refusal)));
+        }
     }
     let body = match gather(alloc, wire, source, head.framing) {
         Ok(body) => body,
         Err(stopped) => return reply_to_stop(rt, alloc, home, pass, stopped),
     };
-    let asked = ask(alloc, &found, wire.piece(&head.query), body.as_slice());
+    let asked = operation_of(alloc, found, wire.piece(&head.query), body.as_slice());
     Ok(reply_along(rt, alloc, home, pass, asked, head.closes))
 }
 
-// Whether a body of this framing is read at once.
-fn is_read(framing: Framing) -> bool
-    ensures { result ≡ is_read framing }
+/// The reply to a request that is refused before its body is read.
+pub(crate) fn reply_early<H: Home, R: Wait>(
+    rt: &R,
+    alloc: Global,
+    home: &H,
+    pass: &mut H::Pass,
+    head: &Head,
+    question: Operation,
+) -> Response
+    requires belongs { H.belongs home.now pass.old }
+    requires few { IsFew question }
+    ensures own { H.belongs home.now pass.new }
+    ensures replies { (x0 left : Option (List ℕ)) (flow : Flow) (wire : WireView)
+        → ReadsHead x0 left flow wire head.now → first_of wire.head head.now ≡ Err question
+        → Replies x0 left flow wire (H.tells home.now) (H.sight pass.old) (H.sight pass.new)
+        result.entry result.made result.closes }
 {
-    match framing {
-        Framing::Empty => true,
-        Framing::Length(n) => n == 0,
-        Framing::Chunked | Framing::ToEnd => false,
-    }
-}
-
-// Whether the connection closes behind a refusal that comes before the body is read.
-fn closes_early(head: &Head) -> bool
-    ensures { result ≡ (head.now.closes || not (is_read head.now.framing)) }
-{
-    head.closes || !is_read(head.framing)
+    reply_along(rt, alloc, home, pass, Ok(question), closes_early(head))
 }
 
 // The reply where a body isn't read to its end.

@@ -3,33 +3,20 @@ ghost use Rattle.std.specs.Prelude.{◌≡◌, ◌≤◌, ℕ, List, Option, Som
 ghost use Rattle.edge_base.specs.Edge.{Took};
 ghost use Rattle.home_places.specs.Passes.{Sight};
 ghost use Rattle.http_wire.specs.declared.body.Body.{Body};
-ghost use Rattle.blob_http.specs.Answers.{text_of};
-ghost use Rattle.blob_http.specs.Serving.{Serves, Notes, Open, Heard, fresh_flow, Wrote, EndCause, HeardBy, WroteBy};
-ghost use Rattle.blob_http.specs.Serving.{StepCause, IsRest, HasNone, RestBy};
+ghost use Rattle.blob_http.specs.Serving.{Serves, Heard, HeardBy};
+ghost use Rattle.http_exchange.specs.Notes.{Notes};
+ghost use Rattle.http_exchange.specs.Hearing.{Open, fresh_flow, Wrote, EndCause, WroteBy, StepCause};
+ghost use Rattle.blob_http.specs.Serving.{IsRest, HasNone, RestBy};
 
-use crate::answer_log::AnswerLog;
+use crate::entries::Answered;
 use crate::replies::write_made;
 use crate::requests::reply_next;
 use edge_base::{Sink, Source};
 use home_places::Home;
+use http_exchange::{AnswerLog, Ended};
 use http_wire::Wire;
 use std::alloc::Global;
 use std::sync::Wait;
-
-/// Why no further request of a connection is served.
-#[derive(Clone, Copy)]
-pub enum Ended {
-    /// The source ended between requests, or a reply was written behind which the connection closes.
-    Closed,
-    /// The source ended inside a request. So many bytes stand before it.
-    Cut { at: u64 },
-    /// A read failed.
-    ReadFault,
-    /// A write failed.
-    WriteFault,
-    /// There was no memory for the connection's buffers, or the log had no room for a further entry.
-    NoMemory,
-}
 
 /// Serves the requests of a connection until there are no more (`docs/http.md`). The bytes written are the replies to
 /// the requests, in their order, each over the first blobs and the first inserts, as many as its entry says, of the
@@ -40,7 +27,7 @@ pub enum Ended {
 ///
 /// It takes memory for its buffers at once (some 219 KiB), and then for a body of at most 1 MiB, for the text of a
 /// reply, and for what the calls of the home and of the log take. Between two requests it holds its buffers alone.
-pub fn serve_connection<H: Home, S: Source, K: Sink, L: AnswerLog, R: Wait>(
+pub fn serve_connection<H: Home, S: Source, K: Sink, L: AnswerLog<Answered>, R: Wait>(
     rt: &R,
     alloc: Global,
     home: &H,
@@ -69,7 +56,7 @@ pub fn serve_connection<H: Home, S: Source, K: Sink, L: AnswerLog, R: Wait>(
 }
 
 // Serves one request, or says why there is none. Whatever was served before, it goes on from there.
-fn serve_one<H: Home, S: Source, K: Sink, L: AnswerLog, R: Wait>(
+fn serve_one<H: Home, S: Source, K: Sink, L: AnswerLog<Answered>, R: Wait>(
     rt: &R,
     alloc: Global,
     home: &H,

@@ -2,31 +2,30 @@
 ghost use Rattle.std.specs.Prelude.{◌≡◌, ◌≤◌, ◌||◌, not, ℕ, List, Option, Bool, Some, None, Ok, Err, IfOk, IfErr};
 ghost use Rattle.std.specs.Prelude.{IsErrOf, length};
 ghost use Rattle.edge_base.specs.Edge.{Rose};
+ghost use Rattle.answer_text.specs.Listings.{upload_text};
 ghost use Rattle.http_wire.specs.Heads.{HeadSays};
 ghost use Rattle.http_wire.specs.Stream.{Flow, stream};
-ghost use Rattle.http_wire.specs.Wires.{body_of};
-ghost use Rattle.blob_http.specs.Questions.{first_of, HasPieces};
-ghost use Rattle.blob_http.specs.Keeping.{boundary_at, upload_reply, UploadMade, is_whole};
-ghost use Rattle.answer_text.specs.Listings.{upload_text};
-ghost use Rattle.blob_http.specs.Replies.{json_reply};
+ghost use Rattle.http_exchange.specs.HeadPlaces.{ReadsHead};
+ghost use Rattle.http_exchange.specs.Replies.{json_reply};
+ghost use Rattle.blob_http.specs.Questions.{routed_of};
 ghost use Rattle.blob_http.specs.Answers.{IsTold};
-ghost use Rattle.blob_http.specs.Serving.{Passes};
-ghost use Rattle.blob_http.specs.Handling.{Replies, ReadsHead, NoneComes, IsUploadEntry, is_memory};
+ghost use Rattle.blob_http.specs.Keeping.{upload_reply, UploadMade, is_whole};
+ghost use Rattle.blob_http.specs.Serving.{Passes, NoneComes};
+ghost use Rattle.blob_http.specs.Handling.{Replies, IsUploadEntry, is_memory};
 
 use crate::entries::Outcome;
 use crate::handling::entry;
-use crate::operations::content_type;
-use crate::replies::{Kind, ReplyText, json, told};
-use crate::requests::{Response, is_memory, out_of_memory};
-use crate::serving::Ended;
+use crate::operations::refused;
+use crate::replies::{ReplyText, json, reply_with};
+use crate::requests::{Response, is_memory, out_of_memory, reply_early};
 use answer_text::{Refusal, upload_text};
-use blob_routes::Route;
+use blob_routes::{Route, boundary_of_upload};
 use blob_upload::{UploadEnd, take_parts};
-use blobref::{Listing, NoMemory, Octets};
+use blobref::{Listing, Octets};
 use edge_base::Source;
 use home_places::Home;
+use http_exchange::{Ended, Kind, content_type};
 use http_wire::{Head, Wire, WireEnd};
-use multipart_read::boundary_of;
 use std::alloc::Global;
 use std::sync::Wait;
 
@@ -43,7 +42,7 @@ pub(crate) fn reply_to_upload<H: Home, S: Source, R: Wait>(
 ) -> Result<Response, Ended>
     requires belongs { H.belongs home.now pass.old }
     requires read { HeadSays wire.old.head (Ok head.now) }
-    requires upload { first_of wire.old.head head.now ≡ Ok Route.Upload }
+    requires upload { routed_of wire.old.head head.now ≡ Ok Route.Upload }
     ensures own { H.belongs home.now pass.new }
     ensures replies { (x0 : Option (List ℕ)) (flow : Flow) → ReadsHead x0 (S.left source.old) flow wire.old head.now
         → IfOk result (λ replied. Replies x0 (S.left source.new) flow wire.new (H.tells home.now) (H.sight pass.old)
@@ -56,7 +55,11 @@ pub(crate) fn reply_to_upload<H: Home, S: Source, R: Wait>(
     ensures fault { IsErrOf result Ended.ReadFault → Rose (S.faults source.old) (S.faults source.new) }
     ensures later { S.faults source.old ≤ S.faults source.new }
 {
-    let Ok(boundary) = boundary(alloc, wire, head) else {
+    let boundary = match boundary_of_upload(&head.framing, content_type(wire, head)) {
+        Ok(boundary) => boundary,
+        Err(refusal) => return Ok(reply_early(rt, alloc, home, pass, head, refused(refusal))),
+    };
+    let Ok(boundary) = Octets::copy(alloc, boundary) else {
         return Ok(out_of_memory(home, pass));
     };
     let mut kept = Listing::empty(alloc);
@@ -71,21 +74,6 @@ pub(crate) fn reply_to_upload<H: Home, S: Source, R: Wait>(
         &mut kept,
     );
     reply_to_came(alloc, home, pass, &came, &kept, head.closes)
-}
-
-// The boundary of an upload.
-fn boundary(alloc: Global, wire: &Wire, head: &Head) -> Result<Octets, NoMemory>
-    requires pieces { HasPieces wire.now.head head.now }
-    requires upload { first_of wire.now.head head.now ≡ Ok Route.Upload }
-    ensures { IfOk result (λ boundary. boundary_at wire.now.head head.now ≡ Some boundary) }
-{
-    let Some(value) = content_type(wire, head) else {
-        unreachable!()
-    };
-    let Some(boundary) = boundary_of(value) else {
-        unreachable!()
-    };
-    Octets::copy(alloc, boundary)
 }
 
 // The reply to what an upload came to.
@@ -187,5 +175,5 @@ fn part_kept(alloc: Global, outcome: Outcome, refusal: &Refusal, kept: &Listing)
     let Ok(text) = upload_text(alloc, kept, Some(refusal)) else {
         return ReplyText::Memory;
     };
-    told(alloc, outcome, refusal.code(), Kind::Json, true, None, text)
+    reply_with(alloc, outcome, refusal.code(), Kind::Json, true, text)
 }

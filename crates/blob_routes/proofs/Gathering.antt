@@ -13,7 +13,7 @@ use Rattle.std.proofs.lemmas.List.FromFn.{length-map-range_with_len, get_or-map-
 use Rattle.blobref.specs.Blobref.{blobref_in}
 use Rattle.blob_routes.specs.declared.places.AskedRef.{AskedRef}
 use Rattle.blob_routes.specs.declared.places.AskedRef.TheVariants.{Missing, Wrong, Right}
-use Rattle.blob_routes.specs.Parameters.{meant, first_value}
+use Rattle.http_exchange.specs.Parameters.{decoded_text, first_value}
 use Rattle.blob_routes.specs.Places.{name_of, ref_or_wrong, place_of, asked_at, places_of}
 use Rattle.blob_routes.specs.Taking.{number_of, earlier, kept, kept_under, taken}
 use Rattle.blob_routes.proofs.Named.{is_number, told_by_number}
@@ -89,7 +89,7 @@ length-gathered : (pairs : List (List ℕ × List ℕ)) (places : List AskedRef)
 length-gathered [] places = refl
 length-gathered (pair ∷ pairs) places =
     length-gathered pairs (taken places pair)
-    ∙ length-kept_under places (number_of (meant pair.0)) (place_of (Some (meant pair.1)))
+    ∙ length-kept_under places (number_of (decoded_text pair.0)) (place_of (Some (decoded_text pair.1)))
 
 -- each place has what stood there, or else what is asked first under its number
 gathered_at : (pairs : List (List ℕ × List ℕ)) (places : List AskedRef) (i : ℕ) → i < length places
@@ -97,12 +97,12 @@ gathered_at : (pairs : List (List ℕ × List ℕ)) (places : List AskedRef) (i 
     → get_or (fold taken places pairs) i Missing ≡ earlier (get_or places i Missing) (asked_at pairs (i + 1))
 gathered_at [] places i fits few = sym (earlier-missing (get_or places i Missing))
 gathered_at (pair ∷ pairs) places i fits few =
-    let same = length-kept_under places (number_of (meant pair.0)) (place_of (Some (meant pair.1))) in
+    let same = length-kept_under places (number_of (decoded_text pair.0)) (place_of (Some (decoded_text pair.1))) in
     let later = first_value (name_of (i + 1)) pairs in
     gathered_at pairs (taken places pair) i (omega (arith, fits, same)) (omega (arith, few, same))
-    ∙ by_name places i (number_of (meant pair.0)) (meant pair.1) later fits
-    ∙ ap (λ (b : Bool). earlier (get_or places i Missing) (place_of (cond b (Some (meant pair.1)) later)))
-    (sym (told_by_number (meant pair.0) (i + 1) (omega (arith, fits, few))))
+    ∙ by_name places i (number_of (decoded_text pair.0)) (decoded_text pair.1) later fits
+    ∙ ap (λ (b : Bool). earlier (get_or places i Missing) (place_of (cond b (Some (decoded_text pair.1)) later)))
+    (sym (told_by_number (decoded_text pair.0) (i + 1) (omega (arith, fits, few))))
 
 -- from places where nothing stands, all that is asked
 pub gathered : (most : ℕ) (pairs : List (List ℕ × List ℕ)) → most < 10 ^ 9

@@ -7,7 +7,7 @@ use Rattle.std.proofs.lemmas.Bool.{cond-true}
 use Rattle.std.proofs.lemmas.Bool.Decides.{Decides-eqb, same_from_decides}
 use Rattle.std.proofs.lemmas.List.{take-append-drop}
 use Rattle.std.proofs.lemmas.Slice.Eq.{bytes_eq-Decides}
-use Rattle.blob_routes.specs.Parameters.{number_in}
+use Rattle.blob_routes.specs.Numbers.{number_in}
 use Rattle.blob_routes.specs.Places.{name_of}
 use Rattle.blob_routes.specs.Taking.{written_as, number_of}
 use Rattle.blob_routes.proofs.Digits.{number_in-decimal}

@@ -1,8 +1,8 @@
 pub mod Before
 pub mod Faults
 pub mod Laws
+pub mod Numbers
 pub mod Pages
-pub mod Parameters
 pub mod Places
 pub mod Queries
 pub mod Routes

@@ -5,7 +5,8 @@ use Rattle.blobref.specs.Blobref.{blobref_in}
 use Rattle.answer_text.specs.declared.refusal.Refusal.{Refusal}
 use Rattle.answer_text.specs.declared.refusal.Refusal.TheVariants.{BadRef, BadNumber}
 use Rattle.blob_routes.specs.declared.pages.Page.{Page}
-use Rattle.blob_routes.specs.Parameters.{first_value, number_in}
+use Rattle.http_exchange.specs.Parameters.{first_value}
+use Rattle.blob_routes.specs.Numbers.{number_in}
 
 -- the most refs of a page
 abbrev pub most_page : ℕ

@@ -4,7 +4,7 @@ use Rattle.std.specs.List.{range_with_len}
 use Rattle.blobref.specs.Blobref.{blobref_in}
 use Rattle.blob_routes.specs.declared.places.AskedRef.{AskedRef}
 use Rattle.blob_routes.specs.declared.places.AskedRef.TheVariants.{Missing, Wrong, Right}
-use Rattle.blob_routes.specs.Parameters.{first_value}
+use Rattle.http_exchange.specs.Parameters.{first_value}
 
 -- the name under which the ref of this number is asked
 abbrev pub name_of : ℕ → List ℕ

@@ -7,7 +7,7 @@ use Rattle.answer_text.specs.declared.refusal.Refusal.{Refusal}
 use Rattle.answer_text.specs.declared.refusal.Refusal.TheVariants.{BadVersion, BadRef, TooLong}
 use Rattle.blob_routes.specs.declared.places.AskedRef.{AskedRef}
 use Rattle.blob_routes.specs.declared.places.AskedRef.TheVariants.{Missing, Wrong, Right}
-use Rattle.blob_routes.specs.Parameters.{first_value}
+use Rattle.http_exchange.specs.Parameters.{first_value}
 use Rattle.blob_routes.specs.Places.{places_of}
 
 -- the most refs that may be asked after at once
@@ -51,9 +51,9 @@ refs_by pairs =
     if is_version (first_value (codes "camliversion") pairs) then refs_in most_refs pairs else Err BadVersion
 
 -- where the parameters are
-abbrev pub told : Bool → List ℕ → List ℕ → List ℕ
-told posted query body = if posted then body else query
+abbrev pub parameters_text : Bool → List ℕ → List ℕ → List ℕ
+parameters_text posted query body = if posted then body else query
 
 -- the refs that are asked after, or the refusal
 unfoldable pub refs_of : Bool → List ℕ → List ℕ → Result (List (List ℕ)) Refusal
-refs_of posted query body = refs_by (raw_pairs (told posted query body))
+refs_of posted query body = refs_by (raw_pairs (parameters_text posted query body))

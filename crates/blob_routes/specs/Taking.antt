@@ -3,7 +3,8 @@ use Rattle.std.specs.Prelude.{ℕ, ◌-◌, ◌&&◌, List, set, get_or, take, d
 use Rattle.std.specs.Prelude.{codes, decimal, Option, Some, None, option_and_then, if◌then◌else◌, bytes_eq, nat_le}
 use Rattle.blob_routes.specs.declared.places.AskedRef.{AskedRef}
 use Rattle.blob_routes.specs.declared.places.AskedRef.TheVariants.{Missing, Wrong, Right}
-use Rattle.blob_routes.specs.Parameters.{meant, number_in}
+use Rattle.http_exchange.specs.Parameters.{decoded_text}
+use Rattle.blob_routes.specs.Numbers.{number_in}
 use Rattle.blob_routes.specs.Places.{place_of}
 
 -- the number that is written so
@@ -33,4 +34,4 @@ kept_under places (Some number) place = kept places number place
 
 -- one parameter
 abbrev pub taken : List AskedRef → List ℕ × List ℕ → List AskedRef
-taken places pair = kept_under places (number_of (meant pair.0)) (place_of (Some (meant pair.1)))
+taken places pair = kept_under places (number_of (decoded_text pair.0)) (place_of (Some (decoded_text pair.1)))

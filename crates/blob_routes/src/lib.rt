@@ -6,13 +6,12 @@ mod faults;
 mod laws;
 mod numbers;
 mod pages;
-mod parameters;
 mod places;
 mod queries;
 mod routes;
 mod stats;
 
-pub use before::{MOST_BODY, MOST_UPLOAD, early};
+pub use before::{MOST_UPLOAD, boundary_of_upload};
 pub use faults::AskFault;
 pub use laws::further_numbers_tell_nothing;
 pub use pages::{MOST_PAGE, Page, page_asked};

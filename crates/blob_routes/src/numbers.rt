@@ -3,7 +3,7 @@ ghost use Rattle.std.specs.Prelude.{◌≡◌, ◌<◌, ◌≤◌, true, length,
 ghost use Rattle.std.specs.List.{list_all};
 ghost use Rattle.std.specs.Char.{is_ascii_digit};
 ghost use Rattle.std.specs.Str.Parse.{digits_value};
-ghost use Rattle.blob_routes.specs.Parameters.{number_in};
+ghost use Rattle.blob_routes.specs.Numbers.{number_in};
 
 /// The number that 1 to 9 digits are.
 pub fn number_in(text: &str) -> Option<u32>

@@ -3,14 +3,14 @@ ghost use Rattle.std.specs.Prelude.{◌≡◌, IfOk, IfErr, Ok, codes, option_ma
 ghost use Rattle.std.specs.Cow.{cow_str_bytes};
 ghost use Rattle.form_urlencoded.specs.Form.{raw_pairs};
 ghost use Rattle.blob_routes.specs.Faults.{Refuses};
-ghost use Rattle.blob_routes.specs.Parameters.{first_value};
+ghost use Rattle.http_exchange.specs.Parameters.{first_value};
 ghost use Rattle.blob_routes.specs.Pages.{after_of, limit_of, page_of};
 
 use crate::faults::AskFault;
 use crate::numbers::number_in;
-use crate::parameters::first_value;
 use answer_text::Refusal;
 use blobref::Ref;
+use http_exchange::first_value;
 use std::alloc::Global;
 use std::borrow::CowStr;
 

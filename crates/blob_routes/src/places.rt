@@ -1,14 +1,14 @@
 //! The refs that a text asks for by number: `blob1`, `blob2` and so on.
 ghost use Rattle.std.specs.Prelude.{◌≡◌, ◌<◌, ◌^◌, IfOk, OnOk, Some, fold};
 ghost use Rattle.form_urlencoded.specs.Form.{raw_pairs};
-ghost use Rattle.blob_routes.specs.Parameters.{meant};
+ghost use Rattle.http_exchange.specs.Parameters.{decoded_text};
 ghost use Rattle.blob_routes.specs.Places.{place_of, places_of};
 ghost use Rattle.blob_routes.specs.Taking.{number_of, earlier, kept, taken};
 
 use crate::numbers::number_in;
-use crate::parameters::meant;
 use blobref::{NoMemory, Ref};
 use form_urlencoded::raw_pairs;
+use http_exchange::decoded_text;
 use itoa::Buffer;
 use std::alloc::Global;
 
@@ -37,9 +37,9 @@ fn number_of(name: &str) -> Option<usize>
 
 // What a value asks.
 fn place_in(alloc: Global, value: &[u8]) -> Result<AskedRef, NoMemory>
-    ensures { IfOk result (λ place. place ≡ place_of (Some (meant value.now))) }
+    ensures { IfOk result (λ place. place ≡ place_of (Some (decoded_text value.now))) }
 {
-    let text = meant(alloc, value)?;
+    let text = decoded_text(alloc, value)?;
     match Ref::read(text.as_bytes()) {
         None => Ok(AskedRef::Wrong),
         Some(r) => Ok(AskedRef::Right(r)),
@@ -70,7 +70,7 @@ fn keep(places: &mut [AskedRef], number: usize, place: AskedRef)
 fn take(alloc: Global, places: &mut [AskedRef], name: &[u8], value: &[u8]) -> Result<(), NoMemory>
     ensures { OnOk result (places.new ≡ taken places.old (name.now, value.now)) }
 {
-    let name = meant(alloc, name)?;
+    let name = decoded_text(alloc, name)?;
     let Some(number) = number_of(name.as_str()) else {
         return Ok(());
     };

@@ -4,13 +4,14 @@ ghost use Rattle.std.specs.Cow.{cow_str_bytes};
 ghost use Rattle.std.specs.List.{before_first, position, list_any, flat_map};
 ghost use Rattle.form_urlencoded.specs.Form.{raw_pairs};
 ghost use Rattle.blob_routes.specs.Faults.{Refuses};
-ghost use Rattle.blob_routes.specs.Stats.{is_missing, is_wrong, right_ref, refs_at, is_version, told, refs_of};
+ghost use Rattle.blob_routes.specs.Stats.{is_missing, is_wrong, right_ref, refs_at, is_version, refs_of};
+ghost use Rattle.blob_routes.specs.Stats.{parameters_text};
 
 use crate::faults::AskFault;
-use crate::parameters::first_value;
 use crate::places::{AskedRef, places_of};
 use answer_text::Refusal;
 use blobref::{NoMemory, RefList};
+use http_exchange::first_value;
 use std::alloc::Global;
 use std::borrow::CowStr;
 
@@ -94,8 +95,9 @@ fn is_version(found: Option<CowStr<'_>>) -> bool
     }
 }
 
-fn told<'a>(posted: bool, query: &'a [u8], body: &'a [u8]) -> &'a [u8]
-    ensures { result.now ≡ told posted query.now body.now }
+// The text that has the parameters.
+fn parameters_text<'a>(posted: bool, query: &'a [u8], body: &'a [u8]) -> &'a [u8]
+    ensures { result.now ≡ parameters_text posted query.now body.now }
 {
     if posted { body } else { query }
 }
@@ -112,7 +114,7 @@ pub fn refs_asked(
     ensures ok { IfOk result (λ refs. refs_of posted query.now body.now ≡ Ok refs) }
     ensures err { IfErr result (Refuses (refs_of posted query.now body.now)) }
 {
-    let text = told(posted, query, body);
+    let text = parameters_text(posted, query, body);
     if !is_version(first_value(alloc, text, b"camliversion")?) {
         return Err(AskFault::Refused(Refusal::BadVersion));
     }

@@ -4,8 +4,8 @@ use Rattle.std.specs.List.{flat_map}
 use Rattle.std.proofs.lemmas.List.{append-nil, nil_from_length, take_all}
 use Rattle.std.specs.Prelude.{◌==◌, ◌↔◌}
 use Rattle.std.proofs.lemmas.Bool.Decides.{nat_tests}
-use Rattle.http_wire.specs.declared.place.Place.{Place}
-use Rattle.http_wire.specs.declared.place.Place.TheVariants.{Start, StartReturn, Line, Next, NextReturn, Last}
+use Rattle.http_wire.specs.declared.line_state.LineState.{LineState}
+use Rattle.http_wire.specs.declared.line_state.LineState.TheVariants.{Start, StartReturn, Line, Next, NextReturn, Last}
 use Rattle.http_wire.specs.declared.scanning.Scanned.{Scanned}
 use Rattle.http_wire.specs.declared.scanning.Scanned.TheVariants.{End, Open}
 use Rattle.http_wire.specs.Lines.{step, further, after_step, scanned, Reaches}
@@ -31,13 +31,13 @@ in_line : (l rest : List ℕ) → is_line l ≡ true → scanned Line (l ++ (10 
 in_line [] rest h = refl
 in_line (b ∷ l) rest h =
     let parts = no_feed b l h in
-    ap (λ (o : Option Place). after_step o (λ q. scanned q (l ++ (10 ∷ rest)))) (line_step b parts.0)
+    ap (λ (o : Option LineState). after_step o (λ q. scanned q (l ++ (10 ∷ rest)))) (line_step b parts.0)
     ∙ ap (further 1) (in_line l rest parts.1)
     ∙ further-further 1 (length l + 1) (scanned Next rest)
     ∙ ap (λ (k : ℕ). further k (scanned Next rest)) (omega arith)
 
 -- a line may begin in p, and r is where one carriage return leads
-record Begins (p r : Place) : Type 0 where
+record Begins (p r : LineState) : Type 0 where
   first : (b : ℕ) → (b == 10) ≡ false → step p b ≡ cond (b == 13) (Some r) (Some Line)
   second : (b : ℕ) → (b == 10) ≡ false → step r b ≡ Some Line
 
@@ -53,23 +53,23 @@ begins_next = record {
   second = λ b e. ap (λ (c : Bool). cond c None (Some Line)) e;
 }
 
-either_way : (t : Bool) (r : Place) (xs : List ℕ) → scanned r xs ≡ scanned Line xs → after_step (cond t (Some r) (Some Line)) (λ q. scanned q xs) ≡ further 1 (scanned Line xs)
+either_way : (t : Bool) (r : LineState) (xs : List ℕ) → scanned r xs ≡ scanned Line xs → after_step (cond t (Some r) (Some Line)) (λ q. scanned q xs) ≡ further 1 (scanned Line xs)
 either_way true r xs h = ap (further 1) h
 either_way false r xs h = refl
 
 -- behind a line that isn't empty, the next one may be
-full_line : (p r : Place) → Begins p r → (l rest : List ℕ) → IsFullLine l → scanned p (l ++ (10 ∷ rest)) ≡ further (length l + 1) (scanned Next rest)
+full_line : (p r : LineState) → Begins p r → (l rest : List ℕ) → IsFullLine l → scanned p (l ++ (10 ∷ rest)) ≡ further (length l + 1) (scanned Next rest)
 full_line p r begins [] rest h = absurd (cc h.1)
 full_line p r begins (b ∷ []) rest h =
     let parts = no_feed b [] h.0 in
     let to_line : step p b ≡ Some Line = begins.first b parts.0 ∙ ap (λ (c : Bool). cond c (Some r) (Some Line)) h.1 in
-    ap (λ (o : Option Place). after_step o (λ q. scanned q (10 ∷ rest))) to_line ∙ further-further 1 1 (scanned Next rest)
+    ap (λ (o : Option LineState). after_step o (λ q. scanned q (10 ∷ rest))) to_line ∙ further-further 1 1 (scanned Next rest)
 full_line p r begins (b ∷ c ∷ l) rest h =
     let parts = no_feed b (c ∷ l) h.0 in
     let more = no_feed c l parts.1 in
     let xs = c ∷ (l ++ (10 ∷ rest)) in
-    let same : scanned r xs ≡ scanned Line xs = ap (λ (o : Option Place). after_step o (λ q. scanned q (l ++ (10 ∷ rest)))) (begins.second c more.0 ∙ sym (line_step c more.0)) in
-    ap (λ (o : Option Place). after_step o (λ q. scanned q xs)) (begins.first b parts.0)
+    let same : scanned r xs ≡ scanned Line xs = ap (λ (o : Option LineState). after_step o (λ q. scanned q (l ++ (10 ∷ rest)))) (begins.second c more.0 ∙ sym (line_step c more.0)) in
+    ap (λ (o : Option LineState). after_step o (λ q. scanned q xs)) (begins.first b parts.0)
     ∙ either_way (b == 13) r xs same
     ∙ ap (further 1) (in_line (c ∷ l) rest parts.1)
     ∙ further-further 1 (length (c ∷ l) + 1) (scanned Next rest)
@@ -80,7 +80,7 @@ empty_next [] rest h = refl
 empty_next (b ∷ []) rest h =
     let parts = no_feed b [] h.0 in
     let to_return : step Next b ≡ Some NextReturn = begins_next.first b parts.0 ∙ ap (λ (c : Bool). cond c (Some NextReturn) (Some Line)) h.1 in
-    ap (λ (o : Option Place). after_step o (λ q. scanned q (10 ∷ rest))) to_return
+    ap (λ (o : Option LineState). after_step o (λ q. scanned q (10 ∷ rest))) to_return
 empty_next (b ∷ c ∷ l) rest h = absurd (cc h.1)
 
 empty_start : (l rest : List ℕ) → IsEmptyLine l → scanned Start (l ++ (10 ∷ rest)) ≡ further (length l + 1) (scanned Start rest)
@@ -88,7 +88,7 @@ empty_start [] rest h = refl
 empty_start (b ∷ []) rest h =
     let parts = no_feed b [] h.0 in
     let to_return : step Start b ≡ Some StartReturn = begins_start.first b parts.0 ∙ ap (λ (c : Bool). cond c (Some StartReturn) (Some Line)) h.1 in
-    ap (λ (o : Option Place). after_step o (λ q. scanned q (10 ∷ rest))) to_return ∙ further-further 1 1 (scanned Start rest)
+    ap (λ (o : Option LineState). after_step o (λ q. scanned q (10 ∷ rest))) to_return ∙ further-further 1 1 (scanned Start rest)
 empty_start (b ∷ c ∷ l) rest h = absurd (cc h.1)
 
 print_more : (l more : List ℕ) → print_line l ++ more ≡ l ++ (10 ∷ more)
@@ -178,11 +178,11 @@ split [] = record { lines = []; tail = []; each = λ k d small. absurd (omega ar
 split (b ∷ bs) = let s = split bs in split_push b bs s.lines s.tail s.each s.rest s.text_is (b == 10) refl
 
 -- bytes without a line feed don't end
-either : (t : Bool) (p q : Place) → (r : Place) × (cond t (Some p) (Some q) ≡ Some r)
+either : (t : Bool) (p q : LineState) → (r : LineState) × (cond t (Some p) (Some q) ≡ Some r)
 either true p q = (p, refl)
 either false p q = (q, refl)
 
-goes_to : (p : Place) (b : ℕ) → (b == 10) ≡ false → (q : Place) × (step p b ≡ Some q)
+goes_to : (p : LineState) (b : ℕ) → (b == 10) ≡ false → (q : LineState) × (step p b ≡ Some q)
 goes_to Start b e = let r = either (b == 13) StartReturn Line in (r.0, begins_start.first b e ∙ r.1)
 goes_to StartReturn b e = (Line, begins_start.second b e)
 goes_to Line b e = (Line, line_step b e)
@@ -190,15 +190,15 @@ goes_to Next b e = let r = either (b == 13) NextReturn Line in (r.0, begins_next
 goes_to NextReturn b e = (Line, begins_next.second b e)
 goes_to Last b e = (Last, ap (λ (c : Bool). cond c None (Some Last)) e)
 
-stays : (p : Place) (xs : List ℕ) → IsLine xs → (q : Place) × (scanned p xs ≡ Open q)
+stays : (p : LineState) (xs : List ℕ) → IsLine xs → (q : LineState) × (scanned p xs ≡ Open q)
 stays p [] h = (p, refl)
 stays p (b ∷ bs) h =
     let parts = no_feed b bs h in
     let next = goes_to p b parts.0 in
     let more = stays next.0 bs parts.1 in
-    (more.0, ap (λ (o : Option Place). after_step o (λ q. scanned q bs)) next.1 ∙ ap (further 1) more.1)
+    (more.0, ap (λ (o : Option LineState). after_step o (λ q. scanned q bs)) next.1 ∙ ap (further 1) more.1)
 
-no_end : (p : Place) (xs : List ℕ) (n : ℕ) → IsLine xs → scanned p xs ≡ End n → ⊥
+no_end : (p : LineState) (xs : List ℕ) (n : ℕ) → IsLine xs → scanned p xs ≡ End n → ⊥
 no_end p xs n h e =
     let still = stays p xs h in
     let clash : Open still.0 ≡ End n = sym still.1 ∙ e in
@@ -263,7 +263,7 @@ from_start (l ∷ ls) tail each rest e =
     subst AreHeadLines (sym parts) (one_head_line l more (each 0 tail (omega arith)) (is_empty_line l) refl (from_start ls tail (tail_of IsLine l ls each) rest) (from_next ls tail (tail_of IsLine l ls each) rest) (subst (λ (xs : List ℕ). scanned Start xs ≡ End (length xs)) parts e))
 
 -- a text within the limit that ends is a text that ends
-whole : (p : Place) (limit : ℕ) (text : List ℕ) → Reaches p limit text (length text) → (length text ≤ limit) × (scanned p text ≡ End (length text))
+whole : (p : LineState) (limit : ℕ) (text : List ℕ) → Reaches p limit text (length text) → (length text ≤ limit) × (scanned p text ≡ End (length text))
 whole p limit text h =
     let few : length text ≤ limit = (reached p limit (length text) text h).1 in
     (few, ap (scanned p) (sym (take_all limit text few)) ∙ h)

@@ -2,7 +2,7 @@
 use Rattle.std.proofs.Common.{◌≡◌, ℕ, ◌<◌, List, ◌++◌, length, take, Option, Some, None, inr, refl, ap, ◌∙◌, arith, length-append}
 use Rattle.std.specs.Option.{IfSome}
 use Rattle.std.proofs.lemmas.List.{nil_from_length}
-use Rattle.http_wire.specs.declared.place.Place.TheVariants.{Start}
+use Rattle.http_wire.specs.declared.line_state.LineState.TheVariants.{Start}
 use Rattle.http_wire.specs.declared.ends.WireEnd.TheVariants as ends
 use Rattle.http_wire.specs.declared.head.HeadFault.TheVariants as fault
 use Rattle.http_wire.specs.Lines.{Lacks}

@@ -9,7 +9,7 @@ use Rattle.httparse.specs.Spans.{IsChunkLineAt}
 use Rattle.httparse.proofs.ChunkLemmas.{chunk_line_unique}
 use Rattle.http_wire.specs.declared.body.Body.{Body}
 use Rattle.http_wire.specs.declared.body.Body.TheVariants as body
-use Rattle.http_wire.specs.declared.place.Place.TheVariants.{Last, Next}
+use Rattle.http_wire.specs.declared.line_state.LineState.TheVariants.{Last, Next}
 use Rattle.http_wire.specs.Lines.{Reaches, Lacks}
 use Rattle.http_wire.specs.Stream.{stream, Flow, Begins}
 use Rattle.http_wire.specs.Bodies.{IsLine, IsBadLine, IsTrailers, IsBadTrailers, IsChunked, Chunk, print_chunk, content_of, IsChunk, RestOf, Leads, Moves, IsBadEnd, Breaks}

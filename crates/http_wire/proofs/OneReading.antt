@@ -13,7 +13,7 @@ use Rattle.http_wire.specs.declared.body.Body.TheVariants as body
 use Rattle.http_wire.specs.declared.head.Head.{Head}
 use Rattle.http_wire.specs.declared.head.Piece.{Piece}
 use Rattle.http_wire.specs.declared.head.Framing.{Framing}
-use Rattle.http_wire.specs.declared.place.Place.TheVariants.{Start}
+use Rattle.http_wire.specs.declared.line_state.LineState.TheVariants.{Start}
 use Rattle.http_wire.specs.Heads.{HeadSays, IsHeadOf, IsFirstOf}
 use Rattle.http_wire.specs.Bodies.{Chunk, print_chunk, content_of, IsChunk, IsChunked, IsLine, IsTrailers, RestOf, Leads}
 use Rattle.http_wire.specs.Wires.{body_of}

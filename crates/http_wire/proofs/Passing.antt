@@ -3,7 +3,7 @@ use Rattle.std.proofs.Common.{◌≡◌, ℕ, ◌+◌, ◌≤◌, ◌<◌, List,
 use Rattle.std.proofs.lemmas.List.{append-nil, take-append-drop, take-append-le, take-take, take_all, take_at, length-take, length-take-le}
 use Rattle.edge_base.specs.Edge.{Gave}
 use Rattle.edge_base.proofs.Moves.{Gave-chain}
-use Rattle.http_wire.specs.declared.place.Place.{Place}
+use Rattle.http_wire.specs.declared.line_state.LineState.{LineState}
 use Rattle.http_wire.specs.declared.scanning.Scanned.TheVariants.{End}
 use Rattle.http_wire.specs.declared.scanning.Scanned.{Scanned}
 use Rattle.http_wire.specs.Lines.{scanned, scanned_on, Reaches, Lacks}
@@ -38,7 +38,7 @@ Passed-chain a b c x y z s t h k = record {
 }
 
 -- what was found is a text by itself
-pub found_text : (p : Place) (limit n : ℕ) (xs : List ℕ) → Reaches p limit xs n → Reaches p limit (take n xs) (length (take n xs))
+pub found_text : (p : LineState) (limit n : ℕ) (xs : List ℕ) → Reaches p limit xs n → Reaches p limit (take n xs) (length (take n xs))
 found_text p limit n xs h =
     let fits = reached p limit n xs h in
     let len : length (take n xs) ≡ n = length-take n xs ∙ omega (arith, fits.2) in
@@ -46,12 +46,12 @@ found_text p limit n xs h =
     let whole : take limit (take n xs) ≡ take n (take limit xs) = take_all limit (take n xs) (omega (arith, len, fits.1)) ∙ sym (take-take n limit xs fits.1) in
     ap (scanned p) whole ∙ alone ∙ ap End (sym len)
 
-pub long_stream : (p : Place) (limit : ℕ) (bytes : List ℕ) (left : Option (List ℕ)) → Lacks p limit bytes → limit ≤ length bytes → IfSome (stream bytes left) (λ x. (limit ≤ length x) × Lacks p limit x)
+pub long_stream : (p : LineState) (limit : ℕ) (bytes : List ℕ) (left : Option (List ℕ)) → Lacks p limit bytes → limit ≤ length bytes → IfSome (stream bytes left) (λ x. (limit ≤ length x) × Lacks p limit x)
 long_stream p limit bytes None h small = tt
 long_stream p limit bytes (Some left) h small =
     (omega (arith, length-append bytes left), (h.0, ap (scanned p) (take-append-le limit bytes left small) ∙ h.1))
 
-pub ended_stream : (p : Place) (limit : ℕ) (bytes : List ℕ) (left : Option (List ℕ)) → Lacks p limit bytes → length bytes < limit → AtEnd left → IfSome (stream bytes left) (λ x. (length x < limit) × Lacks p limit x)
+pub ended_stream : (p : LineState) (limit : ℕ) (bytes : List ℕ) (left : Option (List ℕ)) → Lacks p limit bytes → length bytes < limit → AtEnd left → IfSome (stream bytes left) (λ x. (length x < limit) × Lacks p limit x)
 ended_stream p limit bytes None h small e = tt
 ended_stream p limit bytes (Some left) h small e =
     let same : bytes ++ left ≡ bytes = ap (λ (r : List ℕ). bytes ++ r) e ∙ append-nil bytes in
@@ -70,7 +70,7 @@ pass_front n old new within is count = λ left. record {
 }
 
 -- two texts up to the end of some lines, at the front of one stream, are one
-pub one_text : (p : Place) (limit : ℕ) (x a b after rest : List ℕ) → x ≡ a ++ after → x ≡ b ++ rest → Reaches p limit a (length a) → Reaches p limit b (length b) → a ≡ b
+pub one_text : (p : LineState) (limit : ℕ) (x a b after rest : List ℕ) → x ≡ a ++ after → x ≡ b ++ rest → Reaches p limit a (length a) → Reaches p limit b (length b) → a ≡ b
 one_text p limit x a b after rest e f h k =
     let here : End (length a) ≡ End (length b) = sym (whole x a after e h) ∙ whole x b rest f k in
     let same : length a ≡ length b = cc here in

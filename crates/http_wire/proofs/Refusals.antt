@@ -4,8 +4,8 @@ use Rattle.std.proofs.Math.Seq.{take-append-add}
 use Rattle.std.proofs.lemmas.List.{take_all}
 use Rattle.httparse.specs.Grammar.{RequestHead}
 use Rattle.httparse.proofs.GrammarLemmas.{request_unique}
-use Rattle.http_wire.specs.declared.place.Place.{Place}
-use Rattle.http_wire.specs.declared.place.Place.TheVariants.{Start}
+use Rattle.http_wire.specs.declared.line_state.LineState.{LineState}
+use Rattle.http_wire.specs.declared.line_state.LineState.TheVariants.{Start}
 use Rattle.http_wire.specs.declared.scanning.Scanned.{Scanned}
 use Rattle.http_wire.specs.declared.scanning.Scanned.TheVariants.{End, Open}
 use Rattle.http_wire.specs.declared.ends.WireEnd.{WireEnd}
@@ -22,7 +22,7 @@ use Rattle.http_wire.proofs.Seams.{scanned-append, reached}
 use Rattle.http_wire.proofs.Passing.{one_text}
 
 -- where lines end within the limit, they don't lack an end
-pub not_lacking : (p : Place) (limit : ℕ) (x a after : List ℕ) → x ≡ a ++ after → Reaches p limit a (length a) → Lacks p limit x → ⊥
+pub not_lacking : (p : LineState) (limit : ℕ) (x a after : List ℕ) → x ≡ a ++ after → Reaches p limit a (length a) → Lacks p limit x → ⊥
 not_lacking p limit x a after e h lacks =
     let fits = reached p limit (length a) a h in
     let room : limit ≡ length a + (limit - length a) = omega (arith, fits.1) in

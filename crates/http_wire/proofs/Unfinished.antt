@@ -8,7 +8,7 @@ use Rattle.httparse.proofs.GrammarLemmas.{request_unique}
 use Rattle.http_wire.specs.declared.body.Body.{Body}
 use Rattle.http_wire.specs.declared.body.Body.TheVariants as body
 use Rattle.http_wire.specs.declared.head.Head.{Head}
-use Rattle.http_wire.specs.declared.place.Place.TheVariants.{Start, Next, Last}
+use Rattle.http_wire.specs.declared.line_state.LineState.TheVariants.{Start, Next, Last}
 use Rattle.http_wire.specs.Heads.{HeadSays, framing_of, headers_of}
 use Rattle.http_wire.specs.Bodies.{IsLine, IsChunked, Chunk, print_chunk, IsChunk, RestOf, Stops, Breaks, IsBadEnd}
 use Rattle.http_wire.specs.Wires.{body_of}

@@ -3,7 +3,7 @@ use Rattle.std.proofs.Common.{◌≡◌, ◌==◌, ℕ, zero, suc, ◌<◌, ◌�
 use Rattle.std.specs.Option.{unwrap_or}
 use Rattle.std.proofs.lemmas.Bool.{false_from_ne_true}
 use Rattle.memchr.specs.Find.{IsFirstByte, is_byte}
-use Rattle.http_wire.specs.declared.place.Place.TheVariants.{Line, Next}
+use Rattle.http_wire.specs.declared.line_state.LineState.TheVariants.{Line, Next}
 use Rattle.http_wire.specs.Lines.{further, after_step, scanned}
 use Rattle.http_wire.proofs.Seams.{further-zero, further-further}
 

@@ -7,7 +7,7 @@ use Rattle.http_wire.specs.declared.body.Body.{Body}
 use Rattle.http_wire.specs.declared.body.Body.TheVariants as body
 use Rattle.http_wire.specs.declared.chunk_end.EndOf.{EndOf}
 use Rattle.http_wire.specs.declared.chunk_end.EndOf.TheVariants.{Whole, Wrong, Part}
-use Rattle.http_wire.specs.declared.place.Place.TheVariants.{Next, Last}
+use Rattle.http_wire.specs.declared.line_state.LineState.TheVariants.{Next, Last}
 use Rattle.http_wire.specs.declared.stop.Stop.{Stop}
 use Rattle.http_wire.specs.declared.stop.Stop.TheVariants.{Cut, Broken, Failed}
 use Rattle.http_wire.specs.Lines.{Reaches, Lacks}

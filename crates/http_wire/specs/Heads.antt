@@ -14,7 +14,7 @@ use Rattle.http_wire.specs.declared.head.Framing.{Framing}
 use Rattle.http_wire.specs.declared.head.Framing.TheVariants.{Empty, Length, Chunked}
 use Rattle.http_wire.specs.declared.head.HeadFault.{HeadFault}
 use Rattle.http_wire.specs.declared.head.HeadFault.TheVariants.{BadHead, BadLength, TooMany}
-use Rattle.http_wire.specs.declared.place.Place.TheVariants.{Start}
+use Rattle.http_wire.specs.declared.line_state.LineState.TheVariants.{Start}
 use Rattle.http_wire.specs.Lines.{Reaches}
 
 -- the lines up to the end line of a head, with it

@@ -8,8 +8,8 @@ use Rattle.http_wire.specs.declared.head.Framing.TheVariants.{Empty, Length, Chu
 use Rattle.http_wire.specs.declared.head.HeadFault.{HeadFault}
 use Rattle.http_wire.specs.declared.head.HeadFault.TheVariants.{BadHead, BadLength, TooMany}
 use Rattle.http_wire.specs.declared.head.ReplyHead.{ReplyHead}
-use Rattle.http_wire.specs.declared.reply_judging.JudgedReply.{JudgedReply}
-use Rattle.http_wire.specs.declared.reply_judging.JudgedReply.TheVariants as judged
+use Rattle.http_wire.specs.declared.reply_judging.ParsedReply.{ParsedReply}
+use Rattle.http_wire.specs.declared.reply_judging.ParsedReply.TheVariants as parsed
 use Rattle.http_wire.specs.Heads.{framing_of}
 
 abbrev pub reply_headers : ResponseHead → List (List ℕ × List ℕ)
@@ -31,7 +31,7 @@ ReplySays text (Err TooMany) = (h : ResponseHead) × ReadsResponse text h [] × 
 ReplySays text (Err BadLength) = (h : ResponseHead) × ReadsResponse text h [] × (length h.fields ≤ 64) × (framing_of (reply_headers h) ≡ None)
 
 -- what was found of a head by where its parts lie
-abbrev pub IsJudgedReply : List ℕ → ℕ → List HeaderSpan → JudgedReply → Type 0
-IsJudgedReply text room headers (judged.Head r) = IsResponseWithin text headers r × ((h : ResponseHead) × ReadsResponse text h [] × (length h.fields ≤ 64) × IsResponseAt text headers r h)
-IsJudgedReply text room headers judged.TooMany = (h : ResponseHead) × ReadsResponse text h [] × (64 < length h.fields)
-IsJudgedReply text room headers judged.BadHead = (h : ResponseHead) → ReadsResponse text h [] → room < length h.fields
+abbrev pub IsParsedReply : List ℕ → ℕ → List HeaderSpan → ParsedReply → Type 0
+IsParsedReply text room headers (parsed.Head r) = IsResponseWithin text headers r × ((h : ResponseHead) × ReadsResponse text h [] × (length h.fields ≤ 64) × IsResponseAt text headers r h)
+IsParsedReply text room headers parsed.TooMany = (h : ResponseHead) × ReadsResponse text h [] × (64 < length h.fields)
+IsParsedReply text room headers parsed.BadHead = (h : ResponseHead) → ReadsResponse text h [] → room < length h.fields

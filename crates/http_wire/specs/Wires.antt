@@ -6,7 +6,7 @@ use Rattle.http_wire.specs.declared.head.Framing.{Framing}
 use Rattle.http_wire.specs.declared.head.Framing.TheVariants.{Empty, Length, Chunked, ToEnd}
 use Rattle.http_wire.specs.declared.head.HeadFault.{HeadFault}
 use Rattle.http_wire.specs.declared.head.HeadFault.TheVariants as fault
-use Rattle.http_wire.specs.declared.place.Place.TheVariants.{Start}
+use Rattle.http_wire.specs.declared.line_state.LineState.TheVariants.{Start}
 use Rattle.http_wire.specs.declared.ends.WireEnd.{WireEnd}
 use Rattle.http_wire.specs.declared.ends.WireEnd.TheVariants as ends
 use Rattle.http_wire.specs.Lines.{Lacks}

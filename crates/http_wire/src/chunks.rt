@@ -6,15 +6,15 @@ ghost use Rattle.httparse.specs.Grammar.{ChunkLine, ReadsChunkLine, chunk_size};
 ghost use Rattle.http_wire.specs.Bodies.{IsLine, Stops, Breaks};
 ghost use Rattle.http_wire.specs.declared.body.Body.TheVariants as body;
 
-use crate::ahead::Ahead;
+use crate::ahead::ReadAhead;
 use crate::filling::fill;
-use crate::place::Place;
+use crate::line_state::LineState;
 use crate::stop::{Stop, stop_of};
 use edge_base::Source;
 use httparse::{Status, parse_chunk_size};
 
 /// Takes a chunk line, and says how large the chunk is.
-pub fn take_line<S: Source>(ahead: &mut Ahead, source: &mut S) -> Result<u64, Stop>
+pub fn take_line<S: Source>(ahead: &mut ReadAhead, source: &mut S) -> Result<u64, Stop>
     ensures ok { IfOk result (λ size. (text : List ℕ)
         × Passed (S.left source.old) (S.left source.new) ahead.old ahead.new text × IsLine text size) }
     ensures err { OnErr result (Passed (S.left source.old) (S.left source.new) ahead.old ahead.new []) }
@@ -25,7 +25,7 @@ pub fn take_line<S: Source>(ahead: &mut Ahead, source: &mut S) -> Result<u64, St
     ensures fault { IsErrOf result Stop.Failed → Rose (S.faults source.old) (S.faults source.new) }
     ensures later { S.faults source.old ≤ S.faults source.new }
 {
-    let n = match fill(ahead, source, Place::Last, 4_096) {
+    let n = match fill(ahead, source, LineState::Last, 4_096) {
         Ok(n) => n,
         Err(missed) => return Err(stop_of(missed)),
     };

@@ -3,14 +3,14 @@ ghost use Rattle.std.specs.Prelude.{◌≡◌, ◌<◌, ◌≤◌, [], length, m
 ghost use Rattle.edge_base.specs.Edge.{Rose};
 ghost use Rattle.http_wire.specs.Stream.{stream, Passed};
 
-use crate::ahead::Ahead;
+use crate::ahead::ReadAhead;
 use crate::stop::Stop;
 use edge_base::Source;
 
 /// Takes bytes into the front of the buffer, and says how many: at least one where the buffer isn't empty, and at most
 /// `most`.
 pub fn take_content<S: Source>(
-    ahead: &mut Ahead,
+    ahead: &mut ReadAhead,
     source: &mut S,
     buf: &mut [u8],
     most: u64,
@@ -34,7 +34,7 @@ pub fn take_content<S: Source>(
 /// Takes bytes of what the source still has into the front of the buffer, and says how many: none for a buffer that
 /// isn't empty is the source's end.
 pub fn take_rest<S: Source>(
-    ahead: &mut Ahead,
+    ahead: &mut ReadAhead,
     source: &mut S,
     buf: &mut [u8],
 ) -> Result<usize, Stop>
@@ -58,7 +58,7 @@ pub fn take_rest<S: Source>(
 }
 
 // The same, as much as the buffer has room for.
-fn take_into<S: Source>(ahead: &mut Ahead, source: &mut S, buf: &mut [u8]) -> Result<usize, Stop>
+fn take_into<S: Source>(ahead: &mut ReadAhead, source: &mut S, buf: &mut [u8]) -> Result<usize, Stop>
     ensures ok { IfOk result
         (λ n. Passed (S.left source.old) (S.left source.new) ahead.old ahead.new (take n buf.new)) }
     ensures bound { IfOk result (λ n. n ≤ length buf.old) }
@@ -89,7 +89,7 @@ fn copy_front(from: &[u8], to: &mut [u8]) -> usize
 }
 
 // The same where nothing was read ahead: the source reads into the buffer itself.
-fn read_on<S: Source>(ahead: &mut Ahead, source: &mut S, buf: &mut [u8]) -> Result<usize, Stop>
+fn read_on<S: Source>(ahead: &mut ReadAhead, source: &mut S, buf: &mut [u8]) -> Result<usize, Stop>
     requires { ahead.old.bytes ≡ [] }
     ensures ok { IfOk result
         (λ n. Passed (S.left source.old) (S.left source.new) ahead.old ahead.new (take n buf.new)) }

@@ -4,14 +4,14 @@ ghost use Rattle.edge_base.specs.Edge.{Rose};
 ghost use Rattle.http_wire.specs.Lines.{Reaches, Lacks};
 ghost use Rattle.http_wire.specs.Stream.{stream, Fetched, AtEnd, Passed};
 
-use crate::ahead::Ahead;
-use crate::place::Place;
+use crate::ahead::ReadAhead;
+use crate::line_state::LineState;
 use crate::scanning::{Scanned, scan};
 use edge_base::Source;
 
 /// Why the end of some lines wasn't reached.
 #[derive(Clone, Copy, PartialEq, Eq)]
-pub enum Missed {
+pub enum FillFault {
     /// It isn't within the limit.
     Long,
     /// The source ended before it.
@@ -24,23 +24,23 @@ pub enum Missed {
 /// Reads on until the lines end, and says behind how many bytes. Nothing is taken from the stream.
 #[tactic(auto, using(crate::proofs::Passing::none_passed, crate::proofs::Fetching::fetched_twice))]
 pub fn fill<S: Source>(
-    ahead: &mut Ahead,
+    ahead: &mut ReadAhead,
     source: &mut S,
-    place: Place,
+    place: LineState,
     limit: usize,
-) -> Result<usize, Missed>
+) -> Result<usize, FillFault>
     requires { limit ≤ 16384 }
     ensures same { Passed (S.left source.old) (S.left source.new) ahead.old ahead.new [] }
     ensures within { IfOk result (λ n. n ≤ length ahead.new.bytes) }
     ensures found { IfOk result (λ n. Reaches place limit (take n ahead.new.bytes) (length (take n ahead.new.bytes))) }
-    ensures long { IsErrOf result Missed.Long
+    ensures long { IsErrOf result FillFault.Long
         → IfSome (stream ahead.new.bytes (S.left source.new)) (λ x. (limit ≤ length x) × Lacks place limit x) }
-    ensures ended { IsErrOf result Missed.Ended
+    ensures ended { IsErrOf result FillFault.Ended
         → IfSome (stream ahead.new.bytes (S.left source.new)) (λ x. (length x < limit) × Lacks place limit x) }
-    ensures end { IsErrOf result Missed.Ended → AtEnd (S.left source.new) }
-    ensures short { IsErrOf result Missed.Failed
+    ensures end { IsErrOf result FillFault.Ended → AtEnd (S.left source.new) }
+    ensures short { IsErrOf result FillFault.Failed
         → (length ahead.new.bytes < limit) × Lacks place limit ahead.new.bytes }
-    ensures fault { IsErrOf result Missed.Failed → Rose (S.faults source.old) (S.faults source.new) }
+    ensures fault { IsErrOf result FillFault.Failed → Rose (S.faults source.old) (S.faults source.new) }
     ensures later { S.faults source.old ≤ S.faults source.new }
 {
     fill_on(ahead, source, place, limit)
@@ -48,20 +48,20 @@ pub fn fill<S: Source>(
 
 // The same. Each byte is looked at once.
 fn fill_on<S: Source>(
-    ahead: &mut Ahead,
+    ahead: &mut ReadAhead,
     source: &mut S,
-    place: Place,
+    place: LineState,
     limit: usize,
-) -> Result<usize, Missed>
+) -> Result<usize, FillFault>
     requires { limit ≤ 16384 }
     ensures fetched { Fetched (S.left source.old) (S.left source.new) ahead.old.bytes ahead.new.bytes }
     ensures found { IfOk result (λ n. Reaches place limit ahead.new.bytes n) }
-    ensures long { IsErrOf result Missed.Long → Lacks place limit ahead.new.bytes × (limit ≤ length ahead.new.bytes) }
-    ensures ended { IsErrOf result Missed.Ended → Lacks place limit ahead.new.bytes × (length ahead.new.bytes < limit)
+    ensures long { IsErrOf result FillFault.Long → Lacks place limit ahead.new.bytes × (limit ≤ length ahead.new.bytes) }
+    ensures ended { IsErrOf result FillFault.Ended → Lacks place limit ahead.new.bytes × (length ahead.new.bytes < limit)
         × AtEnd (S.left source.new) }
-    ensures short { IsErrOf result Missed.Failed
+    ensures short { IsErrOf result FillFault.Failed
         → (length ahead.new.bytes < limit) × Lacks place limit ahead.new.bytes }
-    ensures fault { IsErrOf result Missed.Failed → Rose (S.faults source.old) (S.faults source.new) }
+    ensures fault { IsErrOf result FillFault.Failed → Rose (S.faults source.old) (S.faults source.new) }
     ensures taken { ahead.new.taken ≡ ahead.old.taken }
     ensures later { S.faults source.old ≤ S.faults source.new }
 {
@@ -76,13 +76,13 @@ fn fill_on<S: Source>(
         }
         seen = most;
         if seen == limit {
-            return Err(Missed::Long);
+            return Err(FillFault::Long);
         }
         let Ok(n) = ahead.fetch(source) else {
-            return Err(Missed::Failed);
+            return Err(FillFault::Failed);
         };
         if n == 0 {
-            return Err(Missed::Ended);
+            return Err(FillFault::Ended);
         }
     }
 }

@@ -7,7 +7,7 @@ ghost use Rattle.http_wire.specs.Heads.{HeadSays, framing_of, length_in, same_te
 use crate::closing::closes_at;
 use crate::fields::{Values, values_at};
 use crate::head::{Framing, Head, HeadFault, Piece};
-use crate::judging::{Judged, judge};
+use crate::judging::{ParsedHead, judge};
 use crate::target::{path_at, query_at};
 use httparse::spans::{HeaderSpan, RequestSpans, Span};
 
@@ -17,9 +17,9 @@ pub fn read_head(text: &[u8], headers: &mut [HeaderSpan]) -> Result<Head, HeadFa
     ensures { HeadSays text.now result }
 {
     match judge(text, headers) {
-        Judged::Head(spans) => head_at(text, headers, spans),
-        Judged::TooMany => Err(HeadFault::TooMany),
-        Judged::BadHead => Err(HeadFault::BadHead),
+        ParsedHead::Head(spans) => head_at(text, headers, spans),
+        ParsedHead::TooMany => Err(HeadFault::TooMany),
+        ParsedHead::BadHead => Err(HeadFault::BadHead),
     }
 }
 

@@ -1,16 +1,15 @@
-//! Laws of streams of requests, and of replies.
-ghost use Rattle.std.specs.Prelude.{◌≡◌, ◌≤◌, ◌⊎◌, ◌↔◌, ◌∷◌, ◌++◌, [], List, ℕ, length, All, Some, codes};
+//! Laws of streams of requests.
+ghost use Rattle.std.specs.Prelude.{◌≡◌, ◌≤◌, ◌⊎◌, ◌↔◌, ◌∷◌, ◌++◌, [], List, ℕ, length, All, Some};
 ghost use Rattle.http_wire.specs.LineForms.{AreLines, AreHeadLines};
 ghost use Rattle.http_wire.specs.Heads.{IsHeadText};
 ghost use Rattle.http_wire.specs.Lines.{Reaches};
-ghost use Rattle.http_wire.specs.Replies.{phrase_of};
 ghost use Rattle.http_wire.specs.Speaking.{Request, IsRequest, Speaks, text_of, HasNoRequest, IsOpen, SpeaksTo};
 ghost use Rattle.http_wire.specs.Speaking.{place_behind, last_of, Begun, IsBegun};
 ghost use Rattle.http_wire.specs.Readings.{OneReading, IsLongest, SpeaksToNoMore};
 ghost use Rattle.http_wire.specs.Bodies.{Stops, Breaks};
 ghost use Rattle.http_wire.specs.Wires.{HeadEnds, LacksHead};
 ghost use Rattle.http_wire.specs.declared.ends.WireEnd.{WireEnd};
-ghost use Rattle.http_wire.specs.declared.place.Place.{Place};
+ghost use Rattle.http_wire.specs.declared.line_state.LineState.{LineState};
 
 /// The text of a head, in words of lines.
 pub fn heads_are_lines()
@@ -19,20 +18,7 @@ pub fn heads_are_lines()
 
 /// The text of trailers, in words of lines.
 pub fn trailers_are_lines()
-    ensures { (text : List ℕ) → Reaches Place.Next 16384 text (length text) ↔ (length text ≤ 16384) × AreLines text }
-{}
-
-/// The phrases of the codes that a server replies with.
-pub fn phrases()
-    ensures fine { phrase_of 200 ≡ codes "OK" }
-    ensures bad { phrase_of 400 ≡ codes "Bad Request" }
-    ensures forbidden { phrase_of 403 ≡ codes "Forbidden" }
-    ensures lacking { phrase_of 404 ≡ codes "Not Found" }
-    ensures method { phrase_of 405 ≡ codes "Method Not Allowed" }
-    ensures long { phrase_of 413 ≡ codes "Payload Too Large" }
-    ensures damaged { phrase_of 500 ≡ codes "Internal Server Error" }
-    ensures later { phrase_of 503 ≡ codes "Service Unavailable" }
-    ensures full { phrase_of 507 ≡ codes "Insufficient Storage" }
+    ensures { (text : List ℕ) → Reaches LineState.Next 16384 text (length text) ↔ (length text ≤ 16384) × AreLines text }
 {}
 
 /// A request with which the rest of a stream begins is one more of its requests.

@@ -15,9 +15,8 @@ mod heads;
 mod judging;
 mod kept;
 mod laws;
-mod place;
+mod line_state;
 mod reading;
-mod replies;
 mod reply_heads;
 mod reply_judging;
 mod scanning;
@@ -32,8 +31,7 @@ pub use ends::WireEnd;
 pub use head::{Framing, Head, HeadFault, Piece, ReplyHead};
 pub use laws::{
     ends_are_last, ends_begin_no_request, heads_are_lines, one_head_text, one_more_request,
-    one_reading, phrases, short_heads_begin_no_request, trailers_are_lines,
+    one_reading, short_heads_begin_no_request, trailers_are_lines,
     unfinished_bodies_begin_no_request,
 };
-pub use replies::reply_head;
 pub use wire::Wire;

@@ -4,7 +4,7 @@ ghost use Rattle.edge_base.specs.Edge.{Rose};
 ghost use Rattle.http_wire.specs.Stream.{stream, Passed};
 ghost use Rattle.http_wire.specs.Bodies.{Moves, Leads, Stops, StopSays, IsPastEnd, IsPastLine, IsReady, given_by};
 
-use crate::ahead::Ahead;
+use crate::ahead::ReadAhead;
 use crate::body::Body;
 use crate::chunk_end::take_end;
 use crate::chunks::take_line;
@@ -15,7 +15,7 @@ use edge_base::Source;
 
 /// The next bytes of a body, into the front of the buffer, and how many: none for a buffer that isn't empty is its end.
 pub fn read_body<S: Source>(
-    ahead: &mut Ahead,
+    ahead: &mut ReadAhead,
     source: &mut S,
     body: &mut Body,
     buf: &mut [u8],
@@ -39,7 +39,7 @@ pub fn read_body<S: Source>(
 }
 
 // Passes what stands before the next bytes of the body.
-fn get_ready<S: Source>(ahead: &mut Ahead, source: &mut S, body: &mut Body) -> Result<(), Stop>
+fn get_ready<S: Source>(ahead: &mut ReadAhead, source: &mut S, body: &mut Body) -> Result<(), Stop>
     ensures moved { Moves (S.left source.old) (S.left source.new) ahead.old ahead.new body.old body.new [] }
     ensures past { OnOk result (IsReady body.new) }
     ensures stays { body.old ≡ Body.ToEnd → (result ≡ Ok tt) × (body.new ≡ Body.ToEnd) }
@@ -55,7 +55,7 @@ fn get_ready<S: Source>(ahead: &mut Ahead, source: &mut S, body: &mut Body) -> R
 }
 
 // Passes the end of a chunk, where it stands there.
-fn pass_end<S: Source>(ahead: &mut Ahead, source: &mut S, body: &mut Body) -> Result<(), Stop>
+fn pass_end<S: Source>(ahead: &mut ReadAhead, source: &mut S, body: &mut Body) -> Result<(), Stop>
     ensures moved { Moves (S.left source.old) (S.left source.new) ahead.old ahead.new body.old body.new [] }
     ensures past { OnOk result (IsPastEnd body.new) }
     ensures stays { body.old ≡ Body.ToEnd → (result ≡ Ok tt) × (body.new ≡ Body.ToEnd) }
@@ -78,7 +78,7 @@ fn pass_end<S: Source>(ahead: &mut Ahead, source: &mut S, body: &mut Body) -> Re
 }
 
 // Passes a chunk line, where it stands there.
-fn pass_line<S: Source>(ahead: &mut Ahead, source: &mut S, body: &mut Body) -> Result<(), Stop>
+fn pass_line<S: Source>(ahead: &mut ReadAhead, source: &mut S, body: &mut Body) -> Result<(), Stop>
     requires { IsPastEnd body.old }
     ensures moved { Moves (S.left source.old) (S.left source.new) ahead.old ahead.new body.old body.new [] }
     ensures past { OnOk result (IsPastLine body.new) }
@@ -111,7 +111,7 @@ fn behind_line(size: u64) -> Body
 }
 
 // Passes the trailers, where they stand there.
-fn pass_trailers<S: Source>(ahead: &mut Ahead, source: &mut S, body: &mut Body) -> Result<(), Stop>
+fn pass_trailers<S: Source>(ahead: &mut ReadAhead, source: &mut S, body: &mut Body) -> Result<(), Stop>
     requires { IsPastLine body.old }
     ensures moved { Moves (S.left source.old) (S.left source.new) ahead.old ahead.new body.old body.new [] }
     ensures past { OnOk result (IsReady body.new) }
@@ -133,7 +133,7 @@ fn pass_trailers<S: Source>(ahead: &mut Ahead, source: &mut S, body: &mut Body) 
 
 // The next bytes of a body that stand there, or its end.
 fn give<S: Source>(
-    ahead: &mut Ahead,
+    ahead: &mut ReadAhead,
     source: &mut S,
     body: &mut Body,
     buf: &mut [u8],

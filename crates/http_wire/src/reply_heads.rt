@@ -6,7 +6,7 @@ ghost use Rattle.http_wire.specs.ReplyHeads.{ReplySays, reply_framing};
 
 use crate::head::{Framing, HeadFault, ReplyHead};
 use crate::heads::framing_at;
-use crate::reply_judging::{JudgedReply, judge_reply};
+use crate::reply_judging::{ParsedReply, judge_reply};
 use httparse::spans::{HeaderSpan, ResponseSpans};
 
 /// Reads the head of a reply that the lines are.
@@ -15,9 +15,9 @@ pub fn read_reply(text: &[u8], headers: &mut [HeaderSpan]) -> Result<ReplyHead, 
     ensures { ReplySays text.now result }
 {
     match judge_reply(text, headers) {
-        JudgedReply::Head(spans) => reply_at(text, headers, spans),
-        JudgedReply::TooMany => Err(HeadFault::TooMany),
-        JudgedReply::BadHead => Err(HeadFault::BadHead),
+        ParsedReply::Head(spans) => reply_at(text, headers, spans),
+        ParsedReply::TooMany => Err(HeadFault::TooMany),
+        ParsedReply::BadHead => Err(HeadFault::BadHead),
     }
 }
 

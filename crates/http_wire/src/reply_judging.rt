@@ -1,5 +1,5 @@
 //! Whether some lines are the head of a reply.
-ghost use Rattle.http_wire.specs.ReplyHeads.{IsJudgedReply};
+ghost use Rattle.http_wire.specs.ReplyHeads.{IsParsedReply};
 ghost use Rattle.std.specs.Prelude.{length};
 
 use httparse::Status;
@@ -7,7 +7,7 @@ use httparse::spans::{HeaderSpan, ResponseSpans, parse_response};
 
 /// What was found of a head.
 #[derive(Clone, Copy)]
-pub enum JudgedReply {
+pub enum ParsedReply {
     /// A head, and where its parts lie.
     Head(ResponseSpans),
     /// A head of too many headers.
@@ -17,19 +17,19 @@ pub enum JudgedReply {
 }
 
 /// Whether the lines are a head.
-pub fn judge_reply(text: &[u8], headers: &mut [HeaderSpan]) -> JudgedReply
-    ensures { IsJudgedReply text.now (length headers.old) headers.new result }
+pub fn judge_reply(text: &[u8], headers: &mut [HeaderSpan]) -> ParsedReply
+    ensures { IsParsedReply text.now (length headers.old) headers.new result }
 {
     match parse_response(text, headers) {
         Ok(Status::Complete(spans)) => {
             if spans.len != text.len() {
-                JudgedReply::BadHead
+                ParsedReply::BadHead
             } else if spans.headers > 64 {
-                JudgedReply::TooMany
+                ParsedReply::TooMany
             } else {
-                JudgedReply::Head(spans)
+                ParsedReply::Head(spans)
             }
         }
-        _ => JudgedReply::BadHead,
+        _ => ParsedReply::BadHead,
     }
 }

@@ -7,20 +7,20 @@ ghost use Rattle.http_wire.specs.Heads.{IsHeadText, HeadSays};
 ghost use Rattle.http_wire.specs.ReplyHeads.{ReplySays};
 ghost use Rattle.http_wire.specs.Wires.{Message, MessageEnds, Refuses, HeadEnds, ReplyEnds, LacksHead};
 
-use crate::ahead::Ahead;
+use crate::ahead::ReadAhead;
 use crate::ends::WireEnd;
-use crate::filling::{Missed, fill};
+use crate::filling::{FillFault, fill};
 use crate::head::{Head, HeadFault, ReplyHead};
 use crate::heads::read_head;
 use crate::kept::Kept;
-use crate::place::Place;
+use crate::line_state::LineState;
 use crate::reply_heads::read_reply;
 use edge_base::Source;
 use httparse::spans::HeaderSpan;
 
 /// Takes the next head of a request, and keeps its text. An error takes nothing.
 pub fn take_head<S: Source>(
-    ahead: &mut Ahead,
+    ahead: &mut ReadAhead,
     source: &mut S,
     kept: &mut Kept,
     headers: &mut [HeaderSpan],
@@ -49,7 +49,7 @@ pub fn take_head<S: Source>(
 
 /// Takes the next head of a reply, and keeps its text. An error takes nothing.
 pub fn take_reply<S: Source>(
-    ahead: &mut Ahead,
+    ahead: &mut ReadAhead,
     source: &mut S,
     kept: &mut Kept,
     headers: &mut [HeaderSpan],
@@ -77,7 +77,7 @@ pub fn take_reply<S: Source>(
 }
 
 // Behind how many bytes the lines of a head end, or why they don't.
-fn lines_end<S: Source>(ahead: &mut Ahead, source: &mut S) -> Result<usize, WireEnd>
+fn lines_end<S: Source>(ahead: &mut ReadAhead, source: &mut S) -> Result<usize, WireEnd>
     ensures same { Passed (S.left source.old) (S.left source.new) ahead.old ahead.new [] }
     ensures within { IfOk result (λ n. n ≤ length ahead.new.bytes) }
     ensures found { IfOk result (λ n. IsHeadText (take n ahead.new.bytes)) }
@@ -90,18 +90,18 @@ fn lines_end<S: Source>(ahead: &mut Ahead, source: &mut S) -> Result<usize, Wire
     ensures later { S.faults source.old ≤ S.faults source.new }
 {
     let place = ahead.taken();
-    match fill(ahead, source, Place::Start, 16_384) {
+    match fill(ahead, source, LineState::Start, 16_384) {
         Ok(n) => Ok(n),
-        Err(Missed::Long) => Err(WireEnd::TooLong { limit: 16_384 }),
-        Err(Missed::Ended) => Err(end_of_stream(ahead.len(), place)),
-        Err(Missed::Failed) => Err(WireEnd::ReadFault),
+        Err(FillFault::Long) => Err(WireEnd::TooLong { limit: 16_384 }),
+        Err(FillFault::Ended) => Err(end_of_stream(ahead.len(), place)),
+        Err(FillFault::Failed) => Err(WireEnd::ReadFault),
     }
 }
 
 // The end that the stream's end is, where so many bytes are left.
 fn end_of_stream(len: usize, place: u64) -> WireEnd
     ensures says { (message : Message) (bytes : List ℕ) (left : Option (List ℕ)) → length bytes ≡ len → AtEnd left
-        → IfSome (stream bytes left) (λ x. (length x < 16384) × Lacks Place.Start 16384 x)
+        → IfSome (stream bytes left) (λ x. (length x < 16384) × Lacks LineState.Start 16384 x)
         → MessageEnds message (stream bytes left) place result }
     ensures fault { result ≡ WireEnd.ReadFault → ⊥ }
 {

@@ -6,16 +6,16 @@ ghost use Rattle.http_wire.specs.Stream.{stream, Passed};
 ghost use Rattle.http_wire.specs.Bodies.{IsTrailers, Stops, Breaks};
 ghost use Rattle.http_wire.specs.declared.body.Body.TheVariants as body;
 
-use crate::ahead::Ahead;
+use crate::ahead::ReadAhead;
 use crate::filling::fill;
-use crate::place::Place;
+use crate::line_state::LineState;
 use crate::stop::{Stop, stop_of};
 use edge_base::Source;
 use httparse::Status;
 use httparse::spans::{EMPTY_HEADER_SPAN, parse_headers};
 
 /// Takes the trailers, which are dropped.
-pub fn take_trailers<S: Source>(ahead: &mut Ahead, source: &mut S) -> Result<(), Stop>
+pub fn take_trailers<S: Source>(ahead: &mut ReadAhead, source: &mut S) -> Result<(), Stop>
     ensures ok { OnOk result ((text : List ℕ)
         × Passed (S.left source.old) (S.left source.new) ahead.old ahead.new text × IsTrailers text) }
     ensures err { OnErr result (Passed (S.left source.old) (S.left source.new) ahead.old ahead.new []) }
@@ -26,7 +26,7 @@ pub fn take_trailers<S: Source>(ahead: &mut Ahead, source: &mut S) -> Result<(),
     ensures fault { IsErrOf result Stop.Failed → Rose (S.faults source.old) (S.faults source.new) }
     ensures later { S.faults source.old ≤ S.faults source.new }
 {
-    let n = match fill(ahead, source, Place::Next, 16_384) {
+    let n = match fill(ahead, source, LineState::Next, 16_384) {
         Ok(n) => n,
         Err(missed) => return Err(stop_of(missed)),
     };

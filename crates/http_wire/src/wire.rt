@@ -7,7 +7,7 @@ ghost use Rattle.http_wire.specs.ReplyHeads.{ReplySays};
 ghost use Rattle.http_wire.specs.Bodies.{Moves, Stops, given_by};
 ghost use Rattle.http_wire.specs.Wires.{to_come, body_of, HeadEnds, ReplyEnds, BodyEnds, LacksHead};
 
-use crate::ahead::Ahead;
+use crate::ahead::ReadAhead;
 use crate::body::Body;
 use crate::ends::{WireEnd, end_of_body};
 use crate::head::{Framing, Head, Piece, ReplyHead};
@@ -24,7 +24,7 @@ use std::marker::Model;
 /// rules. It holds all buffers of the connection, some 219 KiB, and takes no memory after it is made.
 #[derive(Drop)]
 pub struct Wire {
-    ahead: Ahead,
+    ahead: ReadAhead,
     head: Kept,
     headers: Vec<HeaderSpan>,
     begun: u64,
@@ -48,7 +48,7 @@ impl Wire {
         ensures { IfOk result (λ wire.
             wire ≡ record { flow = record { bytes = []; taken = 0 }; head = []; begun = 0; body = Body.Done }) }
     {
-        let ahead = Ahead::make(alloc)?;
+        let ahead = ReadAhead::make(alloc)?;
         let head = Kept::make(alloc)?;
         let headers = header_room(alloc)?;
         Ok(Wire {

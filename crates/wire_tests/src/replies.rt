@@ -1,6 +1,6 @@
 //! Heads of replies.
 use blobref::NoMemory;
-use http_wire::reply_head;
+use http_exchange::reply_head;
 
 #[test]
 fn heads_of_replies(rt: HostRuntime) -> Result<(), NoMemory> {

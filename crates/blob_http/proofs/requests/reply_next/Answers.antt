@@ -2,7 +2,9 @@ use Rattle.std.proofs.Common.{true, Err, sym, ap, subst}
 use Rattle.http_wire.specs.Stream.{stream}
 use Rattle.blob_http.specs.declared.operations.Operation.{Operation}
 use Rattle.blob_http.specs.Handling.{Answers}
-use Rattle.blob_http.proofs.Requesting.{head_replies, head_none, passes_none}
+use Rattle.blob_http.specs.Serving.{IsFair}
+use Rattle.blob_http.proofs.Requesting.{head_replies, passes_none}
+use Rattle.http_exchange.proofs.Reading.{head_none}
 use Rattle.blob_http.proofs.requests.reply_next.Goals as goal
 
 pub returns-in-Ok-head_says-clause-replies : goal.returns-in-Ok-head_says-clause-replies
@@ -21,7 +23,7 @@ returns-in-Ok-head_says-clause-replies g c =
 
 pub returns-in-Err-head_says-clause-none : goal.returns-in-Err-head_says-clause-none
 returns-in-Err-head_says-clause-none g c =
-    head_none (g.S.Source.left c.args.source.now)
+    head_none IsFair (g.S.Source.left c.args.source.now)
     (g.S.Source.left c.next_head.new.source) c.args.wire.now.flow c.next_head.new.self
     c.in-Err.end c.in-Err-head_says.ended (sym c.in-Err-head_says.ensures) c.in-Err.ensures.same.0 c.in-Err.ensures.err
     (λ is. c.in-Err.ensures.short (ap Err is))

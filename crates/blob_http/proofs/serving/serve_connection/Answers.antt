@@ -2,10 +2,13 @@ use Rattle.std.proofs.Common.{arith, refl, sym, subst, ap}
 use Rattle.edge_base.specs.Edge.{Took}
 use Rattle.http_wire.specs.Stream.{Flow}
 use Rattle.http_wire.specs.Wires.{WireView}
-use Rattle.blob_http.specs.Serving.{Serves, Notes, Open, fresh_flow, HasNone}
-use Rattle.blob_http.proofs.Stepping.{serves_none, took_none, cause_since}
-use Rattle.blob_http.proofs.Noting.{notes_none}
-use Rattle.blob_http.proofs.Hearing.{open_none}
+use Rattle.blob_http.specs.Serving.{Serves, HasNone}
+use Rattle.http_exchange.specs.Notes.{Notes}
+use Rattle.http_exchange.specs.Hearing.{Open, fresh_flow}
+use Rattle.blob_http.proofs.Stepping.{serves_none}
+use Rattle.http_exchange.proofs.Taking.{took_none, cause_since}
+use Rattle.http_exchange.proofs.Noting.{notes_none}
+use Rattle.http_exchange.proofs.Hearing.{open_none}
 use Rattle.blob_http.proofs.Connecting.{no_memory}
 use Rattle.blob_http.proofs.serving.serve_connection.Goals as goal
 

@@ -1,7 +1,9 @@
 use Rattle.std.proofs.Common.{◌≡◌, ◌≤◌}
 use Rattle.edge_base.specs.Edge.{Took}
 use Rattle.http_wire.specs.declared.body.Body.TheVariants.{Done}
-use Rattle.blob_http.specs.Serving.{Serves, Notes, Open, fresh_flow, HasNone}
+use Rattle.blob_http.specs.Serving.{Serves, HasNone}
+use Rattle.http_exchange.specs.Notes.{Notes}
+use Rattle.http_exchange.specs.Hearing.{Open, fresh_flow}
 use Rattle.blob_http.proofs.serving.serve_connection.Given as goal
 
 abbrev pub invariant-requests : goal.invariant-requests

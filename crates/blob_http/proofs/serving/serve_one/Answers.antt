@@ -1,5 +1,5 @@
-use Rattle.blob_http.specs.Serving.{Notes}
-use Rattle.blob_http.proofs.Noting.{notes_same, notes_given}
+use Rattle.http_exchange.specs.Notes.{Notes}
+use Rattle.http_exchange.proofs.Noting.{notes_same, notes_given}
 use Rattle.blob_http.proofs.Connecting.{step_goes_on, step_closes, step_breaks, step_ends, step_full}
 use Rattle.blob_http.proofs.serving.serve_one.Goals as goal
 

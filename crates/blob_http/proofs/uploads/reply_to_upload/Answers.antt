@@ -1,18 +1,32 @@
-use Rattle.std.proofs.Common.{◌≡◌, ℕ, List, Some, Ok, Err, true, not, ◌||◌, length, sym, ap, subst, ◌∙◌}
+use Rattle.std.proofs.Common.{◌≡◌, ℕ, List, Ok, Err, true, not, ◌||◌, length, sym, ap, subst, ◌∙◌}
+use Rattle.blob_routes.specs.Before.{upload_early}
+use Rattle.blob_http.specs.Questions.{IsFew}
+use Rattle.blob_http.proofs.Firsts.{first_upload, upload_first, upload_bounds}
 use Rattle.std.proofs.lemmas.Result.{IfErr-weaker}
 use Rattle.std.specs.Option.{option_map}
 use Rattle.blob_upload.specs.Uploads.{Uploads}
-use Rattle.blob_http.specs.Questions.{piece}
+use Rattle.http_exchange.specs.HeadPlaces.{piece}
 use Rattle.blob_http.specs.Keeping.{UploadMade, is_whole}
 use Rattle.blob_http.specs.Handling.{IsUploadEntry, is_memory}
 use Rattle.blob_http.proofs.Requesting.{none_read}
 use Rattle.blob_http.proofs.Uploading.{boundary_is, upload_replies, upload_passes, upload_none, fault_so, if_ok_three}
 use Rattle.blob_http.proofs.uploads.reply_to_upload.Goals as goal
 
+pub reply_early-requires-clause-few : goal.reply_early-requires-clause-few
+reply_early-requires-clause-few g c = subst IsFew (sym c.refused.ensures) tt
+
+pub returns-in-Err-clause-replies : goal.returns-in-Err-clause-replies
+returns-in-Err-clause-replies g c x0 flow read =
+    c.reply_early.ensures.replies x0 (g.S.Source.left c.args.source.now) flow c.args.wire.now read
+    (first_upload c.args.wire.now.head c.args.head.now (Err c.in-Err.refusal) c.requires.upload
+    (ap (upload_early c.args.head.now.framing) (sym c.content_type.ensures) ∙ c.in-Err.ensures.err)
+    ∙ ap Err (sym c.refused.ensures))
+
 pub take_parts-came-requires-clause-boundary : goal.take_parts-came-requires-clause-boundary
 take_parts-came-requires-clause-boundary g c =
     boundary_is (option_map (piece c.args.wire.now.head) c.args.head.now.content_type) c.as_slice.result.now
-    (c.in-Ok.ensures ∙ ap Some (sym c.as_slice.ensures))
+    (upload_bounds c.args.wire.now.head c.args.head.now _ c.in-Ok.boundary.now c.as_slice.result.now
+    c.content_type.ensures c.in-Ok.ensures.ok (c.as_slice.ensures ∙ c.in-Ok-copy.ensures))
 
 pub returns-in_default-clause-replies : goal.returns-in_default-clause-replies
 returns-in_default-clause-replies g c x0 flow read =
@@ -37,8 +51,13 @@ returns-clause-replies g c x0 flow read =
     (λ r. IsUploadEntry w (length kept) r.made r.entry)
     (λ r. r.closes ≡ ((closes || not (is_whole came)) || is_memory r.made)) _
     (λ r p q t. upload_replies x0 x1 x2 flow c.args.wire.now c.take_parts-came.new.wire c.args.head.now read
-    c.requires.upload c.as_slice.result.now
-    (c.in-Ok.ensures ∙ ap Some (sym c.as_slice.ensures)) (g.H.Home.tells c.args.home.now) v w kept came
+    (upload_first c.args.wire.now.head c.args.head.now _ c.in-Ok.boundary.now c.as_slice.result.now
+    c.content_type.ensures c.in-Ok.ensures.ok (c.as_slice.ensures ∙ c.in-Ok-copy.ensures)
+    c.requires.upload)
+    c.as_slice.result.now
+    (upload_bounds c.args.wire.now.head c.args.head.now _ c.in-Ok.boundary.now c.as_slice.result.now
+    c.content_type.ensures c.in-Ok.ensures.ok (c.as_slice.ensures ∙ c.in-Ok-copy.ensures))
+    (g.H.Home.tells c.args.home.now) v w kept came
     (subst (λ (k : List (List ℕ × ℕ)). Uploads c.as_slice.result.now x1 x2 c.args.wire.now c.take_parts-came.new.wire
     v w k kept came) c.empty-kept.ensures c.take_parts-came.ensures.uploads)
     r.entry r.made r.closes p q t)
@@ -54,8 +73,13 @@ returns-clause-passes g c x0 flow read =
     let came = c.take_parts-came.result in
     IfErr-weaker c.reply_to_came.result (λ e. UploadMade c.args.head.now.closes kept came (Err e)) _
     (λ e p. upload_passes x0 x1 x2 flow c.args.wire.now c.take_parts-came.new.wire c.args.head.now read
-    c.requires.upload c.as_slice.result.now
-    (c.in-Ok.ensures ∙ ap Some (sym c.as_slice.ensures)) (g.H.Home.tells c.args.home.now) v w kept came
+    (upload_first c.args.wire.now.head c.args.head.now _ c.in-Ok.boundary.now c.as_slice.result.now
+    c.content_type.ensures c.in-Ok.ensures.ok (c.as_slice.ensures ∙ c.in-Ok-copy.ensures)
+    c.requires.upload)
+    c.as_slice.result.now
+    (upload_bounds c.args.wire.now.head c.args.head.now _ c.in-Ok.boundary.now c.as_slice.result.now
+    c.content_type.ensures c.in-Ok.ensures.ok (c.as_slice.ensures ∙ c.in-Ok-copy.ensures))
+    (g.H.Home.tells c.args.home.now) v w kept came
     (subst (λ (k : List (List ℕ × ℕ)). Uploads c.as_slice.result.now x1 x2 c.args.wire.now c.take_parts-came.new.wire
     v w k kept came) c.empty-kept.ensures c.take_parts-came.ensures.uploads)
     c.take_parts-came.ensures.head.1 e p)
@@ -71,8 +95,13 @@ returns-clause-none g c x0 flow read =
     let came = c.take_parts-came.result in
     IfErr-weaker c.reply_to_came.result (λ e. UploadMade c.args.head.now.closes kept came (Err e)) _
     (λ e p. upload_none x0 x1 x2 flow c.args.wire.now c.take_parts-came.new.wire c.args.head.now read
-    c.requires.upload c.as_slice.result.now
-    (c.in-Ok.ensures ∙ ap Some (sym c.as_slice.ensures)) (g.H.Home.tells c.args.home.now) v w kept came
+    (upload_first c.args.wire.now.head c.args.head.now _ c.in-Ok.boundary.now c.as_slice.result.now
+    c.content_type.ensures c.in-Ok.ensures.ok (c.as_slice.ensures ∙ c.in-Ok-copy.ensures)
+    c.requires.upload)
+    c.as_slice.result.now
+    (upload_bounds c.args.wire.now.head c.args.head.now _ c.in-Ok.boundary.now c.as_slice.result.now
+    c.content_type.ensures c.in-Ok.ensures.ok (c.as_slice.ensures ∙ c.in-Ok-copy.ensures))
+    (g.H.Home.tells c.args.home.now) v w kept came
     (subst (λ (k : List (List ℕ × ℕ)). Uploads c.as_slice.result.now x1 x2 c.args.wire.now c.take_parts-came.new.wire
     v w k kept came) c.empty-kept.ensures c.take_parts-came.ensures.uploads)
     c.take_parts-came.ensures.head.1 e p)

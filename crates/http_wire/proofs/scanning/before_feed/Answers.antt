@@ -1,5 +1,5 @@
 use Rattle.std.proofs.Common.{◌≡◌, ℕ, drop, subst, sym}
-use Rattle.http_wire.specs.declared.place.Place.TheVariants.{Line}
+use Rattle.http_wire.specs.declared.line_state.LineState.TheVariants.{Line}
 use Rattle.http_wire.specs.Lines.{further, scanned}
 use Rattle.http_wire.proofs.Within.{line_passed}
 use Rattle.http_wire.proofs.scanning.before_feed.Goals as goal

@@ -1,5 +1,5 @@
 use Rattle.std.proofs.Common.{◌≡◌, ℕ, List, [], length, take, sym, ap, ◌∙◌, subst, Err, Ok, arith}
-use Rattle.http_wire.specs.declared.place.Place.TheVariants.{Start}
+use Rattle.http_wire.specs.declared.line_state.LineState.TheVariants.{Start}
 use Rattle.http_wire.specs.Stream.{stream, Passed}
 use Rattle.http_wire.specs.Wires.{Reply, ReplyEnds}
 use Rattle.http_wire.specs.Heads.{IsHeadText}

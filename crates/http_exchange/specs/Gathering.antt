@@ -1,0 +1,46 @@
+-- What is read of a small body.
+use Rattle.std.specs.Prelude.{◌≡◌, ℕ, ◌<◌, ◌≤◌, List, length, Option, IfSome, Result, Ok, Err}
+use Rattle.http_wire.specs.declared.body.Body.{Body}
+use Rattle.http_wire.specs.declared.body.Body.TheVariants.{Done}
+use Rattle.http_wire.specs.declared.ends.WireEnd.{WireEnd}
+use Rattle.http_wire.specs.declared.ends.WireEnd.TheVariants as ends
+use Rattle.http_wire.specs.Bodies.{Moves, Stops, Breaks}
+use Rattle.http_wire.specs.Wires.{WireView, to_come}
+use Rattle.http_exchange.specs.Before.{most_body}
+use Rattle.http_exchange.specs.declared.gathering.BodyFault.{BodyFault}
+use Rattle.http_exchange.specs.declared.gathering.BodyFault.TheVariants.{Long, Broken, Memory, Cut, ReadFault}
+
+-- how reading a body can end
+abbrev pub CanStop : WireEnd → Type 0
+CanStop ends.Closed = ⊥
+CanStop (ends.Cut n) = Unit {0}
+CanStop (ends.BadHead n) = ⊥
+CanStop (ends.BadLength n) = Unit {0}
+CanStop (ends.TooLong limit) = ⊥
+CanStop ends.ReadFault = Unit {0}
+
+-- why the wire gave no more of a body, with the bytes still to come, those of them that were read ahead, what is to
+-- come of the body, and the place of the request
+abbrev pub StopSays : Option (List ℕ) → List ℕ → Body → ℕ → BodyFault → Type 0
+StopSays x ahead at place Long = ⊥
+StopSays x ahead at place Broken = IfSome x (Breaks at)
+StopSays x ahead at place Memory = ⊥
+StopSays x ahead at place (Cut n) = (n ≡ place) × IfSome x (Stops at)
+StopSays x ahead at place ReadFault = Stops at ahead
+
+-- what was given of a body: all of it, or why that isn't so
+abbrev pub GatherSays : Option (List ℕ) → List ℕ → Body → ℕ → List ℕ → Result (List ℕ) BodyFault → Type 0
+GatherSays x ahead at place given (Ok bytes) = (given ≡ bytes) × (length bytes ≤ most_body) × (at ≡ Done)
+GatherSays x ahead at place given (Err Long) = most_body < length given
+GatherSays x ahead at place given (Err Broken) = StopSays x ahead at place Broken
+GatherSays x ahead at place given (Err Memory) = Unit {0}
+GatherSays x ahead at place given (Err (Cut n)) = (length given ≤ most_body) × StopSays x ahead at place (Cut n)
+GatherSays x ahead at place given (Err ReadFault) = StopSays x ahead at place ReadFault
+
+-- a body is read to its end, or up to what ends the reading
+pub record Gathers (before now : Option (List ℕ)) (old new : WireView) (result : Result (List ℕ) BodyFault) : Type 0 where
+  pub given : List ℕ
+  pub moved : Moves before now old.flow new.flow old.body new.body given
+  pub head : new.head ≡ old.head
+  pub begun : new.begun ≡ old.begun
+  pub says : GatherSays (to_come new now) new.flow.bytes new.body old.begun given result

@@ -1,0 +1,10 @@
+pub mod Asked
+pub mod Before
+pub mod Gathering
+pub mod HeadPlaces
+pub mod Hearing
+pub mod Notes
+pub mod Parameters
+pub mod Replies
+pub mod ReplyHeads
+pub mod Written
