@@ -1,3 +1,3 @@
 pub mod Pages
-mod Racks
+pub mod Racks
 mod Listing

@@ -21,13 +21,13 @@ pub(crate) fn failing(alloc: Global, call: Option<u64>) -> Result<CallList, NoMe
 }
 
 // Whether a blob is put under this ref, which its bytes have.
-pub(crate) fn puts(peer: &mut MemPeer, named: &Ref, bytes: &[u8]) -> bool {
+pub(crate) fn puts<P: Peer>(peer: &mut P, named: &Ref, bytes: &[u8]) -> bool {
     let r = named.like(bytes);
     bytes.len() <= 16_777_216 && r == *named && peer.put(&r, bytes) == Ok(())
 }
 
 // Whether it is put under the ref of this name.
-pub(crate) fn is_put(peer: &mut MemPeer, name: &str, bytes: &[u8]) -> bool {
+pub(crate) fn is_put<P: Peer>(peer: &mut P, name: &str, bytes: &[u8]) -> bool {
     match Ref::read(name.as_bytes()) {
         Some(named) => puts(peer, &named, bytes),
         None => false,
@@ -35,7 +35,7 @@ pub(crate) fn is_put(peer: &mut MemPeer, name: &str, bytes: &[u8]) -> bool {
 }
 
 // Whether a ref has these bytes, or is lacking.
-pub(crate) fn has(peer: &mut MemPeer, name: &str, bytes: Option<&[u8]>) -> bool {
+pub(crate) fn has<P: Peer>(peer: &mut P, name: &str, bytes: Option<&[u8]>) -> bool {
     match Ref::read(name.as_bytes()) {
         Some(r) => match peer.fetch(&r) {
             Ok(Some(found)) => bytes == Some(found.as_slice()),

@@ -6,7 +6,7 @@ use std::alloc::Global;
 use sync_core::{SyncFault, Synced, sync};
 
 // A peer with this many blobs, which are its first calls; one call later on may be to fail.
-fn peer_of(alloc: Global, count: u64, fails: Option<u64>) -> Result<MemPeer, NoMemory> {
+pub(crate) fn peer_of(alloc: Global, count: u64, fails: Option<u64>) -> Result<MemPeer, NoMemory> {
     let mut peer = MemPeer::empty(alloc, failing(alloc, fails)?);
     for i in 0..count {
         let bytes = i.to_be_bytes();
@@ -16,7 +16,7 @@ fn peer_of(alloc: Global, count: u64, fails: Option<u64>) -> Result<MemPeer, NoM
 }
 
 // How many blobs a peer lists.
-fn size(peer: &mut MemPeer) -> usize {
+pub(crate) fn size<P: Peer>(peer: &mut P) -> usize {
     match peer.list(None, 9999) {
         Ok(page) => page.len(),
         Err(_) => 0,
@@ -24,10 +24,10 @@ fn size(peer: &mut MemPeer) -> usize {
 }
 
 // Whether so many are copied and were there already.
-fn copies(
+pub(crate) fn copies<A: Peer, B: Peer>(
     alloc: Global,
-    source: &mut MemPeer,
-    target: &mut MemPeer,
+    source: &mut A,
+    target: &mut B,
     copied: u64,
     already: u64,
 ) -> bool {

@@ -1,0 +1,4 @@
+pub mod Digits
+pub mod Marked
+pub mod Standing
+pub mod Texts
