@@ -58,7 +58,11 @@ pub fn take_rest<S: Source>(
 }
 
 // The same, as much as the buffer has room for.
-fn take_into<S: Source>(ahead: &mut ReadAhead, source: &mut S, buf: &mut [u8]) -> Result<usize, Stop>
+fn take_into<S: Source>(
+    ahead: &mut ReadAhead,
+    source: &mut S,
+    buf: &mut [u8],
+) -> Result<usize, Stop>
     ensures ok { IfOk result
         (λ n. Passed (S.left source.old) (S.left source.new) ahead.old ahead.new (take n buf.new)) }
     ensures bound { IfOk result (λ n. n ≤ length buf.old) }

@@ -56,7 +56,19 @@ pub fn step(place: LineState, byte: u8) -> Option<LineState>
                 Some(LineState::Line)
             }
         }
-        LineState::NextReturn => { if byte == 10 { None } else { Some(LineState::Line) } }
-        LineState::Last => { if byte == 10 { None } else { Some(LineState::Last) } }
+        LineState::NextReturn => {
+            if byte == 10 {
+                None
+            } else {
+                Some(LineState::Line)
+            }
+        }
+        LineState::Last => {
+            if byte == 10 {
+                None
+            } else {
+                Some(LineState::Last)
+            }
+        }
     }
 }

@@ -1,5 +1,5 @@
 //! Reading a body from any place in it.
-ghost use Rattle.std.specs.Prelude.{◌≡◌, ◌<◌, ◌≤◌, [], length, take, Ok, IfOk, IfErr, IfSome, OnOk, OnErr, IsErrOf};
+ghost use Rattle.std.specs.Prelude.{◌≡◌, ◌<◌, ◌≤◌, ◌⊎◌, [], length, take, Ok, IfOk, IfErr, IfSome, OnOk, OnErr, IsErrOf};
 ghost use Rattle.edge_base.specs.Edge.{Rose};
 ghost use Rattle.http_wire.specs.Stream.{stream, Passed};
 ghost use Rattle.http_wire.specs.Bodies.{Moves, Leads, Stops, StopSays, IsPastEnd, IsPastLine, IsReady, given_by};
@@ -26,6 +26,7 @@ pub fn read_body<S: Source>(
     ensures end { IfOk result (λ n. n ≡ 0 → 0 < length buf.old → body.new ≡ Body.Done) }
     ensures err { IfErr result (λ stop. StopSays (stream ahead.new.bytes (S.left source.new)) body.new stop) }
     ensures to_end { body.old ≡ Body.ToEnd → OnErr result (IsErrOf result Stop.Failed) }
+    ensures stays { body.old ≡ Body.ToEnd → (body.new ≡ Body.ToEnd) ⊎ (body.new ≡ Body.Done) }
     ensures ended { body.old ≡ Body.ToEnd → body.new ≡ Body.Done
         → IfSome (stream ahead.new.bytes (S.left source.new)) (λ x. x ≡ []) }
     ensures short { IsErrOf result Stop.Failed → Stops body.new ahead.new.bytes }
@@ -111,7 +112,11 @@ fn behind_line(size: u64) -> Body
 }
 
 // Passes the trailers, where they stand there.
-fn pass_trailers<S: Source>(ahead: &mut ReadAhead, source: &mut S, body: &mut Body) -> Result<(), Stop>
+fn pass_trailers<S: Source>(
+    ahead: &mut ReadAhead,
+    source: &mut S,
+    body: &mut Body,
+) -> Result<(), Stop>
     requires { IsPastLine body.old }
     ensures moved { Moves (S.left source.old) (S.left source.new) ahead.old ahead.new body.old body.new [] }
     ensures past { OnOk result (IsReady body.new) }
@@ -145,6 +150,7 @@ fn give<S: Source>(
     ensures end { IfOk result (λ n. n ≡ 0 → 0 < length buf.old → body.new ≡ Body.Done) }
     ensures err { IfErr result (λ stop. StopSays (stream ahead.new.bytes (S.left source.new)) body.new stop) }
     ensures to_end { body.old ≡ Body.ToEnd → OnErr result (IsErrOf result Stop.Failed) }
+    ensures stays { body.old ≡ Body.ToEnd → (body.new ≡ Body.ToEnd) ⊎ (body.new ≡ Body.Done) }
     ensures ended { body.old ≡ Body.ToEnd → body.new ≡ Body.Done
         → IfSome (stream ahead.new.bytes (S.left source.new)) (λ x. x ≡ []) }
     ensures short { IsErrOf result Stop.Failed → Stops body.new ahead.new.bytes }

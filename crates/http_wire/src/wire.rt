@@ -1,5 +1,5 @@
 //! The reader of a connection.
-ghost use Rattle.std.specs.Prelude.{◌≡◌, ◌<◌, ◌≤◌, [], length, IfOk, IfErr, IfSome, OnOk, OnErr, IsErrOf, slice_range, Ok};
+ghost use Rattle.std.specs.Prelude.{◌≡◌, ◌<◌, ◌≤◌, ◌⊎◌, [], length, IfOk, IfErr, IfSome, OnOk, OnErr, IsErrOf, slice_range, Ok};
 ghost use Rattle.edge_base.specs.Edge.{Rose};
 ghost use Rattle.http_wire.specs.Stream.{Passed};
 ghost use Rattle.http_wire.specs.Heads.{IsHeadText, HeadSays, IsPlaceIn};
@@ -91,6 +91,7 @@ impl Wire {
         ensures err { IfErr result
             (λ end. BodyEnds (to_come self.new (S.left source.new)) self.new.body self.old.begun end) }
         ensures to_end { self.old.body ≡ Body.ToEnd → OnErr result (IsErrOf result WireEnd.ReadFault) }
+        ensures stays { self.old.body ≡ Body.ToEnd → (self.new.body ≡ Body.ToEnd) ⊎ (self.new.body ≡ Body.Done) }
         ensures ended { self.old.body ≡ Body.ToEnd → self.new.body ≡ Body.Done
             → IfSome (to_come self.new (S.left source.new)) (λ left. left ≡ []) }
         ensures short { IsErrOf result WireEnd.ReadFault → Stops self.new.body self.new.flow.bytes }
