@@ -29,6 +29,7 @@ OLDER_PROOFS = {
 # The crates of the wire and the server know a home alone, whatever it searches by.
 INDEX = "claim_index"
 ON_NO_INDEX = ("edge_listen", "http_wire", "http_exchange", "multipart_read", "blob_routes", "blob_upload", "blob_http", "blob_server")
+ON_NO_INDEX += ("peer_requests", "peer_http")
 
 KINDS = ("proof", "tests", "edits", "programs")
 TEST = re.compile(r"#\s*\[[^]]*\btest\b")

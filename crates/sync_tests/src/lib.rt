@@ -1,4 +1,4 @@
-//! Tests of peers in memory and over stores, and of copying between them. What is tested here stands in the crates below.
+//! Tests of peers in memory, over stores and over HTTP, and of copying between them. What is tested here stands in the crates below.
 #![tactic(auto)]
 
 #[cfg(test)]
@@ -7,3 +7,5 @@ mod peers;
 mod stores;
 #[cfg(test)]
 mod syncs;
+#[cfg(test)]
+mod wire_peers;

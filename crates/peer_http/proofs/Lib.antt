@@ -1,0 +1,4 @@
+pub mod Bodies
+pub mod Pages
+pub mod Replied
+pub mod Asked

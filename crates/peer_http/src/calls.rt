@@ -1,0 +1,117 @@
+//! The calls of a peer over HTTP, on its connection.
+ghost use Rattle.std.specs.Prelude.{◌≡◌, ◌≤◌, None, length, IfOk, IfSome, option_copied};
+ghost use Rattle.blobref.specs.Blobref.{IsOwnRef};
+ghost use Rattle.edge_base.specs.Shelf.{max_blob};
+ghost use Rattle.peer_base.specs.Blobs.{IsPage};
+ghost use Rattle.peer_base.specs.Causes.{ListCause, FetchCause};
+ghost use Rattle.peer_requests.specs.Requests.{list_request, fetch_request, IsUpload};
+ghost use Rattle.peer_http.specs.Answers.{list_answer, fetch_answer, put_answer};
+ghost use Rattle.peer_http.specs.Calls.{IsCall, peer_fault};
+ghost use Rattle.peer_http.specs.Links.{both};
+
+use crate::answers::{fetch_answer, list_answer, put_answer};
+use crate::gathering::ReplyFault;
+use crate::link::Link;
+use blobref::{Listing, NoMemory, Octets, Ref};
+use edge_base::{Sink, Source};
+use peer_base::PeerFault;
+use peer_requests::{fetch_request, list_request, upload_request};
+
+/// The most bytes of the body of a reply to `fetch`.
+const MOST_BLOB: usize = 16_777_216;
+
+/// The most bytes of the body of another reply.
+const MOST_TEXT: usize = 1_048_576;
+
+/// Asks for a page. The buffer is for the request.
+pub(crate) fn list<S: Source, K: Sink>(
+    link: &mut Link<S, K>,
+    request: &mut Vec<u8>,
+    after: Option<&Ref>,
+    limit: usize,
+) -> Result<Listing, PeerFault>
+    ensures is { IsCall 1048576 (S.left link.old.source) (S.left link.new.source) (K.written link.old.sink)
+        (K.written link.new.sink) link.old.wire link.new.wire
+        (λ request. request ≡ list_request (option_copied after.entry) limit)
+        (list_answer (option_copied after.entry) limit) result }
+    ensures page { IfOk result (IsPage (option_copied after.entry) limit) }
+    ensures cause { ListCause None (both (S.faults link.old.source) (K.faults link.old.sink))
+        (both (S.faults link.new.source) (K.faults link.new.sink)) result }
+    ensures later { both (S.faults link.old.source) (K.faults link.old.sink)
+        ≤ both (S.faults link.new.source) (K.faults link.new.sink) }
+{
+    match list_request(request, after, limit) {
+        Ok(()) => {}
+        Err(NoMemory) => return Err(PeerFault::NoMemory),
+    }
+    let reply = match link.ask(request.as_slice(), MOST_TEXT) {
+        Ok(reply) => reply,
+        Err(fault) => return Err(peer_fault(fault)),
+    };
+    list_answer(link.alloc(), after, limit, &reply)
+}
+
+/// Asks for a blob. The buffer is for the request.
+pub(crate) fn fetch<S: Source, K: Sink>(
+    link: &mut Link<S, K>,
+    request: &mut Vec<u8>,
+    r: &Ref,
+) -> Result<Option<Octets>, PeerFault>
+    ensures is { IsCall 16777216 (S.left link.old.source) (S.left link.new.source) (K.written link.old.sink)
+        (K.written link.new.sink) link.old.wire link.new.wire (λ request. request ≡ fetch_request r.now)
+        (fetch_answer r.now) result }
+    ensures named { IfOk result (λ found. IfSome found (λ bytes. IsOwnRef r.now bytes)) }
+    ensures small { IfOk result (λ found. IfSome found (λ bytes. length bytes ≤ max_blob)) }
+    ensures cause { FetchCause None (both (S.faults link.old.source) (K.faults link.old.sink))
+        (both (S.faults link.new.source) (K.faults link.new.sink)) r.now result }
+    ensures later { both (S.faults link.old.source) (K.faults link.old.sink)
+        ≤ both (S.faults link.new.source) (K.faults link.new.sink) }
+{
+    match fetch_request(request, r) {
+        Ok(()) => {}
+        Err(NoMemory) => return Err(PeerFault::NoMemory),
+    }
+    let reply = match link.ask(request.as_slice(), MOST_BLOB) {
+        Ok(reply) => reply,
+        Err(fault) => return Err(peer_fault(fault)),
+    };
+    fetch_answer(r, reply)
+}
+
+/// Gives a blob of at most 16,777,216 bytes. The buffer is for the request.
+pub(crate) fn put<S: Source, K: Sink>(
+    link: &mut Link<S, K>,
+    request: &mut Vec<u8>,
+    r: &Ref,
+    bytes: &[u8],
+) -> Result<(), PeerFault>
+    requires { length bytes.now ≤ max_blob }
+    ensures is { IsCall 1048576 (S.left link.old.source) (S.left link.new.source) (K.written link.old.sink)
+        (K.written link.new.sink) link.old.wire link.new.wire (λ request. IsUpload r.now bytes.now request)
+        (put_answer r.now (length bytes.now)) result }
+    ensures cause { ListCause None (both (S.faults link.old.source) (K.faults link.old.sink))
+        (both (S.faults link.new.source) (K.faults link.new.sink)) result }
+    ensures later { both (S.faults link.old.source) (K.faults link.old.sink)
+        ≤ both (S.faults link.new.source) (K.faults link.new.sink) }
+{
+    match upload_request(link.alloc(), request, r, bytes) {
+        Ok(()) => {}
+        Err(NoMemory) => return Err(PeerFault::NoMemory),
+    }
+    let reply = match link.ask(request.as_slice(), MOST_TEXT) {
+        Ok(reply) => reply,
+        Err(fault) => return Err(peer_fault(fault)),
+    };
+    put_answer(link.alloc(), r, bytes.len() as u64, &reply)
+}
+
+// As the fault of a peer.
+fn peer_fault(fault: ReplyFault) -> PeerFault
+    ensures { result ≡ peer_fault fault }
+{
+    match fault {
+        ReplyFault::Failed => PeerFault::Failed,
+        ReplyFault::Bad => PeerFault::BadReply,
+        ReplyFault::NoMemory => PeerFault::NoMemory,
+    }
+}
