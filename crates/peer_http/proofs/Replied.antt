@@ -1,21 +1,20 @@
 -- What is known of a reply that was read.
-use Rattle.std.proofs.Common.{◌≡◌, ◌≢◌, ℕ, ◌≤◌, ◌⊎◌, inl, inr, List, [], ◌++◌, length, Option, Some, None}
-use Rattle.std.proofs.Common.{Result, Ok, Err, refl, sym, ap, subst, ◌∙◌, arith}
+use Rattle.std.proofs.Common.{◌≡◌, ℕ, inl, inr, List, [], ◌++◌, Option}
+use Rattle.std.proofs.Common.{Ok, Err, refl, sym, subst, ◌∙◌}
 use Rattle.std.proofs.lemmas.List.{append-nil}
 use Rattle.http_wire.specs.declared.body.Body.{Body}
-use Rattle.http_wire.specs.declared.body.Body.TheVariants as body
 use Rattle.http_wire.specs.declared.ends.WireEnd.{WireEnd}
 use Rattle.http_wire.specs.declared.ends.WireEnd.TheVariants as ends
 use Rattle.http_wire.specs.declared.head.ReplyHead.{ReplyHead}
-use Rattle.http_wire.specs.Stream.{Flow, Passed, AtEnd}
+use Rattle.http_wire.specs.Stream.{Passed}
 use Rattle.http_wire.specs.Heads.{IsHeadText}
 use Rattle.http_wire.specs.ReplyHeads.{ReplySays}
-use Rattle.http_wire.specs.Bodies.{RestOf, Leads, Moves}
+use Rattle.http_wire.specs.Bodies.{RestOf, Leads}
 use Rattle.http_wire.specs.Wires.{WireView, to_come, body_of, ReplyEnds}
 use Rattle.http_wire.proofs.Passing.{Passed-chain}
 use Rattle.peer_http.specs.declared.gathering.ReplyFault.{ReplyFault}
 use Rattle.peer_http.specs.declared.gathering.ReplyFault.TheVariants.{Failed, Bad, NoMemory}
-use Rattle.peer_http.specs.Replies.{fault_of, IsReply, IsCutShort, Gathers, Reads}
+use Rattle.peer_http.specs.Replies.{fault_of, IsCutShort, Gathers, Reads}
 
 -- no head of a reply was read
 pub no_head : (most : ℕ) (before now : Option (List ℕ)) (old new : WireView) (end : WireEnd) (why : ReplyFault) → why ≡ fault_of end

@@ -1,5 +1,5 @@
 -- The calls of a peer over HTTP.
-use Rattle.std.specs.Prelude.{◌≡◌, ℕ, List, Option, None, Some, Result, Ok, Err}
+use Rattle.std.specs.Prelude.{◌≡◌, ℕ, List, Option, None, Some, Result, Err}
 use Rattle.edge_base.specs.Edge.{Took, TookFront}
 use Rattle.http_wire.specs.Wires.{WireView}
 use Rattle.peer_base.specs.declared.peer.PeerFault.{PeerFault}

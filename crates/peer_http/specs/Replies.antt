@@ -5,7 +5,7 @@ use Rattle.http_wire.specs.declared.body.Body.TheVariants as body
 use Rattle.http_wire.specs.declared.ends.WireEnd.{WireEnd}
 use Rattle.http_wire.specs.declared.ends.WireEnd.TheVariants as ends
 use Rattle.http_wire.specs.declared.head.ReplyHead.{ReplyHead}
-use Rattle.http_wire.specs.Stream.{Flow, Passed, AtEnd}
+use Rattle.http_wire.specs.Stream.{Passed, AtEnd}
 use Rattle.http_wire.specs.Heads.{IsHeadText}
 use Rattle.http_wire.specs.ReplyHeads.{ReplySays}
 use Rattle.http_wire.specs.Bodies.{RestOf, Leads, Moves}

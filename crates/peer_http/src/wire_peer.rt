@@ -15,8 +15,8 @@ use std::alloc::Global;
 use std::marker::Model;
 
 /// A peer that is asked over HTTP, on one connection (`docs/sync.md`). It keeps one buffer for requests, which is as
-/// long as the longest one so far, and some 235 KiB for reading. A contract sees the reader of the connection, the source
-/// that this reads and the sink that requests go to.
+/// long as the longest one so far, and some 235 KiB for reading. A contract sees the reader of the connection, the
+/// source that this reads and the sink that requests go to.
 #[derive(Drop)]
 pub struct WirePeer<S: Source, K: Sink> {
     link: Link<S, K>,
@@ -70,7 +70,8 @@ impl<S: Source, K: Sink> Peer for WirePeer<S, K> {
     ghost puts = { λ a blobs b. Unit {0} };
 
     ghost lists = { λ a after limit answer b. IsCall 1048576 (S.left a.source) (S.left b.source) (K.written a.sink)
-        (K.written b.sink) a.wire b.wire (λ request. request ≡ list_request after limit) (list_answer after limit) answer };
+        (K.written b.sink) a.wire b.wire (λ request. request ≡ list_request after limit)
+        (list_answer after limit) answer };
 
     ghost fetches = { λ a r answer b. IsCall 16777216 (S.left a.source) (S.left b.source) (K.written a.sink)
         (K.written b.sink) a.wire b.wire (λ request. request ≡ fetch_request r) (fetch_answer r) answer };

@@ -1,8 +1,6 @@
 //! The answer to a query.
 ghost use Rattle.std.specs.Prelude.{◌≡◌, ◌≤◌, ◌+◌, ◌*◌, ◌++◌, ◌∷◌, [], ℕ, List, Some, true, IfOk, OnOk, filter, length};
 ghost use Rattle.std.specs.Prelude.{not, take};
-ghost use Rattle.std.specs.List.Sorted.{IsStrictlySortedBy};
-ghost use Rattle.blobref.specs.Blobref.{ref_cmp};
 ghost use Rattle.claim_model.specs.Deleted.{is_deleted};
 ghost use Rattle.claim_model.specs.Claims.{holders};
 ghost use Rattle.search_query.specs.View.{view};
@@ -92,7 +90,6 @@ fn found<K: Look, L: Ledger>(
     steps: &mut Steps<L>,
 ) -> Result<RefList, NoMemory>
     ensures all { IfOk result (λ refs. refs ≡ up_to stop (found (K.facts look.now) (K.accepts look.now) query.now)) }
-    ensures ascending { IfOk result (λ refs. IsStrictlySortedBy ref_cmp refs) }
     ensures ticks { (name value : List ℕ) → AsksForValue query.now name value → K.quick look.now
         → steps.new ≤ steps.old + 8 * (1 + length (holders (K.facts look.now) (K.accepts look.now) name value)) }
 {

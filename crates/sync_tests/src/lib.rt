@@ -1,4 +1,5 @@
-//! Tests of peers in memory, over stores and over HTTP, and of copying between them. What is tested here stands in the crates below.
+//! Tests of peers in memory, over stores and over HTTP, and of copying between them. What is tested here stands in the
+//! crates below.
 #![tactic(auto)]
 
 #[cfg(test)]

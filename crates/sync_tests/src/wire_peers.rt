@@ -34,7 +34,7 @@ fn peer(alloc: Global, replies: &[&str]) -> Result<WirePeer<MemSource, MemSink>,
         bytes.extend_from_slice(reply.as_bytes())?;
     }
     let source = MemSource::of(Octets::from_vec(bytes), CallList::empty(alloc));
-    let sink = MemSink::empty(CallList::empty(alloc));
+    let sink = MemSink::empty(alloc, CallList::empty(alloc));
     WirePeer::make(alloc, source, sink)
 }
 

@@ -1,8 +1,8 @@
-use Rattle.std.proofs.Common.{◌≡◌, ℕ, Option, List, length, ap, subst, sym, ◌∙◌, Err, option_copied}
-use Rattle.peer_requests.specs.Requests.{list_request, fetch_request, IsUpload}
-use Rattle.peer_http.specs.Answers.{list_answer, fetch_answer, put_answer}
+use Rattle.std.proofs.Common.{◌≡◌, ℕ, Option, List, ap, ◌∙◌, Err}
+use Rattle.peer_requests.specs.Requests.{fetch_request}
+use Rattle.peer_http.specs.Answers.{fetch_answer}
 use Rattle.peer_http.specs.Links.{both}
-use Rattle.peer_http.proofs.Asked.{called, uncalled_by, same_answer, no_reply, no_blob}
+use Rattle.peer_http.proofs.Asked.{called, uncalled_by, same_answer, no_blob}
 use Rattle.peer_http.proofs.calls.fetch.Goals as goal
 
 pub returns-in-Err-ask-clause-is : goal.returns-in-Err-ask-clause-is

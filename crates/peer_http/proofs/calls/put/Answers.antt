@@ -1,8 +1,8 @@
-use Rattle.std.proofs.Common.{◌≡◌, ℕ, Option, List, length, ap, subst, sym, ◌∙◌, Err, option_copied}
-use Rattle.peer_requests.specs.Requests.{list_request, fetch_request, IsUpload}
-use Rattle.peer_http.specs.Answers.{list_answer, fetch_answer, put_answer}
+use Rattle.std.proofs.Common.{ℕ, List, length, ap, subst, sym, Err}
+use Rattle.peer_requests.specs.Requests.{IsUpload}
+use Rattle.peer_http.specs.Answers.{put_answer}
 use Rattle.peer_http.specs.Links.{both}
-use Rattle.peer_http.proofs.Asked.{called, uncalled_by, same_answer, no_reply, no_blob}
+use Rattle.peer_http.proofs.Asked.{called, uncalled_by, no_reply}
 use Rattle.peer_http.proofs.calls.put.Goals as goal
 
 pub returns-in-Err-ask-clause-is : goal.returns-in-Err-ask-clause-is

@@ -1,6 +1,6 @@
-use Rattle.std.proofs.Common.{◌≡◌, ℕ, List, length, subst, option_copied}
-use Rattle.peer_requests.specs.Requests.{list_request, fetch_request, IsUpload}
-use Rattle.peer_http.specs.Answers.{list_answer, fetch_answer, put_answer}
+use Rattle.std.proofs.Common.{ℕ, List, length, subst}
+use Rattle.peer_requests.specs.Requests.{IsUpload}
+use Rattle.peer_http.specs.Answers.{put_answer}
 use Rattle.peer_http.specs.Calls.{IsCall}
 use Rattle.peer_http.specs.Links.{LinkView}
 use Rattle.peer_http.proofs.wire_peer.WirePeerPeer.put.Goals as goal
