@@ -1,4 +1,4 @@
-//! Tests of names and small values, of sources and sinks, of packs, disks and stores, and of generated stores. What is
+//! Tests of names, digests and small values, of sources and sinks, of packs, disks and stores, and of generated stores. What is
 //! tested here stands in the crates below.
 #![tactic(auto)]
 
@@ -10,6 +10,8 @@ mod edges;
 mod generated;
 #[cfg(test)]
 mod headers;
+#[cfg(test)]
+mod lanes;
 #[cfg(test)]
 mod names;
 #[cfg(test)]

@@ -1,0 +1,76 @@
+//! A message, block by block, with its padding (FIPS 180-4, 5.1.1 and 5.2.1).
+ghost use Rattle.std.specs.Prelude.{◌≡◌, ℕ, [], ◌∷◌, ◌+◌, ◌*◌, ◌<◌, ◌≤◌, length, slice_index_or};
+ghost use Rattle.sha2.specs.Sha256.{word_at};
+ghost use Rattle.sha_lanes.specs.Message.{IsTail, block_count, block_of};
+
+use std::simd::u32x4;
+
+/// How many blocks a message of so many bytes has with its padding.
+pub(crate) fn block_count(len: usize) -> usize
+    ensures { result ≡ block_count len }
+{
+    let whole = len / 64;
+    if len % 64 < 56 { whole + 1 } else { whole + 2 }
+}
+
+/// The blocks that a message has after its whole ones, with the padding in them.
+pub(crate) fn tail_of(message: &[u8]) -> [u8; 128]
+    ensures { IsTail result message.now }
+{
+    let whole = message.len() / 64;
+    let rest = &message[64 * whole..];
+    let mut tail = [0u8; 128];
+    tail[..rest.len()].copy_from_slice(rest);
+    tail[rest.len()] = 0x80;
+    let end = 64 * (block_count(message.len()) - whole);
+    let bits = (message.len() as u64).wrapping_mul(8);
+    tail[end - 8..end].copy_from_slice(&bits.to_be_bytes());
+    tail
+}
+
+/// Block `i` of a message, and any block past its last one.
+pub(crate) fn block_at<'a>(message: &'a [u8], tail: &'a [u8; 128], i: usize) -> &'a [u8]
+    ensures long { length result.now ≡ 64 }
+    ensures block { IsTail tail.now message.now → i < block_count (length message.now)
+        → result.now ≡ block_of message.now i }
+{
+    let whole = message.len() / 64;
+    if i < whole {
+        &message[64 * i..64 * i + 64]
+    } else if i == whole {
+        &tail[..64]
+    } else {
+        &tail[64..]
+    }
+}
+
+// The word at a place of a block.
+#[inline(always)]
+fn word_at(block: &[u8], at: usize) -> u32
+    requires { at + 4 ≤ length block.now }
+    ensures { result ≡ word_at block.now at }
+{
+    u32::from_be_bytes([block[at], block[at + 1], block[at + 2], block[at + 3]])
+}
+
+/// The words of four blocks, those of the first in lane 0.
+pub(crate) fn words_of(a: &[u8], b: &[u8], c: &[u8], d: &[u8]) -> [u32x4; 16]
+    requires a { length a.now ≡ 64 }
+    requires b { length b.now ≡ 64 }
+    requires c { length c.now ≡ 64 }
+    requires d { length d.now ≡ 64 }
+    ensures { (k : ℕ) → k < 16 → slice_index_or result k []
+        ≡ word_at a.now (4 * k) ∷ word_at b.now (4 * k) ∷ word_at c.now (4 * k) ∷ word_at d.now (4 * k) ∷ [] }
+{
+    let mut words = [u32x4::splat(0); 16];
+    for k in 0..16 {
+        let at = 4 * k;
+        words[k] = u32x4::from_array([
+            word_at(a, at),
+            word_at(b, at),
+            word_at(c, at),
+            word_at(d, at),
+        ]);
+    }
+    words
+}
