@@ -10,9 +10,10 @@ Ends with status 1 where an answer is wrong.
 import pathlib
 import sys
 
-from compare import TIMES, run
+# Before the tests' modules, whose folder it puts in front of this one.
 from make_pack import reference
-from writing import FIRST_MOMENT, claim, key_blob, keyring_line, pack, permanode
+from inserting import folder_of, seconds
+from writing import FIRST_MOMENT, claim, key_blob, permanode
 
 ATTRIBUTES = 10
 
@@ -44,25 +45,6 @@ def blobs_of(count, change_of, node_of):
     return [key_blob(), *nodes, *claims]
 
 
-def folder_of(folder, name, blobs):
-    path = folder / name
-    path.mkdir()
-    (path / "pack").write_bytes(pack(*blobs))
-    return path, len(blobs)
-
-
-def seconds(lab, packs, asked):
-    """The best time of each of the packs."""
-    best = [None] * len(packs)
-    for _ in range(TIMES):
-        for number, (path, count) in enumerate(packs):
-            took, _, status, out = run([lab, "insert", keyring_line().decode(), "tag", asked], path)
-            if (status, out) != (0, f"{count} 1\n".encode()):
-                sys.exit(f"{path.name}: the answer is wrong: {out}")
-            best[number] = took if best[number] is None else min(best[number], took)
-    return best
-
-
 def main(lab, folder):
     folder = pathlib.Path(folder)
     print("Claims in order on one permanode; times against those of as many additions, each on its own permanode")
@@ -72,7 +54,7 @@ def main(lab, folder):
             folder_of(folder, f"one-{place}", blobs_of(count, change_of, lambda number: 0)),
             folder_of(folder, f"each-{place}", blobs_of(count, adds, lambda number: number)),
         ]
-        took, other = seconds(lab, packs, asked)
+        took, other = seconds(lab, "insert", packs, asked, 1)
         print(f"{shape:40} {took / other:8.2f}  {took:8.2f} s {other:8.2f} s", flush=True)
 
 

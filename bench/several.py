@@ -10,9 +10,10 @@ reading of the blobs in it. Ends with status 1 where an answer is wrong.
 import pathlib
 import sys
 
+# Before the tests' modules, whose folder it puts in front of this one.
 from make_pack import reference
-from compare import TIMES, run
-from writing import FIRST_MOMENT, claim, key_blob, keyring_line, multi, pack, permanode
+from inserting import folder_of, seconds
+from writing import FIRST_MOMENT, claim, key_blob, multi, permanode
 
 CLAIMS, CHANGES, VALUES = 20, 1_000, 50
 WAYS = {"insert": "inserted in order", "fill": "filled at once"}
@@ -39,25 +40,6 @@ def blobs_of(node_of):
     return [*front, *several], [*front, *plain], len({change[1] for change in changes.values() if change[3] == ASKED})
 
 
-def folder_of(folder, name, blobs):
-    path = folder / name
-    path.mkdir()
-    (path / "pack").write_bytes(pack(*blobs))
-    return path, len(blobs)
-
-
-def seconds(lab, way, packs, holders):
-    """The best time of each of the packs."""
-    best = [None] * len(packs)
-    for _ in range(TIMES):
-        for number, (path, count) in enumerate(packs):
-            took, _, status, out = run([lab, way, keyring_line().decode(), "tag", ASKED], path)
-            if (status, out) != (0, f"{count} {holders}\n".encode()):
-                sys.exit(f"{path.name}, {way}: the answer is wrong: {out}")
-            best[number] = took if best[number] is None else min(best[number], took)
-    return best
-
-
 def main(lab, folder):
     folder = pathlib.Path(folder)
     print(f"{CLAIMS} claims of {CHANGES:,} changes; times against those of {CLAIMS * CHANGES:,} claims of one change")
@@ -65,7 +47,7 @@ def main(lab, folder):
         several, plain, holders = blobs_of(node_of)
         packs = [folder_of(folder, f"several-{place}", several), folder_of(folder, f"plain-{place}", plain)]
         for way, what in WAYS.items():
-            took, other = seconds(lab, way, packs, holders)
+            took, other = seconds(lab, way, packs, ASKED, holders)
             print(f"{shape + ', ' + what:40} {took / other:8.2f}  {took:8.2f} s {other:8.2f} s", flush=True)
 
 
