@@ -27,10 +27,10 @@ use Rattle.index_rows.specs.Deletes.{Deletes, row_deleted}
 use Rattle.index_rows.specs.States.{States, says_genuine}
 use Rattle.index_rows.specs.Waiting.{Waiters}
 use Rattle.index_rows.specs.Values.{IsListed, row_values, row_last_change}
-use Rattle.index_rows.specs.Holders.{Holders, says_permanode}
+use Rattle.index_rows.specs.Holders.{Holders, says_permanode, rows_holding}
 use Rattle.index_rows.proofs.DeletionEnds.{all_filter}
 use Rattle.index_meaning.specs.Meaning.{IsAtRest}
-use Rattle.index_meaning.specs.Laws.{TellStates, rows_holding}
+use Rattle.index_meaning.specs.Laws.{TellStates}
 use Rattle.index_meaning.proofs.Deletions.{rows_tell_deletion}
 use Rattle.index_meaning.proofs.Holding.{rows_tell_holders}
 use Rattle.index_meaning.proofs.Listing.{rows_are_listed}

@@ -12,10 +12,9 @@ use Rattle.claim_model.specs.Claims.{member_attribute}
 use Rattle.claim_model.specs.Trees.{is_file, tree_size}
 use Rattle.index_rows.specs.Changes.{Changes}
 use Rattle.index_rows.specs.Deletes.{Deletes, row_deleted}
-use Rattle.index_rows.specs.Holders.{Holders, says_permanode}
+use Rattle.index_rows.specs.Holders.{Holders, says_permanode, rows_holding}
 use Rattle.index_rows.specs.States.{States}
 use Rattle.index_rows.specs.Values.{row_values, row_last_change}
-use Rattle.index_meaning.specs.Laws.{rows_holding}
 use Rattle.claim_index.specs.Judging.{says_sound}
 
 -- whether the row of r says that it is ready

@@ -2,10 +2,9 @@
 ghost use Rattle.std.specs.Prelude.{◌≡◌, ◌++◌, ◌∷◌, [], true, Some, IfOk, OnOk, filter, option_copied, ◌≤◌, ◌+◌, length, None};
 ghost use Rattle.std.specs.FinMap.{get, keys};
 ghost use Rattle.std.specs.Str.{IsUtf8};
-ghost use Rattle.index_meaning.specs.Laws.{rows_holding};
 ghost use Rattle.index_rows.specs.Counted.{IsCounted};
 ghost use Rattle.index_rows.specs.Deletes.{Ringless, row_deleted};
-ghost use Rattle.index_rows.specs.Holders.{says_permanode, holders_after};
+ghost use Rattle.index_rows.specs.Holders.{says_permanode};
 ghost use Rattle.index_rows.specs.Values.{IsListed};
 ghost use Rattle.claim_index.specs.Told.{told_after, told_change, told_fact, told_holds, told_parents, told_size, told_values};
 
@@ -17,7 +16,7 @@ use edge_base::Steps;
 use index_look::claim::{is_permanode, is_permanode_at};
 use index_look::tree::{is_file, own_size};
 use index_look::values::is_among;
-use index_rows::{HolderRows, Rows, deleted_at};
+use index_rows::{Rows, deleted_at};
 use schema_date::{Date, When};
 use schema_fact::Fact;
 use std::alloc::Global;
@@ -138,26 +137,6 @@ pub(crate) fn file_size<L: Ledger>(rows: &Rows, r: &Ref, steps: &mut Steps<L>) -
     }
 }
 
-// The permanodes that have rows under the value of the attribute, ascending. A walk over these rows.
-pub(crate) fn holders<L: Ledger>(
-    alloc: Global,
-    rows: &HolderRows,
-    attr: &str,
-    value: &str,
-    steps: &mut Steps<L>,
-) -> Result<RefList, NoMemory>
-    ensures held { IfOk result (λ refs. refs ≡ rows_holding rows.now attr.now value.now) }
-    ensures ticks { steps.new ≤ steps.old + 1 + length (holders_after rows.now attr.now value.now None) }
-{
-    let mut found = RefList::empty(alloc);
-    let mut place = None;
-    'walk: while let Some(p) = rows.next_of(alloc, attr, value, place.as_ref(), steps)? {
-        found.push(p)?;
-        place = Some(p);
-    }
-    Ok(found)
-}
-
 // The permanodes that have the child among their members at that time, ascending. For all dates it is a walk over the
 // rows of these, and for another over all facts and the changes of each permanode.
 pub(crate) fn parents<L: Ledger>(
@@ -175,7 +154,9 @@ pub(crate) fn parents<L: Ledger>(
     let text = child.spell();
     let text = text.as_slice();
     match when {
-        When::Always => holders(alloc, &rows.holders, "camliMember", as_text(text), steps),
+        When::Always => rows
+            .holders
+            .all_of(alloc, "camliMember", as_text(text), steps),
         When::At(_) => holding(alloc, rows, "camliMember", text, when, steps),
     }
 }

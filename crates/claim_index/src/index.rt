@@ -285,7 +285,7 @@ impl<V: Verifier> Look for Index<V> {
         if self.stale {
             plain_answers::holders(self.alloc, &self.rows.facts, &self.keys, attr, value, steps)
         } else {
-            answers::holders(self.alloc, &self.rows.holders, attr, value, steps)
+            self.rows.holders.all_of(self.alloc, attr, value, steps)
         }
     }
 

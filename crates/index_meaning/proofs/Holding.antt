@@ -24,12 +24,12 @@ use Rattle.index_rows.specs.Deletes.{Deletes, row_deleted}
 use Rattle.index_rows.specs.States.{States}
 use Rattle.index_rows.specs.Waiting.{Waiters}
 use Rattle.index_rows.specs.Values.{row_values}
-use Rattle.index_rows.specs.Holders.{Holders, HolderKey, holder_cmp, is_of, says_permanode, row_holds}
+use Rattle.index_rows.specs.Holders.{Holders, HolderKey, holder_cmp, is_of, rows_holding, says_permanode, row_holds}
 use Rattle.index_rows.proofs.Orders.{ref_total, ref_same}
 use Rattle.index_rows.proofs.Groups.{filter-filter}
 use Rattle.index_rows.proofs.Deleting.{any-filter}
 use Rattle.index_meaning.specs.Meaning.{IsDeletesOf, IsChangesOf, IsJudged, IsAtRest}
-use Rattle.index_meaning.specs.Laws.{rows_holding, RowsTellHolders, RowIsOfHolder}
+use Rattle.index_meaning.specs.Laws.{RowsTellHolders, RowIsOfHolder}
 use Rattle.index_meaning.proofs.Said.{and_true, and_false, genuine_said}
 use Rattle.index_meaning.proofs.Deletions.{deletion}
 use Rattle.index_meaning.proofs.Values.{rows_tell_values}
@@ -187,16 +187,16 @@ module _ (facts : Facts) (accepts : Accepts) (name value : List ℕ) where
   told_rows es = parts.told (is_of name value) (λ k. k.2) (λ m. Some tt) es
 
   rows_firsts : (es : List Row) → map (λ (c : List ℕ × Only). c.0) (told_rows es)
-      ≡ map (λ (e : Row). e.0.2) (filter (λ (e : Row). is_of name value e.0 && true) es)
+      ≡ map (λ (e : Row). e.0.2) (filter (λ (e : Row). is_of name value e.0) es)
   rows_firsts [] = refl
   rows_firsts (e ∷ es) = by (is_of name value e.0) (rows_firsts es)
     where
       by : (b : Bool) → map (λ (c : List ℕ × Only). c.0) (told_rows es)
-          ≡ map (λ (f : Row). f.0.2) (filter (λ (f : Row). is_of name value f.0 && true) es)
+          ≡ map (λ (f : Row). f.0.2) (filter (λ (f : Row). is_of name value f.0) es)
           → map (λ (c : List ℕ × Only). c.0) (cons_option
           (cond b (option_map {U = List ℕ × Only} (λ y. (e.0.2, y)) (Some tt)) None) (told_rows es))
-          ≡ map (λ (f : Row). f.0.2) (cond (b && true) (e ∷ filter (λ (f : Row). is_of name value f.0 && true) es)
-          (filter (λ (f : Row). is_of name value f.0 && true) es))
+          ≡ map (λ (f : Row). f.0.2) (cond b (e ∷ filter (λ (f : Row). is_of name value f.0) es)
+          (filter (λ (f : Row). is_of name value f.0) es))
       by true h = ap (λ (rs : List (List ℕ)). e.0.2 ∷ rs) h
       by false h = h
 

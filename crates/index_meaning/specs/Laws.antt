@@ -19,7 +19,7 @@ use Rattle.index_rows.specs.States.{States, says_genuine}
 use Rattle.index_rows.specs.Waiting.{Waiters}
 use Rattle.index_rows.specs.Counted.{is_gone}
 use Rattle.index_rows.specs.Values.{IsListed, row_values, row_last_change}
-use Rattle.index_rows.specs.Holders.{Holders, holders_after, says_permanode, row_holds}
+use Rattle.index_rows.specs.Holders.{Holders, rows_holding, says_permanode, row_holds}
 use Rattle.index_meaning.specs.Meaning.{IsDeletesOf, IsChangesOf, IsJudged, IsAtRest}
 
 -- the rows of `state` say what is known of each ref, and count whether it is deleted
@@ -57,10 +57,6 @@ RowsTellLastChange = (facts : Facts) (accepts : Accepts) (deletes : Deletes) (ch
     → IsDeletesOf facts accepts deletes → IsChangesOf facts accepts [] changes
     → (when : When) (p : List ℕ) → is_genuine_permanode facts accepts p ≡ true
     → row_last_change facts deletes changes when p ≡ last_change facts accepts when p
-
--- the permanodes whose rows stand under the value of the attribute, in their order
-abbrev pub rows_holding : Holders → List ℕ → List ℕ → List (List ℕ)
-rows_holding rows name value = map (λ e. e.0.2) (holders_after rows name value None)
 
 -- the rows of a value of an attribute are those of its holders
 abbrev pub RowsTellHolders : Type 0

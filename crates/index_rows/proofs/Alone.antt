@@ -12,7 +12,7 @@ use Rattle.std.specs.BTreeMap.Range.{range_contains, is_from_start}
 use Rattle.std.specs.FinMap.{insert, remove, entries, from_entries, IsAntisymmetric}
 use Rattle.index_rows.specs.Changes.{keys_alone}
 use Rattle.index_rows.proofs.RefMaps.{one_given, one_taken}
-use Rattle.index_rows.proofs.Groups.{from_range, from_range_none}
+use Rattle.index_rows.proofs.Groups.{from_range, from_range_none, from_range_all}
 
 module _ {K : Type 0} where
   pub lookup-alone : (p : K → Bool) (ks : List K)
@@ -71,6 +71,10 @@ module _ {K : Type 0} {R : K → K → Ordering} (o : IsTotalOrder R) (same : Is
   module _ (ks : List K) (start : Bound K) (sorted : IsStrictlySortedBy R ks) where
     in_order : IsStrictlySortedBy R (keys_of (keys_alone ks))
     in_order = subst (IsStrictlySortedBy R) (sym (keys_of-alone ks)) sorted
+
+    pub set_all : filter (λ e. is_from_start R start e.0) (entries (from_entries {R = R} (keys_alone ks)))
+        ≡ keys_alone (filter (range_contains R start Unbounded) ks)
+    set_all = from_range_all o same (keys_alone ks) start in_order ∙ filter-alone (range_contains R start Unbounded) ks
 
     pub set_range : (f : K) (fs : List K) → filter (range_contains R start Unbounded) ks ≡ f ∷ fs
         → filter (λ e. is_from_start R start e.0) (entries (from_entries {R = R} (keys_alone ks)))

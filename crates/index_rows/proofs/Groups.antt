@@ -73,6 +73,14 @@ module _ {A : Type 0} where
   filter_all p [] h = refl
   filter_all p (e ∷ es) h = cond-true (p e) (e ∷ filter p es) (filter p es) h.0 ∙ ap (λ fs. e ∷ fs) (filter_all p es h.1)
 
+  pub filter_passing : (p : A → Bool) (es : List A) → AllByRecursion (λ e. p e ≡ true) (filter p es)
+  filter_passing p [] = tt
+  filter_passing p (e ∷ es) = by (p e) refl (filter_passing p es)
+    where
+      by : (b : Bool) → p e ≡ b → AllByRecursion (λ d. p d ≡ true) (filter p es) → AllByRecursion (λ d. p d ≡ true) (cond b (e ∷ filter p es) (filter p es))
+      by true t h = (t, h)
+      by false f h = h
+
 module _ {K : Type 0} {R : K → K → Ordering} (o : IsTotalOrder R) where
   -- a test that passes above what passes
   abbrev pub IsUpward : (K → Bool) → Type 0
@@ -141,6 +149,9 @@ module _ {K X : Type 0} {R : K → K → Ordering} (o : IsTotalOrder R) (same : 
 
   bare : filter (λ e. range_contains R start Unbounded e.0) es ≡ filter begun es
   bare = filter_same _ _ es (all_of (λ e. range_contains R start Unbounded e.0 ≡ begun e) (λ e. and_true (begun e)) es)
+
+  pub from_range_all : filter (λ e. is_from_start R start e.0) (entries (from_entries {R = R} es)) ≡ filter (λ e. range_contains R start Unbounded e.0) es
+  from_range_all = ap (filter begun) own ∙ sym bare
 
   pub from_range : (f : K × X) (fs : List (K × X)) → filter (λ e. range_contains R start Unbounded e.0) es ≡ f ∷ fs
       → filter (λ e. is_from_start R start e.0) (entries (from_entries {R = R} es)) ≡ f ∷ filter (λ e. is_lt (R f.0 e.0)) (entries (from_entries {R = R} es))

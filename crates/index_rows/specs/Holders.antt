@@ -1,17 +1,14 @@
 -- Which permanodes hold which values, as rows under the attribute, the value and the permanode.
-use Rattle.std.specs.Prelude.{◌≡◌, ℕ, ◌&&◌, Bool, true, false, not, List, filter, Option, Some, None}
+use Rattle.std.specs.Prelude.{◌≡◌, ℕ, ◌&&◌, Bool, true, false, not, List, filter, map, None}
 use Rattle.std.specs.List.{list_any}
 use Rattle.std.specs.Str.{bytes_eq}
-use Rattle.std.specs.Ordering.{is_lt, ordering_then}
+use Rattle.std.specs.Ordering.{ordering_then}
 use Rattle.std.specs.Cmp.{IsTotalOrder, then_total, on_total}
 use Rattle.std.specs.Cmp.Lexicographic.{nat_list_cmp_total}
 use Rattle.std.specs.declared.cmp.Ordering.{Ordering}
-use Rattle.std.specs.declared.ops.Bound.{Bound}
-use Rattle.std.specs.declared.ops.Bound.TheVariants.{Included, Excluded}
 use Rattle.std.specs.FinMap.{FinMap, get, entries, contains_key}
-use Rattle.std.specs.BTreeMap.Range.{is_from_start}
 use Rattle.std.specs.Coded.{Coded, code_by, coded_ℕ, coded_list, coded×}
-use Rattle.blobref.specs.Blobref.{ref_cmp, least_ref, is_after, IsFromLeast}
+use Rattle.blobref.specs.Blobref.{ref_cmp, IsFromLeast}
 use Rattle.schema_date.specs.declared.date.When.TheVariants.{Always}
 use Rattle.claim_model.specs.Facts.{Facts, passes, is_permanode}
 use Rattle.claim_model.specs.Changes.{gives}
@@ -48,24 +45,13 @@ Holders = FinMap holder_cmp (Unit {0})
 abbrev pub AllOfRefs : Holders → Type 0
 AllOfRefs m = (k : HolderKey) → contains_key m k ≡ true → IsFromLeast k.2
 
--- where the permanodes of an attribute and a value begin, or go on behind one
-abbrev pub holders_start : List ℕ → List ℕ → Option (List ℕ) → Bound HolderKey
-holders_start name value None = Included (name, value, least_ref)
-holders_start name value (Some p) = Excluded (name, value, p)
-
 -- whether the key is of the attribute and the value
 abbrev pub is_of : List ℕ → List ℕ → HolderKey → Bool
 is_of name value k = bytes_eq name k.0 && bytes_eq value k.1
 
--- the rows of an attribute and a value behind a permanode, or all
-abbrev pub holders_after : Holders → List ℕ → List ℕ → Option (List ℕ) → List (HolderKey × Unit {0})
-holders_after m name value after = filter (λ e. is_of name value e.0 && is_after after e.0.2) (entries m)
-
-abbrev pub holders_from : Holders → Bound HolderKey → List (HolderKey × Unit {0})
-holders_from m start = filter (λ e. is_from_start holder_cmp start e.0) (entries m)
-
-abbrev pub holders_above : Holders → HolderKey → List (HolderKey × Unit {0})
-holders_above m k = filter (λ e. is_lt (holder_cmp k e.0)) (entries m)
+-- the permanodes whose rows stand under an attribute and a value, in their order
+abbrev pub rows_holding : Holders → List ℕ → List ℕ → List (List ℕ)
+rows_holding rows name value = map (λ e. e.0.2) (filter (λ e. is_of name value e.0) (entries rows))
 
 -- whether p is a permanode whose row says that it is genuine
 abbrev pub says_permanode : Facts → States → List ℕ → Bool

@@ -1,11 +1,11 @@
 //! Which permanodes hold which values of attributes.
-ghost use Rattle.std.specs.Prelude.{◌≡◌, ◌+◌, ◌&&◌, ◌∷◌, [], Some, OnOk, OnErr, IfOk, IfSome, IfNone, option_copied, refl};
+ghost use Rattle.std.specs.Prelude.{◌≡◌, ◌≤◌, ◌+◌, length, Some, OnOk, OnErr, IfOk, refl};
 ghost use Rattle.std.specs.Cmp.{eq_by_cmp_equiv, partial_equiv_from_equiv, partial_order_from_total};
 ghost use Rattle.std.specs.FinMap as finite;
 ghost use Rattle.std.specs.Ordering.{eq_by_cmp};
-ghost use Rattle.index_rows.specs.Holders.{holder_cmp, holder_total, holders_after, holders_start, is_of};
+ghost use Rattle.index_rows.specs.Holders.{holder_cmp, holder_total, rows_holding, is_of};
 
-use blobref::{NoMemory, Ref, Text};
+use blobref::{NoMemory, Ref, RefList, Text};
 use edge_base::Steps;
 use std::alloc::Global;
 use std::cmp::Ordering;
@@ -109,9 +109,9 @@ impl Ord for HolderKey {
 
     fn cmp(&self, other: &HolderKey) -> Ordering {
         self.attr
-            .as_str()
-            .cmp(other.attr.as_str())
-            .then_with(|| self.value.as_str().cmp(other.value.as_str()))
+            .as_bytes()
+            .cmp(other.attr.as_bytes())
+            .then_with(|| self.value.as_bytes().cmp(other.value.as_bytes()))
             .then_with(|| self.permanode.cmp(&other.permanode))
     }
 }
@@ -179,54 +179,34 @@ impl HolderRows {
         self.rows.remove(key);
     }
 
-    /// The least permanode greater than `after`, or of all where `after` is `None`, that has this value of the
-    /// attribute; `None` exactly where there is none. So the walk of n permanodes takes n + 1 steps. Each copies the
-    /// two texts, and `NoMemory` comes only where no memory is left for that.
-    pub fn next_of<L: Ledger>(
+    /// The permanodes that have this value of the attribute, ascending. It looks the first one up and takes a step for
+    /// each; `NoMemory` comes only where no memory is left for copies of the two texts and for the list.
+    pub fn all_of<L: Ledger>(
         &self,
         alloc: Global,
         attr: &str,
         value: &str,
-        after: Option<&Ref>,
         steps: &mut Steps<L>,
-    ) -> Result<Option<Ref>, NoMemory>
-        ensures next { IfOk result (λ found. IfSome found (λ p.
-            holders_after self.now attr.now value.now (option_copied after.entry)
-            ≡ ((attr.now, value.now, p), tt) ∷ holders_after self.now attr.now value.now (Some p))) }
-        ensures last { IfOk result (λ found. IfNone found
-            (holders_after self.now attr.now value.now (option_copied after.entry) ≡ [])) }
-        ensures ticks { steps.new ≡ steps.old + 1 }
+    ) -> Result<RefList, NoMemory>
+        ensures all { IfOk result (λ refs. refs ≡ rows_holding self.now attr.now value.now) }
+        ensures ticks { steps.new ≤ steps.old + 1 + length (rows_holding self.now attr.now value.now) }
     {
+        let mut found = RefList::empty(alloc);
+        let first = HolderKey::copy(alloc, attr, value, &Ref::least())?;
         steps.tick();
-        let start = holders_start(alloc, attr, value, after)?;
-        match self.rows.range((start, Bound::Unbounded)).next() {
-            Some(key) => if is_of(key, attr, value) {
-                Ok(Some(*key.permanode()))
-            } else {
-                Ok(None)
-            },
-            None => Ok(None),
+        for key in self.rows.range((Bound::Included(first), Bound::Unbounded)) {
+            if !is_of(key, attr, value) {
+                break;
+            }
+            steps.tick();
+            found.push(*key.permanode())?;
         }
+        Ok(found)
     }
 }
 
 fn is_of(key: &HolderKey, attr: &str, value: &str) -> bool
     ensures { result ≡ is_of attr.now value.now key.now }
 {
-    attr == key.attr.as_str() && value == key.value.as_str()
-}
-
-// Where the permanodes of an attribute and a value begin, or go on.
-fn holders_start(
-    alloc: Global,
-    attr: &str,
-    value: &str,
-    after: Option<&Ref>,
-) -> Result<Bound<HolderKey>, NoMemory>
-    ensures { IfOk result (λ start. start ≡ holders_start attr.now value.now (option_copied after.entry)) }
-{
-    match after {
-        Some(p) => Ok(Bound::Excluded(HolderKey::copy(alloc, attr, value, p)?)),
-        None => Ok(Bound::Included(HolderKey::copy(alloc, attr, value, &Ref::least())?)),
-    }
+    attr.as_bytes() == key.attr.as_bytes() && value.as_bytes() == key.value.as_bytes()
 }
