@@ -9,7 +9,7 @@ ghost use Rattle.home_core.specs.Steps.{put_blob, put_blobs, put_reply, reply_of
 use crate::events::Reply;
 use blobref::{NoMemory, Octets, Ref};
 use edge_base::{Put, PutFault};
-use pack_format::MAX_SIZE;
+use pack_format::put_refusal;
 use std::alloc::Global;
 
 /// Puts a blob behind the others. They are as they were after a refusal for memory.
@@ -55,17 +55,9 @@ pub(crate) fn settled(
 ) -> Option<Result<Put, PutFault>>
     ensures { result ≡ put_settled said.now bytes.now store.now }
 {
-    let size = bytes.len() as u64;
-    if size > MAX_SIZE {
-        return Some(Err(PutFault::TooBig { size }));
-    }
-    let is = said.like(bytes);
-    if is != *said {
-        return Some(Err(PutFault::BadDigest { said: *said, is }));
-    }
-    match number_of(store, said) {
-        Some(number) => Some(Ok(Put::Already { number })),
-        None => None,
+    match put_refusal(said, bytes) {
+        Some(fault) => Some(Err(fault)),
+        None => number_of(store, said).map(|number| Ok(Put::Already { number })),
     }
 }
 

@@ -2,7 +2,6 @@
 ghost use Rattle.std.specs.Prelude.{◌≡◌, Err, IfSome, None};
 ghost use Rattle.blobref.specs.Blobref.{IsOwnRef};
 ghost use Rattle.histories.specs.StoreCalls.{put_settled};
-ghost use Rattle.turn_home.specs.Refusing.{put_refused};
 
 use super::jobs::{Count, Find, FindNumber, Page, PutOwn, Sizes};
 use super::{StoreSeat, TurnStore};
@@ -10,7 +9,7 @@ use blobref::{Listing, NoMemory, Octets, Ref, RefList};
 use edge_base::{GetFault, Put, PutFault};
 use home_places::StorePlace;
 use pack_disk::Disk;
-use pack_format::MAX_SIZE;
+use pack_format::put_refusal;
 use std::sync::Wait;
 use told_store::{check, check_arrival, once};
 
@@ -36,7 +35,7 @@ impl<D: Disk> StorePlace for TurnStore<D> {
         said: &Ref,
         bytes: &[u8],
     ) -> Result<Put, PutFault> {
-        match refused(said, bytes) {
+        match put_refusal(said, bytes) {
             Some(fault) => {
                 self.take_turn(rt, seat, Count);
                 Err(fault)
@@ -111,20 +110,4 @@ impl<D: Disk> StorePlace for TurnStore<D> {
         self.turn.join(&mut into.seat, seat);
         into.count = into.count.max(count);
     }
-}
-
-// Why a blob is refused by its size or its digest alone, if it is.
-fn refused(said: &Ref, bytes: &[u8]) -> Option<PutFault>
-    ensures refused { result ≡ put_refused said.now bytes.now }
-    ensures own { result ≡ None → IsOwnRef said.now bytes.now }
-{
-    let size = bytes.len() as u64;
-    if size > MAX_SIZE {
-        return Some(PutFault::TooBig { size });
-    }
-    let is = said.like(bytes);
-    if is != *said {
-        return Some(PutFault::BadDigest { said: *said, is });
-    }
-    None
 }
