@@ -19,7 +19,7 @@ use Rattle.http_wire.proofs.Framings.{request_ends}
 use Rattle.http_wire.specs.declared.body.Body.{Body}
 use Rattle.http_wire.specs.declared.body.Body.TheVariants as body
 use Rattle.http_wire.specs.declared.head.Head.{Head}
-use Rattle.http_wire.specs.Bodies.{RestOf, Breaks}
+use Rattle.http_wire.specs.Bodies.{RestOf, IsMalformed}
 use Rattle.http_wire.specs.Wires.{WireView, body_of}
 use Rattle.http_wire.specs.Speaking.{Request, Begun, IsBegun}
 use Rattle.http_wire.proofs.Unfinished.{breaks_short}
@@ -37,7 +37,7 @@ use Rattle.blob_upload.specs.declared.upload_end.UploadEnd.{UploadEnd}
 use Rattle.blob_upload.specs.declared.upload_end.UploadEnd.TheVariants as came
 use Rattle.blob_upload.specs.Faults.{most_bytes, part_fault}
 use Rattle.blob_upload.specs.Ends.{Told, Faulty, IsAll}
-use Rattle.blob_upload.specs.Comes.{Comes, HasFault, Refuses}
+use Rattle.blob_upload.specs.UploadOutcome.{UploadOutcome, HasFault, Refuses}
 use Rattle.blob_upload.proofs.Fronts.{told_first}
 use Rattle.blob_http.specs.declared.entries.Outcome.{Outcome}
 use Rattle.blob_http.specs.declared.entries.Outcome.TheVariants.{Defined, Memory, Disk, Full, Damaged}
@@ -197,7 +197,7 @@ module _ (boundary given more : List ℕ) (good : SoundBody boundary (given ++ m
       absurd (cc same.1)
 
   module _ (wire : WireView) (after : Option (List ℕ)) (ends : wire.body ≡ body.Done → more ≡ [])
-      (short : length given ≤ most_bytes) (unbroken : IfSome after (Breaks wire.body) → ⊥) where
+      (short : length given ≤ most_bytes) (unbroken : IfSome after (IsMalformed wire.body) → ⊥) where
     no_fault : (fault : PartFault) → HasFault boundary given parts wire after fault → ⊥
     no_fault fault (inl f) = no_faulty fault f
     no_fault fault (inr all) = no_all fault (ends all.0) all.1
@@ -252,9 +252,9 @@ left_of r b rest bytes valid begun says same =
 
 module _ (r : Request) (b : Begun) (rest bytes : List ℕ) (after : Option (List ℕ)) (left : Left r b rest bytes)
     (told : after ≡ Some bytes) where
-  unbroken : IfSome after (Breaks b.at) → ⊥
+  unbroken : IfSome after (IsMalformed b.at) → ⊥
   unbroken breaks = breaks_short b.at left.framed left.more rest bytes left.rest_of left.behind
-      (subst (λ (z : Option (List ℕ)). IfSome z (Breaks b.at)) told breaks)
+      (subst (λ (z : Option (List ℕ)). IfSome z (IsMalformed b.at)) told breaks)
 
   given_short : length b.given ≤ length r.body
   given_short = omega (arith, ap length left.body, length-append b.given left.more)
@@ -324,10 +324,10 @@ module _ (tells : Bool) (accepts : Accepts) (h : List (Stamped StoreEvent)) (blo
         no_refusal u.boundary b.given left.more (sound_body u.boundary (b.given ++ left.more) whole) u.parts wire after
         (λ done. done_none b.at left.framed left.more left.rest_of (sym at ∙ done)) (omega (arith, few, shorter))
         (λ breaks. unbroken r b rest of.3.0 after left of.3.1
-        (subst (λ (z : Body). IfSome after (Breaks z)) at breaks)) why refuses
+        (subst (λ (z : Body). IfSome after (IsMalformed z)) at breaks)) why refuses
 
     upload_served : (u : Kept b.head b.says blobs kept) (c : UploadEnd) (wire : WireView) → wire.body ≡ b.at
-        → Comes u.boundary b.given u.parts wire after c → (outcome : Outcome) → HasCauseIn turns h outcome
+        → UploadOutcome u.boundary b.given u.parts wire after c → (outcome : Outcome) → HasCauseIn turns h outcome
         → IsUploadReply u.parts c outcome text → Served outcome
     upload_served u (came.Refused why) wire at comes Defined cause reply =
         absurd (no_upload_refusal u wire at why comes)

@@ -18,7 +18,7 @@ use Rattle.http_wire.specs.declared.head.Head.{Head}
 use Rattle.http_wire.specs.declared.ends.WireEnd.{WireEnd}
 use Rattle.http_wire.specs.Stream.{Flow, Passed, stream}
 use Rattle.http_wire.specs.Heads.{HeadSays}
-use Rattle.http_wire.specs.Bodies.{Moves, Leads}
+use Rattle.http_wire.specs.Bodies.{Moves, BodyRun}
 use Rattle.http_wire.specs.Wires.{WireView, body_of, HeadEnds, to_come}
 use Rattle.http_wire.specs.Speaking.{Request, Begun}
 use Rattle.http_wire.proofs.Speaking.{request_read}
@@ -202,8 +202,8 @@ module _ (x0 x1 x2 : Option (List ℕ)) (flow : Flow) (mid new : WireView) (says
         request : Request
         request = record { head = mid.head; says = says; framed = moved.0; body = given }
 
-        leads : Leads (body_of says.framing) body.Done moved.0 given
-        leads = subst (λ (b : Body). Leads (body_of says.framing) b moved.0 given) done
+        leads : BodyRun (body_of says.framing) body.Done moved.0 given
+        leads = subst (λ (b : Body). BodyRun (body_of says.framing) b moved.0 given) done
             (is_begun x0 x1 x2 flow mid new says head given moved).leads
 
         or_false : (b : Bool) → (b || false) ≡ b

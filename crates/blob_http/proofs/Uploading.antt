@@ -22,7 +22,7 @@ use Rattle.http_wire.specs.declared.head.Head.{Head}
 use Rattle.http_wire.specs.declared.ends.WireEnd.{WireEnd}
 use Rattle.http_wire.specs.declared.ends.WireEnd.TheVariants as ends
 use Rattle.http_wire.specs.Stream.{Flow, stream, counted as counted_on}
-use Rattle.http_wire.specs.Bodies.{Leads}
+use Rattle.http_wire.specs.Bodies.{BodyRun}
 use Rattle.http_wire.specs.Wires.{WireView, body_of, to_come}
 use Rattle.http_wire.specs.Speaking.{Request}
 use Rattle.http_wire.proofs.Speaking.{request_read}
@@ -32,7 +32,7 @@ use Rattle.blob_routes.specs.declared.routes.Route.TheVariants as route
 use Rattle.blob_routes.specs.Before.{boundary_in}
 use Rattle.blob_upload.specs.declared.upload_end.UploadEnd.{UploadEnd}
 use Rattle.blob_upload.specs.declared.upload_end.UploadEnd.TheVariants as came
-use Rattle.blob_upload.specs.Comes.{Comes}
+use Rattle.blob_upload.specs.UploadOutcome.{UploadOutcome}
 use Rattle.blob_upload.specs.Adds.{Adds, Turns, ShowsWhy, IsAddedBy, IsNext}
 use Rattle.blob_upload.specs.Puts.{IsArrivalOf}
 use Rattle.blob_upload.specs.Uploads.{Uploads}
@@ -144,9 +144,9 @@ module _ (boundary given : List ℕ) (parts : List Part) (end : WireEnd) (added 
 -- what an upload that isn't whole came to, and its reply
 upload_said : (boundary given : List ℕ) (parts : List Part) (wire : WireView) (x : Option (List ℕ)) (closes : Bool)
     (c : UploadEnd) (m : ReplyText) (n t : ℕ) (added : List (Stamped StoreEvent))
-    → UploadMade closes (sizes parts) c (Ok m) → Comes boundary given parts wire x c → Turns c n t
+    → UploadMade closes (sizes parts) c (Ok m) → UploadOutcome boundary given parts wire x c → Turns c n t
     → (is_whole c ≡ false) ⊎ (m ≡ made.Memory) → AddsParts boundary given parts c added
-    → (d : UploadEnd) × Comes boundary given parts wire x d × Turns d n t × IsUploadReply parts d (outcome_of m) (text_of m)
+    → (d : UploadEnd) × UploadOutcome boundary given parts wire x d × Turns d n t × IsUploadReply parts d (outcome_of m) (text_of m)
     × AddsParts boundary given parts d added
 upload_said boundary given parts wire x closes c made.Memory n t added is comes turns part adds =
     (c, comes, turns, refl, adds)
@@ -227,7 +227,7 @@ module _ (x0 x1 x2 : Option (List ℕ)) (flow : Flow) (mid new : WireView) (says
   adds : Adds u.parts (IsNext boundary u.given u.parts) c v w
   adds = uploads_add boundary x1 x2 mid new v w [] listed c u
 
-  comes : Comes boundary u.given u.parts new (to_come new x2) c
+  comes : UploadOutcome boundary u.given u.parts new (to_come new x2) c
   comes = uploads_come boundary x1 x2 mid new v w [] listed c u
 
   abbrev turns : List ℕ
@@ -319,14 +319,14 @@ module _ (x0 x1 x2 : Option (List ℕ)) (flow : Flow) (mid new : WireView) (says
       → IsUploadEntry w (length listed) (made.Told o reply) entry
       → closes ≡ says.closes → Replies x0 x2 flow new tells v w entry (made.Told o reply) closes
   whole_replies entry o reply closes whole is e closing =
-      let done = subst (λ (z : UploadEnd). Comes boundary u.given u.parts new (to_come new x2) z) whole comes in
+      let done = subst (λ (z : UploadEnd). UploadOutcome boundary u.given u.parts new (to_come new x2) z) whole comes in
       let told = subst (λ (z : UploadEnd). UploadMade says.closes (sizes u.parts) z (Ok (made.Told o reply))) whole
       (made_so (made.Told o reply) is) in
       let count = subst (λ (z : UploadEnd). Turns z (length u.parts) (length turns)) whole adds.turns in
       let r : Request = record { head = mid.head; says = says; framed = u.moved.0; body = u.given } in
       let begins = is_begun x0 x1 x2 flow mid new says head u.given u.moved in
-      let leads : Leads (body_of says.framing) body.Done u.moved.0 u.given = subst
-      (λ (b : Body). Leads (body_of says.framing) b u.moved.0 u.given) done.0 begins.leads in
+      let leads : BodyRun (body_of says.framing) body.Done u.moved.0 u.given = subst
+      (λ (b : Body). BodyRun (body_of says.framing) b u.moved.0 u.given) done.0 begins.leads in
       record {
         asked = Whole r;
         comes = (
@@ -392,7 +392,7 @@ module _ (x0 x1 x2 : Option (List ℕ)) (flow : Flow) (mid new : WireView) (says
     boundary = boundary;
     bounds = bounds;
     parts = u.parts;
-    reads = (subst (λ (z : UploadEnd). Comes boundary u.given u.parts new (to_come new x2) z) ends_so comes).0;
+    reads = (subst (λ (z : UploadEnd). UploadOutcome boundary u.given u.parts new (to_come new x2) z) ends_so comes).0;
     count = subst (λ (z : UploadEnd). Turns z (length u.parts) (length turns)) ends_so adds.turns;
     placed = adds.grew.placed;
     adds = arrivals_alone boundary u.given u.parts end adds.grew.added
@@ -419,7 +419,7 @@ module _ (x0 x1 x2 : Option (List ℕ)) (flow : Flow) (mid new : WireView) (says
       may_rest came.Memory end same is = absurd is
       may_rest (came.Ended ends.Closed) end same is = absurd is
       may_rest (came.Ended (ends.Cut n)) end same is =
-          let place = (subst (λ (z : UploadEnd). Comes boundary u.given u.parts new (to_come new x2) z) same comes).1.0 in
+          let place = (subst (λ (z : UploadEnd). UploadOutcome boundary u.given u.parts new (to_come new x2) z) same comes).1.0 in
           subst (λ (e : Ended). IsRest (stream flow.bytes x0) flow.taken e turns adds.grew.added) (sym is)
           (inr (cut_upload (ends.Cut n) n same (place ∙ begun_so ∙ head.begun)))
       may_rest (came.Ended (ends.BadHead n)) end same is = absurd is
@@ -434,7 +434,7 @@ module _ (x0 x1 x2 : Option (List ℕ)) (flow : Flow) (mid new : WireView) (says
   upload_none same end is = by_came c end is comes
     where
       by_came : (d : UploadEnd) (end : Ended) → UploadMade says.closes listed d (Err end)
-          → Comes boundary u.given u.parts new (to_come new x2) d
+          → UploadOutcome boundary u.given u.parts new (to_come new x2) d
           → NoneComes (stream flow.bytes x0) x2 flow.taken end
       by_came came.Whole end is said = absurd is
       by_came (came.Refused why) end is said = absurd is

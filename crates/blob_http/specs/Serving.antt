@@ -17,7 +17,7 @@ use Rattle.home_places.specs.Passes.{Sight, Caused, IsTrouble}
 use Rattle.http_wire.specs.declared.body.Body.TheVariants.{Done}
 use Rattle.http_wire.specs.declared.ends.WireEnd.{WireEnd}
 use Rattle.http_wire.specs.Stream.{Flow, counted}
-use Rattle.http_wire.specs.Bodies.{Breaks}
+use Rattle.http_wire.specs.Bodies.{IsMalformed}
 use Rattle.http_wire.specs.Wires.{WireView, body_of}
 use Rattle.http_wire.specs.Speaking.{Request, Begun, IsBegun, Refused}
 use Rattle.blob_http.specs.declared.entries.Outcome.{Outcome}
@@ -42,7 +42,7 @@ use Rattle.blob_routes.specs.declared.routes.Route.TheVariants as route
 use Rattle.blob_upload.specs.declared.upload_end.UploadEnd.{UploadEnd}
 use Rattle.blob_upload.specs.declared.upload_end.UploadEnd.TheVariants as came
 use Rattle.blob_upload.specs.Ends.{IsNotOver}
-use Rattle.blob_upload.specs.Comes.{Comes}
+use Rattle.blob_upload.specs.UploadOutcome.{UploadOutcome}
 use Rattle.blob_upload.specs.Adds.{Turns, IsAddedBy, IsNext}
 use Rattle.blob_upload.specs.Ends.{Reads}
 use Rattle.blob_upload.specs.Puts.{IsArrivalOf}
@@ -54,7 +54,7 @@ use Rattle.multipart_read.specs.PartLists.{Part}
 abbrev pub IsBodyRefusal : Begun → Option (List ℕ) → Refusal → Type 0
 IsBodyRefusal b after r =
     ((r ≡ refusal.TooLong most_body) × (most_body < length b.given))
-    ⊎ ((r ≡ refusal.BadLength) × IfSome after (Breaks b.at))
+    ⊎ ((r ≡ refusal.BadLength) × IfSome after (IsMalformed b.at))
 
 -- a reply that keeps nothing: the request is refused by its body as that is read, or before anything of it is read,
 -- where there is a body to read
@@ -103,7 +103,7 @@ IsWholeUpload blobs r kept turns added outcome text = (u : Kept r.head r.says bl
 abbrev pub IsFrontUpload : List Blob → Begun → Option (List ℕ) → ℕ → List ℕ → List (Stamped StoreEvent) → Outcome
     → List ℕ → Type 0
 IsFrontUpload blobs b after kept turns added outcome text = (u : Kept b.head b.says blobs kept)
-    × ((came : UploadEnd) × (wire : WireView) × (wire.body ≡ b.at) × Comes u.boundary b.given u.parts wire after came
+    × ((came : UploadEnd) × (wire : WireView) × (wire.body ≡ b.at) × UploadOutcome u.boundary b.given u.parts wire after came
     × Turns came kept (length turns) × IsUploadReply u.parts came outcome text
     × AddsParts u.boundary b.given u.parts came added)
 

@@ -24,7 +24,7 @@ use Rattle.blob_upload.specs.declared.upload_end.UploadEnd.TheVariants.{Whole, R
 use Rattle.blob_upload.specs.Faults.{most_bytes, part_fault, came_of_part, came_of_wire}
 use Rattle.blob_upload.specs.Puts.{EndsBy}
 use Rattle.blob_upload.specs.Ends.{StopsAt, Told, Reads, StopsIn, EndsShort, Ends}
-use Rattle.blob_upload.specs.Comes.{HasFault, Comes, UploadsCome}
+use Rattle.blob_upload.specs.UploadOutcome.{HasFault, UploadOutcome, UploadsCome}
 use Rattle.blob_upload.proofs.Putting.{settled_by}
 use Rattle.blob_upload.proofs.Fitting.{contents_fit}
 use Rattle.blob_upload.proofs.Adding.{never_big}
@@ -89,7 +89,7 @@ module _ (limits : StoreLimits) (part : Part) (before : List Blob) (named : is_b
 
 module _ (boundary given : List ℕ) (parts : List Part) (wire : WireView) (x : Option (List ℕ)) where
   abbrev comes : UploadEnd → Type 0
-  comes came = Comes boundary given parts wire x came
+  comes came = UploadOutcome boundary given parts wire x came
 
   as_told : (came is : UploadEnd) → comes is → came ≡ is → comes came
   as_told came is holds same = subst comes (sym same) holds

@@ -15,7 +15,7 @@ use Rattle.http_wire.specs.Wires.{WireView, to_come}
 use Rattle.home_places.specs.Passes.{Sight}
 use Rattle.blob_upload.specs.declared.upload_end.UploadEnd.{UploadEnd}
 use Rattle.blob_upload.specs.Ends.{StopsIn, Ends}
-use Rattle.blob_upload.specs.Comes.{PartsAreFew}
+use Rattle.blob_upload.specs.UploadOutcome.{PartsAreFew}
 
 -- how many names are told
 abbrev names : List Token → ℕ

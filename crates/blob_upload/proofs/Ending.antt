@@ -12,7 +12,7 @@ use Rattle.http_wire.specs.declared.ends.WireEnd.{WireEnd}
 use Rattle.http_wire.specs.Stream.{stream, Flow}
 use Rattle.http_wire.specs.Bodies.{Moves}
 use Rattle.http_wire.specs.Wires.{WireView, to_come, BodyEnds}
-use Rattle.http_wire.proofs.Leading.{Moves-chain, Leads-none}
+use Rattle.http_wire.proofs.Leading.{Moves-chain, BodyRun-none}
 use Rattle.multipart_read.specs.declared.events.PartFault.{PartFault}
 use Rattle.multipart_read.specs.declared.events.PartFault.TheVariants.{BadBoundary, Bad, TooLong, NoMemory}
 use Rattle.multipart_read.specs.declared.steps.Stage.TheVariants as stages
@@ -58,7 +58,7 @@ gave_none (Some left) = (left, refl, refl)
 
 pub moves_none : (left : Option (List ℕ)) (flow : Flow) (at : Body) → Moves left left flow flow at at []
 moves_none left flow at =
-    ([], record { gave = gave_none (stream flow.bytes left); taken = omega arith }, Leads-none at)
+    ([], record { gave = gave_none (stream flow.bytes left); taken = omega arith }, BodyRun-none at)
 
 -- ---- inside a body an upload doesn't end for the source
 

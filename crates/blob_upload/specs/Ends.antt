@@ -6,7 +6,7 @@ use Rattle.blobref.specs.Blobref.{is_blobref}
 use Rattle.http_wire.specs.declared.body.Body.TheVariants.{Done}
 use Rattle.http_wire.specs.declared.ends.WireEnd.{WireEnd}
 use Rattle.http_wire.specs.declared.ends.WireEnd.TheVariants as wire_ends
-use Rattle.http_wire.specs.Bodies.{Stops}
+use Rattle.http_wire.specs.Bodies.{EndsEarly}
 use Rattle.http_wire.specs.Wires.{WireView, BodyEnds}
 use Rattle.multipart_read.specs.declared.events.PartFault.{PartFault}
 use Rattle.multipart_read.specs.declared.steps.Stage.TheVariants as stages
@@ -106,7 +106,7 @@ pub record IsNotOver (boundary given : List ℕ) : Type 0 where
 
 -- where a read failed, what was read ahead ends inside the body
 abbrev pub EndsShort : WireView → WireEnd → Type 0
-EndsShort wire end = end ≡ wire_ends.ReadFault → Stops wire.body wire.flow.bytes
+EndsShort wire end = end ≡ wire_ends.ReadFault → EndsEarly wire.body wire.flow.bytes
 
 -- Inside the body: in the last piece that was read, of at most 64 KiB. At its close, at its end where its parts aren't
 -- closed, or at a break of what carries it.

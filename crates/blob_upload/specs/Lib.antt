@@ -3,6 +3,6 @@ pub mod Puts
 pub mod Ends
 pub mod Uploads
 pub mod Taking
-pub mod Comes
+pub mod UploadOutcome
 pub mod Adds
 pub mod Laws

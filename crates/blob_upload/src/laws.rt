@@ -1,6 +1,6 @@
 //! Laws of uploads.
 ghost use Rattle.blob_upload.specs.Adds.{UploadsAdd};
-ghost use Rattle.blob_upload.specs.Comes.{PartsAreFew, UploadsCome};
+ghost use Rattle.blob_upload.specs.UploadOutcome.{PartsAreFew, UploadsCome};
 ghost use Rattle.blob_upload.specs.Laws.{ContentsFit, SoundSoFar, ToldFirst};
 
 /// However an upload ends, the store's history only grows. Of the turns drawn there is one for each part that was kept,

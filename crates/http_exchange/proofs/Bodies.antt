@@ -9,7 +9,7 @@ use Rattle.http_wire.specs.Stream.{Flow, Passed}
 use Rattle.http_wire.specs.Bodies.{Moves}
 use Rattle.http_wire.specs.Wires.{WireView, to_come, BodyEnds}
 use Rattle.http_wire.proofs.Passing.{none_passed}
-use Rattle.http_wire.proofs.Leading.{Leads-none, Moves-chain}
+use Rattle.http_wire.proofs.Leading.{BodyRun-none, Moves-chain}
 use Rattle.edge_base.specs.Edge.{Gave}
 use Rattle.http_exchange.specs.Before.{most_body}
 use Rattle.http_exchange.specs.declared.gathering.BodyFault.{BodyFault}
@@ -25,7 +25,7 @@ passed_none x flow = none_passed x x flow flow ([], sym (append-nil flow.bytes),
 
 -- nothing is taken
 abbrev pub moves_none : (x : Option (List ℕ)) (flow : Flow) (at : Body) → Moves x x flow flow at at []
-moves_none x flow at = ([], passed_none x flow, Leads-none at)
+moves_none x flow at = ([], passed_none x flow, BodyRun-none at)
 
 -- what was given before, and then
 pub gathered : (p q r : Option (List ℕ)) (u v w : WireView) (all given : List ℕ) (result : Result (List ℕ) BodyFault)

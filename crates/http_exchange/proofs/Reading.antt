@@ -13,7 +13,7 @@ use Rattle.http_wire.specs.declared.ends.WireEnd.{WireEnd}
 use Rattle.http_wire.specs.declared.ends.WireEnd.TheVariants as ends
 use Rattle.http_wire.specs.Stream.{Flow, Passed, stream}
 use Rattle.http_wire.specs.Heads.{HeadSays, IsFirstOf, IsPlaceIn}
-use Rattle.http_wire.specs.Bodies.{Moves, Leads, Stops}
+use Rattle.http_wire.specs.Bodies.{Moves, BodyRun, EndsEarly}
 use Rattle.http_wire.specs.Wires.{WireView, body_of, HeadEnds, LacksHead, to_come}
 use Rattle.http_wire.specs.Speaking.{Begun, IsBegun}
 use Rattle.http_wire.proofs.Passing.{Passed-chain}
@@ -93,7 +93,7 @@ module _ (x0 x1 x2 : Option (List ℕ)) (flow : Flow) (mid new : WireView) (says
   is_begun = record {
     lines = head.lines;
     read = head.read;
-    leads = subst (λ (b : Body). Leads b new.body moved.0 given) head.ready moved.2;
+    leads = subst (λ (b : Body). BodyRun b new.body moved.0 given) head.ready moved.2;
   }
 
   pub passed : Passed x0 x2 flow new.flow (mid.head ++ moved.0)
@@ -107,7 +107,7 @@ module _ (x0 x1 x2 : Option (List ℕ)) (flow : Flow) (mid new : WireView) (says
 
 -- a read failed inside the body
 pub read_short_of_body : (before left : Option (List ℕ)) (ahead : List ℕ) (b : Begun) → IsBegun b
-    → Gave before (stream ahead left) (b.head ++ b.framed) → Stops b.at ahead → IfSome before (IsReadShort left)
+    → Gave before (stream ahead left) (b.head ++ b.framed) → EndsEarly b.at ahead → IfSome before (IsReadShort left)
 read_short_of_body None left ahead b is gave stops = tt
 read_short_of_body (Some x) left ahead b is gave stops =
     let all : List ℕ = b.head ++ (b.framed ++ ahead) in
@@ -150,7 +150,7 @@ module _ (fair : Begun → Type 0) where
 
   pub cut_body : (before now : Option (List ℕ)) (place n : ℕ) (b : Begun) → IsBegun b
       → Gave before now (b.head ++ b.framed) → n ≡ place
-      → IfSome now (Stops b.at) → fair b → IfSome before (IsCut fair place n)
+      → IfSome now (EndsEarly b.at) → fair b → IfSome before (IsCut fair place n)
   cut_body None now place n b is gave at stops due = tt
   cut_body (Some x) now place n b is gave at stops due =
       inr (
@@ -161,7 +161,7 @@ module _ (fair : Begun → Type 0) where
           is,
           gave.2
               ∙ append_assoc b.head b.framed gave.0,
-          subst (λ (z : Option (List ℕ)). IfSome z (Stops b.at)) gave.1 stops,
+          subst (λ (z : Option (List ℕ)). IfSome z (EndsEarly b.at)) gave.1 stops,
           due,
         ),
       )

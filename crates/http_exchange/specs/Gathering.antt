@@ -4,7 +4,7 @@ use Rattle.http_wire.specs.declared.body.Body.{Body}
 use Rattle.http_wire.specs.declared.body.Body.TheVariants.{Done}
 use Rattle.http_wire.specs.declared.ends.WireEnd.{WireEnd}
 use Rattle.http_wire.specs.declared.ends.WireEnd.TheVariants as ends
-use Rattle.http_wire.specs.Bodies.{Moves, Stops, Breaks}
+use Rattle.http_wire.specs.Bodies.{Moves, EndsEarly, IsMalformed}
 use Rattle.http_wire.specs.Wires.{WireView, to_come}
 use Rattle.http_exchange.specs.Before.{most_body}
 use Rattle.http_exchange.specs.declared.gathering.BodyFault.{BodyFault}
@@ -23,10 +23,10 @@ CanStop ends.ReadFault = Unit {0}
 -- come of the body, and the place of the request
 abbrev pub StopSays : Option (List ℕ) → List ℕ → Body → ℕ → BodyFault → Type 0
 StopSays x ahead at place Long = ⊥
-StopSays x ahead at place Broken = IfSome x (Breaks at)
+StopSays x ahead at place Broken = IfSome x (IsMalformed at)
 StopSays x ahead at place Memory = ⊥
-StopSays x ahead at place (Cut n) = (n ≡ place) × IfSome x (Stops at)
-StopSays x ahead at place ReadFault = Stops at ahead
+StopSays x ahead at place (Cut n) = (n ≡ place) × IfSome x (EndsEarly at)
+StopSays x ahead at place ReadFault = EndsEarly at ahead
 
 -- what was given of a body: all of it, or why that isn't so
 abbrev pub GatherSays : Option (List ℕ) → List ℕ → Body → ℕ → List ℕ → Result (List ℕ) BodyFault → Type 0

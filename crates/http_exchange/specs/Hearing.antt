@@ -5,7 +5,7 @@ use Rattle.std.specs.List.{flat_map}
 use Rattle.edge_base.specs.Edge.{Gave, Took, TookFront, Rose}
 use Rattle.http_wire.specs.declared.ends.WireEnd.TheVariants as ends
 use Rattle.http_wire.specs.Stream.{Flow, Passed}
-use Rattle.http_wire.specs.Bodies.{Stops}
+use Rattle.http_wire.specs.Bodies.{EndsEarly}
 use Rattle.http_wire.specs.Wires.{HeadEnds, LacksHead}
 use Rattle.http_wire.specs.Speaking.{Request, IsRequest, Speaks, Begun, IsBegun, Last, Nothing, Refused, Unfinished}
 use Rattle.http_wire.specs.Speaking.{IsOpen, GoesOn, HasNoRequest, ClosesAtLast, place_behind, text_of}
@@ -45,12 +45,12 @@ AreAnswers asked requests (Unfinished b) rest =
 abbrev pub IsCut : (Begun → Type 0) → ℕ → ℕ → List ℕ → Type 0
 IsCut fair place n rest = HeadEnds (Some rest) place (ends.Cut n)
     ⊎ ((n ≡ place) × ((b : Begun) × (after : List ℕ) × IsBegun b × (rest ≡ b.head ++ (b.framed ++ after))
-    × Stops b.at after × fair b))
+    × EndsEarly b.at after × fair b))
 
 -- these bytes end before a request does: before or inside its head, or inside its body
 abbrev pub EndsShort : List ℕ → Type 0
 EndsShort bytes = LacksHead bytes ⊎ ((b : Begun) × (after : List ℕ) × IsBegun b
-    × (bytes ≡ b.head ++ (b.framed ++ after)) × Stops b.at after)
+    × (bytes ≡ b.head ++ (b.framed ++ after)) × EndsEarly b.at after)
 
 -- what was read of these bytes, of which this is left in the source, ends before a request does
 abbrev pub IsReadShort : Option (List ℕ) → List ℕ → Type 0

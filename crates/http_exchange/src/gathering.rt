@@ -1,7 +1,7 @@
 //! Small bodies, read as a whole.
 ghost use Rattle.std.specs.Prelude.{◌≡◌, ◌≤◌, ℕ, Option, List, [], length, IfOk, IsErrOf};
 ghost use Rattle.edge_base.specs.Edge.{Rose};
-ghost use Rattle.http_wire.specs.Bodies.{Stops};
+ghost use Rattle.http_wire.specs.Bodies.{EndsEarly};
 ghost use Rattle.http_wire.specs.Wires.{body_of, BodyEnds};
 ghost use Rattle.http_wire.specs.declared.body.Body.{Body};
 ghost use Rattle.http_exchange.specs.Gathering.{Gathers, CanStop, StopSays};
@@ -88,7 +88,7 @@ fn zeros(alloc: Global) -> Result<Vec<u8>, AllocError>
 fn stopped_by(end: WireEnd) -> BodyFault
     requires { CanStop end }
     ensures says { (x : Option (List ℕ)) (ahead : List ℕ) (at : Body) (place : ℕ) → BodyEnds x at place end
-        → (end ≡ WireEnd.ReadFault → Stops at ahead) → StopSays x ahead at place result }
+        → (end ≡ WireEnd.ReadFault → EndsEarly at ahead) → StopSays x ahead at place result }
     ensures fault { result ≡ BodyFault.ReadFault → end ≡ WireEnd.ReadFault }
 {
     match end {

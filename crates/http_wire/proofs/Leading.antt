@@ -12,7 +12,7 @@ use Rattle.http_wire.specs.declared.body.Body.TheVariants as body
 use Rattle.http_wire.specs.declared.line_state.LineState.TheVariants.{Last, Next}
 use Rattle.http_wire.specs.Lines.{Reaches, Lacks}
 use Rattle.http_wire.specs.Stream.{stream, Flow, Begins}
-use Rattle.http_wire.specs.Bodies.{IsLine, IsBadLine, IsTrailers, IsBadTrailers, IsChunked, Chunk, print_chunk, content_of, IsChunk, RestOf, Leads, Moves, IsBadEnd, Breaks}
+use Rattle.http_wire.specs.Bodies.{IsLine, IsBadLine, IsTrailers, IsBadTrailers, IsChunked, Chunk, print_chunk, content_of, IsChunk, RestOf, BodyRun, Moves, IsBadEnd, IsMalformed}
 use Rattle.http_wire.proofs.Passing.{Passed-chain, begins_stream, one_text}
 
 -- a list that begins as another one, and isn't shorter, begins with it
@@ -29,8 +29,8 @@ behind_front : (front xs after tail whole : List ℕ) → whole ≡ front ++ xs 
 behind_front front xs after tail whole is e =
     append_cancel_left front (xs ++ after) tail (sym (append_assoc front xs after) ∙ ap (λ (t : List ℕ). t ++ after) (sym is) ∙ e)
 
-pub Leads-none : (b : Body) → Leads b b [] []
-Leads-none b = record {
+pub BodyRun-none : (b : Body) → BodyRun b b [] []
+BodyRun-none b = record {
   on = λ rest bytes h. h;
   back = λ other whole all after tail r e. (whole, all, refl, refl, r);
   to_end = λ is. (refl, subst (λ (at : Body). RestOf at [] []) (sym is) refl);
@@ -42,7 +42,7 @@ none_both : (xs ys : List ℕ) → [] ≡ xs ++ ys → (xs ≡ []) × (ys ≡ []
 none_both [] ys e = (refl, sym e)
 none_both (x ∷ xs) ys e = absurd (cc e)
 
-ended_by : (b c : Body) (t y : List ℕ) → (b ≡ body.ToEnd → ⊥) → RestOf b [] [] → Leads b c t y → (t ≡ y) × RestOf c [] []
+ended_by : (b c : Body) (t y : List ℕ) → (b ≡ body.ToEnd → ⊥) → RestOf b [] [] → BodyRun b c t y → (t ≡ y) × RestOf c [] []
 ended_by b c t y other r k =
     let on = k.back other [] [] t [] r (sym (append-nil t)) in
     let texts = none_both t on.0 on.2 in
@@ -50,7 +50,7 @@ ended_by b c t y other r k =
     (texts.0 ∙ sym bytes.0, subst (λ (more : List ℕ). RestOf c [] more) bytes.1 (subst (λ (rest : List ℕ). RestOf c rest on.1) texts.1 on.4))
 
 -- where a body may end, what leads on gives what it takes, and the body may end there too
-ended : (b c : Body) (t y : List ℕ) → RestOf b [] [] → Leads b c t y → (t ≡ y) × RestOf c [] []
+ended : (b c : Body) (t y : List ℕ) → RestOf b [] [] → BodyRun b c t y → (t ≡ y) × RestOf c [] []
 ended body.ToEnd c t y r k = k.to_end refl
 ended body.Done c t y r k = ended_by body.Done c t y (λ is. absurd (cc is)) r k
 ended (body.Exactly n) c t y r k = ended_by (body.Exactly n) c t y (λ is. absurd (cc is)) r k
@@ -58,8 +58,8 @@ ended body.ChunkLine c t y r k = ended_by body.ChunkLine c t y (λ is. absurd (c
 ended (body.Chunk n) c t y r k = ended_by (body.Chunk n) c t y (λ is. absurd (cc is)) r k
 ended body.Trailers c t y r k = ended_by body.Trailers c t y (λ is. absurd (cc is)) r k
 
-pub Leads-chain : (a b c : Body) (s t x y : List ℕ) → Leads a b s x → Leads b c t y → Leads a c (s ++ t) (x ++ y)
-Leads-chain a b c s t x y h k = record {
+pub BodyRun-chain : (a b c : Body) (s t x y : List ℕ) → BodyRun a b s x → BodyRun b c t y → BodyRun a c (s ++ t) (x ++ y)
+BodyRun-chain a b c s t x y h k = record {
   on = λ rest bytes r.
       let whole = h.on (t ++ rest) (y ++ bytes) (k.on rest bytes r) in
       subst (λ (u : List ℕ). RestOf a u ((x ++ y) ++ bytes)) (sym (append_assoc s t rest)) (subst (λ (u : List ℕ). RestOf a (s ++ (t ++ rest)) u) (sym (append_assoc x y bytes)) whole);
@@ -80,10 +80,10 @@ Leads-chain a b c s t x y h k = record {
 }
 
 pub Moves-chain : (p q r : Option (List ℕ)) (u v w : Flow) (a b c : Body) (x y : List ℕ) → Moves p q u v a b x → Moves q r v w b c y → Moves p r u w a c (x ++ y)
-Moves-chain p q r u v w a b c x y h k = (h.0 ++ k.0, Passed-chain p q r u v w h.0 k.0 h.1 k.1, Leads-chain a b c h.0 k.0 x y h.2 k.2)
+Moves-chain p q r u v w a b c x y h k = (h.0 ++ k.0, Passed-chain p q r u v w h.0 k.0 h.1 k.1, BodyRun-chain a b c h.0 k.0 x y h.2 k.2)
 
 -- bytes of a body of a known length
-pub leads_exactly : (m n : ℕ) (text : List ℕ) → n + length text ≡ m → Leads (body.Exactly m) (body.Exactly n) text text
+pub leads_exactly : (m n : ℕ) (text : List ℕ) → n + length text ≡ m → BodyRun (body.Exactly m) (body.Exactly n) text text
 leads_exactly m n text len = record {
   on = λ rest bytes h. (ap (λ (u : List ℕ). text ++ u) h.0, length-append text bytes ∙ omega (arith, h.1));
   back = λ other whole all after tail h e.
@@ -95,7 +95,7 @@ leads_exactly m n text len = record {
 }
 
 -- a body of a known length, of which no byte is left
-pub leads_none_left : Leads (body.Exactly 0) body.Done [] []
+pub leads_none_left : BodyRun (body.Exactly 0) body.Done [] []
 leads_none_left = record {
   on = λ rest bytes h. (h.0 ∙ sym h.1, ap length h.1);
   back = λ other whole all after tail h e.
@@ -106,7 +106,7 @@ leads_none_left = record {
 }
 
 -- bytes of a body that goes to the end
-pub leads_to_end : (text : List ℕ) → Leads body.ToEnd body.ToEnd text text
+pub leads_to_end : (text : List ℕ) → BodyRun body.ToEnd body.ToEnd text text
 leads_to_end text = record {
   on = λ rest bytes h. ap (λ (u : List ℕ). text ++ u) h;
   back = λ other. absurd (other refl);
@@ -115,7 +115,7 @@ leads_to_end text = record {
 }
 
 -- and its end
-pub leads_at_end : Leads body.ToEnd body.Done [] []
+pub leads_at_end : BodyRun body.ToEnd body.Done [] []
 leads_at_end = record {
   on = λ rest bytes h. h.0 ∙ sym h.1;
   back = λ other. absurd (other refl);
@@ -124,7 +124,7 @@ leads_at_end = record {
 }
 
 -- bytes of a chunk
-pub leads_chunk : (m n : ℕ) (text : List ℕ) → n + length text ≡ m → Leads (body.Chunk m) (body.Chunk n) text text
+pub leads_chunk : (m n : ℕ) (text : List ℕ) → n + length text ≡ m → BodyRun (body.Chunk m) (body.Chunk n) text text
 leads_chunk m n text len = record {
   on = λ rest bytes h. (
     text ++ h.0,
@@ -150,7 +150,7 @@ leads_chunk m n text len = record {
 }
 
 -- the end of a chunk
-pub leads_end : Leads (body.Chunk 0) body.ChunkLine crlf_bytes []
+pub leads_end : BodyRun (body.Chunk 0) body.ChunkLine crlf_bytes []
 leads_end = record {
   on = λ rest bytes h. ([], rest, bytes, refl, h, refl, refl);
   back = λ other whole all after tail h e.
@@ -193,7 +193,7 @@ last_goes line last trailers after tail whole all (c ∷ cs) is each last_is tra
     absurd (omega (arith, size, first.0))
 
 -- the last chunk line
-pub leads_last : (line : List ℕ) (size : ℕ) → IsLine line size → size ≡ 0 → Leads body.ChunkLine body.Trailers line []
+pub leads_last : (line : List ℕ) (size : ℕ) → IsLine line size → size ≡ 0 → BodyRun body.ChunkLine body.Trailers line []
 leads_last line size is none = record {
   on = λ rest bytes h. record {
     chunks = [];
@@ -254,7 +254,7 @@ line_goes line last trailers after tail whole all size (c ∷ cs) is some each l
     first_of a b c f t = simp append_assoc
 
 -- another chunk line
-pub leads_line : (line : List ℕ) (size : ℕ) → IsLine line size → 0 < size → Leads body.ChunkLine (body.Chunk size) line []
+pub leads_line : (line : List ℕ) (size : ℕ) → IsLine line size → 0 < size → BodyRun body.ChunkLine (body.Chunk size) line []
 leads_line line size is some = record {
   on = λ rest bytes h.
       let c : Chunk = record { line = line; content = h.0 } in
@@ -280,12 +280,12 @@ leads_line line size is some = record {
     text_parts a b c r f t rest e g = ap (λ (u : List ℕ). a ++ u) (e ∙ ap (λ (u : List ℕ). b ++ (c ++ u)) g) ∙ simp append_assoc
 
 -- what a chunk line leads to
-pub leads_on : (line : List ℕ) (size : ℕ) (at : Body) → IsLine line size → (size ≡ 0 → at ≡ body.Trailers) → (0 < size → at ≡ body.Chunk size) → Leads body.ChunkLine at line []
-leads_on line zero at is last more = subst (λ (b : Body). Leads body.ChunkLine b line []) (sym (last refl)) (leads_last line zero is refl)
-leads_on line (suc n) at is last more = subst (λ (b : Body). Leads body.ChunkLine b line []) (sym (more (omega arith))) (leads_line line (suc n) is (omega arith))
+pub leads_on : (line : List ℕ) (size : ℕ) (at : Body) → IsLine line size → (size ≡ 0 → at ≡ body.Trailers) → (0 < size → at ≡ body.Chunk size) → BodyRun body.ChunkLine at line []
+leads_on line zero at is last more = subst (λ (b : Body). BodyRun body.ChunkLine b line []) (sym (last refl)) (leads_last line zero is refl)
+leads_on line (suc n) at is last more = subst (λ (b : Body). BodyRun body.ChunkLine b line []) (sym (more (omega arith))) (leads_line line (suc n) is (omega arith))
 
 -- the trailers
-pub leads_trailers : (text : List ℕ) → IsTrailers text → Leads body.Trailers body.Done text []
+pub leads_trailers : (text : List ℕ) → IsTrailers text → BodyRun body.Trailers body.Done text []
 leads_trailers text is = record {
   on = λ rest bytes h.
       (subst IsTrailers (sym (ap (λ (u : List ℕ). text ++ u) h.0 ∙ append-nil text)) is, h.1);
@@ -307,12 +307,12 @@ some_other None P Q h = tt
 some_other (Some x) P Q h = inr h
 
 -- a line that is no chunk line breaks the body
-pub line_breaks : (n : ℕ) (bytes read : List ℕ) (left : Option (List ℕ)) → read ≡ bytes → Reaches Last 4096 (take n bytes) (length (take n bytes)) → ((l : ChunkLine) → ReadsChunkLine (take n read) l [] → ⊥) → IfSome (stream bytes left) (Breaks body.ChunkLine)
+pub line_breaks : (n : ℕ) (bytes read : List ℕ) (left : Option (List ℕ)) → read ≡ bytes → Reaches Last 4096 (take n bytes) (length (take n bytes)) → ((l : ChunkLine) → ReadsChunkLine (take n read) l [] → ⊥) → IfSome (stream bytes left) (IsMalformed body.ChunkLine)
 line_breaks n bytes read left same found none =
     some_other (stream bytes left) (λ x. (4096 ≤ length x) × Lacks Last 4096 x) (λ x. Begins x IsBadLine) (begins_stream IsBadLine n bytes left (found, subst (λ (xs : List ℕ). (l : ChunkLine) → ReadsChunkLine (take n xs) l [] → ⊥) same none))
 
 -- the same of trailers
-pub trailers_break : (n : ℕ) (bytes read : List ℕ) (left : Option (List ℕ)) → read ≡ bytes → Reaches Next 16384 (take n bytes) (length (take n bytes)) → ((fields : List Field) (last : LineEnd) → ReadsSection (take n read) fields last [] → 64 < length fields) → IfSome (stream bytes left) (Breaks body.Trailers)
+pub trailers_break : (n : ℕ) (bytes read : List ℕ) (left : Option (List ℕ)) → read ≡ bytes → Reaches Next 16384 (take n bytes) (length (take n bytes)) → ((fields : List Field) (last : LineEnd) → ReadsSection (take n read) fields last [] → 64 < length fields) → IfSome (stream bytes left) (IsMalformed body.Trailers)
 trailers_break n bytes read left same found none =
     some_other (stream bytes left) (λ x. (16384 ≤ length x) × Lacks Next 16384 x) (λ x. Begins x IsBadTrailers) (begins_stream IsBadTrailers n bytes left (found, subst (λ (xs : List ℕ). (fields : List Field) (last : LineEnd) → ReadsSection (take n xs) fields last [] → 64 < length fields) same none))
 

@@ -15,50 +15,50 @@ use Rattle.http_wire.specs.declared.head.Piece.{Piece}
 use Rattle.http_wire.specs.declared.head.Framing.{Framing}
 use Rattle.http_wire.specs.declared.line_state.LineState.TheVariants.{Start}
 use Rattle.http_wire.specs.Heads.{HeadSays, IsHeadOf, IsFirstOf}
-use Rattle.http_wire.specs.Bodies.{Chunk, print_chunk, content_of, IsChunk, IsChunked, IsLine, IsTrailers, RestOf, Leads}
+use Rattle.http_wire.specs.Bodies.{Chunk, print_chunk, content_of, IsChunk, IsChunked, IsLine, IsTrailers, RestOf, BodyRun}
 use Rattle.http_wire.specs.Wires.{body_of}
 use Rattle.http_wire.specs.Speaking.{Request, IsRequest, text_of, Speaks, HasNoRequest, Last, Nothing, Refused, Unfinished, IsOpen, ClosesAtLast, GoesOn, place_behind}
 use Rattle.http_wire.specs.Readings.{bytes_at, SaysSame, AreFirst, OneReading, IsLongest, IsFinished, SpeaksToNoMore}
 use Rattle.http_wire.proofs.Framings.{request_ends}
 use Rattle.http_wire.proofs.Passing.{one_text}
-use Rattle.http_wire.proofs.Leading.{Leads-chain, leads_chunk, leads_end, leads_on, leads_trailers}
+use Rattle.http_wire.proofs.Leading.{BodyRun-chain, leads_chunk, leads_end, leads_on, leads_trailers}
 
 -- a chunked body leads to its end
 leads_chunks : (chunks : List Chunk) (last trailers : List ℕ) → All IsChunk chunks → IsLine last 0 → IsTrailers trailers
-    → Leads body.ChunkLine body.Done (flat_map print_chunk chunks ++ (last ++ trailers)) (flat_map content_of chunks)
+    → BodyRun body.ChunkLine body.Done (flat_map print_chunk chunks ++ (last ++ trailers)) (flat_map content_of chunks)
 leads_chunks [] last trailers each last_is are =
-    Leads-chain body.ChunkLine body.Trailers body.Done last trailers [] []
+    BodyRun-chain body.ChunkLine body.Trailers body.Done last trailers [] []
     (leads_on last 0 body.Trailers last_is (λ e. refl) (λ some. absurd (omega (arith, some)))) (leads_trailers trailers are)
 leads_chunks (c ∷ cs) last trailers each last_is are =
     let first : IsChunk c = All-head IsChunk c cs each in
     let size = length c.content in
     let others = flat_map print_chunk cs ++ (last ++ trailers) in
     let more = leads_chunks cs last trailers (All-tail IsChunk c cs each) last_is are in
-    let at_end = Leads-chain (body.Chunk 0) body.ChunkLine body.Done crlf_bytes others [] (flat_map content_of cs) leads_end more in
-    let at_content = Leads-chain (body.Chunk size) (body.Chunk 0) body.Done c.content (crlf_bytes ++ others) c.content (flat_map content_of cs) (leads_chunk size 0 c.content (omega arith)) at_end in
+    let at_end = BodyRun-chain (body.Chunk 0) body.ChunkLine body.Done crlf_bytes others [] (flat_map content_of cs) leads_end more in
+    let at_content = BodyRun-chain (body.Chunk size) (body.Chunk 0) body.Done c.content (crlf_bytes ++ others) c.content (flat_map content_of cs) (leads_chunk size 0 c.content (omega arith)) at_end in
     let line = leads_on c.line size (body.Chunk size) first.1 (λ none. absurd (omega (arith, none, first.0))) (λ some. refl) in
-    let whole = Leads-chain body.ChunkLine (body.Chunk size) body.Done c.line (c.content ++ (crlf_bytes ++ others)) [] (c.content ++ flat_map content_of cs) line at_content in
-    subst (λ (t : List ℕ). Leads body.ChunkLine body.Done t (c.content ++ flat_map content_of cs)) (pieces c.line c.content crlf_bytes (flat_map print_chunk cs) (last ++ trailers)) whole
+    let whole = BodyRun-chain body.ChunkLine (body.Chunk size) body.Done c.line (c.content ++ (crlf_bytes ++ others)) [] (c.content ++ flat_map content_of cs) line at_content in
+    subst (λ (t : List ℕ). BodyRun body.ChunkLine body.Done t (c.content ++ flat_map content_of cs)) (pieces c.line c.content crlf_bytes (flat_map print_chunk cs) (last ++ trailers)) whole
   where
     pieces : (a b c f t : List ℕ) → a ++ (b ++ (c ++ (f ++ t))) ≡ ((a ++ (b ++ c)) ++ f) ++ t
     pieces a b c f t = simp append_assoc
 
-leads_chunked : (text bytes : List ℕ) → IsChunked text bytes → Leads body.ChunkLine body.Done text bytes
+leads_chunked : (text bytes : List ℕ) → IsChunked text bytes → BodyRun body.ChunkLine body.Done text bytes
 leads_chunked text bytes is =
-    subst (λ (t : List ℕ). Leads body.ChunkLine body.Done t bytes) (sym is.text_is)
-    (subst (λ (b : List ℕ). Leads body.ChunkLine body.Done (flat_map print_chunk is.chunks ++ (is.last ++ is.trailers)) b) (sym is.bytes_are)
+    subst (λ (t : List ℕ). BodyRun body.ChunkLine body.Done t bytes) (sym is.text_is)
+    (subst (λ (b : List ℕ). BodyRun body.ChunkLine body.Done (flat_map print_chunk is.chunks ++ (is.last ++ is.trailers)) b) (sym is.bytes_are)
     (leads_chunks is.chunks is.last is.trailers is.each is.last_line is.rest))
 
 -- the rest of a chunk, and what follows it, lead to the end
-leads_rest : (n : ℕ) (text bytes : List ℕ) → RestOf (body.Chunk n) text bytes → Leads (body.Chunk n) body.Done text bytes
+leads_rest : (n : ℕ) (text bytes : List ℕ) → RestOf (body.Chunk n) text bytes → BodyRun (body.Chunk n) body.Done text bytes
 leads_rest n text bytes is =
-    let at_end = Leads-chain (body.Chunk 0) body.ChunkLine body.Done crlf_bytes is.1 [] is.2 leads_end (leads_chunked is.1 is.2 is.4) in
-    let whole = Leads-chain (body.Chunk n) (body.Chunk 0) body.Done is.0 (crlf_bytes ++ is.1) is.0 is.2 (leads_chunk n 0 is.0 (omega (arith, is.3))) at_end in
-    subst (λ (t : List ℕ). Leads (body.Chunk n) body.Done t bytes) (sym is.5)
-    (subst (λ (b : List ℕ). Leads (body.Chunk n) body.Done (is.0 ++ (crlf_bytes ++ is.1)) b) (sym is.6) whole)
+    let at_end = BodyRun-chain (body.Chunk 0) body.ChunkLine body.Done crlf_bytes is.1 [] is.2 leads_end (leads_chunked is.1 is.2 is.4) in
+    let whole = BodyRun-chain (body.Chunk n) (body.Chunk 0) body.Done is.0 (crlf_bytes ++ is.1) is.0 is.2 (leads_chunk n 0 is.0 (omega (arith, is.3))) at_end in
+    subst (λ (t : List ℕ). BodyRun (body.Chunk n) body.Done t bytes) (sym is.5)
+    (subst (λ (b : List ℕ). BodyRun (body.Chunk n) body.Done (is.0 ++ (crlf_bytes ++ is.1)) b) (sym is.6) whole)
 
 -- two texts that are the whole of what is to come of a body
-one_whole : (at : Body) (s t u v after rest : List ℕ) → (at ≡ body.ToEnd → ⊥) → RestOf at s u → Leads at body.Done t v → s ++ after ≡ t ++ rest → (s ≡ t) × (u ≡ v)
+one_whole : (at : Body) (s t u v after rest : List ℕ) → (at ≡ body.ToEnd → ⊥) → RestOf at s u → BodyRun at body.Done t v → s ++ after ≡ t ++ rest → (s ≡ t) × (u ≡ v)
 one_whole at s t u v after rest other is leads e =
     let on = leads.back other s u after rest is e in
     let text : s ≡ t = on.2 ∙ ap (λ (r : List ℕ). t ++ r) on.4.0 ∙ append-nil t in
@@ -76,7 +76,7 @@ one_body f s t u v after rest bound is other e = by (body_of f) bound is other
         (same, sym is.0 ∙ same ∙ other.0)
     by body.ChunkLine bound is other = one_whole body.ChunkLine s t u v after rest bound is (leads_chunked t v other) e
     by (body.Chunk n) bound is other = one_whole (body.Chunk n) s t u v after rest bound is (leads_rest n t v other) e
-    by body.Trailers bound is other = one_whole body.Trailers s t u v after rest bound is (subst (λ (b : List ℕ). Leads body.Trailers body.Done t b) (sym other.1) (leads_trailers t other.0)) e
+    by body.Trailers bound is other = one_whole body.Trailers s t u v after rest bound is (subst (λ (b : List ℕ). BodyRun body.Trailers body.Done t b) (sym other.1) (leads_trailers t other.0)) e
     by body.ToEnd bound is other = absurd (bound refl)
 
 -- a place of the same bytes

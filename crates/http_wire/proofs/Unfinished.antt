@@ -10,7 +10,7 @@ use Rattle.http_wire.specs.declared.body.Body.TheVariants as body
 use Rattle.http_wire.specs.declared.head.Head.{Head}
 use Rattle.http_wire.specs.declared.line_state.LineState.TheVariants.{Start, Next, Last}
 use Rattle.http_wire.specs.Heads.{HeadSays, framing_of, headers_of}
-use Rattle.http_wire.specs.Bodies.{IsLine, IsChunked, Chunk, print_chunk, IsChunk, RestOf, Stops, Breaks, IsBadEnd}
+use Rattle.http_wire.specs.Bodies.{IsLine, IsChunked, Chunk, print_chunk, IsChunk, RestOf, EndsEarly, IsMalformed, IsBadEnd}
 use Rattle.http_wire.specs.Wires.{body_of}
 use Rattle.http_wire.specs.Speaking.{HasNoRequest, Begun, IsBegun}
 use Rattle.http_wire.proofs.Framings.{request_ends}
@@ -49,13 +49,13 @@ two_bytes : (content rest text after tail : List ℕ) → text ≡ content ++ (c
 two_bytes content rest text after tail is e =
     omega (arith, ap length e, length-append text after, ap length is, length-append content (crlf_bytes ++ rest), length-append crlf_bytes rest)
 
-few_bytes : (n : ℕ) (tail : List ℕ) → Stops (body.Chunk n) tail → length tail ≤ 1
+few_bytes : (n : ℕ) (tail : List ℕ) → EndsEarly (body.Chunk n) tail → length tail ≤ 1
 few_bytes n tail (inl none) = omega (arith, ap length none)
 few_bytes n tail (inr (zero_left, inl none)) = omega (arith, ap length none)
 few_bytes n tail (inr (zero_left, inr one)) = omega (arith, ap length one)
 
 -- where the stream stops inside a body, it doesn't hold the body's rest
-pub stops_short : (at : Body) (rest more after tail : List ℕ) → (at ≡ body.ToEnd → ⊥) → RestOf at rest more → rest ++ after ≡ tail → Stops at tail → ⊥
+pub stops_short : (at : Body) (rest more after tail : List ℕ) → (at ≡ body.ToEnd → ⊥) → RestOf at rest more → rest ++ after ≡ tail → EndsEarly at tail → ⊥
 stops_short body.Done rest more after tail bound r e stops = stops
 stops_short (body.Exactly n) rest more after tail bound r e stops =
     omega (arith, stops.0, r.1, ap length r.0, ap length e, ap length stops.1, length-append rest after)
@@ -74,7 +74,7 @@ not_bad_end x rest e (first, others, inl (is, differs)) = differs (ap (λ (l : L
 not_bad_end x rest e (second, others, inr (is, differs)) = differs (ap (λ (l : List ℕ). get_or l 1 0) (sym is ∙ e))
 
 -- where a body breaks, its rest doesn't stand
-pub breaks_short : (at : Body) (rest more after tail : List ℕ) → RestOf at rest more → rest ++ after ≡ tail → Breaks at tail → ⊥
+pub breaks_short : (at : Body) (rest more after tail : List ℕ) → RestOf at rest more → rest ++ after ≡ tail → IsMalformed at tail → ⊥
 breaks_short body.Done rest more after tail r e breaks = breaks
 breaks_short (body.Exactly n) rest more after tail r e breaks = breaks
 breaks_short body.ChunkLine rest more after tail r e (inl long) =
@@ -103,7 +103,7 @@ one_framing text a b h k =
     let framings : Some a.framing ≡ Some b.framing = sym h.3.framing ∙ ap (λ (r : RequestHead). framing_of (headers_of r)) same ∙ k.3.framing in
     cc framings
 
-pub no_whole_request : (x tail : List ℕ) (b : Begun) → IsBegun b → x ≡ b.head ++ (b.framed ++ tail) → Stops b.at tail ⊎ Breaks b.at tail → HasNoRequest x
+pub no_whole_request : (x tail : List ℕ) (b : Begun) → IsBegun b → x ≡ b.head ++ (b.framed ++ tail) → EndsEarly b.at tail ⊎ IsMalformed b.at tail → HasNoRequest x
 no_whole_request x tail b is e ends = λ r after also f.
     let parts : x ≡ r.head ++ (r.framed ++ after) = f ∙ append_assoc r.head r.framed after in
     let heads : r.head ≡ b.head = one_text Start 16384 x r.head b.head (r.framed ++ after) (b.framed ++ tail) parts e also.lines is.lines in

@@ -70,7 +70,7 @@ GoesOnFrom before now text given = (whole all after tail : List ℕ) → RestOf 
 
 -- this text leads from there to there, and gives these bytes of the body. Each front of a body that goes to the end is
 -- one as well, so that of such a one it is said what is given, and that the body may end there; no other body becomes one
-pub record Leads (before now : Body) (text given : List ℕ) : Type 0 where
+pub record BodyRun (before now : Body) (text given : List ℕ) : Type 0 where
   pub on : (rest bytes : List ℕ) → RestOf now rest bytes → RestOf before (text ++ rest) (given ++ bytes)
   pub back : (before ≡ body.ToEnd → ⊥) → GoesOnFrom before now text given
   pub to_end : before ≡ body.ToEnd → (text ≡ given) × RestOf now [] []
@@ -91,31 +91,31 @@ IsEndOf bytes Wrong = IsBadEnd bytes
 IsEndOf bytes Part = IsPartOfEnd bytes
 
 -- what stands there is no body
-abbrev pub Breaks : Body → List ℕ → Type 0
-Breaks body.Done x = ⊥
-Breaks (body.Exactly n) x = ⊥
-Breaks body.ChunkLine x = ((4096 ≤ length x) × Lacks Last 4096 x) ⊎ Begins x IsBadLine
-Breaks (body.Chunk n) x = (n ≡ 0) × IsBadEnd x
-Breaks body.Trailers x = ((16384 ≤ length x) × Lacks Next 16384 x) ⊎ Begins x IsBadTrailers
-Breaks body.ToEnd x = ⊥
+abbrev pub IsMalformed : Body → List ℕ → Type 0
+IsMalformed body.Done x = ⊥
+IsMalformed (body.Exactly n) x = ⊥
+IsMalformed body.ChunkLine x = ((4096 ≤ length x) × Lacks Last 4096 x) ⊎ Begins x IsBadLine
+IsMalformed (body.Chunk n) x = (n ≡ 0) × IsBadEnd x
+IsMalformed body.Trailers x = ((16384 ≤ length x) × Lacks Next 16384 x) ⊎ Begins x IsBadTrailers
+IsMalformed body.ToEnd x = ⊥
 
 -- the stream ends inside the body, or nothing more stands there of one that goes to the end
-abbrev pub Stops : Body → List ℕ → Type 0
-Stops body.Done x = ⊥
-Stops (body.Exactly n) x = (0 < n) × (x ≡ [])
-Stops body.ChunkLine x = (length x < 4096) × Lacks Last 4096 x
-Stops (body.Chunk n) x = (x ≡ []) ⊎ ((n ≡ 0) × IsPartOfEnd x)
-Stops body.Trailers x = (length x < 16384) × Lacks Next 16384 x
-Stops body.ToEnd x = x ≡ []
+abbrev pub EndsEarly : Body → List ℕ → Type 0
+EndsEarly body.Done x = ⊥
+EndsEarly (body.Exactly n) x = (0 < n) × (x ≡ [])
+EndsEarly body.ChunkLine x = (length x < 4096) × Lacks Last 4096 x
+EndsEarly (body.Chunk n) x = (x ≡ []) ⊎ ((n ≡ 0) × IsPartOfEnd x)
+EndsEarly body.Trailers x = (length x < 16384) × Lacks Next 16384 x
+EndsEarly body.ToEnd x = x ≡ []
 
 -- the stream as it moves from one place in a body to another, and the bytes of the body that are given on the way
 abbrev pub Moves : Option (List ℕ) → Option (List ℕ) → Flow → Flow → Body → Body → List ℕ → Type 0
-Moves before now old new from to given = (text : List ℕ) × Passed before now old new text × Leads from to text given
+Moves before now old new from to given = (text : List ℕ) × Passed before now old new text × BodyRun from to text given
 
 -- why no more of a body is given
 abbrev pub StopSays : Option (List ℕ) → Body → Stop → Type 0
-StopSays x at Cut = IfSome x (Stops at)
-StopSays x at Broken = IfSome x (Breaks at)
+StopSays x at Cut = IfSome x (EndsEarly at)
+StopSays x at Broken = IfSome x (IsMalformed at)
 StopSays x at Failed = Unit {0}
 
 -- no end of a chunk stands there

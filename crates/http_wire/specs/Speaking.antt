@@ -7,7 +7,7 @@ use Rattle.http_wire.specs.declared.ends.WireEnd.TheVariants as ends
 use Rattle.http_wire.specs.declared.head.Head.{Head}
 use Rattle.http_wire.specs.Stream.{counted}
 use Rattle.http_wire.specs.Heads.{IsHeadText, HeadSays}
-use Rattle.http_wire.specs.Bodies.{RestOf, Leads}
+use Rattle.http_wire.specs.Bodies.{RestOf, BodyRun}
 use Rattle.http_wire.specs.Wires.{body_of, HeadEnds}
 
 -- a whole request: the text of its head, what that says, the text of its body, and the bytes that this text is
@@ -45,7 +45,7 @@ pub record Begun : Type 0 where
 pub record IsBegun (b : Begun) : Type 0 where
   pub lines : IsHeadText b.head
   pub read : HeadSays b.head (Ok b.says)
-  pub leads : Leads (body_of b.says.framing) b.at b.framed b.given
+  pub leads : BodyRun (body_of b.says.framing) b.at b.framed b.given
 
 -- what is answered behind the whole requests: nothing, a head that is refused, or a request that isn't read to its end
 pub data Last : Type 0 where

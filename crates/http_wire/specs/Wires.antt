@@ -13,7 +13,7 @@ use Rattle.http_wire.specs.Lines.{Lacks}
 use Rattle.http_wire.specs.Stream.{Flow, Begins, stream}
 use Rattle.http_wire.specs.Heads.{IsHeadText, HeadSays}
 use Rattle.http_wire.specs.ReplyHeads.{ReplySays}
-use Rattle.http_wire.specs.Bodies.{Stops, Breaks}
+use Rattle.http_wire.specs.Bodies.{EndsEarly, IsMalformed}
 
 -- what was read ahead, the text of the present head, how many bytes of the stream were taken before it, and what is to come of the body
 pub record WireView : Type 0 where
@@ -73,8 +73,8 @@ ReplyEnds = MessageEnds Reply
 -- why no more of a body was given, where the request began at that place
 abbrev pub BodyEnds : Option (List ℕ) → Body → ℕ → WireEnd → Type 0
 BodyEnds x at place ends.Closed = ⊥
-BodyEnds x at place (ends.Cut n) = (n ≡ place) × IfSome x (Stops at)
+BodyEnds x at place (ends.Cut n) = (n ≡ place) × IfSome x (EndsEarly at)
 BodyEnds x at place (ends.BadHead n) = ⊥
-BodyEnds x at place (ends.BadLength n) = (n ≡ place) × IfSome x (Breaks at)
+BodyEnds x at place (ends.BadLength n) = (n ≡ place) × IfSome x (IsMalformed at)
 BodyEnds x at place (ends.TooLong limit) = ⊥
 BodyEnds x at place ends.ReadFault = Unit {0}

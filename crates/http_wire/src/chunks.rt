@@ -3,7 +3,7 @@ ghost use Rattle.std.specs.Prelude.{◌≡◌, ◌<◌, ◌≤◌, List, ℕ, le
 ghost use Rattle.edge_base.specs.Edge.{Rose};
 ghost use Rattle.http_wire.specs.Stream.{stream, Passed, AtEnd};
 ghost use Rattle.httparse.specs.Grammar.{ChunkLine, ReadsChunkLine, chunk_size};
-ghost use Rattle.http_wire.specs.Bodies.{IsLine, Stops, Breaks};
+ghost use Rattle.http_wire.specs.Bodies.{IsLine, EndsEarly, IsMalformed};
 ghost use Rattle.http_wire.specs.declared.body.Body.TheVariants as body;
 
 use crate::ahead::ReadAhead;
@@ -18,10 +18,10 @@ pub fn take_line<S: Source>(ahead: &mut ReadAhead, source: &mut S) -> Result<u64
     ensures ok { IfOk result (λ size. (text : List ℕ)
         × Passed (S.left source.old) (S.left source.new) ahead.old ahead.new text × IsLine text size) }
     ensures err { OnErr result (Passed (S.left source.old) (S.left source.new) ahead.old ahead.new []) }
-    ensures cut { IsErrOf result Stop.Cut → IfSome (stream ahead.new.bytes (S.left source.new)) (Stops body.ChunkLine) }
+    ensures cut { IsErrOf result Stop.Cut → IfSome (stream ahead.new.bytes (S.left source.new)) (EndsEarly body.ChunkLine) }
     ensures broken { IsErrOf result Stop.Broken
-        → IfSome (stream ahead.new.bytes (S.left source.new)) (Breaks body.ChunkLine) }
-    ensures short { IsErrOf result Stop.Failed → Stops body.ChunkLine ahead.new.bytes }
+        → IfSome (stream ahead.new.bytes (S.left source.new)) (IsMalformed body.ChunkLine) }
+    ensures short { IsErrOf result Stop.Failed → EndsEarly body.ChunkLine ahead.new.bytes }
     ensures fault { IsErrOf result Stop.Failed → Rose (S.faults source.old) (S.faults source.new) }
     ensures later { S.faults source.old ≤ S.faults source.new }
 {

@@ -6,7 +6,7 @@ ghost use Rattle.http_wire.specs.Lines.{Reaches};
 ghost use Rattle.http_wire.specs.Speaking.{Request, IsRequest, Speaks, text_of, HasNoRequest, IsOpen, SpeaksTo};
 ghost use Rattle.http_wire.specs.Speaking.{place_behind, last_of, Begun, IsBegun};
 ghost use Rattle.http_wire.specs.Readings.{OneReading, IsLongest, SpeaksToNoMore};
-ghost use Rattle.http_wire.specs.Bodies.{Stops, Breaks};
+ghost use Rattle.http_wire.specs.Bodies.{EndsEarly, IsMalformed};
 ghost use Rattle.http_wire.specs.Wires.{HeadEnds, LacksHead};
 ghost use Rattle.http_wire.specs.declared.ends.WireEnd.{WireEnd};
 ghost use Rattle.http_wire.specs.declared.line_state.LineState.{LineState};
@@ -57,7 +57,7 @@ pub fn short_heads_begin_no_request()
 /// none does in what was read when a read of that body failed.
 pub fn unfinished_bodies_begin_no_request()
     ensures { (x tail : List ℕ) (b : Begun) → IsBegun b → x ≡ b.head ++ (b.framed ++ tail)
-        → Stops b.at tail ⊎ Breaks b.at tail → HasNoRequest x }
+        → EndsEarly b.at tail ⊎ IsMalformed b.at tail → HasNoRequest x }
 {}
 
 /// Where no head is read behind requests that leave the connection open, and no read failed, that is how the stream's

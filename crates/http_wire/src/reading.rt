@@ -2,7 +2,7 @@
 ghost use Rattle.std.specs.Prelude.{◌≡◌, ◌<◌, ◌≤◌, ◌⊎◌, [], length, take, Ok, IfOk, IfErr, IfSome, OnOk, OnErr, IsErrOf};
 ghost use Rattle.edge_base.specs.Edge.{Rose};
 ghost use Rattle.http_wire.specs.Stream.{stream, Passed};
-ghost use Rattle.http_wire.specs.Bodies.{Moves, Leads, Stops, StopSays, IsPastEnd, IsPastLine, IsReady, given_by};
+ghost use Rattle.http_wire.specs.Bodies.{Moves, BodyRun, EndsEarly, StopSays, IsPastEnd, IsPastLine, IsReady, given_by};
 
 use crate::ahead::ReadAhead;
 use crate::body::Body;
@@ -29,7 +29,7 @@ pub fn read_body<S: Source>(
     ensures stays { body.old ≡ Body.ToEnd → (body.new ≡ Body.ToEnd) ⊎ (body.new ≡ Body.Done) }
     ensures ended { body.old ≡ Body.ToEnd → body.new ≡ Body.Done
         → IfSome (stream ahead.new.bytes (S.left source.new)) (λ x. x ≡ []) }
-    ensures short { IsErrOf result Stop.Failed → Stops body.new ahead.new.bytes }
+    ensures short { IsErrOf result Stop.Failed → EndsEarly body.new ahead.new.bytes }
     ensures fault { IsErrOf result Stop.Failed → Rose (S.faults source.old) (S.faults source.new) }
     ensures later { S.faults source.old ≤ S.faults source.new }
 {
@@ -45,7 +45,7 @@ fn get_ready<S: Source>(ahead: &mut ReadAhead, source: &mut S, body: &mut Body) 
     ensures past { OnOk result (IsReady body.new) }
     ensures stays { body.old ≡ Body.ToEnd → (result ≡ Ok tt) × (body.new ≡ Body.ToEnd) }
     ensures err { IfErr result (λ stop. StopSays (stream ahead.new.bytes (S.left source.new)) body.new stop) }
-    ensures short { IsErrOf result Stop.Failed → Stops body.new ahead.new.bytes }
+    ensures short { IsErrOf result Stop.Failed → EndsEarly body.new ahead.new.bytes }
     ensures fault { IsErrOf result Stop.Failed → Rose (S.faults source.old) (S.faults source.new) }
     ensures later { S.faults source.old ≤ S.faults source.new }
 {
@@ -61,7 +61,7 @@ fn pass_end<S: Source>(ahead: &mut ReadAhead, source: &mut S, body: &mut Body) -
     ensures past { OnOk result (IsPastEnd body.new) }
     ensures stays { body.old ≡ Body.ToEnd → (result ≡ Ok tt) × (body.new ≡ Body.ToEnd) }
     ensures err { IfErr result (λ stop. StopSays (stream ahead.new.bytes (S.left source.new)) body.new stop) }
-    ensures short { IsErrOf result Stop.Failed → Stops body.new ahead.new.bytes }
+    ensures short { IsErrOf result Stop.Failed → EndsEarly body.new ahead.new.bytes }
     ensures fault { IsErrOf result Stop.Failed → Rose (S.faults source.old) (S.faults source.new) }
     ensures later { S.faults source.old ≤ S.faults source.new }
 {
@@ -85,7 +85,7 @@ fn pass_line<S: Source>(ahead: &mut ReadAhead, source: &mut S, body: &mut Body) 
     ensures past { OnOk result (IsPastLine body.new) }
     ensures stays { body.old ≡ Body.ToEnd → (result ≡ Ok tt) × (body.new ≡ Body.ToEnd) }
     ensures err { IfErr result (λ stop. StopSays (stream ahead.new.bytes (S.left source.new)) body.new stop) }
-    ensures short { IsErrOf result Stop.Failed → Stops body.new ahead.new.bytes }
+    ensures short { IsErrOf result Stop.Failed → EndsEarly body.new ahead.new.bytes }
     ensures fault { IsErrOf result Stop.Failed → Rose (S.faults source.old) (S.faults source.new) }
     ensures later { S.faults source.old ≤ S.faults source.new }
 {
@@ -122,7 +122,7 @@ fn pass_trailers<S: Source>(
     ensures past { OnOk result (IsReady body.new) }
     ensures stays { body.old ≡ Body.ToEnd → (result ≡ Ok tt) × (body.new ≡ Body.ToEnd) }
     ensures err { IfErr result (λ stop. StopSays (stream ahead.new.bytes (S.left source.new)) body.new stop) }
-    ensures short { IsErrOf result Stop.Failed → Stops body.new ahead.new.bytes }
+    ensures short { IsErrOf result Stop.Failed → EndsEarly body.new ahead.new.bytes }
     ensures fault { IsErrOf result Stop.Failed → Rose (S.faults source.old) (S.faults source.new) }
     ensures later { S.faults source.old ≤ S.faults source.new }
 {
@@ -153,7 +153,7 @@ fn give<S: Source>(
     ensures stays { body.old ≡ Body.ToEnd → (body.new ≡ Body.ToEnd) ⊎ (body.new ≡ Body.Done) }
     ensures ended { body.old ≡ Body.ToEnd → body.new ≡ Body.Done
         → IfSome (stream ahead.new.bytes (S.left source.new)) (λ x. x ≡ []) }
-    ensures short { IsErrOf result Stop.Failed → Stops body.new ahead.new.bytes }
+    ensures short { IsErrOf result Stop.Failed → EndsEarly body.new ahead.new.bytes }
     ensures fault { IsErrOf result Stop.Failed → Rose (S.faults source.old) (S.faults source.new) }
     ensures later { S.faults source.old ≤ S.faults source.new }
 {

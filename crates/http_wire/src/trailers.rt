@@ -3,7 +3,7 @@ ghost use Rattle.std.specs.Prelude.{◌≡◌, ◌<◌, ◌≤◌, ℕ, [], List
 ghost use Rattle.edge_base.specs.Edge.{Rose};
 ghost use Rattle.httparse.specs.Grammar.{Field, LineEnd, ReadsSection};
 ghost use Rattle.http_wire.specs.Stream.{stream, Passed};
-ghost use Rattle.http_wire.specs.Bodies.{IsTrailers, Stops, Breaks};
+ghost use Rattle.http_wire.specs.Bodies.{IsTrailers, EndsEarly, IsMalformed};
 ghost use Rattle.http_wire.specs.declared.body.Body.TheVariants as body;
 
 use crate::ahead::ReadAhead;
@@ -19,10 +19,10 @@ pub fn take_trailers<S: Source>(ahead: &mut ReadAhead, source: &mut S) -> Result
     ensures ok { OnOk result ((text : List ℕ)
         × Passed (S.left source.old) (S.left source.new) ahead.old ahead.new text × IsTrailers text) }
     ensures err { OnErr result (Passed (S.left source.old) (S.left source.new) ahead.old ahead.new []) }
-    ensures cut { IsErrOf result Stop.Cut → IfSome (stream ahead.new.bytes (S.left source.new)) (Stops body.Trailers) }
+    ensures cut { IsErrOf result Stop.Cut → IfSome (stream ahead.new.bytes (S.left source.new)) (EndsEarly body.Trailers) }
     ensures broken { IsErrOf result Stop.Broken
-        → IfSome (stream ahead.new.bytes (S.left source.new)) (Breaks body.Trailers) }
-    ensures short { IsErrOf result Stop.Failed → Stops body.Trailers ahead.new.bytes }
+        → IfSome (stream ahead.new.bytes (S.left source.new)) (IsMalformed body.Trailers) }
+    ensures short { IsErrOf result Stop.Failed → EndsEarly body.Trailers ahead.new.bytes }
     ensures fault { IsErrOf result Stop.Failed → Rose (S.faults source.old) (S.faults source.new) }
     ensures later { S.faults source.old ≤ S.faults source.new }
 {

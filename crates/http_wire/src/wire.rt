@@ -4,7 +4,7 @@ ghost use Rattle.edge_base.specs.Edge.{Rose};
 ghost use Rattle.http_wire.specs.Stream.{Passed};
 ghost use Rattle.http_wire.specs.Heads.{IsHeadText, HeadSays, IsPlaceIn};
 ghost use Rattle.http_wire.specs.ReplyHeads.{ReplySays};
-ghost use Rattle.http_wire.specs.Bodies.{Moves, Stops, given_by};
+ghost use Rattle.http_wire.specs.Bodies.{Moves, EndsEarly, given_by};
 ghost use Rattle.http_wire.specs.Wires.{to_come, body_of, HeadEnds, ReplyEnds, BodyEnds, LacksHead};
 
 use crate::ahead::ReadAhead;
@@ -94,7 +94,7 @@ impl Wire {
         ensures stays { self.old.body ≡ Body.ToEnd → (self.new.body ≡ Body.ToEnd) ⊎ (self.new.body ≡ Body.Done) }
         ensures ended { self.old.body ≡ Body.ToEnd → self.new.body ≡ Body.Done
             → IfSome (to_come self.new (S.left source.new)) (λ left. left ≡ []) }
-        ensures short { IsErrOf result WireEnd.ReadFault → Stops self.new.body self.new.flow.bytes }
+        ensures short { IsErrOf result WireEnd.ReadFault → EndsEarly self.new.body self.new.flow.bytes }
         ensures fault { IsErrOf result WireEnd.ReadFault → Rose (S.faults source.old) (S.faults source.new) }
         ensures later { S.faults source.old ≤ S.faults source.new }
     {

@@ -8,7 +8,7 @@ use Rattle.http_wire.specs.declared.body.Body.TheVariants as body
 use Rattle.http_wire.specs.declared.ends.WireEnd.{WireEnd}
 use Rattle.http_wire.specs.declared.ends.WireEnd.TheVariants as ends
 use Rattle.http_wire.specs.Stream.{AtEnd}
-use Rattle.http_wire.specs.Bodies.{Leads, Moves}
+use Rattle.http_wire.specs.Bodies.{BodyRun, Moves}
 use Rattle.http_wire.specs.Wires.{WireView, to_come, BodyEnds}
 use Rattle.http_wire.proofs.Leading.{Moves-chain}
 use Rattle.peer_http.specs.declared.gathering.ReplyFault.{ReplyFault}
@@ -66,7 +66,7 @@ last_read q r u v w given goes moved ended is = either (goes is)
     either (inr done) = at_end_stays (to_come v q) (to_come w r) moved.0 done.1 moved.1.gave
 
 -- behind a body's end nothing is given
-nothing_more : (at : Body) (text given : List ℕ) → Leads body.Done at text given → given ≡ []
+nothing_more : (at : Body) (text given : List ℕ) → BodyRun body.Done at text given → given ≡ []
 nothing_more at text given leads =
     let on = leads.back (λ is. absurd (cc is)) [] [] text [] (refl, refl) (sym (append-nil text)) in
     none_left given on.1 on.3
@@ -84,7 +84,7 @@ goes_further q r u v w given goes moved some stays ended is = either (goes is)
     either : (v.body ≡ body.ToEnd) ⊎ ((v.body ≡ body.Done) × AtEnd (to_come v q)) → (w.body ≡ body.ToEnd) ⊎ ((w.body ≡ body.Done) × AtEnd (to_come w r))
     either (inl on) = on_from on (stays on)
     either (inr done) =
-        let none = nothing_more w.body moved.0 given (subst (λ (b : Body). Leads b w.body moved.0 given) done.0 moved.2) in
+        let none = nothing_more w.body moved.0 given (subst (λ (b : Body). BodyRun b w.body moved.0 given) done.0 moved.2) in
         absurd (omega (arith, some, ap length none))
 
 -- some bytes of a buffer

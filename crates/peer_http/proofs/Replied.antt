@@ -9,7 +9,7 @@ use Rattle.http_wire.specs.declared.head.ReplyHead.{ReplyHead}
 use Rattle.http_wire.specs.Stream.{Passed}
 use Rattle.http_wire.specs.Heads.{IsHeadText}
 use Rattle.http_wire.specs.ReplyHeads.{ReplySays}
-use Rattle.http_wire.specs.Bodies.{RestOf, Leads}
+use Rattle.http_wire.specs.Bodies.{RestOf, BodyRun}
 use Rattle.http_wire.specs.Wires.{WireView, to_come, body_of, ReplyEnds}
 use Rattle.http_wire.proofs.Passing.{Passed-chain}
 use Rattle.peer_http.specs.declared.gathering.ReplyFault.{ReplyFault}
@@ -64,6 +64,6 @@ no_body most before mid now old v w says Bad passed is_head reads framing begun 
   passed = Passed-chain before mid now old.flow v.flow w.flow v.head g.moved.0 passed g.moved.1;
   is_head = is_head;
   reads = reads;
-  leads = subst (λ (b : Body). Leads b w.body g.moved.0 g.given) framing g.moved.2;
+  leads = subst (λ (b : Body). BodyRun b w.body g.moved.0 g.given) framing g.moved.2;
   why = subst (λ (n : ℕ). IsCutShort most (to_come w now) w.body n g.given) begun g.says;
 })

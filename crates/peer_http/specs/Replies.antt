@@ -8,7 +8,7 @@ use Rattle.http_wire.specs.declared.head.ReplyHead.{ReplyHead}
 use Rattle.http_wire.specs.Stream.{Passed, AtEnd}
 use Rattle.http_wire.specs.Heads.{IsHeadText}
 use Rattle.http_wire.specs.ReplyHeads.{ReplySays}
-use Rattle.http_wire.specs.Bodies.{RestOf, Leads, Moves}
+use Rattle.http_wire.specs.Bodies.{RestOf, BodyRun, Moves}
 use Rattle.http_wire.specs.Wires.{WireView, to_come, body_of, ReplyEnds, BodyEnds}
 use Rattle.peer_http.specs.declared.replies.Reply.{Reply}
 use Rattle.peer_http.specs.declared.gathering.ReplyFault.{ReplyFault}
@@ -52,7 +52,7 @@ pub record HasNoBody (most : ℕ) (before now : Option (List ℕ)) (old new : Wi
   pub passed : Passed before now old.flow new.flow (head ++ text)
   pub is_head : IsHeadText head
   pub reads : ReplySays head (Ok says)
-  pub leads : Leads (body_of says.framing) new.body text given
+  pub leads : BodyRun (body_of says.framing) new.body text given
   pub why : IsCutShort most (to_come new now) new.body old.flow.taken given
 
 -- what stands in the stream is no reply

@@ -3,7 +3,7 @@ use Rattle.std.specs.Prelude.{◌≡◌, ◌≤◌, ◌<◌, ◌⊎◌, ℕ, Lis
 use Rattle.std.specs.Prelude.{IfSome}
 use Rattle.blobref.specs.Blobref.{is_blobref}
 use Rattle.http_wire.specs.declared.body.Body.TheVariants.{Done}
-use Rattle.http_wire.specs.Bodies.{Breaks}
+use Rattle.http_wire.specs.Bodies.{IsMalformed}
 use Rattle.http_wire.specs.Wires.{WireView, BodyEnds, to_come}
 use Rattle.multipart_read.specs.declared.events.PartFault.{PartFault}
 use Rattle.multipart_read.specs.declared.events.PartFault.TheVariants as part
@@ -41,25 +41,25 @@ module _ (boundary given : List ℕ) (parts : List Part) (wire : WireView) (x : 
       × (part_fault (said, content) ≡ Some (BadDigest said is))
   Refuses (BadMultipart at) = HasFault (part.Bad at)
   Refuses (TooLong limit) = HasFault (part.TooLong limit) ⊎ ((limit ≡ most_bytes) × IsOver)
-  Refuses BadLength = Reads boundary given parts × IfSome x (Breaks wire.body)
+  Refuses BadLength = Reads boundary given parts × IfSome x (IsMalformed wire.body)
   Refuses refusal = ⊥
 
   -- What it came to behind these parts. Where the store had no room, or its disk failed, that was at a part without a
   -- fault.
-  abbrev pub Comes : UploadEnd → Type 0
-  Comes Whole = (wire.body ≡ Done) × (length given ≤ most_bytes) × IsMultipart boundary given parts (Ok tt)
-  Comes (Refused refusal) = Refuses refusal
-  Comes (Full blobs pack) = (p : Part) × TellsPart p × (part_fault p ≡ None)
-  Comes Disk = (p : Part) × TellsPart p × (part_fault p ≡ None)
-  Comes Memory = (after : List Token) × Told boundary given parts after
-  Comes (Ended end) = Reads boundary given parts × BodyEnds x wire.body wire.begun end × EndsShort wire end
+  abbrev pub UploadOutcome : UploadEnd → Type 0
+  UploadOutcome Whole = (wire.body ≡ Done) × (length given ≤ most_bytes) × IsMultipart boundary given parts (Ok tt)
+  UploadOutcome (Refused refusal) = Refuses refusal
+  UploadOutcome (Full blobs pack) = (p : Part) × TellsPart p × (part_fault p ≡ None)
+  UploadOutcome Disk = (p : Part) × TellsPart p × (part_fault p ≡ None)
+  UploadOutcome Memory = (after : List Token) × Told boundary given parts after
+  UploadOutcome (Ended end) = Reads boundary given parts × BodyEnds x wire.body wire.begun end × EndsShort wire end
 
 -- each upload came to this
 abbrev pub UploadsCome : Type 0
 UploadsCome = (boundary : List ℕ) (left left' : Option (List ℕ)) (wire wire' : WireView) (v w : Sight)
     (kept kept' : List (List ℕ × ℕ)) (came : UploadEnd)
     → (upload : Uploads boundary left left' wire wire' v w kept kept' came)
-    → Comes boundary upload.given upload.parts wire' (to_come wire' left') came
+    → UploadOutcome boundary upload.given upload.parts wire' (to_come wire' left') came
 
 -- no upload keeps more than 1,000 parts
 abbrev pub PartsAreFew : Type 0
