@@ -15,8 +15,9 @@ use pack_disk::Disk;
 use salvage_scan::{Clean, Scanner};
 use std::alloc::Global;
 
-// The most bytes that one read asks for, where nothing else is said.
-pub(crate) const PIECE: usize = 65_536;
+// The most bytes that one read asks for, where nothing else is said. That many are read where records of some length
+// follow one another, and 65,536 elsewhere (`Scanner::room`).
+pub(crate) const PIECE: usize = 4_194_304;
 
 // Whether a pack is clean, and how many bytes it has.
 #[derive(Clone, Copy)]
@@ -25,7 +26,8 @@ pub(crate) struct Taken {
     pub(crate) size: u64,
 }
 
-// Takes up what a pack holds, and reads at most so many bytes at once. It takes memory for one record and one piece.
+// Takes up what a pack holds, and reads at most so many bytes at once. It takes memory for the record at hand and for two
+// pieces, of which one is read and one is kept behind the record.
 pub(crate) fn take_pieces<D: Disk, T: Taker>(
     alloc: Global,
     disk: &mut D,
@@ -46,12 +48,13 @@ pub(crate) fn take_pieces<D: Disk, T: Taker>(
         return Err(OpenFault::Disk);
     };
     let mut scanner = Scanner::start(alloc)?;
-    let mut space = zeros(alloc, piece)?;
-    let buf = space.as_mut_slice();
+    let mut space = Vec::new(alloc);
     let mut at = 0;
     'pieces: while at < size {
-        let room = (size - at).min(piece as u64) as usize;
-        let count = take_piece(disk, pack, at, &mut buf[..room], &mut scanner, taker)?;
+        let room = next_room(&scanner, piece, size - at);
+        widen(alloc, &mut space, room)?;
+        let buf = &mut space.as_mut_slice()[..room];
+        let count = take_piece(disk, pack, at, buf, &mut scanner, taker)?;
         if count == 0 {
             let taken = take_end(scanner, at, taker)?;
             return Ok(taken);
@@ -60,6 +63,26 @@ pub(crate) fn take_pieces<D: Disk, T: Taker>(
     }
     let taken = take_end(scanner, at, taker)?;
     Ok(taken)
+}
+
+// How many bytes the next read asks for, where so many are left.
+fn next_room(scanner: &Scanner, piece: usize, left: u64) -> usize
+    requires piece { 0 < piece }
+    requires left { 0 < left }
+    ensures some { 0 < result }
+    ensures within { result ≤ left }
+{
+    left.min(scanner.room().min(piece) as u64) as usize
+}
+
+// Makes space for so many bytes, where it has fewer.
+fn widen(alloc: Global, space: &mut Vec<u8>, len: usize) -> Result<(), NoMemory>
+    ensures { OnOk result (len ≤ length space.new.items) }
+{
+    if space.len() < len {
+        *space = zeros(alloc, len)?;
+    }
+    Ok(())
 }
 
 // Reads the next piece of a pack, as long as the buffer at most, and takes up what it tells.

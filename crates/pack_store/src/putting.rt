@@ -18,7 +18,7 @@ use crate::store::Store;
 use blobref::{NoMemory, Ref};
 use edge_base::{Put, PutFault};
 use pack_disk::Disk;
-use pack_format::MAX_SIZE;
+use pack_format::{MAX_SIZE, put_refusal};
 
 impl<D: Disk> Store<D> {
     /// Stores a blob under the ref that is said (`docs/store.md`). The refusals are tried in this order, each exactly
@@ -38,15 +38,10 @@ impl<D: Disk> Store<D> {
         ensures failed { result ≡ Err PutFault.Disk → Rose (D.faults self.old.disk) (D.faults self.new.disk) }
         ensures later { D.faults self.old.disk ≤ D.faults self.new.disk }
     {
-        let size = bytes.len() as u64;
-        if size > MAX_SIZE {
-            return Err(PutFault::TooBig { size });
+        match put_refusal(said, bytes) {
+            Some(fault) => Err(fault),
+            None => self.put_own(said, bytes),
         }
-        let is = said.like(bytes);
-        if is != *said {
-            return Err(PutFault::BadDigest { said: *said, is });
-        }
-        self.put_own(said, bytes)
     }
 
     /// Stores a blob under its own ref: `put`, but for the digest, which the caller has computed.

@@ -17,8 +17,8 @@ use schema_json::fact;
 use std::alloc::Global;
 use std::collections::BTreeSet;
 
-/// The most bytes that one read asks for.
-pub(crate) const PIECE: usize = 65_536;
+// The most bytes that one read of a pack asks for, where its records are long.
+const PACK_PIECE: usize = 4_194_304;
 
 /// The facts of these blobs, each ref at its first. `NoMemory` comes only where no memory is left.
 pub(crate) fn facts_of(alloc: Global, blobs: &[Octets]) -> Result<FactList, NoMemory>
@@ -58,7 +58,7 @@ pub fn store_facts<D: Disk>(
         alloc,
         facts: FactList::empty(alloc),
     };
-    match Store::open_watched(alloc, disk, limits, PIECE, gathering) {
+    match Store::open_watched(alloc, disk, limits, PACK_PIECE, gathering) {
         Ok(opened) => {
             let (store, gathered) = opened;
             store.arrivals_are_held();

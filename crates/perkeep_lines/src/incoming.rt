@@ -7,13 +7,16 @@ ghost use Rattle.salvage_scan.specs.Pieces.{fed, IsKept};
 ghost use Rattle.perkeep_lines.specs.Blobs.{with_blobs, HasRefsOf};
 ghost use Rattle.perkeep_lines.specs.Incoming.{kept_blob, IsTaken, IsAllOf, Came, GaveFacts};
 
-use crate::blobs::{PIECE, add_blob};
+use crate::blobs::add_blob;
 use blobref::{NoMemory, Ref};
 use claim_index::FactList;
 use edge_base::{ReadAllError, Source};
 use salvage_scan::{Found, Scanner};
 use std::alloc::Global;
 use std::collections::BTreeSet;
+
+// The most bytes that one read asks for.
+const PIECE: usize = 65_536;
 
 /// The facts of the blobs that are salvaged from the bytes that a source has left, at most so many, each ref once: the
 /// first finding of a ref counts, and later ones are passed over (`docs/formats/packs.md`, `docs/formats/schema.md`).

@@ -2,6 +2,8 @@ pub mod Fronts
 pub mod Cuts
 pub mod Open
 pub mod Telling
+pub mod Looked
+pub mod NoHeader
 pub mod Cases
 pub mod Slices
 pub mod Packs

@@ -1,6 +1,6 @@
 -- A turn of a scan, whatever follows the bytes that are there.
-use Rattle.std.proofs.Common.{◌≡◌, ◌≢◌, ℕ, ◌+◌, ◌-◌, ◌≤◌, ◌<◌, Bool, true, false, List, [], ◌∷◌, ◌++◌, length, map, take, drop, Option, Some, None, refl, sym, ◌∙◌, ap, subst, arith, length-drop, append_assoc}
-use Rattle.std.proofs.lemmas.List.{append-nil, drop-drop, drop_all, drop-append-le, take_rest, map-append}
+use Rattle.std.proofs.Common.{◌≡◌, ◌≢◌, ℕ, ◌+◌, ◌≤◌, ◌<◌, Bool, true, false, List, [], ◌∷◌, ◌++◌, length, map, drop, Option, Some, None, refl, sym, ◌∙◌, ap, subst, arith, length-drop, append_assoc}
+use Rattle.std.proofs.lemmas.List.{append-nil, drop-drop, drop_all, drop-append-le, map-append}
 use Rattle.pack_format.specs.Reading.{header_at}
 use Rattle.salvage_scan.specs.Salvage.{Front, Kept, Passed, Junk, front, width, found, is_junk, salvage_past, broken_past}
 use Rattle.salvage_scan.specs.declared.found.Clean.{Clean}
@@ -177,28 +177,28 @@ junk_by last place x at Junk is t = record {
 }
 
 -- what the code sees of the bytes from a place on
-settled_here : (last : Bool) (x : List ℕ) (at : ℕ) (s : FrontAt) → s ≡ seen last (take (length x - at) (drop at x)) → ((wants : ℕ) → s ≢ shows.Open wants) → IsSettled last (drop at x) × (s ≡ shown (front (drop at x)))
-settled_here last x at s is closed = (is_seen last (drop at x) s (is ∙ ap (seen last) (take_rest x at))).settled closed
+settled_here : (last : Bool) (x : List ℕ) (at : ℕ) (s : FrontAt) → s ≡ seen last (drop at x) → ((wants : ℕ) → s ≢ shows.Open wants) → IsSettled last (drop at x) × (s ≡ shown (front (drop at x)))
+settled_here last x at s is closed = (is_seen last (drop at x) s is).settled closed
 
-pub kept_step : (last : Bool) (place : ℕ) (x : List ℕ) (at : ℕ) (r : List ℕ) (start size : ℕ) → at < length x → shows.Kept r start size ≡ seen last (take (length x - at) (drop at x))
+pub kept_step : (last : Bool) (place : ℕ) (x : List ℕ) (at : ℕ) (r : List ℕ) (start size : ℕ) → at < length x → shows.Kept r start size ≡ seen last (drop at x)
     → Step last place x at (start + size) ((let p : Found = record { r = r; at = place + (at + start); size = size } in p) ∷ []) (λ d. d)
 kept_step last place x at r start size lt is =
     let here = settled_here last x at (shows.Kept r start size) is (λ wants e. cc e) in
     kept_by last place x at r start size _ here.1 (turn last place x at lt here.0)
 
-pub passed_step : (last : Bool) (place : ℕ) (x : List ℕ) (at len : ℕ) → at < length x → shows.Passed len ≡ seen last (take (length x - at) (drop at x)) → Step last place x at len [] (λ d. d)
+pub passed_step : (last : Bool) (place : ℕ) (x : List ℕ) (at len : ℕ) → at < length x → shows.Passed len ≡ seen last (drop at x) → Step last place x at len [] (λ d. d)
 passed_step last place x at len lt is =
     let here = settled_here last x at (shows.Passed len) is (λ wants e. cc e) in
     passed_by last place x at len _ here.1 (turn last place x at lt here.0)
 
-pub junk_step : (last : Bool) (place : ℕ) (x : List ℕ) (at : ℕ) → at < length x → shows.Junk ≡ seen last (take (length x - at) (drop at x)) → Step last place x at 1 [] (λ d. joined d (Some (place + at)))
+pub junk_step : (last : Bool) (place : ℕ) (x : List ℕ) (at : ℕ) → at < length x → shows.Junk ≡ seen last (drop at x) → Step last place x at 1 [] (λ d. joined d (Some (place + at)))
 junk_step last place x at lt is =
     let here = settled_here last x at shows.Junk is (λ wants e. cc e) in
     junk_by last place x at _ here.1 (turn last place x at lt here.0)
 
-pub open_waits : (last : Bool) (x : List ℕ) (at wants : ℕ) → shows.Open wants ≡ seen last (take (length x - at) (drop at x)) → Waits last (drop at x)
-open_waits true x at wants is = absurd (shown_closed (front (take (length x - at) (drop at x))) wants (sym is))
-open_waits false x at wants is = ((is_seen false (drop at x) (shows.Open wants) (is ∙ ap (seen false) (take_rest x at))).waits wants refl).1
+pub open_waits : (last : Bool) (x : List ℕ) (at wants : ℕ) → shows.Open wants ≡ seen last (drop at x) → Waits last (drop at x)
+open_waits true x at wants is = absurd (shown_closed (front (drop at x)) wants (sym is))
+open_waits false x at wants is = ((is_seen false (drop at x) (shows.Open wants) is).waits wants refl).1
 
 -- all bytes were used
 pub nothing_waits : (last : Bool) (x : List ℕ) (at : ℕ) → length x ≤ at → Waits last (drop at x)

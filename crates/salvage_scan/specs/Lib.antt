@@ -4,3 +4,5 @@ pub mod Scan
 pub mod Arrivals
 pub mod Clean
 pub mod Pieces
+pub mod Ahead
+pub mod JunkRuns

@@ -1,7 +1,9 @@
 //! Salvage: the blobs that can be found in a pack, whatever stands between them.
 #![tactic(auto)]
 
+mod ahead;
 mod found;
+mod heads;
 mod laws;
 mod scanner;
 mod scanning;

@@ -2,11 +2,18 @@
 ghost use Rattle.std.specs.Prelude.{◌≡◌, ◌+◌, ◌≤◌, ◌<◌, ◌^◌, ◌++◌, [], length, drop, true, false, All, IfOk, OnOk, OnErr};
 ghost use Rattle.salvage_scan.specs.Pieces.{fresh, fed, is_open, Leads, Waits, Tells, Ends, LiesNear, Keeps, IsKept, LiesKept, kept_at};
 
+use crate::ahead::BYTES;
 use crate::found::{Clean, Found, FoundList};
 use crate::scanning::{Told, tell};
 use blobref::NoMemory;
 use std::alloc::Global;
 use std::marker::Model;
+
+// The length of a piece where records are short, or too long to be looked at together.
+const PIECE: usize = 65_536;
+
+// The longest record that is short.
+const SHORT: usize = 8_192;
 
 /// Scans a pack that is fed in pieces (`docs/formats/packs.md`). What it tells doesn't depend on how the pack is cut. It
 /// holds back the bytes of one record or deleted record with its header at most, which are 16,777,372, and keeps those
@@ -97,6 +104,16 @@ impl Scanner {
         scanner.finish()
     }
 
+    /// How many bytes the next piece should have at most: more where what waits is a record of some length, so that
+    /// several whole ones come together and are hashed several at a time. It is a hint: what is told is the same whatever
+    /// the pieces are.
+    pub fn room(&self) -> usize
+        ensures some { 0 < result }
+        ensures most { result ≤ 4194304 }
+    {
+        room_for(self.wants)
+    }
+
     /// The bytes of what the last call told.
     pub fn bytes(&self, found: &Found) -> &[u8]
         requires { LiesKept self.now found.now }
@@ -144,6 +161,18 @@ impl Scanner {
                 Err(NoMemory)
             }
         }
+    }
+}
+
+// How many bytes the next piece should have, where so many are wanted for the record that waits.
+fn room_for(wants: usize) -> usize
+    ensures some { 0 < result }
+    ensures most { result ≤ 4194304 }
+{
+    if wants > SHORT && wants <= BYTES {
+        BYTES
+    } else {
+        PIECE
     }
 }
 

@@ -1,12 +1,15 @@
 //! Goes through a pack once.
-ghost use Rattle.std.specs.Prelude.{◌≡◌, ◌+◌, ◌≤◌, ◌<◌, ◌^◌, length, drop, map, nat_le, All, IfOk, Some};
+ghost use Rattle.std.specs.Prelude.{◌≡◌, ◌+◌, ◌≤◌, ◌<◌, ◌^◌, [], length, drop, map, nat_le, slice_index, slice_index_or, All, IfOk, Some};
 ghost use Rattle.salvage_scan.specs.Salvage.{salvage, broken};
 ghost use Rattle.salvage_scan.specs.Scan.{place_of, clean_of, joined, LiesIn};
 ghost use Rattle.salvage_scan.specs.Pieces.{seen, undecided, Leads, Waits};
+ghost use Rattle.salvage_scan.specs.Ahead.{AreKnown, front_known};
 
+use crate::ahead::{Ahead, Lookout};
 use crate::found::{Clean, Found, FoundList};
+use crate::heads::{next_header, past_junk};
 use blobref::{NoMemory, Ref};
-use pack_format::{HEADER_MAX, HeaderAt, read_header};
+use pack_format::{HEADER_MAX, HeaderAt};
 use std::alloc::Global;
 
 /// The blobs of a pack in order, by the four cases of docs/formats/packs.md, and whether it is clean. Each finding lies
@@ -46,10 +49,11 @@ pub(crate) fn tell(
     ensures waits { IfOk result (λ told. Waits last (drop told.used bytes.now)) }
 {
     let mut found = FoundList::empty(alloc);
+    let mut lookout = Lookout::over(bytes, 0);
     let mut clean = clean;
     let mut at = 0;
     'places: while at < bytes.len() {
-        match front_at(&bytes[at..], last) {
+        match next_front(&mut lookout, bytes, at, last) {
             FrontAt::Kept { r, start, size } => {
                 found.push(Found {
                     r,
@@ -57,13 +61,15 @@ pub(crate) fn tell(
                     size: size as u64,
                 })?;
                 at += start + size;
+                lookout.renew(bytes, at);
             }
             FrontAt::Passed { len } => {
                 at += len;
+                lookout.leave(at);
             }
             FrontAt::Junk => {
                 clean = broken_at(clean, place + at as u64);
-                at += 1;
+                at = past_junk(bytes, at + 1);
             }
             FrontAt::Open { wants } => {
                 return Ok(Told {
@@ -92,11 +98,45 @@ enum FrontAt {
     Open { wants: usize },
 }
 
+// What stands at a place, by the digest of the record that is known there, or else by its bytes.
+fn next_front(lookout: &mut Lookout, bytes: &[u8], at: usize, last: bool) -> FrontAt
+    requires known { AreKnown bytes.now lookout.old.records }
+    requires at { at ≤ length bytes.now }
+    ensures front { result ≡ seen last (drop at bytes.now) }
+    ensures records { lookout.new.records ≡ lookout.old.records }
+{
+    let next = lookout.next;
+    if next < lookout.records.count && lookout.records.places[next] == at {
+        lookout.next = next + 1;
+        known_front(&lookout.records, next)
+    } else {
+        front_at(&bytes[at..], last)
+    }
+}
+
+// What stands at the place of a record with this number: a blob, if its ref spells the digest.
+fn known_front(records: &Ahead, i: usize) -> FrontAt
+    requires { i < 64 }
+    ensures { result ≡ front_known (slice_index_or records.now.said i []) (slice_index records.now.sizes i)
+        (slice_index records.now.lens i) (slice_index_or records.now.digests i []) }
+{
+    let r = records.said[i];
+    if Ref::from_digest(records.digests[i]) == r {
+        FrontAt::Kept {
+            r,
+            start: records.lens[i],
+            size: records.sizes[i],
+        }
+    } else {
+        FrontAt::Junk
+    }
+}
+
 #[tactic(auto, unfolding(crate::specs::Salvage::front, crate::specs::Pieces::is_open))]
 fn front_at(bytes: &[u8], last: bool) -> FrontAt
     ensures { result ≡ seen last bytes.now }
 {
-    match read_header(bytes) {
+    match next_header(bytes) {
         HeaderAt::Blob { r, size, len } => {
             let size = size as usize;
             if holds(bytes, len, size) {

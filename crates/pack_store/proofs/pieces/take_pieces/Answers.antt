@@ -20,7 +20,7 @@ pieces-preserved g c =
     let disk = g.D.Disk in
     let took = took_told g.T.Taker _ _ _ _ _ _ _ _ _ _ c.pieces.invariant.stays.told c.in_ok-count.ensures.took in
     record {
-      within = omega (arith, c.in_ok-count.ensures.bound, c.pieces-test.true, c.min-room.ensures, length-take c.min-room.result c.pieces.buf);
+      within = omega (arith, c.in_ok-count.ensures.bound, c.pieces-test.true, c.next_room-room.ensures.within, length-take c.next_room-room.result c.as_mut_slice.result.now);
       took = front_more g.T.Taker g.met.T.Taker.takes_nothing g.met.T.Taker.takes_then _ _ _ _ _ _ _ _ _ _ c.pieces.invariant.took took;
       ready = c.in_ok-count.ensures.ready;
       stays = stays_then disk g.met.D.Disk.counts_now g.met.D.Disk.only_now c.args.disk.now c.pieces.disk c.take_piece.new.disk c.pieces.invariant.stays c.take_piece.ensures.stays;
@@ -38,7 +38,7 @@ returns-then-count-eq0-clause-took g c =
     (front_more g.T.Taker g.met.T.Taker.takes_nothing g.met.T.Taker.takes_then _ _ _ _ _ _ _ _ _ _ c.pieces.invariant.took took) in
     front_whole g.T.Taker g.met.T.Taker.takes_nothing g.met.T.Taker.takes_then told c.args.pack c.pieces.at c.take_piece.new.scanner c.args.taker.now c.take_piece.new.taker c.take_end.new.taker c.in_ok-taken.taken
     front c.in_ok-taken.ensures c.requires.there
-    (λ held is bytes there. omega (arith, (took.there held is bytes there).0, c.if-count-eq0.true, c.pieces-test.true, c.min-room.ensures, length-take c.min-room.result c.pieces.buf, c.pieces.auto.buf, c.as_mut_slice-buf.ensures.len, c.in_ok-space.ensures, c.requires.some))
+    (λ held is bytes there. omega (arith, (took.there held is bytes there).0, c.if-count-eq0.true, c.next_room-room.ensures.some, c.as_mut_slice.ensures.len, c.in_ok-widen.ensures, length-take c.next_room-room.result c.as_mut_slice.result.now))
 
 pub returns-then-count-eq0-clause-stays : goal.returns-then-count-eq0-clause-stays
 returns-then-count-eq0-clause-stays g c =
