@@ -3,34 +3,25 @@ use crate::at_door::{AtDoor, Ear};
 use crate::edges::{ReadSource, WriteSink};
 use crate::lingering::linger;
 use crate::patience::{Patience, Progress};
+use crate::waiting::{hear, set_up, tell};
 use std::alloc::Global;
 use std::io::{self, ErrorKind, Read, Write};
 use std::net::TcpStream;
 use std::sync::Arc;
 use std::sync::atomic::{AtomicBool, Ordering};
-use std::time::{Duration, Instant};
 
 /// What the other end of a connection says, as far as it is heard.
-pub type TcpIn<'a> = ReadSource<AtDoor<Hearing<'a>>>;
+pub type TcpIn<'a> = ReadSource<AtDoor<ReadHalf<'a>>>;
 
 /// What it is told.
-pub type TcpOut<'a> = WriteSink<Telling<'a>>;
-
-// For how many seconds the system waits at a time, for bytes or for room. A write of which it took a part in that time is
-// no failure, and begins anew with the rest.
-const PAUSE: u64 = 1;
-
-// How often a call is made at most: as often as patience lasts.
-const TRIES: u64 = u64::MAX;
+pub type TcpOut<'a> = WriteSink<WriteHalf<'a>>;
 
 /// Both ends of a connection that was accepted.
 pub(crate) fn ends_of<'a>(
     rt: &'a HostRuntime,
     stream: TcpStream,
 ) -> io::Result<(TcpIn<'a>, TcpOut<'a>)> {
-    stream.set_nodelay(true)?;
-    stream.set_read_timeout(Some(Duration::from_secs(PAUSE)))?;
-    stream.set_write_timeout(Some(Duration::from_secs(PAUSE)))?;
+    set_up(&stream)?;
     let ours = Shared {
         stream,
         was_told: AtomicBool::new(false),
@@ -39,10 +30,10 @@ pub(crate) fn ends_of<'a>(
         return Err(io::Error::from(ErrorKind::OutOfMemory));
     };
     let theirs = Arc::try_clone(&ours)?;
-    let door = AtDoor::new(rt.alloc(), Hearing::new(rt, ours));
+    let door = AtDoor::new(rt.alloc(), ReadHalf::new(rt, ours));
     Ok((
         ReadSource::new(door),
-        WriteSink::new(Telling::new(rt, theirs)),
+        WriteSink::new(WriteHalf::new(rt, theirs)),
     ))
 }
 
@@ -58,16 +49,16 @@ struct Shared {
 /// nothing more comes, and what that one still says is read, for a second at most: a socket that is closed over bytes that
 /// nobody read takes the last reply from the one who sent them. A client that wasn't let in was told nothing, and isn't
 /// waited for.
-pub struct Hearing<'a> {
+pub struct ReadHalf<'a> {
     rt: &'a HostRuntime,
     shared: Arc<Shared, Global>,
     patience: Patience,
     lingers: bool,
 }
 
-impl<'a> Hearing<'a> {
-    fn new(rt: &'a HostRuntime, shared: Arc<Shared, Global>) -> Hearing<'a> {
-        Hearing {
+impl<'a> ReadHalf<'a> {
+    fn new(rt: &'a HostRuntime, shared: Arc<Shared, Global>) -> ReadHalf<'a> {
+        ReadHalf {
             rt,
             shared,
             patience: Patience::at_first(),
@@ -76,36 +67,18 @@ impl<'a> Hearing<'a> {
     }
 }
 
-impl<'a> Read for Hearing<'a> {
+impl<'a> Read for ReadHalf<'a> {
     fn read(&mut self, buf: &mut [u8]) -> io::Result<usize> {
         if self.shared.was_told.swap(false, Ordering::Relaxed) {
             self.patience = Patience::behind_a_reply();
         }
-        for _ in 0..TRIES {
-            let begun = Instant::now(self.rt)?;
-            let done = (&self.shared.stream).read(buf);
-            let took = begun.elapsed(self.rt)?;
-            let came = match &done {
-                Ok(0) => return done,
-                Ok(n) => *n,
-                Err(error) if error.kind() == ErrorKind::WouldBlock => 0,
-                Err(_) => return done,
-            };
-            let Some(patience) = self.patience.after(took, came) else {
-                return Err(io::Error::from(ErrorKind::TimedOut));
-            };
-            self.patience = patience;
-            if came > 0 {
-                return done;
-            }
-        }
-        Err(io::Error::from(ErrorKind::TimedOut))
+        hear(self.rt, &self.shared.stream, &mut self.patience, buf)
     }
 }
 
-impl<'a> Ear for Hearing<'a> {
+impl<'a> Ear for ReadHalf<'a> {
     fn admitted(&mut self) {
-        self.patience = Patience::with_a_request();
+        self.patience = Patience::within_a_message();
     }
 
     fn refused(&mut self) {
@@ -113,12 +86,12 @@ impl<'a> Ear for Hearing<'a> {
     }
 }
 
-impl<'a> Drop for Hearing<'a> {
+impl<'a> Drop for ReadHalf<'a> {
     fn drop(self) {
         if self.lingers {
             linger(&self.shared.stream);
         }
-        let Hearing {
+        let ReadHalf {
             rt: _,
             shared: _,
             patience: _,
@@ -130,15 +103,15 @@ impl<'a> Drop for Hearing<'a> {
 /// A socket that is written to. A write fails once the client took too little for too long. It may take less than it is
 /// given, as whoever reads slowly makes room for.
 #[derive(Drop)]
-pub struct Telling<'a> {
+pub struct WriteHalf<'a> {
     rt: &'a HostRuntime,
     shared: Arc<Shared, Global>,
     progress: Progress,
 }
 
-impl<'a> Telling<'a> {
-    fn new(rt: &'a HostRuntime, shared: Arc<Shared, Global>) -> Telling<'a> {
-        Telling {
+impl<'a> WriteHalf<'a> {
+    fn new(rt: &'a HostRuntime, shared: Arc<Shared, Global>) -> WriteHalf<'a> {
+        WriteHalf {
             rt,
             shared,
             progress: Progress::none(),
@@ -146,27 +119,10 @@ impl<'a> Telling<'a> {
     }
 }
 
-impl<'a> Write for Telling<'a> {
+impl<'a> Write for WriteHalf<'a> {
     fn write(&mut self, buf: &[u8]) -> io::Result<usize> {
         self.shared.was_told.store(true, Ordering::Relaxed);
-        for _ in 0..TRIES {
-            let begun = Instant::now(self.rt)?;
-            let done = (&self.shared.stream).write(buf);
-            let took = begun.elapsed(self.rt)?;
-            let went = match &done {
-                Ok(n) => *n,
-                Err(error) if error.kind() == ErrorKind::WouldBlock => 0,
-                Err(_) => return done,
-            };
-            let Some(progress) = self.progress.after(took, went) else {
-                return Err(io::Error::from(ErrorKind::TimedOut));
-            };
-            self.progress = progress;
-            if done.is_ok() {
-                return done;
-            }
-        }
-        Err(io::Error::from(ErrorKind::TimedOut))
+        tell(self.rt, &self.shared.stream, &mut self.progress, buf)
     }
 
     fn flush(&mut self) -> io::Result<()> {

@@ -1,9 +1,12 @@
-//! How long a client is waited for. What counts is the time for which calls wait for it, and no other.
+//! How long the other end of a connection is waited for. What counts is the time for which calls wait for it, and no
+//! other.
 use std::time::Duration;
 
-// How many seconds are waited for the first head in all; and for the next request; and, within a request or a reply, for
-// so many bytes.
+// How many seconds are waited for the first head in all; for a reply to begin, by a server that may be reading its store;
+// for the next request; and, within a request or a reply, for so many bytes.
 const MAX_FOR_HEAD: u64 = 10;
+
+const MAX_FOR_REPLY: u64 = 600;
 
 const MAX: u64 = 60;
 
@@ -14,10 +17,10 @@ const ENOUGH: u64 = 1_024;
 pub(crate) enum Patience {
     /// The first head, whole.
     FirstHead { waited: Duration },
-    /// The next request, of which nothing has come.
-    Idle { waited: Duration },
-    /// More of a request.
-    Request(Progress),
+    /// The next request, or a reply, of which nothing has come: for so many seconds at most.
+    Idle { waited: Duration, most: u64 },
+    /// More of a request, or of a reply.
+    Message(Progress),
 }
 
 impl Patience {
@@ -32,12 +35,21 @@ impl Patience {
     pub(crate) fn behind_a_reply() -> Patience {
         Patience::Idle {
             waited: Duration::from_secs(0),
+            most: MAX,
         }
     }
 
-    /// With a request of which something has come.
-    pub(crate) fn with_a_request() -> Patience {
-        Patience::Request(Progress::none())
+    /// Behind a request, with a server whose reply hasn't begun.
+    pub(crate) fn behind_a_request() -> Patience {
+        Patience::Idle {
+            waited: Duration::from_secs(0),
+            most: MAX_FOR_REPLY,
+        }
+    }
+
+    /// With a message of which something has come.
+    pub(crate) fn within_a_message() -> Patience {
+        Patience::Message(Progress::none())
     }
 
     /// After a call that waited so long and in which so many bytes came; None where it is over.
@@ -47,12 +59,12 @@ impl Patience {
                 let waited = within(waited, took, MAX_FOR_HEAD)?;
                 Some(Patience::FirstHead { waited })
             }
-            Patience::Idle { .. } if came > 0 => Some(Patience::with_a_request()),
-            Patience::Idle { waited } => {
-                let waited = within(waited, took, MAX)?;
-                Some(Patience::Idle { waited })
+            Patience::Idle { .. } if came > 0 => Some(Patience::within_a_message()),
+            Patience::Idle { waited, most } => {
+                let waited = within(waited, took, most)?;
+                Some(Patience::Idle { waited, most })
             }
-            Patience::Request(progress) => Some(Patience::Request(progress.after(took, came)?)),
+            Patience::Message(progress) => Some(Patience::Message(progress.after(took, came)?)),
         }
     }
 }

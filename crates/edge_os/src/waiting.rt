@@ -1,0 +1,82 @@
+//! Reads and writes of a socket, which wait with patience.
+ghost use Rattle.std.specs.Io.{ReadsAtMost, WritesAtMost};
+
+use crate::patience::{Patience, Progress};
+use std::io::{self, ErrorKind, Read, Write};
+use std::net::TcpStream;
+use std::time::{Duration, Instant};
+
+// For how many seconds the system waits at a time, for bytes or for room. A write of which it took a part in that time is
+// no failure, and begins anew with the rest.
+const PAUSE: u64 = 1;
+
+// How often a call is made at most: as often as patience lasts.
+const TRIES: u64 = u64::MAX;
+
+/// A socket is set up: it sends what it is given at once, and its calls wait a second at most.
+pub(crate) fn set_up(stream: &TcpStream) -> io::Result<()> {
+    stream.set_nodelay(true)?;
+    stream.set_read_timeout(Some(Duration::from_secs(PAUSE)))?;
+    stream.set_write_timeout(Some(Duration::from_secs(PAUSE)))
+}
+
+/// Reads the next bytes. It fails once they were waited for too long.
+pub(crate) fn hear(
+    rt: &HostRuntime,
+    stream: &TcpStream,
+    patience: &mut Patience,
+    buf: &mut [u8],
+) -> io::Result<usize>
+    ensures { ReadsAtMost result buf.new }
+{
+    let mut socket = stream;
+    for _ in 0..TRIES {
+        let begun = Instant::now(rt)?;
+        let done = socket.read(buf);
+        let took = begun.elapsed(rt)?;
+        let came = match &done {
+            Ok(0) => return done,
+            Ok(n) => *n,
+            Err(error) if error.kind() == ErrorKind::WouldBlock => 0,
+            Err(_) => return done,
+        };
+        let Some(next) = patience.after(took, came) else {
+            return Err(io::Error::from(ErrorKind::TimedOut));
+        };
+        *patience = next;
+        if came > 0 {
+            return done;
+        }
+    }
+    Err(io::Error::from(ErrorKind::TimedOut))
+}
+
+/// Writes from the front of the bytes. It fails once too few were taken for too long.
+pub(crate) fn tell(
+    rt: &HostRuntime,
+    stream: &TcpStream,
+    progress: &mut Progress,
+    bytes: &[u8],
+) -> io::Result<usize>
+    ensures { WritesAtMost result bytes.now }
+{
+    let mut socket = stream;
+    for _ in 0..TRIES {
+        let begun = Instant::now(rt)?;
+        let done = socket.write(bytes);
+        let took = begun.elapsed(rt)?;
+        let went = match &done {
+            Ok(n) => *n,
+            Err(error) if error.kind() == ErrorKind::WouldBlock => 0,
+            Err(_) => return done,
+        };
+        let Some(next) = progress.after(took, went) else {
+            return Err(io::Error::from(ErrorKind::TimedOut));
+        };
+        *progress = next;
+        if done.is_ok() {
+            return done;
+        }
+    }
+    Err(io::Error::from(ErrorKind::TimedOut))
+}
