@@ -74,6 +74,8 @@ fn hint_of(status: &Status) -> Option<&'static str> {
             "the folder can't be read or written, the disk is full, or another program holds the store",
         ),
         Status::Damaged { .. } => Some("perkeep salvage DIR tells what is whole"),
+        Status::Peer => Some("nobody answers at ADDR, which is HOST:PORT, or the way there broke"),
+        Status::BadReply(_) => Some("the server refused, or answered otherwise than it should"),
         Status::Full { .. } => Some("the store has as many blobs or packs as it may have"),
         _ => None,
     }

@@ -13,6 +13,7 @@ use crate::keys::read_keyring;
 use crate::serving::serve;
 use crate::streams::Closed;
 use blobref::{NoMemory, Text};
+use edge_dial::DialedPeer;
 use edge_os::{ReadSource, WriteSink};
 use folder_disk::{Access, FolderDisk};
 use perkeep_top::{Status, run};
@@ -69,6 +70,7 @@ fn ending_of<R: Threads + Wait + Sync>(rt: &HostRuntime, threads: &R) -> Ending 
         Access::Read
     };
     let disk = FolderDisk::new(rt, folder, access);
+    let mut peer = DialedPeer::new(rt, address_named(&words));
     let mut source = ReadSource::new(rt.stdin());
     let mut sink = WriteSink::new(rt.stdout());
     let mut clock = SystemClock::new(rt);
@@ -77,6 +79,7 @@ fn ending_of<R: Threads + Wait + Sync>(rt: &HostRuntime, threads: &R) -> Ending 
         rt.alloc(),
         &words,
         disk,
+        &mut peer,
         &keys,
         &mut source,
         &mut sink,
@@ -91,6 +94,14 @@ fn folder_named(words: &[Text]) -> &str {
     match places(words).dir {
         Some(place) => words[place].as_str(),
         None => ".",
+    }
+}
+
+// The address of a peer that the words name. Where they name none no peer is asked.
+fn address_named(words: &[Text]) -> &str {
+    match places(words).addr {
+        Some(place) => words[place].as_str(),
+        None => "",
     }
 }
 

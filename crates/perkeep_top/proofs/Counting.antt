@@ -33,10 +33,10 @@ use Rattle.perkeep_words.proofs.Fitting.{option_is_key}
 use Rattle.perkeep_lines.specs.Blobs.{facts_of_content}
 use Rattle.perkeep_lines.specs.Notes.{sealed, CanBeSigned}
 use Rattle.perkeep_lines.proofs.Signing.{sealed_as}
-use Rattle.perkeep_top.specs.declared.status.Status.TheVariants.{Done}
-use Rattle.perkeep_top.specs.Frame.{Ends}
+use Rattle.top_frame.specs.declared.status.Status.TheVariants.{Done}
+use Rattle.top_frame.specs.Frame.{Ends}
 use Rattle.perkeep_top.specs.Notes.{Keys, permanode_meaning, claim_meaning, what_of}
-use Rattle.perkeep_top.specs.Outside.{Outside, World}
+use Rattle.top_frame.specs.Outside.{Outside, World}
 use Rattle.perkeep_top.specs.Run.{Runs, meaning_of}
 use Rattle.perkeep_top.specs.Stored.{signed_by, NoteCounts, StoresClaim, StoresPermanode, StoresAsked, StoredNotesCount}
 use Rattle.perkeep_top.proofs.Asked.{AreTexts, asked_is, may_claim, may_delete}
@@ -101,8 +101,8 @@ module _ (keys : Keys) (accepted : (name payload sig : List ℕ) → keys.seals 
   counts : NoteCounts keys name payload kind beside
   counts = record { sig = can.sig; key_says = key_read name named; says = blob_says; accepted = accepted name payload can.sig can.made; genuine = blob_genuine }
 
-module _ {D S K C R : Type 0} (o : Outside D S K C R) (keys : Keys) (accepted : (name payload sig : List ℕ) → keys.seals name payload ≡ Some sig → keys.accepts name payload sig ≡ true) where
-  module _ (old new : World D S K C R) where
+module _ {D P S K C R : Type 0} (o : Outside D P S K C R) (keys : Keys) (accepted : (name payload sig : List ℕ) → keys.seals name payload ≡ Some sig → keys.accepts name payload sig ≡ true) where
+  module _ (old new : World D P S K C R) where
     claim_stored : (name : List ℕ) (what : What) → is_key_name name ≡ true → MayBeSaid what → Ends o (claim_meaning keys name what) old new Done → StoresClaim o keys old new name what
     claim_stored name what named may ends =
         let end = ends.ends in
@@ -154,6 +154,8 @@ module _ {D S K C R : Type 0} (o : Outside D S K C R) (keys : Keys) (accepted : 
     asked_stored called.SearchPack parts right texts ends = tt
     asked_stored called.PutFile parts right texts ends = tt
     asked_stored called.GetFile parts right texts ends = tt
+    asked_stored called.Push parts right texts ends = tt
+    asked_stored called.Pull parts right texts ends = tt
     asked_stored called.Load parts right texts ends = tt
 
   pub notes_count : StoredNotesCount o keys

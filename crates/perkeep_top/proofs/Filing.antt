@@ -22,16 +22,16 @@ use Rattle.pack_store.specs.Packs.{KeepsAll}
 use Rattle.pack_store.specs.Puts.{Stands, PutsBlobs, HasNoRoom}
 use Rattle.pack_store.specs.StoreShelf.{content_of, PutsStore}
 use Rattle.perkeep_lines.specs.Outputs.{ref_line}
-use Rattle.perkeep_top.specs.declared.status.InputFault.TheVariants.{TooLong}
-use Rattle.perkeep_top.specs.declared.status.Status.{Status}
-use Rattle.perkeep_top.specs.declared.status.Status.TheVariants as status
-use Rattle.perkeep_top.specs.Faults.{put_status, cut_status}
-use Rattle.perkeep_top.specs.Frame.{Ends, Given, GaveSome, IsQuiet, StopsFull, IsTooMany, read_too_much}
-use Rattle.perkeep_top.specs.Limits.{limits}
-use Rattle.perkeep_top.specs.Outside.{Outside, World, world}
+use Rattle.top_frame.specs.declared.status.InputFault.TheVariants.{TooLong}
+use Rattle.top_frame.specs.declared.status.Status.{Status}
+use Rattle.top_frame.specs.declared.status.Status.TheVariants as status
+use Rattle.top_frame.specs.Faults.{put_status, cut_status}
+use Rattle.top_frame.specs.Frame.{Ends, Given, GaveSome, IsQuiet, StopsFull, IsTooMany, read_too_much}
+use Rattle.top_frame.specs.Limits.{limits}
+use Rattle.top_frame.specs.Outside.{Outside, World, world}
 use Rattle.perkeep_top.specs.PutFile.{put_file_meaning, bad_name}
-use Rattle.perkeep_top.specs.Steps.{Finds, NeverRefuses, Writes}
-use Rattle.perkeep_top.proofs.Ending.{Begun, begun, Far, Has, given_input, later_rose, always_then, far_start, far_asked, far_puts, refused, failed, no_memory, full, stops, finished}
+use Rattle.top_frame.specs.Steps.{Finds, NeverRefuses, Writes}
+use Rattle.top_frame.proofs.Ending.{Begun, begun, Far, Has, given_input, later_rose, always_then, far_start, far_asked, far_puts, refused, failed, no_memory, full, stops, finished}
 
 -- a store as a shelf
 abbrev pub shelf_of : {D : Type 0} → DiskGhosts D → ShelfGhosts (Archive D)
@@ -80,12 +80,12 @@ short_name name fit long = absurd (cc (fit, lt-ltb longest_name (length name) lo
 pub fits : (name : List ℕ) → length name ≤ longest_name → bad_name name ≡ None
 fits name short = ap (λ (b : Bool). if b then Some (TooLong (length name)) else None) (le-ltb longest_name (length name) short)
 
-module _ {D S K C R : Type 0} (o : Outside D S K C R)
+module _ {D P S K C R : Type 0} (o : Outside D P S K C R)
     (counts_now : (d : D) (t : ℕ) (c : Packs) → t ≤ o.disk.moment d → o.disk.images d c → o.disk.images_since d t c)
     (only_now : (d : D) (c : Packs) → o.disk.images_since d (o.disk.moment d) c → o.disk.images d c)
-    (name : List ℕ) (b : World D S K C R) (fit : bad_name name ≡ None) where
-  abbrev run : Begun D S K C R
-  run = begun o counts_now only_now (put_file_meaning name) fit b
+    (name : List ℕ) (b : World D P S K C R) (fit : bad_name name ≡ None) where
+  abbrev run : Begun D P S K C R
+  run = begun o counts_now only_now (put_file_meaning name) fit refl b
 
   puts_some : IsQuiet (put_file_meaning name) → ⊥
   puts_some q = not_empty (below_file run_size (cut_up chunk_size [])) (own_blob name []) (q (given_input []))
@@ -95,17 +95,17 @@ module _ {D S K C R : Type 0} (o : Outside D S K C R)
 
   -- the store wasn't opened
   pub not_opened : (e : D) → Stays o.disk b.disk e → o.disk.faults b.disk ≤ o.disk.faults e → (end : Status) → Finds o.disk b.disk e NeverRefuses end
-      → Ends o (put_file_meaning name) b (world e b.source b.sink b.clock b.dice) end
+      → Ends o (put_file_meaning name) b (world e b.peer b.source b.sink b.clock b.dice) end
   not_opened e stays later end why =
       refused run refl b.disk e b.source (far_start run) stays later (given_input (left_of (o.source.left b.source))) (has_of b.source (left_of (o.source.left b.source)) (has_left (o.source.left b.source))) refl
       NeverRefuses (λ end w. absurd w) end why
 
   module _ (first last : Archive D) (t : S) (opened : Stays o.disk b.disk first.disk) (opened_later : o.disk.faults b.disk ≤ o.disk.faults first.disk) (stands : Stands o.disk limits first)
       (source_later : o.source.faults b.source ≤ o.source.faults t) where
-    abbrev here : World D S K C R
-    here = world last.disk t b.sink b.clock b.dice
+    abbrev here : World D P S K C R
+    here = world last.disk b.peer t b.sink b.clock b.dice
 
-    open_far : Far run (world first.disk b.source b.sink b.clock b.dice) [] []
+    open_far : Far run (world first.disk b.peer b.source b.sink b.clock b.dice) [] []
     open_far = far_asked run refl b.disk first.disk b.source (far_start run) opened opened_later
 
     of_store : (blobs : List Blob) → PutsStore o.disk first blobs last → PutsBlobs o.disk limits first blobs last
@@ -129,8 +129,8 @@ module _ {D S K C R : Type 0} (o : Outside D S K C R)
         full run here (named w.put) [] (far_of (named w.put) w.why.0 w.later) (given_input input) (named w.rest) (has_of t input read) (named_in (file_blobs name input) w.put w.rest w.front) refl count pack
         (stops_full (named w.put) w.why.0 count pack w.rest w.why.1)
     not_kept input read put.Disk w = failed run here [] (record {
-      always = always_then run refl (world first.disk b.source b.sink b.clock b.dice) here open_far.at.always
-          (record { disk_later = w.later; source_later = source_later; sink_later = omega arith; crash = w.run; quiet = λ q. absurd (puts_some q); unread = λ e. absurd (cc e); untimed = refl; undiced = refl });
+      always = always_then run refl (world first.disk b.peer b.source b.sink b.clock b.dice) here open_far.at.always
+          (record { disk_later = w.later; source_later = source_later; sink_later = omega arith; crash = w.run; quiet = λ q. absurd (puts_some q); unread = λ e. absurd (cc e); untimed = refl; undiced = refl; unmet = refl });
       wrote = refl;
     }) (given_input input) (has_of t input read) refl (later_rose (o.disk.faults b.disk) (o.disk.faults first.disk) (o.disk.faults last.disk) opened_later w.why)
     not_kept input read put.NoMemory w = no_memory run here (named w.put) [] (far_of (named w.put) w.why w.later) (given_input input) (named w.rest) (has_of t input read) (named_in (file_blobs name input) w.put w.rest w.front) refl
@@ -174,6 +174,6 @@ module _ {D S K C R : Type 0} (o : Outside D S K C R)
       unlined = no_memory run here blobs [] far given [] (has_of t w.0 (all_given (o.source.left b.source) (o.source.left t) w.0 w.1)) (sym (append-nil blobs)) refl
 
       -- and the line was written or not
-      pub filed : (k : K) (end : Status) → Writes o.sink b.sink k (ref_line r) end → o.sink.faults b.sink ≤ o.sink.faults k → Ends o (put_file_meaning name) b (world last.disk t k b.clock b.dice) end
+      pub filed : (k : K) (end : Status) → Writes o.sink b.sink k (ref_line r) end → o.sink.faults b.sink ≤ o.sink.faults k → Ends o (put_file_meaning name) b (world last.disk b.peer t k b.clock b.dice) end
       filed k end writes sink_later =
           finished run last.disk t blobs far k given (ref_line r) (λ e. absurd (cc e), λ e. absurd (cc e)) (w.2, w.1) refl (ap ref_line w.4) refl end writes sink_later

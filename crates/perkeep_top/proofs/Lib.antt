@@ -1,10 +1,8 @@
-pub mod Ending
 pub mod Arrived
 pub mod Reporting
 pub mod Telling
 pub mod Searching
 pub mod Sizes
-pub mod Asking
 pub mod Walked
 pub mod Noting
 pub mod Filing

@@ -8,14 +8,14 @@ use Rattle.schema_fact.specs.declared.kinds.What.TheVariants.{Multi}
 use Rattle.schema_json.specs.Facts.{key_blob, change_list_in}
 use Rattle.schema_write.specs.Blobs.{claim_payload}
 use Rattle.pack_disk.specs.Packs.{Packs}
-use Rattle.perkeep_top.specs.declared.status.InputFault.TheVariants.{BadRef, BadDate, BadNumber, BadName, TooBig, NotAFile, Short, Deep, NoKey, TooLong, BadQuery, BadChanges}
-use Rattle.perkeep_top.specs.declared.status.Status.{Status}
-use Rattle.perkeep_top.specs.declared.status.Status.TheVariants as status
-use Rattle.perkeep_top.specs.Frame.{Meaning, Given, GaveWhole, read_too_much, read_wrongly, EndsBy, Ends}
+use Rattle.top_frame.specs.declared.status.InputFault.TheVariants.{BadRef, BadDate, BadNumber, BadName, TooBig, NotAFile, Short, Deep, NoKey, TooLong, BadQuery, BadChanges}
+use Rattle.top_frame.specs.declared.status.Status.{Status}
+use Rattle.top_frame.specs.declared.status.Status.TheVariants as status
+use Rattle.top_frame.specs.Frame.{Meaning, Given, GaveWhole, read_too_much, read_wrongly, EndsBy, Ends}
 use Rattle.perkeep_top.specs.Multi.{longest_changes, unless_listed, bad_changes, changes_payload, multi_meaning, ReadsChanges, RefusesChanges}
 use Rattle.perkeep_top.specs.Notes.{Keys, unless_held, claim_meaning}
-use Rattle.perkeep_top.specs.Outside.{Outside, World, world}
-use Rattle.perkeep_top.proofs.Ending.{Begun, begun, Far, far_read}
+use Rattle.top_frame.specs.Outside.{Outside, World, world}
+use Rattle.top_frame.proofs.Ending.{Begun, begun, Far, far_read}
 use Rattle.perkeep_top.proofs.Sealing.{with_text, signed_after}
 
 -- ---- the step that reads them
@@ -31,34 +31,34 @@ module _ {S : Type 0} (g : SourceGhosts S) (old new : S) (text : List ℕ) (read
 
 -- ---- a run whose name is held
 
-module _ {D S K C R : Type 0} (o : Outside D S K C R)
+module _ {D P S K C R : Type 0} (o : Outside D P S K C R)
     (counts_now : (d : D) (t : ℕ) (c : Packs) → t ≤ o.disk.moment d → o.disk.images d c → o.disk.images_since d t c)
     (only_now : (d : D) (c : Packs) → o.disk.images_since d (o.disk.moment d) c → o.disk.images d c)
-    (keys : Keys) (name : List ℕ) (held : keys.holds name ≡ true) (b : World D S K C R) (s : S) (later : o.source.faults b.source ≤ o.source.faults s) where
+    (keys : Keys) (name : List ℕ) (held : keys.holds name ≡ true) (b : World D P S K C R) (s : S) (later : o.source.faults b.source ≤ o.source.faults s) where
   abbrev m : Meaning
   m = multi_meaning keys name
 
   fit : m.bad ≡ None
   fit = ap unless_held held
 
-  abbrev between : World D S K C R
-  between = world b.disk s b.sink b.clock b.dice
+  abbrev between : World D P S K C R
+  between = world b.disk b.peer s b.sink b.clock b.dice
 
   -- no changes were read
   pub unread_changes : (end : Status) → RefusesChanges o.source b.source s end → Ends o m b between end
   unread_changes end why = record { always = far.at.always; ends = by end why }
     where
-      run : Begun D S K C R
-      run = begun o counts_now only_now m fit b
+      run : Begun D P S K C R
+      run = begun o counts_now only_now m fit refl b
 
       far : Far run between [] []
       far = far_read run s (λ e. absurd (cc e)) later
 
       by : (end : Status) → RefusesChanges o.source b.source s end → EndsBy o m b between end
-      by status.ReadFault w = record { unasked = refl; unwritten = refl; why = (fit, w) }
-      by (status.BadInput (TooLong size)) w = read_too_much (record { unasked = refl; unwritten = refl; why = (fit, (size, refl, w)) })
-      by (status.BadInput BadChanges) w = read_wrongly (record { unasked = refl; unwritten = refl; why = (fit, w.text, w.read, ap unless_listed w.unlisted) })
-      by status.NoMemory w = inl (record { unasked = refl; unwritten = refl; why = tt })
+      by status.ReadFault w = record { unasked = refl; unwritten = refl; unsent = refl; why = (fit, w) }
+      by (status.BadInput (TooLong size)) w = read_too_much (record { unasked = refl; unwritten = refl; unsent = refl; why = (fit, (size, refl, w)) })
+      by (status.BadInput BadChanges) w = read_wrongly (record { unasked = refl; unwritten = refl; unsent = refl; why = (fit, w.text, w.read, ap unless_listed w.unlisted) })
+      by status.NoMemory w = inl (record { unasked = refl; unwritten = refl; unsent = refl; why = tt })
       by (status.BadInput BadRef) w = absurd w
       by (status.BadInput BadDate) w = absurd w
       by (status.BadInput BadNumber) w = absurd w
@@ -74,6 +74,8 @@ module _ {D S K C R : Type 0} (o : Outside D S K C R)
       by status.Disk w = absurd w
       by status.BadWords w = absurd w
       by status.HandFault w = absurd w
+      by status.Peer w = absurd w
+      by (status.BadReply fault) w = absurd w
       by (status.Absent r) w = absurd w
       by (status.Full blobs pack) w = absurd w
       by (status.Damaged want is) w = absurd w
@@ -83,7 +85,7 @@ module _ {D S K C R : Type 0} (o : Outside D S K C R)
     same_payload : (given : Given) → claim_payload (ref_of (key_blob name)) given.date_text (Multi changes) ≡ changes_payload name (with_text text given)
     same_payload given = ap (λ (found : Option (List Change)). claim_payload (ref_of (key_blob name)) given.date_text (Multi (unwrap_or found []))) (sym listed)
 
-    pub claimed : (new : World D S K C R) (end : Status) → Ends o (claim_meaning keys name (Multi changes)) between new end → Ends o m b new end
+    pub claimed : (new : World D P S K C R) (end : Status) → Ends o (claim_meaning keys name (Multi changes)) between new end → Ends o m b new end
     claimed new end w =
         signed_after o keys name held true false longest_changes TooLong bad_changes (changes_payload name) (λ (given : Given). claim_payload (ref_of (key_blob name)) given.date_text (Multi changes))
         text (ap unless_listed listed) same_payload b s later read new end w

@@ -17,33 +17,33 @@ use Rattle.pack_store.specs.Packs.{KeepsAll}
 use Rattle.pack_store.specs.Puts.{Stands, PutsBlobs, PutLeaves}
 use Rattle.perkeep_lines.specs.Notes.{sealed, CanBeSigned}
 use Rattle.perkeep_lines.specs.Outputs.{ref_line}
-use Rattle.perkeep_top.specs.declared.status.InputFault.TheVariants.{TooLong}
-use Rattle.perkeep_top.specs.declared.status.Status.{Status}
-use Rattle.perkeep_top.specs.declared.status.Status.TheVariants as status
-use Rattle.perkeep_top.specs.Faults.{put_status, draft_status}
-use Rattle.perkeep_top.specs.Frame.{Meaning, Given, IsDrawn, IsQuiet, Ends}
-use Rattle.perkeep_top.specs.Limits.{limits}
+use Rattle.top_frame.specs.declared.status.InputFault.TheVariants.{TooLong}
+use Rattle.top_frame.specs.declared.status.Status.{Status}
+use Rattle.top_frame.specs.declared.status.Status.TheVariants as status
+use Rattle.top_frame.specs.Faults.{put_status, draft_status}
+use Rattle.top_frame.specs.Frame.{Meaning, Given, IsDrawn, IsQuiet, Ends}
+use Rattle.top_frame.specs.Limits.{limits}
 use Rattle.perkeep_top.specs.Notes.{Keys, note_meaning, unless_held}
-use Rattle.perkeep_top.specs.Outside.{Outside, World, world}
-use Rattle.perkeep_top.specs.Steps.{Finds, NeverRefuses, Writes}
-use Rattle.perkeep_top.proofs.Ending.{Begun, begun, Far, Has, far_start, far_drawn, not_drawn, far_asked, far_put, refused, no_memory, unfit, not_put, finished}
+use Rattle.top_frame.specs.Outside.{Outside, World, world}
+use Rattle.top_frame.specs.Steps.{Finds, NeverRefuses, Writes}
+use Rattle.top_frame.proofs.Ending.{Begun, begun, Far, Has, far_start, far_drawn, not_drawn, far_asked, far_put, refused, no_memory, unfit, not_put, finished}
 
 -- a run whose name is held
-module _ {D S K C R : Type 0} (o : Outside D S K C R)
+module _ {D P S K C R : Type 0} (o : Outside D P S K C R)
     (counts_now : (d : D) (t : ℕ) (c : Packs) → t ≤ o.disk.moment d → o.disk.images d c → o.disk.images_since d t c)
     (only_now : (d : D) (c : Packs) → o.disk.images_since d (o.disk.moment d) c → o.disk.images d c)
-    (keys : Keys) (name : List ℕ) (time random : Bool) (payload : Given → List ℕ) (held : keys.holds name ≡ true) (b : World D S K C R) (watch : C) (cup : R)
+    (keys : Keys) (name : List ℕ) (time random : Bool) (payload : Given → List ℕ) (held : keys.holds name ≡ true) (b : World D P S K C R) (watch : C) (cup : R)
     (untimed : time ≡ false → watch ≡ b.clock) (undiced : random ≡ false → cup ≡ b.dice) (clock_later : o.clock.faults b.clock ≤ o.clock.faults watch) (dice_later : o.dice.faults b.dice ≤ o.dice.faults cup) where
   abbrev m : Meaning
   m = note_meaning keys name time random payload
 
-  abbrev run : Begun D S K C R
-  run = begun o counts_now only_now m (ap unless_held held) b
+  abbrev run : Begun D P S K C R
+  run = begun o counts_now only_now m (ap unless_held held) refl b
 
   abbrev EndsAt : D → K → Status → Type 0
-  EndsAt d k end = Ends o m b (world d b.source k watch cup) end
+  EndsAt d k end = Ends o m b (world d b.peer b.source k watch cup) end
 
-  drawn_far : Far run (world b.disk b.source b.sink watch cup) [] []
+  drawn_far : Far run (world b.disk b.peer b.source b.sink watch cup) [] []
   drawn_far = far_drawn run b.source watch cup (far_start run) untimed undiced clock_later dice_later
 
   -- the clock or the dice failed
@@ -59,7 +59,7 @@ module _ {D S K C R : Type 0} (o : Outside D S K C R)
     note_unopened e stays later end why = refused run refl b.disk e b.source drawn_far stays later given has refl NeverRefuses (λ end w. absurd w) end why
 
     module _ (first : Archive D) (opened : Stays o.disk b.disk first.disk) (opened_later : o.disk.faults b.disk ≤ o.disk.faults first.disk) (stands : Stands o.disk limits first) where
-      open_far : Far run (world first.disk b.source b.sink watch cup) [] []
+      open_far : Far run (world first.disk b.peer b.source b.sink watch cup) [] []
       open_far = far_asked run refl b.disk first.disk b.source drawn_far opened opened_later
 
       abbrev key : Blob
@@ -70,11 +70,11 @@ module _ {D S K C R : Type 0} (o : Outside D S K C R)
 
       -- no memory was left for the texts
       pub note_memory : EndsAt first.disk b.sink status.NoMemory
-      note_memory = no_memory run (world first.disk b.source b.sink watch cup) [] [] open_far given (m.blobs given) has refl refl
+      note_memory = no_memory run (world first.disk b.peer b.source b.sink watch cup) [] [] open_far given (m.blobs given) has refl refl
 
       -- the payload is too long
       pub note_too_long : (len : ℕ) → len ≡ length (payload given) + signature_length → longest_schema < len → EndsAt first.disk b.sink (status.BadInput (TooLong len))
-      note_too_long len is long = unfit run (world first.disk b.source b.sink watch cup) [] [] open_far given (m.blobs given) has refl refl (TooLong len) (refl, is, long)
+      note_too_long len is long = unfit run (world first.disk b.peer b.source b.sink watch cup) [] [] open_far given (m.blobs given) has refl refl (TooLong len) (refl, is, long)
 
       -- one of these two
       pub note_refused : (fault : DraftFault) → IsFault (length (payload given) + signature_length) fault → EndsAt first.disk b.sink (draft_status fault)
@@ -90,7 +90,7 @@ module _ {D S K C R : Type 0} (o : Outside D S K C R)
         key_not_put e w = not_put run refl puts_some first second b.source b.sink [] [] open_far stands crash later refl given key (blob ∷ []) has refl refl short e w
 
         module _ (puts : PutsBlobs o.disk limits first (key ∷ []) second) (last : Archive D) (last_crash : KeepsAll o.disk second.disk last.disk) (last_later : o.disk.faults second.disk ≤ o.disk.faults last.disk) where
-          key_far : Far run (world second.disk b.source b.sink watch cup) (key ∷ []) []
+          key_far : Far run (world second.disk b.peer b.source b.sink watch cup) (key ∷ []) []
           key_far = far_put run refl puts_some first second b.source b.sink [] [] open_far stands crash later refl (key ∷ []) puts
 
           -- the signed blob wasn't put

@@ -2,31 +2,31 @@
 use Rattle.std.proofs.Common.{◌≤◌, inl, ℕ, [], refl}
 use Rattle.claim_verify.specs.Verifier.{Accepts}
 use Rattle.pack_disk.specs.Packs.{Packs}
-use Rattle.perkeep_top.specs.declared.status.InputFault.TheVariants.{BadRef, BadDate, BadNumber, BadName, TooBig, NotAFile, Short, Deep, NoKey, TooLong, BadQuery, BadChanges}
-use Rattle.perkeep_top.specs.declared.status.Status.{Status}
-use Rattle.perkeep_top.specs.declared.status.Status.TheVariants as status
-use Rattle.perkeep_top.specs.Frame.{Ends, EndsBy, read_too_much, read_wrongly}
-use Rattle.perkeep_top.specs.Outside.{Outside, World, world}
+use Rattle.top_frame.specs.declared.status.InputFault.TheVariants.{BadRef, BadDate, BadNumber, BadName, TooBig, NotAFile, Short, Deep, NoKey, TooLong, BadQuery, BadChanges}
+use Rattle.top_frame.specs.declared.status.Status.{Status}
+use Rattle.top_frame.specs.declared.status.Status.TheVariants as status
+use Rattle.top_frame.specs.Frame.{Ends, EndsBy, read_too_much, read_wrongly}
+use Rattle.top_frame.specs.Outside.{Outside, World, world}
 use Rattle.perkeep_top.specs.Query.{query_meaning, RefusesQuery}
-use Rattle.perkeep_top.proofs.Ending.{Begun, begun, Far, far_read}
+use Rattle.top_frame.proofs.Ending.{Begun, begun, Far, far_read}
 
-module _ {D S K C R : Type 0} (o : Outside D S K C R)
+module _ {D P S K C R : Type 0} (o : Outside D P S K C R)
     (counts_now : (d : D) (t : ℕ) (c : Packs) → t ≤ o.disk.moment d → o.disk.images d c → o.disk.images_since d t c)
-    (only_now : (d : D) (c : Packs) → o.disk.images_since d (o.disk.moment d) c → o.disk.images d c) (accepts : Accepts) (b : World D S K C R) where
-  abbrev run : Begun D S K C R
-  run = begun o counts_now only_now (query_meaning accepts) refl b
+    (only_now : (d : D) (c : Packs) → o.disk.images_since d (o.disk.moment d) c → o.disk.images d c) (accepts : Accepts) (b : World D P S K C R) where
+  abbrev run : Begun D P S K C R
+  run = begun o counts_now only_now (query_meaning accepts) refl refl b
 
-  pub unread_query : (s : S) → o.source.faults b.source ≤ o.source.faults s → (end : Status) → RefusesQuery o.source b.source s end → Ends o (query_meaning accepts) b (world b.disk s b.sink b.clock b.dice) end
+  pub unread_query : (s : S) → o.source.faults b.source ≤ o.source.faults s → (end : Status) → RefusesQuery o.source b.source s end → Ends o (query_meaning accepts) b (world b.disk b.peer s b.sink b.clock b.dice) end
   unread_query s later end why = record { always = far.at.always; ends = by end why }
     where
-      far : Far run (world b.disk s b.sink b.clock b.dice) [] []
+      far : Far run (world b.disk b.peer s b.sink b.clock b.dice) [] []
       far = far_read run s (λ e. absurd (cc e)) later
 
-      by : (end : Status) → RefusesQuery o.source b.source s end → EndsBy o (query_meaning accepts) b (world b.disk s b.sink b.clock b.dice) end
-      by status.ReadFault w = record { unasked = refl; unwritten = refl; why = (refl, w) }
-      by (status.BadInput (TooLong size)) w = read_too_much (record { unasked = refl; unwritten = refl; why = (refl, (size, refl, w)) })
-      by (status.BadInput (BadQuery fault)) w = read_wrongly (record { unasked = refl; unwritten = refl; why = (refl, w.text, w.read, w.faulty) })
-      by status.NoMemory w = inl (record { unasked = refl; unwritten = refl; why = tt })
+      by : (end : Status) → RefusesQuery o.source b.source s end → EndsBy o (query_meaning accepts) b (world b.disk b.peer s b.sink b.clock b.dice) end
+      by status.ReadFault w = record { unasked = refl; unwritten = refl; unsent = refl; why = (refl, w) }
+      by (status.BadInput (TooLong size)) w = read_too_much (record { unasked = refl; unwritten = refl; unsent = refl; why = (refl, (size, refl, w)) })
+      by (status.BadInput (BadQuery fault)) w = read_wrongly (record { unasked = refl; unwritten = refl; unsent = refl; why = (refl, w.text, w.read, w.faulty) })
+      by status.NoMemory w = inl (record { unasked = refl; unwritten = refl; unsent = refl; why = tt })
       by (status.BadInput BadRef) w = absurd w
       by (status.BadInput BadDate) w = absurd w
       by (status.BadInput BadNumber) w = absurd w
@@ -42,6 +42,8 @@ module _ {D S K C R : Type 0} (o : Outside D S K C R)
       by status.Disk w = absurd w
       by status.BadWords w = absurd w
       by status.HandFault w = absurd w
+      by status.Peer w = absurd w
+      by (status.BadReply fault) w = absurd w
       by (status.Absent r) w = absurd w
       by (status.Full blobs pack) w = absurd w
       by (status.Damaged want is) w = absurd w

@@ -11,7 +11,7 @@ use Rattle.pack_store.specs.declared.whole.PackScan.{PackScan}
 use Rattle.pack_store.specs.Scan.{IsScan}
 use Rattle.pack_store.proofs.Walking.{walk_begins, walk_step, walk_ends}
 use Rattle.perkeep_lines.specs.Outputs.{pack_report, report, report_of}
-use Rattle.perkeep_top.proofs.Ending.{took_nothing}
+use Rattle.top_frame.proofs.Ending.{took_nothing}
 use Rattle.perkeep_top.specs.Salvaged.{IsReport, IsPackReport, IsReportBelow, IsCutAt, Writes, WritesFront}
 
 abbrev Told : Type 0

@@ -4,24 +4,24 @@ use Rattle.edge_base.specs.Edge.{Rose, Took, TookFront}
 use Rattle.edge_base.specs.Shelf.{Blob}
 use Rattle.pack_disk.specs.Disk.{Tells}
 use Rattle.pack_store.specs.Puts.{PutsAll, HoldAll}
-use Rattle.perkeep_top.specs.declared.status.InputFault.{InputFault}
-use Rattle.perkeep_top.specs.declared.status.Status.{Status}
-use Rattle.perkeep_top.specs.declared.status.Status.TheVariants as status
-use Rattle.perkeep_top.specs.Frame.{Meaning, Given, reads_first, GaveWhole, IsTime, AreRandom, IsDrawn, Always, Finishes, RefusedEarly, RefusedLate, PutsFront, Stops, StopsFull, Unusable, said_badly, read_too_much, read_wrongly, found_unfit, EndsBy, Ends}
-use Rattle.perkeep_top.specs.Limits.{limits}
+use Rattle.top_frame.specs.declared.status.InputFault.{InputFault}
+use Rattle.top_frame.specs.declared.status.Status.{Status}
+use Rattle.top_frame.specs.declared.status.Status.TheVariants as status
+use Rattle.top_frame.specs.Frame.{Meaning, Given, reads_first, GaveWhole, IsTime, AreRandom, IsDrawn, Always, Finishes, RefusedEarly, RefusedLate, PutsFront, Stops, StopsFull, Unusable, said_badly, read_too_much, read_wrongly, found_unfit, EndsBy, Ends}
+use Rattle.top_frame.specs.Limits.{limits}
 use Rattle.perkeep_top.specs.Notes.{Keys, unless_held, note_blobs, IsNoteOutput, RefusesNote, signed_meaning, note_meaning}
-use Rattle.perkeep_top.specs.Outside.{Outside, World, world}
-use Rattle.perkeep_top.proofs.Ending.{nothing_given}
+use Rattle.top_frame.specs.Outside.{Outside, World, world}
+use Rattle.top_frame.proofs.Ending.{nothing_given}
 
 -- what was given, with the text that was read
 abbrev pub with_text : List ℕ → Given → Given
-with_text text given = record { input = text; date = given.date; date_text = given.date_text; random = given.random }
+with_text text given = record { input = text; date = given.date; date_text = given.date_text; random = given.random; pulled = given.pulled; lacked = given.lacked; had = given.had }
 
 -- a run whose name is held: the text was read first, and isn't wrong; then the payload was signed that it gives
-module _ {D S K C R : Type 0} (o : Outside D S K C R) (keys : Keys) (name : List ℕ) (held : keys.holds name ≡ true) (time random : Bool)
+module _ {D P S K C R : Type 0} (o : Outside D P S K C R) (keys : Keys) (name : List ℕ) (held : keys.holds name ≡ true) (time random : Bool)
     (most : ℕ) (too_long : ℕ → InputFault) (wrong : List ℕ → Option InputFault) (payload : Given → List ℕ) (told_payload : Given → List ℕ)
     (text : List ℕ) (right : wrong text ≡ None) (same : (given : Given) → told_payload given ≡ payload (with_text text given))
-    (b : World D S K C R) (s : S) (later : o.source.faults b.source ≤ o.source.faults s) (read : GaveWhole most (o.source.left b.source) (o.source.left s) text) (new : World D S K C R) where
+    (b : World D P S K C R) (s : S) (later : o.source.faults b.source ≤ o.source.faults s) (read : GaveWhole most (o.source.left b.source) (o.source.left s) text) (new : World D P S K C R) where
   -- what the whole means, and what the part does that comes behind the reading
   abbrev m : Meaning
   m = signed_meaning keys name time random (reads_first most) too_long wrong payload
@@ -29,8 +29,8 @@ module _ {D S K C R : Type 0} (o : Outside D S K C R) (keys : Keys) (name : List
   abbrev n : Meaning
   n = note_meaning keys name time random told_payload
 
-  abbrev between : World D S K C R
-  between = world b.disk s b.sink b.clock b.dice
+  abbrev between : World D P S K C R
+  between = world b.disk b.peer s b.sink b.clock b.dice
 
   fit : m.bad ≡ None
   fit = ap unless_held held
@@ -59,6 +59,9 @@ module _ {D S K C R : Type 0} (o : Outside D S K C R) (keys : Keys) (name : List
     unread = λ e. absurd (cc e);
     untimed = a.untimed;
     undiced = a.undiced;
+    unmet = a.unmet;
+    unsent = λ e. absurd (cc e);
+    peer_later = a.peer_later;
     disk_later = a.disk_later;
     source_later = omega (arith, later, a.source_later);
     sink_later = a.sink_later;
@@ -74,6 +77,7 @@ module _ {D S K C R : Type 0} (o : Outside D S K C R) (keys : Keys) (name : List
     drawn = drawn f.given f.drawn;
     read = reads f.read.0;
     right = right;
+    exchanged = tt;
     output = subst (λ (payload : List ℕ). IsNoteOutput keys.seals name payload f.bytes) (same f.given) f.output;
     put = subst (λ (blobs : List Blob). Tells (o.disk.packs b.disk) (o.disk.packs new.disk) (PutsAll limits blobs)) (same_blobs f.given) f.put;
     held = subst (HoldAll (o.disk.images new.disk)) (same_blobs f.given) f.held;
@@ -88,6 +92,7 @@ module _ {D S K C R : Type 0} (o : Outside D S K C R) (keys : Keys) (name : List
     drawn = drawn w.given w.drawn;
     read = reads w.read.0;
     right = right;
+    exchanged = tt;
     written = w.written;
     part = w.part;
     why = so w.given w.bytes w.why;
@@ -126,7 +131,7 @@ module _ {D S K C R : Type 0} (o : Outside D S K C R) (keys : Keys) (name : List
   unusable fault (found_unfit w) = found_unfit (refuses (status.BadInput fault) w)
 
   no_memory : RefusedEarly o n between new (Unit {0}) ⊎ Stops o n between new (λ given bytes gone rest. Unit {0}) → RefusedEarly o m b new (Unit {0}) ⊎ Stops o m b new (λ given bytes gone rest. Unit {0})
-  no_memory (inl w) = inl (record { unasked = w.unasked; unwritten = w.unwritten; why = tt })
+  no_memory (inl w) = inl (record { unasked = w.unasked; unwritten = w.unwritten; unsent = w.unsent; why = tt })
   no_memory (inr w) = inr (anywhere w)
 
   abbrev Told : List ℕ → Type 0
@@ -146,12 +151,17 @@ module _ {D S K C R : Type 0} (o : Outside D S K C R) (keys : Keys) (name : List
   by status.HandFault w = record {
     unasked = w.unasked;
     unwritten = w.unwritten;
+    unsent = w.unsent;
     why = record { input = text; fit = fit; read = reads w.why.read.0; right = right; rose = w.why.rose };
   }
   by status.Disk w = late (λ given bytes. Rose (o.disk.faults b.disk) (o.disk.faults new.disk)) (λ given bytes. Rose (o.disk.faults b.disk) (o.disk.faults new.disk)) (λ given bytes h. h) w
-  by (status.Full blobs pack) w = stops (λ given bytes gone rest. StopsFull o n between new blobs pack rest) (λ given bytes gone rest. StopsFull o m b new blobs pack rest) (λ given bytes gone rest h. full blobs pack rest h) w
+  by status.Peer w = absurd w
+  by (status.BadReply why) w = absurd w
+  by (status.Full blobs pack) (inl w) = inl (stops (λ given bytes gone rest. StopsFull o n between new blobs pack rest) (λ given bytes gone rest. StopsFull o m b new blobs pack rest) (λ given bytes gone rest h. full blobs pack rest h) w)
+  by (status.Full blobs pack) (inr w) = absurd w
   by (status.Absent r) w = refuses (status.Absent r) w
-  by (status.Damaged want is) w = refuses (status.Damaged want is) w
+  by (status.Damaged want is) (inl w) = inl (refuses (status.Damaged want is) w)
+  by (status.Damaged want is) (inr w) = absurd w
   by status.BadWords w = absurd w
 
   pub signed_after : (end : Status) → Ends o n between new end → Ends o m b new end

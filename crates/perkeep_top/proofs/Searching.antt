@@ -1,5 +1,5 @@
 -- A search over the store of a disk.
-use Rattle.std.proofs.Common.{◌≡◌, ℕ, Option, List, map, ap, ◌∙◌}
+use Rattle.std.proofs.Common.{◌≡◌, Option, List, map, ap, ◌∙◌}
 use Rattle.std.specs.FinMap.{entries, from_entries}
 use Rattle.std.specs.Option.{ForSome}
 use Rattle.claim_model.specs.Facts.{Entry}

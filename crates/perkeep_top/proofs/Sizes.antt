@@ -6,7 +6,7 @@ use Rattle.pack_disk.specs.Packs.{Packs}
 use Rattle.pack_store.specs.Puts.{blobs_of}
 use Rattle.perkeep_lines.specs.Outputs.{size_line}
 use Rattle.perkeep_top.specs.Stat.{IsSizeLine}
-use Rattle.perkeep_top.specs.Steps.{IsAbsent}
+use Rattle.top_frame.specs.Steps.{IsAbsent}
 
 option_twice : {A B C : Type 0} (f : B → C) (h : A → B) (o : Option A) → option_map f (option_map h o) ≡ option_map (λ x. f (h x)) o
 option_twice f h None = refl

@@ -3,22 +3,22 @@ use Rattle.std.proofs.Common.{◌≡◌, inr, ℕ, ◌≤◌, List, [], refl, su
 use Rattle.edge_base.specs.Edge.{Rose, Took}
 use Rattle.pack_disk.specs.Packs.{Packs}
 use Rattle.pack_disk.specs.Runs.{Stays}
-use Rattle.perkeep_top.specs.declared.status.Status.{Status}
-use Rattle.perkeep_top.specs.declared.status.Status.TheVariants as status
-use Rattle.perkeep_top.specs.Frame.{Ends}
-use Rattle.perkeep_top.specs.Outside.{Outside, World, world}
+use Rattle.top_frame.specs.declared.status.Status.{Status}
+use Rattle.top_frame.specs.declared.status.Status.TheVariants as status
+use Rattle.top_frame.specs.Frame.{Ends}
+use Rattle.top_frame.specs.Outside.{Outside, World, world}
 use Rattle.perkeep_top.specs.Salvaged.{salvage_meaning, IsReport, IsReportFront, Writes, WritesFront, ComesWhileTelling}
-use Rattle.perkeep_top.proofs.Ending.{Begun, Far, Has, nothing_given, far_start, far_told, done, failed, no_memory, not_written}
+use Rattle.top_frame.proofs.Ending.{Begun, Far, Has, nothing_given, far_start, far_told, done, failed, no_memory, not_written}
 
-module _ {D S K C R : Type 0} (o : Outside D S K C R)
+module _ {D P S K C R : Type 0} (o : Outside D P S K C R)
     (counts_now : (d : D) (t : ℕ) (c : Packs) → t ≤ o.disk.moment d → o.disk.images d c → o.disk.images_since d t c)
     (only_now : (d : D) (c : Packs) → o.disk.images_since d (o.disk.moment d) c → o.disk.images d c)
-    (b : World D S K C R) (e : D) (k : K) (stays : Stays o.disk b.disk e) (still : o.disk.moment e ≡ o.disk.moment b.disk) (later : o.disk.faults b.disk ≤ o.disk.faults e) (sink_later : o.sink.faults b.sink ≤ o.sink.faults k) where
-  abbrev run : Begun D S K C R
-  run = record { o = o; counts_now = counts_now; only_now = only_now; m = salvage_meaning; fit = refl; b = b }
+    (b : World D P S K C R) (e : D) (k : K) (stays : Stays o.disk b.disk e) (still : o.disk.moment e ≡ o.disk.moment b.disk) (later : o.disk.faults b.disk ≤ o.disk.faults e) (sink_later : o.sink.faults b.sink ≤ o.sink.faults k) where
+  abbrev run : Begun D P S K C R
+  run = record { o = o; counts_now = counts_now; only_now = only_now; m = salvage_meaning; fit = refl; alone = refl; b = b }
 
-  abbrev here : World D S K C R
-  here = world e b.source k b.clock b.dice
+  abbrev here : World D P S K C R
+  here = world e b.peer b.source k b.clock b.dice
 
   far : (bytes : List ℕ) → Took (o.sink.written b.sink) (o.sink.written k) bytes → Far run here [] bytes
   far bytes took = far_told run b.disk e b.source b.sink k [] [] bytes (inr (refl, still)) (far_start run) stays later sink_later took
@@ -43,6 +43,8 @@ module _ {D S K C R : Type 0} (o : Outside D S K C R)
     stopped status.Done why = absurd why
     stopped status.BadWords why = absurd why
     stopped status.HandFault why = absurd why
+    stopped status.Peer why = absurd why
+    stopped (status.BadReply fault) why = absurd why
     stopped (status.Absent r) why = absurd why
     stopped (status.BadInput fault) why = absurd why
     stopped status.ReadFault why = absurd why

@@ -14,27 +14,27 @@ use Rattle.pack_disk.specs.Runs.{Stays}
 use Rattle.pack_store.specs.Archive.{Archive}
 use Rattle.pack_store.specs.Puts.{Stands, PutsBlobs, blobs_of}
 use Rattle.pack_store.specs.StoreShelf.{content_of, ContentStands}
-use Rattle.perkeep_top.specs.declared.status.InputFault.TheVariants.{NotAFile, Short, Deep}
-use Rattle.perkeep_top.specs.declared.status.Status.TheVariants as status
-use Rattle.perkeep_top.specs.Faults.{file_status}
-use Rattle.perkeep_top.specs.Frame.{Ends}
+use Rattle.top_frame.specs.declared.status.InputFault.TheVariants.{NotAFile, Short, Deep}
+use Rattle.top_frame.specs.declared.status.Status.TheVariants as status
+use Rattle.top_frame.specs.Faults.{file_status}
+use Rattle.top_frame.specs.Frame.{Ends}
 use Rattle.perkeep_top.specs.GetFile.{get_file_meaning, walk_of, BeginsFile, StopsFile}
-use Rattle.perkeep_top.specs.Limits.{limits}
-use Rattle.perkeep_top.specs.Outside.{Outside, World, world}
-use Rattle.perkeep_top.proofs.Ending.{Begun, Far, Has, nothing_given, later_rose, far_start, far_asked, far_puts, failed, no_memory, not_written, absent, unfit, damaged, done}
+use Rattle.top_frame.specs.Limits.{limits}
+use Rattle.top_frame.specs.Outside.{Outside, World, world}
+use Rattle.top_frame.proofs.Ending.{Begun, Far, Has, nothing_given, later_rose, far_start, far_asked, far_puts, failed, no_memory, not_written, absent, unfit, damaged, done}
 use Rattle.perkeep_top.proofs.Sizes.{none_within}
 
-module _ {D S K C R : Type 0} (o : Outside D S K C R)
+module _ {D P S K C R : Type 0} (o : Outside D P S K C R)
     (counts_now : (d : D) (t : ℕ) (c : Packs) → t ≤ o.disk.moment d → o.disk.images d c → o.disk.images_since d t c)
     (only_now : (d : D) (c : Packs) → o.disk.images_since d (o.disk.moment d) c → o.disk.images d c)
-    (r : List ℕ) (b : World D S K C R) (old new : Archive D) (k : K)
+    (r : List ℕ) (b : World D P S K C R) (old new : Archive D) (k : K)
     (opened : Stays o.disk b.disk old.disk) (opened_later : o.disk.faults b.disk ≤ o.disk.faults old.disk) (stands : Stands o.disk limits old) (tells : ContentStands o.disk)
     (nothing : PutsBlobs o.disk old.limits old [] new) (later : o.disk.faults old.disk ≤ o.disk.faults new.disk) (sink_later : o.sink.faults b.sink ≤ o.sink.faults k) where
-  abbrev run : Begun D S K C R
-  run = record { o = o; counts_now = counts_now; only_now = only_now; m = get_file_meaning r; fit = refl; b = b }
+  abbrev run : Begun D P S K C R
+  run = record { o = o; counts_now = counts_now; only_now = only_now; m = get_file_meaning r; fit = refl; alone = refl; b = b }
 
-  abbrev here : World D S K C R
-  here = world new.disk b.source k b.clock b.dice
+  abbrev here : World D P S K C R
+  here = world new.disk b.peer b.source k b.clock b.dice
 
   abbrev told : Option Packs
   told = o.disk.packs b.disk

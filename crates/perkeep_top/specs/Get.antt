@@ -5,11 +5,11 @@ use Rattle.std.specs.FinMap.{get}
 use Rattle.blobref.specs.Blobref.{IsOwnRef, ref_like}
 use Rattle.pack_disk.specs.Packs.{Packs}
 use Rattle.pack_store.specs.Puts.{blobs_of}
-use Rattle.perkeep_top.specs.declared.status.Status.{Status}
-use Rattle.perkeep_top.specs.declared.status.Status.TheVariants as status
-use Rattle.perkeep_top.specs.Asking.{asking}
-use Rattle.perkeep_top.specs.Frame.{Meaning}
-use Rattle.perkeep_top.specs.Steps.{IsAbsent}
+use Rattle.top_frame.specs.declared.status.Status.{Status}
+use Rattle.top_frame.specs.declared.status.Status.TheVariants as status
+use Rattle.top_frame.specs.Asking.{asking}
+use Rattle.top_frame.specs.Frame.{Meaning}
+use Rattle.top_frame.specs.Steps.{IsAbsent}
 
 -- the bytes of the ref, those that stand under it where the disk tells
 abbrev pub IsBlob : List ℕ → Option Packs → List ℕ → Type 0

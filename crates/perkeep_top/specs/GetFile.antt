@@ -6,10 +6,10 @@ use Rattle.file_tree.specs.declared.fault.FileFault.TheVariants as file
 use Rattle.file_tree.specs.Walk.{Read, walk}
 use Rattle.pack_disk.specs.Packs.{Packs}
 use Rattle.pack_store.specs.Puts.{blobs_of}
-use Rattle.perkeep_top.specs.declared.status.InputFault.TheVariants.{TooBig, NotAFile, Short, Deep}
-use Rattle.perkeep_top.specs.declared.status.Status.{Status}
-use Rattle.perkeep_top.specs.declared.status.Status.TheVariants as status
-use Rattle.perkeep_top.specs.Frame.{Meaning, opens_store, reads_nothing}
+use Rattle.top_frame.specs.declared.status.InputFault.TheVariants.{TooBig, NotAFile, Short, Deep}
+use Rattle.top_frame.specs.declared.status.Status.{Status}
+use Rattle.top_frame.specs.declared.status.Status.TheVariants as status
+use Rattle.top_frame.specs.Frame.{Meaning, opens_store, reads_nothing, no_peer}
 
 -- what is read of the file, over the blobs of these packs
 abbrev pub walk_of : List ℕ → Packs → Read
@@ -44,6 +44,7 @@ get_file_meaning r = record {
   input = reads_nothing;
   draws_time = false;
   draws_random = false;
+  exchange = no_peer;
   bad = None;
   too_long = TooBig;
   wrong = λ input. None;

@@ -1,13 +1,6 @@
-pub mod Status
-pub mod Faults
-pub mod Limits
-pub mod Outside
-pub mod Frame
-pub mod Steps
-pub mod Asking
-pub mod Put
 pub mod Get
 pub mod GetFile
+pub mod Put
 pub mod PutFile
 pub mod Notes
 pub mod Multi
@@ -19,3 +12,4 @@ pub mod Salvaged
 pub mod Load
 pub mod Run
 pub mod Stored
+pub mod Valid

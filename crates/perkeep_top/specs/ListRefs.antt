@@ -4,9 +4,9 @@ use Rattle.std.specs.Option.{ForSome}
 use Rattle.pack_disk.specs.Packs.{Packs}
 use Rattle.pack_store.specs.Puts.{blobs_of}
 use Rattle.perkeep_lines.specs.Outputs.{size_line, listed}
-use Rattle.perkeep_top.specs.Asking.{asking}
-use Rattle.perkeep_top.specs.Frame.{Meaning}
-use Rattle.perkeep_top.specs.Steps.{NeverRefuses}
+use Rattle.top_frame.specs.Asking.{asking}
+use Rattle.top_frame.specs.Frame.{Meaning}
+use Rattle.top_frame.specs.Steps.{NeverRefuses}
 
 -- a line for each of so many of the greater refs that stand there, where the disk tells
 abbrev pub IsListing : Option (List ℕ) → ℕ → Option Packs → List ℕ → Type 0

@@ -2,8 +2,8 @@
 use Rattle.std.specs.Prelude.{◌≡◌, ℕ, false, [], None}
 use Rattle.claim_verify.specs.Verifier.{Accepts}
 use Rattle.perkeep_lines.specs.Load.{load_text}
-use Rattle.perkeep_top.specs.declared.status.InputFault.TheVariants.{TooBig}
-use Rattle.perkeep_top.specs.Frame.{Meaning, leaves_alone, reads_nothing}
+use Rattle.top_frame.specs.declared.status.InputFault.TheVariants.{TooBig}
+use Rattle.top_frame.specs.Frame.{Meaning, leaves_alone, reads_nothing, no_peer}
 
 -- it touches no disk and reads no input
 abbrev pub load_meaning : Accepts → ℕ → ℕ → Meaning
@@ -12,6 +12,7 @@ load_meaning accepts count start = record {
   input = reads_nothing;
   draws_time = false;
   draws_random = false;
+  exchange = no_peer;
   bad = None;
   too_long = TooBig;
   wrong = λ input. None;

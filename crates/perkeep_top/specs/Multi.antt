@@ -7,11 +7,11 @@ use Rattle.schema_fact.specs.declared.changes.Change.{Change}
 use Rattle.schema_fact.specs.declared.kinds.What.TheVariants.{Multi}
 use Rattle.schema_json.specs.Facts.{key_blob, change_list_in}
 use Rattle.schema_write.specs.Blobs.{claim_payload}
-use Rattle.perkeep_top.specs.declared.status.InputFault.{InputFault}
-use Rattle.perkeep_top.specs.declared.status.InputFault.TheVariants.{TooLong, BadChanges}
-use Rattle.perkeep_top.specs.declared.status.Status.{Status}
-use Rattle.perkeep_top.specs.declared.status.Status.TheVariants as status
-use Rattle.perkeep_top.specs.Frame.{Meaning, Given, reads_first, GaveWhole, IsTooBig}
+use Rattle.top_frame.specs.declared.status.InputFault.{InputFault}
+use Rattle.top_frame.specs.declared.status.InputFault.TheVariants.{TooLong, BadChanges}
+use Rattle.top_frame.specs.declared.status.Status.{Status}
+use Rattle.top_frame.specs.declared.status.Status.TheVariants as status
+use Rattle.top_frame.specs.Frame.{Meaning, Given, reads_first, GaveWhole, IsTooBig}
 use Rattle.perkeep_top.specs.Notes.{Keys, signed_meaning}
 
 -- the most bytes that a list of changes may have

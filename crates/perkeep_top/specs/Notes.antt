@@ -12,11 +12,11 @@ use Rattle.schema_write.specs.Blobs.{permanode_payload, claim_payload}
 use Rattle.schema_write.specs.Laws.{longest_schema, signature_length}
 use Rattle.perkeep_lines.specs.Notes.{sealed, CanBeSigned}
 use Rattle.perkeep_lines.specs.Outputs.{ref_line}
-use Rattle.perkeep_top.specs.declared.status.InputFault.{InputFault}
-use Rattle.perkeep_top.specs.declared.status.InputFault.TheVariants.{TooBig, NoKey, TooLong}
-use Rattle.perkeep_top.specs.declared.status.Status.{Status}
-use Rattle.perkeep_top.specs.declared.status.Status.TheVariants as status
-use Rattle.perkeep_top.specs.Frame.{Meaning, Given, Input, opens_store, reads_nothing}
+use Rattle.top_frame.specs.declared.status.InputFault.{InputFault}
+use Rattle.top_frame.specs.declared.status.InputFault.TheVariants.{TooBig, NoKey, TooLong}
+use Rattle.top_frame.specs.declared.status.Status.{Status}
+use Rattle.top_frame.specs.declared.status.Status.TheVariants as status
+use Rattle.top_frame.specs.Frame.{Meaning, Given, Input, opens_store, reads_nothing, no_peer}
 
 -- what contracts know of the keys: which names are held, what they sign, and what is accepted
 pub record Keys : Type 0 where
@@ -53,6 +53,7 @@ signed_meaning keys name time random input too_long wrong payload = record {
   input = input;
   draws_time = time;
   draws_random = random;
+  exchange = no_peer;
   bad = unless_held (keys.holds name);
   too_long = too_long;
   wrong = wrong;

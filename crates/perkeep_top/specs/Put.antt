@@ -4,8 +4,8 @@ use Rattle.blobref.specs.Blobref.{ref_of}
 use Rattle.edge_base.specs.Shelf.{named}
 use Rattle.pack_format.specs.Header.{max_size}
 use Rattle.perkeep_lines.specs.Outputs.{ref_line}
-use Rattle.perkeep_top.specs.declared.status.InputFault.TheVariants.{TooBig}
-use Rattle.perkeep_top.specs.Frame.{Meaning, opens_store, reads_first}
+use Rattle.top_frame.specs.declared.status.InputFault.TheVariants.{TooBig}
+use Rattle.top_frame.specs.Frame.{Meaning, opens_store, reads_first, no_peer}
 
 abbrev pub put_meaning : Meaning
 put_meaning = record {
@@ -13,6 +13,7 @@ put_meaning = record {
   input = reads_first max_size;
   draws_time = false;
   draws_random = false;
+  exchange = no_peer;
   bad = None;
   too_long = TooBig;
   wrong = λ input. None;

@@ -5,9 +5,9 @@ use Rattle.edge_base.specs.Shelf.{named}
 use Rattle.file_cut.specs.Cutting.{file_blobs, own_blob}
 use Rattle.file_cut.specs.Writing.{longest_name, longest_file}
 use Rattle.perkeep_lines.specs.Outputs.{ref_line}
-use Rattle.perkeep_top.specs.declared.status.InputFault.{InputFault}
-use Rattle.perkeep_top.specs.declared.status.InputFault.TheVariants.{TooLong}
-use Rattle.perkeep_top.specs.Frame.{Meaning, opens_store, reads_later}
+use Rattle.top_frame.specs.declared.status.InputFault.{InputFault}
+use Rattle.top_frame.specs.declared.status.InputFault.TheVariants.{TooLong}
+use Rattle.top_frame.specs.Frame.{Meaning, opens_store, reads_later, no_peer}
 
 -- a name that is too long
 abbrev pub bad_name : List ℕ → Option InputFault
@@ -20,6 +20,7 @@ put_file_meaning name = record {
   input = reads_later longest_file;
   draws_time = false;
   draws_random = false;
+  exchange = no_peer;
   bad = bad_name name;
   too_long = TooLong;
   wrong = λ input. None;

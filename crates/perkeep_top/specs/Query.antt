@@ -11,11 +11,11 @@ use Rattle.pack_disk.specs.Packs.{Packs}
 use Rattle.pack_store.specs.Puts.{blobs_of}
 use Rattle.perkeep_lines.specs.Blobs.{facts_of_content}
 use Rattle.perkeep_lines.specs.Search.{query_line}
-use Rattle.perkeep_top.specs.declared.status.InputFault.{InputFault}
-use Rattle.perkeep_top.specs.declared.status.InputFault.TheVariants.{TooLong, BadQuery}
-use Rattle.perkeep_top.specs.declared.status.Status.{Status}
-use Rattle.perkeep_top.specs.declared.status.Status.TheVariants as status
-use Rattle.perkeep_top.specs.Frame.{Meaning, opens_store, reads_first, GaveWhole, IsTooBig}
+use Rattle.top_frame.specs.declared.status.InputFault.{InputFault}
+use Rattle.top_frame.specs.declared.status.InputFault.TheVariants.{TooLong, BadQuery}
+use Rattle.top_frame.specs.declared.status.Status.{Status}
+use Rattle.top_frame.specs.declared.status.Status.TheVariants as status
+use Rattle.top_frame.specs.Frame.{Meaning, opens_store, reads_first, GaveWhole, IsTooBig, no_peer}
 
 -- the most bytes that a query may have
 abbrev pub longest_query : ℕ
@@ -42,6 +42,7 @@ query_meaning accepts = record {
   input = reads_first longest_query;
   draws_time = false;
   draws_random = false;
+  exchange = no_peer;
   bad = None;
   too_long = TooLong;
   wrong = bad_query;

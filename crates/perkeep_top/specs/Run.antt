@@ -3,26 +3,29 @@ use Rattle.std.specs.Prelude.{◌≡◌, false, Option, None, Some, Result, Ok, 
 use Rattle.perkeep_words.specs.Reading.{LineSeen, command_at}
 use Rattle.perkeep_words.specs.Table.{writes_of}
 use Rattle.perkeep_words.specs.declared.kinds.TextFault.{TextFault}
+use Rattle.perkeep_words.specs.declared.kinds.TextFault.TheVariants as text
 use Rattle.schema_fact.specs.declared.kinds.What.TheVariants.{Delete}
 use Rattle.perkeep_words.specs.declared.reading.Command.{Command}
 use Rattle.perkeep_words.specs.declared.reading.Command.TheVariants as command
-use Rattle.perkeep_top.specs.declared.status.Status.{Status}
-use Rattle.perkeep_top.specs.declared.status.Status.TheVariants.{BadWords, BadInput}
-use Rattle.perkeep_top.specs.Faults.{input_fault}
-use Rattle.perkeep_top.specs.Frame.{Meaning, IsQuiet, Ends}
+use Rattle.top_frame.specs.declared.status.Status.{Status}
+use Rattle.top_frame.specs.declared.status.Status.TheVariants.{BadWords, BadInput}
+use Rattle.top_frame.specs.declared.status.InputFault.{InputFault}
+use Rattle.top_frame.specs.declared.status.InputFault.TheVariants.{BadRef, BadDate, BadNumber, BadName}
+use Rattle.top_frame.specs.Frame.{Meaning, IsQuiet, Ends}
 use Rattle.perkeep_top.specs.Get.{get_meaning}
 use Rattle.perkeep_top.specs.GetFile.{get_file_meaning}
 use Rattle.perkeep_top.specs.Notes.{Keys, permanode_meaning, claim_meaning, what_of}
 use Rattle.perkeep_top.specs.Multi.{multi_meaning}
 use Rattle.perkeep_top.specs.ListRefs.{list_meaning}
 use Rattle.perkeep_top.specs.Load.{load_meaning}
-use Rattle.perkeep_top.specs.Outside.{Outside, World}
+use Rattle.top_frame.specs.Outside.{Outside, World}
 use Rattle.perkeep_top.specs.Put.{put_meaning}
 use Rattle.perkeep_top.specs.Query.{query_meaning}
 use Rattle.perkeep_top.specs.PutFile.{put_file_meaning}
 use Rattle.perkeep_top.specs.Salvaged.{salvage_meaning}
 use Rattle.perkeep_top.specs.Search.{search_meaning, search_pack_meaning}
 use Rattle.perkeep_top.specs.Stat.{stat_meaning}
+use Rattle.top_sync.specs.Meanings.{push_meaning, pull_meaning}
 
 -- what each command means, under the keys that accept these signatures
 abbrev pub meaning_of : Keys → Command → Meaning
@@ -38,12 +41,21 @@ meaning_of keys (command.Multi dir name) = multi_meaning keys name
 meaning_of keys (command.Delete dir r name) = claim_meaning keys name (Delete r)
 meaning_of keys (command.PutFile dir name) = put_file_meaning name
 meaning_of keys (command.GetFile dir r) = get_file_meaning r
+meaning_of keys (command.Push dir addr) = push_meaning
+meaning_of keys (command.Pull dir addr) = pull_meaning
 meaning_of keys (command.Query dir) = query_meaning keys.accepts
 meaning_of keys (command.SearchPack attr value) = search_pack_meaning keys.accepts attr value
 meaning_of keys (command.Load count start) = load_meaning keys.accepts count start
 
+-- what is wrong with a text, as a fault of the input
+abbrev pub input_fault : TextFault → InputFault
+input_fault text.BadRef = BadRef
+input_fault text.BadDate = BadDate
+input_fault text.BadNumber = BadNumber
+input_fault text.BadName = BadName
+
 -- how a run ends: at words that are no line, at a text that is wrong, and else by the command's meaning
-abbrev pub Runs : {D S K C R : Type 0} → Outside D S K C R → Keys → Option (Result Command TextFault) → World D S K C R → World D S K C R → Status → Type 0
+abbrev pub Runs : {D P S K C R : Type 0} → Outside D P S K C R → Keys → Option (Result Command TextFault) → World D P S K C R → World D P S K C R → Status → Type 0
 Runs o keys None old new answer = (answer ≡ BadWords) × (new ≡ old)
 Runs o keys (Some (Err fault)) old new answer = (answer ≡ BadInput (input_fault fault)) × (new ≡ old)
 Runs o keys (Some (Ok asked)) old new answer = Ends o (meaning_of keys asked) old new answer

@@ -6,10 +6,10 @@ use Rattle.edge_base.specs.Edge.{Took, TookFront}
 use Rattle.pack_disk.specs.Packs.{Packs}
 use Rattle.pack_store.specs.Walk.{below, from_on}
 use Rattle.perkeep_lines.specs.Outputs.{pack_report, report}
-use Rattle.perkeep_top.specs.declared.status.InputFault.TheVariants.{TooBig}
-use Rattle.perkeep_top.specs.declared.status.Status.{Status}
-use Rattle.perkeep_top.specs.declared.status.Status.TheVariants as status
-use Rattle.perkeep_top.specs.Frame.{Meaning, only_looks, reads_nothing}
+use Rattle.top_frame.specs.declared.status.InputFault.TheVariants.{TooBig}
+use Rattle.top_frame.specs.declared.status.Status.{Status}
+use Rattle.top_frame.specs.declared.status.Status.TheVariants as status
+use Rattle.top_frame.specs.Frame.{Meaning, only_looks, reads_nothing, no_peer}
 
 -- the text tells of all packs
 abbrev pub IsReport : Option Packs → List ℕ → Type 0
@@ -26,6 +26,7 @@ salvage_meaning = record {
   input = reads_nothing;
   draws_time = false;
   draws_random = false;
+  exchange = no_peer;
   bad = None;
   too_long = TooBig;
   wrong = λ input. None;

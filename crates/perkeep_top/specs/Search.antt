@@ -9,10 +9,10 @@ use Rattle.pack_disk.specs.Packs.{Packs}
 use Rattle.pack_store.specs.Puts.{blobs_of}
 use Rattle.perkeep_lines.specs.Blobs.{facts_of_content}
 use Rattle.perkeep_lines.specs.Search.{pack_answer, search_line}
-use Rattle.perkeep_top.specs.declared.status.InputFault.TheVariants.{TooBig}
-use Rattle.perkeep_top.specs.Asking.{asking}
-use Rattle.perkeep_top.specs.Frame.{Meaning, leaves_alone, reads_first}
-use Rattle.perkeep_top.specs.Steps.{NeverRefuses}
+use Rattle.top_frame.specs.declared.status.InputFault.TheVariants.{TooBig}
+use Rattle.top_frame.specs.Asking.{asking}
+use Rattle.top_frame.specs.Frame.{Meaning, leaves_alone, reads_first, no_peer}
+use Rattle.top_frame.specs.Steps.{NeverRefuses}
 
 -- ---- over a store
 
@@ -40,6 +40,7 @@ search_pack_meaning accepts attr value = record {
   input = reads_first longest_pack;
   draws_time = false;
   draws_random = false;
+  exchange = no_peer;
   bad = None;
   too_long = TooBig;
   wrong = λ input. None;

@@ -23,11 +23,11 @@ use Rattle.perkeep_words.specs.declared.reading.Command.{Command}
 use Rattle.perkeep_words.specs.declared.reading.Command.TheVariants as command
 use Rattle.perkeep_lines.specs.Blobs.{facts_of_content}
 use Rattle.perkeep_lines.specs.Notes.{sealed}
-use Rattle.perkeep_top.specs.declared.status.Status.TheVariants.{Done}
-use Rattle.perkeep_top.specs.Frame.{Given, IsTime, AreRandom}
-use Rattle.perkeep_top.specs.Limits.{limits}
+use Rattle.top_frame.specs.declared.status.Status.TheVariants.{Done}
+use Rattle.top_frame.specs.Frame.{Given, IsTime, AreRandom}
+use Rattle.top_frame.specs.Limits.{limits}
 use Rattle.perkeep_top.specs.Notes.{Keys, note_blobs, what_of}
-use Rattle.perkeep_top.specs.Outside.{Outside, World}
+use Rattle.top_frame.specs.Outside.{Outside, World}
 use Rattle.perkeep_top.specs.Run.{Runs}
 
 -- signed by the key of that name
@@ -47,8 +47,8 @@ pub record NoteCounts (keys : Keys) (name payload : List ℕ) (kind : Signed →
       → list_all (is_ready (facts_of_content content)) beside ≡ true
       → is_genuine (facts_of_content content) keys.accepts (ref_of (sealed keys.seals name payload)) ≡ true
 
-module _ {D S K C R : Type 0} (o : Outside D S K C R) (keys : Keys) where
-  module _ (old new : World D S K C R) where
+module _ {D P S K C R : Type 0} (o : Outside D P S K C R) (keys : Keys) where
+  module _ (old new : World D P S K C R) where
     -- the key's blob and the signed one were put, every image holds their refs, and the signed one counts
     pub record StoresNote (name payload : List ℕ) (kind : Signed → Kind) (beside : List (List ℕ)) : Type 0 where
       pub put : Tells (o.disk.packs old.disk) (o.disk.packs new.disk) (PutsAll limits (note_blobs keys.seals name payload))
@@ -76,5 +76,5 @@ module _ {D S K C R : Type 0} (o : Outside D S K C R) (keys : Keys) where
 
   -- where words that are texts asked for a command, and the run of them ended with all done, what it signed was stored and counts
   abbrev pub StoredNotesCount : Type 0
-  StoredNotesCount = (words : List (List ℕ)) (asked : Command) (old new : World D S K C R) → All IsUtf8 words → command_of words ≡ Some (Ok asked)
+  StoredNotesCount = (words : List (List ℕ)) (asked : Command) (old new : World D P S K C R) → All IsUtf8 words → command_of words ≡ Some (Ok asked)
       → Runs o keys (command_of words) old new Done → StoresAsked old new asked

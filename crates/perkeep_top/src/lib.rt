@@ -4,10 +4,9 @@
 mod commands;
 mod laws;
 mod running;
-mod status;
 mod steps;
 
-pub use laws::stored_notes_count;
+pub use laws::{stored_notes_count, valid_runs_end_well};
 pub use running::{readers_put_nothing, run};
-pub use status::{InputFault, Status};
-pub use steps::LIMITS;
+pub use store_peer::StorePeer;
+pub use top_frame::{InputFault, LIMITS, ReplyFault, Status};

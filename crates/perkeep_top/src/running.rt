@@ -1,9 +1,10 @@
 //! A whole run: words, input, disk, answer, output.
+ghost use Rattle.std.specs.Prelude.{◌≡◌};
 ghost use Rattle.perkeep_words.specs.Reading.{command_of};
-ghost use Rattle.perkeep_top.specs.Frame.{Ends};
+ghost use Rattle.top_frame.specs.Frame.{Ends};
+ghost use Rattle.top_frame.specs.Outside.{outside, world, world_before, world_after};
 ghost use Rattle.perkeep_top.specs.Notes.{keys_of};
-ghost use Rattle.perkeep_top.specs.Outside.{outside, world};
-ghost use Rattle.perkeep_top.specs.Run.{meaning_of, Runs, ReadersPutNothing};
+ghost use Rattle.perkeep_top.specs.Run.{input_fault, meaning_of, Runs, ReadersPutNothing};
 
 use crate::commands::claim::{change, claim};
 use crate::commands::get::get;
@@ -19,106 +20,105 @@ use crate::commands::salvage::salvage;
 use crate::commands::search::search;
 use crate::commands::search_pack::search_pack;
 use crate::commands::stat::stat;
-use crate::status::{InputFault, Status};
 use blobref::Text;
 use claim_verify::Signer;
 use edge_base::{Clock, Dice, Sink, Source};
 use pack_disk::Disk;
-use perkeep_words::{Command, Line};
+use peer_base::Peer;
+use perkeep_words::{Command, Line, TextFault};
 use schema_fact::What;
 use std::alloc::Global;
+use top_frame::{Environment, InputFault, Status};
+use top_sync::{pull, push};
 
 /// Does what the words ask for, as `docs/commands.md` says, over the store that the disk holds, and hands the disk
 /// back. It reads all that the source has left where the command reads it, and writes the answer to the sink and
-/// nothing else.
+/// nothing else. `push` and `pull` copy blobs to the peer or from it, and the others leave that alone.
 ///
 /// What is wrong is told in this order: the words, the texts in them from left to right, a key that isn't held, a read
 /// that failed, an input that is too long or isn't what it should be, a clock or dice that failed, the disk as the
 /// store is opened, what the command meets, a write that failed. After `BadWords`, and where a text is wrong or a key
 /// isn't held, nothing was touched. After a refusal of the command a front of the blobs that it puts was put, and
-/// nothing else; what it writes as it goes is a front of its output. What it doesn't ask for, the source, the disk, the
-/// clock or the dice, is left alone, and where it only looks at the disk, no moment of that passes. `NoMemory` comes
-/// only where no memory is left, and may come at any time. Whatever is answered, a crash at any moment leaves what
-/// holds every ref that each image held before.
-pub fn run<D: Disk, V: Signer, S: Source, K: Sink, C: Clock, R: Dice>(
+/// nothing else, on the disk and at the peer; what it writes as it goes is a front of its output. What it doesn't ask
+/// for, the source, the disk, the peer, the clock or the dice, is left alone, and where it only looks at the disk, no
+/// moment of that passes. `NoMemory` comes only where no memory is left, and may come at any time. Whatever is
+/// answered, a crash at any moment leaves what holds every ref that each image held before.
+pub fn run<D: Disk, P: Peer, V: Signer, S: Source, K: Sink, C: Clock, R: Dice>(
     alloc: Global,
     words: &[Text],
     disk: D,
+    peer: &mut P,
     keys: &V,
     source: &mut S,
     sink: &mut K,
     clock: &mut C,
     dice: &mut R,
 ) -> (D, Status)
-    ensures { Runs (outside D.Disk S.Source K.Sink C.Clock R.Dice)
+    ensures { Runs (outside D.Disk P.Peer S.Source K.Sink C.Clock R.Dice)
         (keys_of (V.holds keys.now) (V.seals keys.now) (V.accepts keys.now)) (command_of words.now)
-        (world disk source.old sink.old clock.old dice.old)
-        (world result.0 source.new sink.new clock.new dice.new) result.1 }
+        (world disk peer.old source.old sink.old clock.old dice.old)
+        (world result.0 peer.new source.new sink.new clock.new dice.new) result.1 }
 {
     let Some(line) = Line::read(words) else {
         return (disk, Status::BadWords);
     };
     match line.command() {
-        Ok(command) => run_command(alloc, &command, disk, keys, source, sink, clock, dice),
-        Err(fault) => (disk, Status::BadInput(InputFault::from(fault))),
+        Ok(command) => {
+            let environment = Environment {
+                peer,
+                source,
+                sink,
+                clock,
+                dice,
+                keys,
+            };
+            run_command(alloc, &command, disk, environment)
+        }
+        Err(fault) => (disk, Status::BadInput(input_fault(fault))),
+    }
+}
+
+// What is wrong with a text, as a fault of the input.
+fn input_fault(fault: TextFault) -> InputFault
+    ensures { result ≡ input_fault fault }
+{
+    match fault {
+        TextFault::BadRef => InputFault::BadRef,
+        TextFault::BadDate => InputFault::BadDate,
+        TextFault::BadNumber => InputFault::BadNumber,
+        TextFault::BadName => InputFault::BadName,
     }
 }
 
 // Does what a command asks for.
-fn run_command<D: Disk, V: Signer, S: Source, K: Sink, C: Clock, R: Dice>(
+fn run_command<D: Disk, P: Peer, S: Source, K: Sink, C: Clock, R: Dice, V: Signer>(
     alloc: Global,
     command: &Command,
     disk: D,
-    keys: &V,
-    source: &mut S,
-    sink: &mut K,
-    clock: &mut C,
-    dice: &mut R,
+    environment: Environment<'_, P, S, K, C, R, V>,
 ) -> (D, Status)
-    ensures { Ends (outside D.Disk S.Source K.Sink C.Clock R.Dice)
-        (meaning_of (keys_of (V.holds keys.now) (V.seals keys.now) (V.accepts keys.now)) command.now)
-        (world disk source.old sink.old clock.old dice.old)
-        (world result.0 source.new sink.new clock.new dice.new) result.1 }
+    ensures { Ends (outside D.Disk P.Peer S.Source K.Sink C.Clock R.Dice)
+        (meaning_of (keys_of (V.holds environment.entry.keys.now) (V.seals environment.entry.keys.now)
+        (V.accepts environment.entry.keys.now)) command.now)
+        (world_before disk environment.entry) (world_after result.0 environment.exit) result.1 }
 {
     match command {
-        Command::Put { dir: _ } => put(alloc, disk, source, sink, clock, dice),
-        Command::Get { dir: _, r } => get(alloc, r, disk, source, sink, clock, dice),
-        Command::Stat { dir: _, r } => stat(alloc, r, disk, source, sink, clock, dice),
+        Command::Put { dir: _ } => put(alloc, disk, environment),
+        Command::Get { dir: _, r } => get(alloc, r, disk, environment),
+        Command::Stat { dir: _, r } => stat(alloc, r, disk, environment),
         Command::List {
             dir: _,
             after,
             limit,
-        } => list(
-            alloc,
-            after.as_ref(),
-            *limit,
-            disk,
-            source,
-            sink,
-            clock,
-            dice,
-        ),
+        } => list(alloc, after.as_ref(), *limit, disk, environment),
         Command::Search {
             dir: _,
             attr,
             value,
             at,
-        } => search(
-            alloc,
-            attr.as_str(),
-            value.as_str(),
-            *at,
-            keys,
-            disk,
-            source,
-            sink,
-            clock,
-            dice,
-        ),
-        Command::Salvage { dir: _ } => salvage(alloc, disk, source, sink, clock, dice),
-        Command::Permanode { dir: _, key } => {
-            permanode(alloc, key, keys, disk, source, sink, clock, dice)
-        }
+        } => search(alloc, attr.as_str(), value.as_str(), *at, disk, environment),
+        Command::Salvage { dir: _ } => salvage(alloc, disk, environment),
+        Command::Permanode { dir: _, key } => permanode(alloc, key, disk, environment),
         Command::Claim {
             dir: _,
             kind,
@@ -133,47 +133,23 @@ fn run_command<D: Disk, V: Signer, S: Source, K: Sink, C: Clock, R: Dice>(
             attr.as_str(),
             value.as_str(),
             key,
-            keys,
             disk,
-            source,
-            sink,
-            clock,
-            dice,
+            environment,
         ),
-        Command::Multi { dir: _, key } => {
-            multi(alloc, key, keys, disk, source, sink, clock, dice)
-        }
+        Command::Multi { dir: _, key } => multi(alloc, key, disk, environment),
         Command::Delete { dir: _, r, key } => {
             let what = What::Delete { target: *r };
-            claim(alloc, &what, key, keys, disk, source, sink, clock, dice)
+            claim(alloc, &what, key, disk, environment)
         }
-        Command::PutFile { dir: _, name } => {
-            put_file(alloc, name.as_str(), disk, source, sink, clock, dice)
+        Command::PutFile { dir: _, name } => put_file(alloc, name.as_str(), disk, environment),
+        Command::GetFile { dir: _, r } => get_file(alloc, r, disk, environment),
+        Command::Push { dir: _, addr: _ } => push(alloc, disk, environment),
+        Command::Pull { dir: _, addr: _ } => pull(alloc, disk, environment),
+        Command::Query { dir: _ } => query(alloc, disk, environment),
+        Command::Load { count, start } => load(alloc, count.get(), *start, disk, environment),
+        Command::SearchPack { attr, value } => {
+            search_pack(alloc, attr.as_str(), value.as_str(), disk, environment)
         }
-        Command::GetFile { dir: _, r } => get_file(alloc, r, disk, source, sink, clock, dice),
-        Command::Query { dir: _ } => query(alloc, keys, disk, source, sink, clock, dice),
-        Command::Load { count, start } => load(
-            alloc,
-            count.get(),
-            *start,
-            keys,
-            disk,
-            source,
-            sink,
-            clock,
-            dice,
-        ),
-        Command::SearchPack { attr, value } => search_pack(
-            alloc,
-            attr.as_str(),
-            value.as_str(),
-            keys,
-            disk,
-            source,
-            sink,
-            clock,
-            dice,
-        ),
     }
 }
 

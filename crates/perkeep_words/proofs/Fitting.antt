@@ -8,7 +8,7 @@ use Rattle.claim_verify.specs.KeyName.{is_key_name}
 use Rattle.schema_date.specs.Dates.{are_digits, number}
 use Rattle.perkeep_words.specs.Parts.{Part}
 use Rattle.perkeep_words.specs.Kinds.{within, number_within, is_right, wrong, fault_of}
-use Rattle.perkeep_words.specs.Forms.{OptionForm, Form, texts_at, count_at, position_at, text_of, kind_in, is_needed, kind_of, are_of, has_positions, is_spared, is_given, are_given, has_form, faults}
+use Rattle.perkeep_words.specs.Forms.{OptionForm, Form, texts_at, count_at, position_at, text_of, kind_in, is_needed, kind_of, are_of, has_positions, is_optional, is_given, are_given, has_form, faults}
 use Rattle.perkeep_words.specs.Table.{form_of}
 use Rattle.perkeep_words.specs.Reading.{LineSeen, IsRight, NeedsAt, NeedsOption}
 use Rattle.perkeep_words.specs.declared.kinds.TextKind.{TextKind}
@@ -110,7 +110,7 @@ given_of : (form : Form) (parts : List Part) → has_form form parts ≡ true �
 given_of form parts is =
     let outer = and_parts (are_of form 0 parts && has_positions form parts) (are_given form.options parts) is in
     let inner = and_parts (are_of form 0 parts) (has_positions form parts) outer.0 in
-    let enough : Bool = nat_le (length form.positions) (count_at None parts) || is_spared form.spared parts in
+    let enough : Bool = nat_le (length form.positions) (count_at None parts) || is_optional form.optional_after parts in
     let count = and_parts (nat_le form.needed (count_at None parts)) enough inner.1 in
     record { positions = leb-true form.needed (count_at None parts) count.0; options = outer.1 }
 

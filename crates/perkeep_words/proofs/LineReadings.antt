@@ -7,7 +7,7 @@ use Rattle.perkeep_words.specs.Forms.{has_form}
 use Rattle.perkeep_words.specs.Table.{form_of, commands, named_in, name_of}
 use Rattle.perkeep_words.specs.Reading.{LineSeen, IsLineOf, line_named, line_of}
 use Rattle.perkeep_words.specs.declared.table.CommandName.{CommandName}
-use Rattle.perkeep_words.specs.declared.table.CommandName.TheVariants.{Put, Get, Stat, List as ListBlobs, Search, Query, Salvage, SearchPack, Permanode, Claim, Multi, Delete, PutFile, GetFile, Load}
+use Rattle.perkeep_words.specs.declared.table.CommandName.TheVariants.{Put, Get, Stat, List as ListBlobs, Search, Query, Salvage, SearchPack, Permanode, Claim, Multi, Delete, PutFile, GetFile, Push, Pull, Load}
 use Rattle.perkeep_words.proofs.PartReadings.{parts_agree}
 
 -- each command is named by its word
@@ -26,6 +26,8 @@ named Multi = refl
 named Delete = refl
 named PutFile = refl
 named GetFile = refl
+named Push = refl
+named Pull = refl
 named Load = refl
 
 some_name : (a b : CommandName) → Some a ≡ Some b → a ≡ b

@@ -4,7 +4,7 @@ use Rattle.std.specs.List.{slice_get}
 use Rattle.perkeep_words.specs.Parts.{Part}
 use Rattle.perkeep_words.specs.Kinds.{fits_kind, fault_of}
 use Rattle.perkeep_words.specs.declared.kinds.TextKind.{TextKind}
-use Rattle.perkeep_words.specs.declared.kinds.TextKind.TheVariants.{Dir}
+use Rattle.perkeep_words.specs.declared.kinds.TextKind.TheVariants.{Dir, Addr}
 use Rattle.perkeep_words.specs.declared.kinds.TextFault.{TextFault}
 
 -- an option: its name, what its value has to be, and whether it has to be given
@@ -21,7 +21,7 @@ pub record Form : Type 0 where
   pub writes : Bool
   pub positions : List TextKind
   pub needed : ℕ
-  pub spared : Option (ℕ × List ℕ)
+  pub optional_after : Option (ℕ × List ℕ)
   pub options : List OptionForm
 
 -- whether a part is a value of the option that is named, or a position where none is
@@ -78,15 +78,15 @@ are_of form place [] = true
 are_of form place (part ∷ parts) =
     fits_kind (kind_of form place part.0) part.1 && are_of form (place_after place part.0) parts
 
-abbrev pub is_spared : Option (ℕ × List ℕ) → List Part → Bool
-is_spared None parts = false
-is_spared (Some word) parts = bytes_eq (position_at word.0 parts) word.1
+abbrev pub is_optional : Option (ℕ × List ℕ) → List Part → Bool
+is_optional None parts = false
+is_optional (Some word) parts = bytes_eq (position_at word.0 parts) word.1
 
 -- whether there are all the positions that have to be given
 abbrev pub has_positions : Form → List Part → Bool
 has_positions form parts =
     nat_le form.needed (count_at None parts)
-    && (nat_le (length form.positions) (count_at None parts) || is_spared form.spared parts)
+    && (nat_le (length form.positions) (count_at None parts) || is_optional form.optional_after parts)
 
 abbrev pub is_given : List Part → OptionForm → Bool
 is_given parts option =
@@ -119,3 +119,11 @@ is_dir _ = false
 -- whether each line of the form has DIR: its first position is needed, and is DIR
 abbrev pub begins_at_dir : Form → Bool
 begins_at_dir form = nat_lt 0 form.needed && is_dir (slice_get form.positions 0)
+
+abbrev pub is_addr : Option TextKind → Bool
+is_addr (Some Addr) = true
+is_addr _ = false
+
+-- whether each line of the form has ADDR: its second position is needed, and is ADDR
+abbrev pub goes_on_with_addr : Form → Bool
+goes_on_with_addr form = nat_lt 1 form.needed && is_addr (slice_get form.positions 1)

@@ -5,7 +5,7 @@ use Rattle.claim_verify.specs.KeyName.{is_key_name}
 use Rattle.schema_date.specs.Dates.{are_digits, number, date_in}
 use Rattle.perkeep_words.specs.Changes.{change_in}
 use Rattle.perkeep_words.specs.declared.kinds.TextKind.{TextKind}
-use Rattle.perkeep_words.specs.declared.kinds.TextKind.TheVariants.{Dir, Any, Blobref, Date, Name, Key, Change, Number}
+use Rattle.perkeep_words.specs.declared.kinds.TextKind.TheVariants.{Dir, Addr, Any, Blobref, Date, Name, Key, Change, Number}
 use Rattle.perkeep_words.specs.declared.kinds.TextFault.{TextFault}
 use Rattle.perkeep_words.specs.declared.kinds.TextFault.TheVariants.{BadRef, BadDate, BadNumber, BadName}
 
@@ -20,6 +20,7 @@ number_within least most text =
 -- whether a text is what it has to be
 abbrev pub is_right : TextKind → List ℕ → Bool
 is_right Dir text = true
+is_right Addr text = true
 is_right Any text = true
 is_right Blobref text = is_blobref text
 is_right Date text = is_some (date_in text)
@@ -31,6 +32,7 @@ is_right (Number least most) text = is_some (number_within least most text)
 -- whether words with another text are no line at all; where not, they are a line in which a text is wrong
 abbrev pub is_of_line : TextKind → Bool
 is_of_line Dir = false
+is_of_line Addr = false
 is_of_line Any = false
 is_of_line Blobref = false
 is_of_line Date = false

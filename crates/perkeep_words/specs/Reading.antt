@@ -98,6 +98,8 @@ command_at name.Multi parts = command.Multi (position_at 0 parts) (text_of (code
 command_at name.Delete parts = command.Delete (position_at 0 parts) (position_at 1 parts) (text_of (codes "key") parts)
 command_at name.PutFile parts = command.PutFile (position_at 0 parts) (position_at 1 parts)
 command_at name.GetFile parts = command.GetFile (position_at 0 parts) (position_at 1 parts)
+command_at name.Push parts = command.Push (position_at 0 parts) (position_at 1 parts)
+command_at name.Pull parts = command.Pull (position_at 0 parts) (position_at 1 parts)
 command_at name.Load parts = command.Load (number (position_at 0 parts)) (number (position_at 1 parts))
 
 abbrev pub unless_wrong : Option TextFault → Command → Result Command TextFault

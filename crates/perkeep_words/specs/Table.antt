@@ -1,19 +1,19 @@
 -- The commands, and the form of each one's lines: a row for each command (docs/commands.md).
 use Rattle.std.specs.Prelude.{ℕ, Bool, true, false, if◌then◌else◌, List, [], ◌∷◌, Option, Some, None, bytes_eq, codes}
-use Rattle.perkeep_words.specs.Forms.{OptionForm, Form, begins_at_dir}
+use Rattle.perkeep_words.specs.Forms.{OptionForm, Form, begins_at_dir, goes_on_with_addr}
 use Rattle.perkeep_words.specs.declared.kinds.TextKind.{TextKind}
-use Rattle.perkeep_words.specs.declared.kinds.TextKind.TheVariants.{Dir, Any, Blobref, Date, Name, Key, Change, Number}
+use Rattle.perkeep_words.specs.declared.kinds.TextKind.TheVariants.{Dir, Addr, Any, Blobref, Date, Name, Key, Change, Number}
 use Rattle.perkeep_words.specs.declared.table.CommandName.{CommandName}
-use Rattle.perkeep_words.specs.declared.table.CommandName.TheVariants.{Put, Get, Stat, List as ListBlobs, Search, Query, Salvage, SearchPack, Permanode, Claim, Multi, Delete, PutFile, GetFile, Load}
+use Rattle.perkeep_words.specs.declared.table.CommandName.TheVariants.{Put, Get, Stat, List as ListBlobs, Search, Query, Salvage, SearchPack, Permanode, Claim, Multi, Delete, PutFile, GetFile, Push, Pull, Load}
 
--- its name, whether it may change the store, its positions, how many are needed, what spares the others, its options
+-- its name, whether it may change the store, its positions, how many are needed, behind which word the others are optional, its options
 abbrev pub row : List ℕ → Bool → List TextKind → ℕ → Option (ℕ × List ℕ) → List OptionForm → Form
-row name writes positions needed spared options = record {
+row name writes positions needed optional_after options = record {
   name = name;
   writes = writes;
   positions = positions;
   needed = needed;
-  spared = spared;
+  optional_after = optional_after;
   options = options;
 }
 
@@ -52,11 +52,13 @@ form_of Multi = row (codes "multi") true (Dir ∷ []) 1 None (must (codes "key")
 form_of Delete = row (codes "delete") true (Dir ∷ Blobref ∷ []) 2 None (must (codes "key") Key ∷ [])
 form_of PutFile = row (codes "put-file") true (Dir ∷ Any ∷ []) 2 None []
 form_of GetFile = row (codes "get-file") false (Dir ∷ Blobref ∷ []) 2 None []
+form_of Push = row (codes "push") false (Dir ∷ Addr ∷ []) 2 None []
+form_of Pull = row (codes "pull") true (Dir ∷ Addr ∷ []) 2 None []
 form_of Load = row (codes "load") false (Number 1 count_max ∷ Number 0 start_max ∷ []) 2 None []
 
 abbrev pub commands : List CommandName
 commands = Put ∷ Get ∷ Stat ∷ ListBlobs ∷ Search ∷ Query ∷ Salvage ∷ SearchPack ∷ Permanode ∷ Claim ∷ Multi
-    ∷ Delete ∷ PutFile ∷ GetFile ∷ Load ∷ []
+    ∷ Delete ∷ PutFile ∷ GetFile ∷ Push ∷ Pull ∷ Load ∷ []
 
 -- the first of these that a word names
 abbrev pub named_in : List CommandName → List ℕ → Option CommandName
@@ -74,3 +76,7 @@ writes_of name = (form_of name).writes
 -- whether the command's lines have DIR
 abbrev pub has_dir : CommandName → Bool
 has_dir name = begins_at_dir (form_of name)
+
+-- whether the command's lines have ADDR
+abbrev pub has_addr : CommandName → Bool
+has_addr name = goes_on_with_addr (form_of name)

@@ -2,7 +2,7 @@
 ghost use Rattle.std.specs.Prelude.{◌≡◌, ◌||◌, None, is_some};
 ghost use Rattle.perkeep_words.specs.Parts.{start};
 ghost use Rattle.perkeep_words.specs.Reading.{line_named, line_of};
-ghost use Rattle.perkeep_words.specs.Places.{IsDirPlace, OneDirPlace, first_position, is_position, line_has_dir, says_dir, dir_place};
+ghost use Rattle.perkeep_words.specs.Places.{IsDirPlace, IsAddrPlace, OnePlaceEach, nth_position, is_position, line_has_dir, line_has_addr, says_dir, says_addr, place_if};
 
 use crate::parts::{Part, State};
 use crate::place::Places;
@@ -14,20 +14,20 @@ use blobref::Text;
 /// line's texts say (docs/commands.md); a line of `serve` is one. It takes no memory.
 pub fn places(words: &[Text]) -> Places
     ensures dir { IsDirPlace words.now result.dir }
-    ensures addr { result.addr ≡ None }
+    ensures addr { IsAddrPlace words.now result.addr }
 {
     Places {
-        dir: dir_place(words),
-        addr: None,
+        dir: place_if(says_dir(words), 0, words),
+        addr: place_if(says_addr(words), 1, words),
     }
 }
 
-// The place of DIR.
-fn dir_place(words: &[Text]) -> Option<usize>
-    ensures { result ≡ dir_place words.now }
+// The place of the position before which so many others stand, if the words are a line that has it.
+fn place_if(has: bool, count: usize, words: &[Text]) -> Option<usize>
+    ensures { result ≡ place_if has count words.now }
 {
-    if says_dir(words) {
-        first_position(words.split_first()?.1)
+    if has {
+        nth_position(count, words.split_first()?.1)
     } else {
         None
     }
@@ -61,15 +61,40 @@ fn is_line_with_dir(name: CommandName, behind: &[Text]) -> bool
     form.has_line(behind) && form.begins_at_dir()
 }
 
-// The place of the first position, of the words behind the command's name.
-fn first_position(behind: &[Text]) -> Option<usize>
-    ensures { result ≡ first_position start 1 behind.now }
+// Whether the words are a line that has ADDR.
+fn says_addr(words: &[Text]) -> bool
+    ensures { result ≡ says_addr words.now }
+{
+    let Some((word, behind)) = words.split_first() else {
+        return false;
+    };
+    match CommandName::of(word.as_str()) {
+        Some(name) => is_line_with_addr(name, behind),
+        None => false,
+    }
+}
+
+// Whether the words behind the command's name make a line that has ADDR.
+fn is_line_with_addr(name: CommandName, behind: &[Text]) -> bool
+    ensures { result ≡ line_has_addr (line_named behind.now name) }
+{
+    let form = name.form();
+    form.has_line(behind) && form.goes_on_with_addr()
+}
+
+// The place of the position before which so many others stand, of the words behind the command's name.
+fn nth_position(count: usize, behind: &[Text]) -> Option<usize>
+    ensures { result ≡ nth_position count start 1 behind.now }
 {
     let mut state = State::start();
+    let mut left = count;
     for (i, word) in behind.iter().enumerate() {
         let (next, part) = state.step(word)?;
         if is_position(&part) {
-            return Some(i + 1);
+            if left == 0 {
+                return Some(i + 1);
+            }
+            left -= 1;
         }
         state = next;
     }
@@ -85,8 +110,8 @@ fn is_position(part: &Option<Part>) -> bool
     }
 }
 
-/// What `places` tells of DIR is the one thing that can be told: at most one place meets what it says of a place, and
-/// none does where it tells none.
+/// What `places` tells is the one thing that can be told: at most one place meets what it says of the place of DIR, and
+/// none does where it tells none; and so it is for ADDR.
 pub fn places_agree()
-    ensures { OneDirPlace }
+    ensures { OnePlaceEach }
 {}

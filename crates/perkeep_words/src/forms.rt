@@ -3,7 +3,7 @@ ghost use Rattle.std.specs.Prelude.{◌≡◌, ◌&&◌, bytes_eq, option_map, o
 ghost use Rattle.std.specs.List.{slice_get};
 ghost use Rattle.perkeep_words.specs.Parts.{start, are_parts, parts_from};
 ghost use Rattle.perkeep_words.specs.Kinds.{fault_of};
-ghost use Rattle.perkeep_words.specs.Forms.{texts_at, count_at, position_at, kind_in, kind_of, are_of, is_spared, has_positions, is_given, are_given, has_form, first_fault, begins_at_dir};
+ghost use Rattle.perkeep_words.specs.Forms.{texts_at, count_at, position_at, kind_in, kind_of, are_of, is_optional, has_positions, is_given, are_given, has_form, first_fault, begins_at_dir, goes_on_with_addr};
 ghost use Rattle.perkeep_words.specs.Seen.{option_seen, options_seen};
 
 use crate::kinds::{TextFault, TextKind, fault_of, fits_kind};
@@ -34,7 +34,7 @@ pub struct Form {
     /// How many positions are needed whatever the line says.
     pub needed: usize,
     /// The place of a position, and the word there with which those beyond may be left out. None where all are needed.
-    pub spared: Option<(usize, &'static str)>,
+    pub optional_after: Option<(usize, &'static str)>,
     /// The options.
     pub options: &'static [OptionForm],
 }
@@ -51,7 +51,7 @@ impl Model for Form {
       writes = f.writes;
       positions = f.positions.now;
       needed = f.needed;
-      spared = option_map (λ word. (word.0, word.1.now)) f.spared;
+      optional_after = option_map (λ word. (word.0, word.1.now)) f.optional_after;
       options = options_seen f.options.now;
     } };
 }
@@ -69,6 +69,13 @@ impl Form {
         ensures { result ≡ begins_at_dir self.now }
     {
         self.needed > 0 && matches!(self.positions.first(), Some(TextKind::Dir))
+    }
+
+    /// Whether each of its lines has ADDR as the second position.
+    pub fn goes_on_with_addr(&self) -> bool
+        ensures { result ≡ goes_on_with_addr self.now }
+    {
+        self.needed > 1 && matches!(self.positions.get(1), Some(TextKind::Addr))
     }
 
     /// The first thing that is wrong in the texts of a line.
@@ -134,7 +141,8 @@ impl Form {
         ensures { result ≡ has_positions self.now (parts_from start words.now) }
     {
         let count = count(words, None);
-        self.needed <= count && (self.positions.len() <= count || is_spared(self.spared, words))
+        self.needed <= count
+            && (self.positions.len() <= count || is_optional(self.optional_after, words))
     }
 }
 
@@ -185,11 +193,11 @@ fn are_given(options: &[OptionForm], words: &[Text]) -> bool
 }
 
 // Whether the positions that aren't always needed may be left out.
-fn is_spared(spared: Option<(usize, &str)>, words: &[Text]) -> bool
+fn is_optional(optional_after: Option<(usize, &str)>, words: &[Text]) -> bool
     ensures { result
-        ≡ is_spared (option_map (λ word. (word.0, word.1.now)) spared.entry) (parts_from start words.now) }
+        ≡ is_optional (option_map (λ word. (word.0, word.1.now)) optional_after.entry) (parts_from start words.now) }
 {
-    match spared {
+    match optional_after {
         None => false,
         Some((place, word)) => position(words, place) == word,
     }

@@ -13,6 +13,9 @@ use schema_date::Date;
 pub enum TextKind {
     /// The folder of the store: any text, also the empty one.
     Dir,
+    /// The address of a peer, `HOST:PORT`: any text, also the empty one. To one that isn't of this form no connection
+    /// can be made.
+    Addr,
     /// Any text, also the empty one.
     Any,
     /// A blobref.
@@ -47,7 +50,7 @@ impl TextKind {
         ensures { result ≡ is_right self text.now }
     {
         match self {
-            TextKind::Dir | TextKind::Any => true,
+            TextKind::Dir | TextKind::Addr | TextKind::Any => true,
             TextKind::Blobref => Ref::read(text.as_bytes()).is_some(),
             TextKind::Date => Date::read(text.as_bytes()).is_some(),
             TextKind::Name => !text.is_empty(),
@@ -63,6 +66,7 @@ impl TextKind {
     {
         match self {
             TextKind::Dir
+            | TextKind::Addr
             | TextKind::Any
             | TextKind::Blobref
             | TextKind::Date

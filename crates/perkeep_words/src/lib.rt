@@ -19,4 +19,4 @@ pub use parts::parts_agree;
 pub use place::Places;
 pub use reading::{Command, Line, readings_agree};
 pub use serving::{ServePlan, serve_words};
-pub use words::{BlobCount, Filled, Word};
+pub use words::{BlobCount, NonEmptyWord, Word};

@@ -6,6 +6,6 @@
 pub struct Places {
     /// The place of DIR.
     pub dir: Option<usize>,
-    /// The place of ADDR. No line has one so far.
+    /// The place of ADDR.
     pub addr: Option<usize>,
 }

@@ -14,7 +14,7 @@ use crate::change::Change;
 use crate::forms::{nth, position};
 use crate::kinds::{TextFault, number_within};
 use crate::table::{COUNT_MAX, CommandName, LIMIT_MAX, START_MAX};
-use crate::words::{BlobCount, Filled, Word};
+use crate::words::{BlobCount, NonEmptyWord, Word};
 use blobref::{Ref, Text};
 use claim_verify::KeyName;
 use schema_date::{Date, When};
@@ -46,7 +46,7 @@ pub enum Command<'a> {
     /// `search DIR --attr A --value V [--at DATE]`
     Search {
         dir: Word<'a>,
-        attr: Filled<'a>,
+        attr: NonEmptyWord<'a>,
         value: Word<'a>,
         at: When,
     },
@@ -60,7 +60,7 @@ pub enum Command<'a> {
     },
     /// `search-pack A V`
     SearchPack {
-        attr: Filled<'a>,
+        attr: NonEmptyWord<'a>,
         value: Word<'a>,
     },
     /// `permanode DIR --key NAME`
@@ -73,7 +73,7 @@ pub enum Command<'a> {
         dir: Word<'a>,
         kind: Change,
         r: Ref,
-        attr: Filled<'a>,
+        attr: NonEmptyWord<'a>,
         value: Word<'a>,
         key: KeyName,
     },
@@ -97,6 +97,16 @@ pub enum Command<'a> {
     GetFile {
         dir: Word<'a>,
         r: Ref,
+    },
+    /// `push DIR ADDR`. ADDR is `HOST:PORT`, or any text, as an address to which no connection can be made.
+    Push {
+        dir: Word<'a>,
+        addr: Word<'a>,
+    },
+    /// `pull DIR ADDR`
+    Pull {
+        dir: Word<'a>,
+        addr: Word<'a>,
     },
     /// `load COUNT START`
     Load {
@@ -243,6 +253,14 @@ fn command_at<'a>(line: &RightLine<'a>) -> Command<'a>
             dir,
             r: line.blobref(1),
         },
+        CommandName::Push => Command::Push {
+            dir,
+            addr: line.word(1),
+        },
+        CommandName::Pull => Command::Pull {
+            dir,
+            addr: line.word(1),
+        },
         CommandName::Load => Command::Load {
             count: BlobCount::of(line.number(0, 1, COUNT_MAX)),
             start: line.number(1, 0, START_MAX),
@@ -273,11 +291,11 @@ impl<'a> RightLine<'a> {
     }
 
     // A position that isn't empty.
-    fn filled(&self, place: usize) -> Filled<'a>
+    fn filled(&self, place: usize) -> NonEmptyWord<'a>
         requires { NeedsAt self.now place Name }
         ensures { result ≡ position_at place self.now.1 }
     {
-        Filled::of(position(self.behind, place))
+        NonEmptyWord::of(position(self.behind, place))
     }
 
     // The number that a position is.
@@ -304,11 +322,11 @@ impl<'a> RightLine<'a> {
     }
 
     // The value of an option that has to be given, and isn't empty.
-    fn filled_option(&self, option: &str) -> Filled<'a>
+    fn filled_option(&self, option: &str) -> NonEmptyWord<'a>
         requires { NeedsOption self.now option.now Name }
         ensures { result ≡ text_of option.now self.now.1 }
     {
-        Filled::of(value(self.behind, option))
+        NonEmptyWord::of(value(self.behind, option))
     }
 
     // The value of an option that has to be given, and is the name of a key.

@@ -74,7 +74,7 @@ fn serve_form() -> Form
         writes: true,
         positions: &[TextKind::Dir],
         needed: 1,
-        spared: None,
+        optional_after: None,
         options: OPTIONS,
     }
 }

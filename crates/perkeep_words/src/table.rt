@@ -24,10 +24,12 @@ pub enum CommandName {
     Delete,
     PutFile,
     GetFile,
+    Push,
+    Pull,
     Load,
 }
 
-const COMMANDS: [CommandName; 15] = [
+const COMMANDS: [CommandName; 17] = [
     CommandName::Put,
     CommandName::Get,
     CommandName::Stat,
@@ -42,6 +44,8 @@ const COMMANDS: [CommandName; 15] = [
     CommandName::Delete,
     CommandName::PutFile,
     CommandName::GetFile,
+    CommandName::Push,
+    CommandName::Pull,
     CommandName::Load,
 ];
 
@@ -115,7 +119,7 @@ impl CommandName {
             CommandName::Permanode => signed("permanode", &[TextKind::Dir]),
             CommandName::Claim => Form {
                 needed: 4,
-                spared: Some((1, "del")),
+                optional_after: Some((1, "del")),
                 ..signed(
                     "claim",
                     &[
@@ -131,6 +135,8 @@ impl CommandName {
             CommandName::Delete => signed("delete", &[TextKind::Dir, TextKind::Blobref]),
             CommandName::PutFile => writing("put-file", &[TextKind::Dir, TextKind::Any]),
             CommandName::GetFile => plain("get-file", &[TextKind::Dir, TextKind::Blobref]),
+            CommandName::Push => plain("push", &[TextKind::Dir, TextKind::Addr]),
+            CommandName::Pull => writing("pull", &[TextKind::Dir, TextKind::Addr]),
             CommandName::Load => plain(
                 "load",
                 &[
@@ -151,7 +157,7 @@ fn plain(name: &'static str, positions: &'static [TextKind]) -> Form
         writes: false,
         positions,
         needed: positions.len(),
-        spared: None,
+        optional_after: None,
         options: &[],
     }
 }

@@ -36,11 +36,11 @@ impl<'a> Word<'a> {
 
 /// A text of a line that isn't empty. A contract sees it as its bytes.
 #[derive(Drop)]
-pub struct Filled<'a> {
+pub struct NonEmptyWord<'a> {
     text: &'a str,
 }
 
-impl<'a> Model for Filled<'a> {
+impl<'a> Model for NonEmptyWord<'a> {
     ghost use Rattle.std.specs.Prelude.{◌≢◌, ℕ, List, []};
 
     ghost Value = { List ℕ };
@@ -50,13 +50,13 @@ impl<'a> Model for Filled<'a> {
     ghost invariant = { λ w. w.text.now ≢ [] };
 }
 
-impl<'a> Filled<'a> {
+impl<'a> NonEmptyWord<'a> {
     /// The filled word of this text.
-    pub fn of(text: &'a str) -> Filled<'a>
+    pub fn of(text: &'a str) -> NonEmptyWord<'a>
         requires { text.now ≢ [] }
         ensures { result ≡ text.now }
     {
-        Filled { text }
+        NonEmptyWord { text }
     }
 
     /// Its text.

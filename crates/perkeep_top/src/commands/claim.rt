@@ -1,43 +1,40 @@
 //! `claim DIR KIND REF ATTR [VALUE] --key NAME` and `delete DIR REF --key NAME`
-ghost use Rattle.perkeep_top.specs.Outside.{outside, world};
-ghost use Rattle.perkeep_top.specs.Frame.{Ends};
+ghost use Rattle.top_frame.specs.Outside.{outside, world_before, world_after};
+ghost use Rattle.top_frame.specs.Frame.{Ends};
 ghost use Rattle.std.specs.Prelude.{◌≡◌, IfOk};
 ghost use Rattle.perkeep_top.specs.Notes.{claim_meaning, keys_of, what_of};
 
-use crate::status::{InputFault, Status};
-use crate::steps::{opened, put_blob, written};
 use blobref::{NoMemory, Ref, Text};
 use claim_verify::{KeyName, Signer};
 use edge_base::{Clock, Dice, Failed, Sink, Source};
 use pack_disk::Disk;
+use peer_base::Peer;
 use perkeep_lines::{date_of, is_held, signed_note};
 use perkeep_words::Change;
 use schema_fact::What;
 use schema_write::{claim_payload, key_blob};
 use std::alloc::Global;
+use top_frame::{Environment, InputFault, Status, opened, put_blob, written};
 
 /// `claim`: a change of an attribute's values.
-pub(crate) fn change<D: Disk, V: Signer, S: Source, K: Sink, C: Clock, R: Dice>(
+pub(crate) fn change<D: Disk, P: Peer, S: Source, K: Sink, C: Clock, R: Dice, V: Signer>(
     alloc: Global,
     kind: Change,
     r: &Ref,
     attr: &str,
     value: &str,
     name: &KeyName,
-    keys: &V,
     disk: D,
-    source: &mut S,
-    sink: &mut K,
-    clock: &mut C,
-    dice: &mut R,
+    environment: Environment<'_, P, S, K, C, R, V>,
 ) -> (D, Status)
-    ensures { Ends (outside D.Disk S.Source K.Sink C.Clock R.Dice)
-        (claim_meaning (keys_of (V.holds keys.now) (V.seals keys.now) (V.accepts keys.now)) name.now
-        (what_of kind r.now attr.now value.now)) (world disk source.old sink.old clock.old dice.old)
-        (world result.0 source.new sink.new clock.new dice.new) result.1 }
+    ensures { Ends (outside D.Disk P.Peer S.Source K.Sink C.Clock R.Dice)
+        (claim_meaning (keys_of (V.holds environment.entry.keys.now) (V.seals environment.entry.keys.now)
+        (V.accepts environment.entry.keys.now)) name.now
+        (what_of kind r.now attr.now value.now)) (world_before disk environment.entry)
+        (world_after result.0 environment.exit) result.1 }
 {
     match what_of(alloc, kind, r, attr, value) {
-        Ok(what) => claim(alloc, &what, name, keys, disk, source, sink, clock, dice),
+        Ok(what) => claim(alloc, &what, name, disk, environment),
         Err(NoMemory) => (disk, Status::NoMemory),
     }
 }
@@ -57,26 +54,23 @@ fn what_of(alloc: Global, kind: Change, r: &Ref, attr: &str, value: &str) -> Res
 
 /// Stores the blob of a key and a claim of this time that it signed and that says this, and writes the line of the
 /// claim's ref.
-pub(crate) fn claim<D: Disk, V: Signer, S: Source, K: Sink, C: Clock, R: Dice>(
+pub(crate) fn claim<D: Disk, P: Peer, S: Source, K: Sink, C: Clock, R: Dice, V: Signer>(
     alloc: Global,
     what: &What,
     name: &KeyName,
-    keys: &V,
     disk: D,
-    _source: &mut S,
-    sink: &mut K,
-    clock: &mut C,
-    _dice: &mut R,
+    environment: Environment<'_, P, S, K, C, R, V>,
 ) -> (D, Status)
-    ensures { Ends (outside D.Disk S.Source K.Sink C.Clock R.Dice)
-        (claim_meaning (keys_of (V.holds keys.now) (V.seals keys.now) (V.accepts keys.now)) name.now what.now)
-        (world disk _source.old sink.old clock.old _dice.old)
-        (world result.0 _source.new sink.new clock.new _dice.new) result.1 }
+    ensures { Ends (outside D.Disk P.Peer S.Source K.Sink C.Clock R.Dice)
+        (claim_meaning (keys_of (V.holds environment.entry.keys.now) (V.seals environment.entry.keys.now)
+        (V.accepts environment.entry.keys.now)) name.now what.now)
+        (world_before disk environment.entry)
+        (world_after result.0 environment.exit) result.1 }
 {
-    if !is_held(keys, name) {
+    if !is_held(environment.keys, name) {
         return (disk, Status::BadInput(InputFault::NoKey));
     }
-    let date = match date_of(clock) {
+    let date = match date_of(environment.clock) {
         Ok(date) => date,
         Err(Failed) => return (disk, Status::HandFault),
     };
@@ -92,12 +86,22 @@ pub(crate) fn claim<D: Disk, V: Signer, S: Source, K: Sink, C: Clock, R: Dice>(
         Ok(payload) => payload,
         Err(fault) => return (store.give_back(), Status::from(fault)),
     };
-    let Ok(note) = signed_note(alloc, keys, name, key, signer, payload.as_slice()) else {
+    let Ok(note) = signed_note(
+        alloc,
+        environment.keys,
+        name,
+        key,
+        signer,
+        payload.as_slice(),
+    ) else {
         return (store.give_back(), Status::NoMemory);
     };
     match put_blob(&mut store, &note.signer, note.key.as_slice()) {
         Ok(_) => match put_blob(&mut store, &note.r, note.blob.as_slice()) {
-            Ok(_) => (store.give_back(), written(note.line.as_slice(), sink)),
+            Ok(_) => (
+                store.give_back(),
+                written(note.line.as_slice(), environment.sink),
+            ),
             Err(fault) => (store.give_back(), Status::from(fault)),
         },
         Err(fault) => (store.give_back(), Status::from(fault)),

@@ -2,40 +2,40 @@
 ghost use Rattle.std.specs.Prelude.{◌≤◌, IfOk, IfErr};
 ghost use Rattle.pack_store.specs.Puts.{Stands};
 ghost use Rattle.pack_store.specs.Reading.{StaysStill};
-ghost use Rattle.perkeep_top.specs.Outside.{outside, world};
-ghost use Rattle.perkeep_top.specs.Frame.{Ends};
+ghost use Rattle.top_frame.specs.Outside.{outside, world_before, world_after};
+ghost use Rattle.top_frame.specs.Frame.{Ends};
 ghost use Rattle.perkeep_top.specs.Get.{get_meaning, IsBlob, RefusesBlob};
-ghost use Rattle.perkeep_top.specs.Limits.{limits};
-ghost use Rattle.perkeep_top.specs.Steps.{Finds};
+ghost use Rattle.top_frame.specs.Limits.{limits};
+ghost use Rattle.top_frame.specs.Steps.{Finds};
 
-use crate::status::Status;
-use crate::steps::{opened, written};
 use blobref::{Octets, Ref};
 use edge_base::{Clock, Dice, Sink, Source};
 use pack_disk::Disk;
 use pack_store::Store;
+use peer_base::Peer;
 use std::alloc::Global;
+use top_frame::{Environment, Status, opened, written};
 
 /// Writes the bytes of a blob.
-pub(crate) fn get<D: Disk, S: Source, K: Sink, C: Clock, R: Dice>(
+pub(crate) fn get<D: Disk, P: Peer, S: Source, K: Sink, C: Clock, R: Dice, V>(
     alloc: Global,
     r: &Ref,
     disk: D,
-    _source: &mut S,
-    sink: &mut K,
-    _clock: &mut C,
-    _dice: &mut R,
+    environment: Environment<'_, P, S, K, C, R, V>,
 ) -> (D, Status)
-    ensures { Ends (outside D.Disk S.Source K.Sink C.Clock R.Dice) (get_meaning r.now)
-        (world disk _source.old sink.old _clock.old _dice.old)
-        (world result.0 _source.new sink.new _clock.new _dice.new) result.1 }
+    ensures { Ends (outside D.Disk P.Peer S.Source K.Sink C.Clock R.Dice) (get_meaning r.now)
+        (world_before disk environment.entry)
+        (world_after result.0 environment.exit) result.1 }
 {
     let mut store = match opened(alloc, disk) {
         Ok(store) => store,
         Err(end) => return end,
     };
     match blob(&mut store, r) {
-        Ok(bytes) => (store.give_back(), written(bytes.as_slice(), sink)),
+        Ok(bytes) => (
+            store.give_back(),
+            written(bytes.as_slice(), environment.sink),
+        ),
         Err(status) => (store.give_back(), status),
     }
 }

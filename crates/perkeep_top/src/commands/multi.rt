@@ -1,49 +1,46 @@
 //! `multi DIR --key NAME`
 ghost use Rattle.std.specs.Prelude.{◌≤◌, IfOk, IfErr};
-ghost use Rattle.perkeep_top.specs.Outside.{outside, world};
-ghost use Rattle.perkeep_top.specs.Frame.{Ends};
+ghost use Rattle.top_frame.specs.Outside.{outside, world_before, world_after};
+ghost use Rattle.top_frame.specs.Frame.{Ends};
 ghost use Rattle.perkeep_top.specs.Multi.{multi_meaning, ReadsChanges, RefusesChanges};
 ghost use Rattle.perkeep_top.specs.Notes.{keys_of};
 
 use crate::commands::claim::claim;
-use crate::status::{InputFault, Status};
-use crate::steps::{read_input, told_too_long};
 use blobref::NoMemory;
 use claim_verify::{KeyName, Signer};
 use edge_base::{Clock, Dice, Sink, Source};
 use pack_disk::Disk;
+use peer_base::Peer;
 use perkeep_lines::is_held;
 use schema_fact::{ChangeList, What};
 use schema_json::change_list;
 use std::alloc::Global;
+use top_frame::{Environment, InputFault, Status, read_input, told_too_long};
 
 // The most bytes that a list of changes may have.
 const LONGEST_CHANGES: usize = 1_048_576;
 
 /// Stores the blob of a key and a claim of this time that it signed, of the changes that the source lists, and writes
 /// the line of the claim's ref.
-pub(crate) fn multi<D: Disk, V: Signer, S: Source, K: Sink, C: Clock, R: Dice>(
+pub(crate) fn multi<D: Disk, P: Peer, S: Source, K: Sink, C: Clock, R: Dice, V: Signer>(
     alloc: Global,
     name: &KeyName,
-    keys: &V,
     disk: D,
-    source: &mut S,
-    sink: &mut K,
-    clock: &mut C,
-    dice: &mut R,
+    environment: Environment<'_, P, S, K, C, R, V>,
 ) -> (D, Status)
-    ensures { Ends (outside D.Disk S.Source K.Sink C.Clock R.Dice)
-        (multi_meaning (keys_of (V.holds keys.now) (V.seals keys.now) (V.accepts keys.now)) name.now)
-        (world disk source.old sink.old clock.old dice.old)
-        (world result.0 source.new sink.new clock.new dice.new) result.1 }
+    ensures { Ends (outside D.Disk P.Peer S.Source K.Sink C.Clock R.Dice)
+        (multi_meaning (keys_of (V.holds environment.entry.keys.now) (V.seals environment.entry.keys.now)
+        (V.accepts environment.entry.keys.now)) name.now)
+        (world_before disk environment.entry)
+        (world_after result.0 environment.exit) result.1 }
 {
-    if !is_held(keys, name) {
+    if !is_held(environment.keys, name) {
         return (disk, Status::BadInput(InputFault::NoKey));
     }
-    match read_changes(alloc, source) {
+    match read_changes(alloc, environment.source) {
         Ok(changes) => {
             let what = What::Multi(changes);
-            claim(alloc, &what, name, keys, disk, source, sink, clock, dice)
+            claim(alloc, &what, name, disk, environment)
         }
         Err(status) => (disk, status),
     }

@@ -1,37 +1,34 @@
 //! `permanode DIR --key NAME`
-ghost use Rattle.perkeep_top.specs.Outside.{outside, world};
-ghost use Rattle.perkeep_top.specs.Frame.{Ends};
+ghost use Rattle.top_frame.specs.Outside.{outside, world_before, world_after};
+ghost use Rattle.top_frame.specs.Frame.{Ends};
 ghost use Rattle.perkeep_top.specs.Notes.{permanode_meaning, keys_of};
 
-use crate::status::{InputFault, Status};
-use crate::steps::{opened, put_blob, written};
 use blobref::NoMemory;
 use claim_verify::{KeyName, Signer};
 use edge_base::{Clock, Dice, Failed, Sink, Source};
 use pack_disk::Disk;
+use peer_base::Peer;
 use perkeep_lines::{is_held, permanode_note, random_of};
 use std::alloc::Global;
+use top_frame::{Environment, InputFault, Status, opened, put_blob, written};
 
 /// Stores the blob of a key and a new permanode that it signed, and writes the line of the permanode's ref.
-pub(crate) fn permanode<D: Disk, V: Signer, S: Source, K: Sink, C: Clock, R: Dice>(
+pub(crate) fn permanode<D: Disk, P: Peer, S: Source, K: Sink, C: Clock, R: Dice, V: Signer>(
     alloc: Global,
     name: &KeyName,
-    keys: &V,
     disk: D,
-    _source: &mut S,
-    sink: &mut K,
-    _clock: &mut C,
-    dice: &mut R,
+    environment: Environment<'_, P, S, K, C, R, V>,
 ) -> (D, Status)
-    ensures { Ends (outside D.Disk S.Source K.Sink C.Clock R.Dice)
-        (permanode_meaning (keys_of (V.holds keys.now) (V.seals keys.now) (V.accepts keys.now)) name.now)
-        (world disk _source.old sink.old _clock.old dice.old)
-        (world result.0 _source.new sink.new _clock.new dice.new) result.1 }
+    ensures { Ends (outside D.Disk P.Peer S.Source K.Sink C.Clock R.Dice)
+        (permanode_meaning (keys_of (V.holds environment.entry.keys.now) (V.seals environment.entry.keys.now)
+        (V.accepts environment.entry.keys.now)) name.now)
+        (world_before disk environment.entry)
+        (world_after result.0 environment.exit) result.1 }
 {
-    if !is_held(keys, name) {
+    if !is_held(environment.keys, name) {
         return (disk, Status::BadInput(InputFault::NoKey));
     }
-    let random = match random_of(dice) {
+    let random = match random_of(environment.dice) {
         Ok(random) => random,
         Err(Failed) => return (disk, Status::HandFault),
     };
@@ -39,13 +36,16 @@ pub(crate) fn permanode<D: Disk, V: Signer, S: Source, K: Sink, C: Clock, R: Dic
         Ok(store) => store,
         Err(end) => return end,
     };
-    let note = match permanode_note(alloc, keys, name, &random) {
+    let note = match permanode_note(alloc, environment.keys, name, &random) {
         Ok(note) => note,
         Err(NoMemory) => return (store.give_back(), Status::NoMemory),
     };
     match put_blob(&mut store, &note.signer, note.key.as_slice()) {
         Ok(_) => match put_blob(&mut store, &note.r, note.blob.as_slice()) {
-            Ok(_) => (store.give_back(), written(note.line.as_slice(), sink)),
+            Ok(_) => (
+                store.give_back(),
+                written(note.line.as_slice(), environment.sink),
+            ),
             Err(fault) => (store.give_back(), Status::from(fault)),
         },
         Err(fault) => (store.give_back(), Status::from(fault)),

@@ -1,31 +1,28 @@
 //! `put-file DIR NAME`
-ghost use Rattle.perkeep_top.specs.Outside.{outside, world};
-ghost use Rattle.perkeep_top.specs.Frame.{Ends};
+ghost use Rattle.top_frame.specs.Outside.{outside, world_before, world_after};
+ghost use Rattle.top_frame.specs.Frame.{Ends};
 ghost use Rattle.perkeep_top.specs.PutFile.{put_file_meaning};
 
-use crate::status::{InputFault, Status};
-use crate::steps::{opened, written};
 use blobref::NoMemory;
 use edge_base::{Clock, Dice, Sink, Source};
 use file_cut::{LONGEST_NAME, write_file};
 use pack_disk::Disk;
+use peer_base::Peer;
 use perkeep_lines::ref_line;
 use std::alloc::Global;
+use top_frame::{Environment, InputFault, Status, opened, written};
 
 /// Stores the input as a file of this name, cut into blobs that are put as it is read, and writes the line of the
 /// file's ref.
-pub(crate) fn put_file<D: Disk, S: Source, K: Sink, C: Clock, R: Dice>(
+pub(crate) fn put_file<D: Disk, P: Peer, S: Source, K: Sink, C: Clock, R: Dice, V>(
     alloc: Global,
     name: &str,
     disk: D,
-    source: &mut S,
-    sink: &mut K,
-    _clock: &mut C,
-    _dice: &mut R,
+    environment: Environment<'_, P, S, K, C, R, V>,
 ) -> (D, Status)
-    ensures { Ends (outside D.Disk S.Source K.Sink C.Clock R.Dice) (put_file_meaning name.now)
-        (world disk source.old sink.old _clock.old _dice.old)
-        (world result.0 source.new sink.new _clock.new _dice.new) result.1 }
+    ensures { Ends (outside D.Disk P.Peer S.Source K.Sink C.Clock R.Dice) (put_file_meaning name.now)
+        (world_before disk environment.entry)
+        (world_after result.0 environment.exit) result.1 }
 {
     if name.len() > LONGEST_NAME {
         let len = name.len() as u64;
@@ -35,12 +32,15 @@ pub(crate) fn put_file<D: Disk, S: Source, K: Sink, C: Clock, R: Dice>(
         Ok(store) => store,
         Err(end) => return end,
     };
-    let r = match write_file(alloc, name, source, &mut store) {
+    let r = match write_file(alloc, name, environment.source, &mut store) {
         Ok(r) => r,
         Err(fault) => return (store.give_back(), Status::from(fault)),
     };
     match ref_line(alloc, &r) {
-        Ok(line) => (store.give_back(), written(line.as_slice(), sink)),
+        Ok(line) => (
+            store.give_back(),
+            written(line.as_slice(), environment.sink),
+        ),
         Err(NoMemory) => (store.give_back(), Status::NoMemory),
     }
 }

@@ -1,37 +1,34 @@
 //! `query DIR`
 ghost use Rattle.std.specs.Prelude.{◌≤◌, IfOk, IfErr};
-ghost use Rattle.perkeep_top.specs.Outside.{outside, world};
-ghost use Rattle.perkeep_top.specs.Frame.{Ends};
+ghost use Rattle.top_frame.specs.Outside.{outside, world_before, world_after};
+ghost use Rattle.top_frame.specs.Frame.{Ends};
 ghost use Rattle.perkeep_top.specs.Query.{query_meaning, ReadsQuery, RefusesQuery};
 
-use crate::status::Status;
-use crate::steps::{opened_facts, read_input, told_too_long, written};
+use crate::steps::opened_facts;
 use claim_verify::Verifier;
 use edge_base::{Clock, Dice, Sink, Source};
 use pack_disk::Disk;
+use peer_base::Peer;
 use perkeep_lines::query_line;
 use search_query::Query;
 use std::alloc::Global;
+use top_frame::{Environment, Status, read_input, told_too_long, written};
 
 // The most bytes that a query may have.
 const LONGEST_QUERY: usize = 1_048_576;
 
 /// Writes the answer to the query that the source has left, over the blobs of the store.
-pub(crate) fn query<D: Disk, V: Verifier, S: Source, K: Sink, C: Clock, R: Dice>(
+pub(crate) fn query<D: Disk, P: Peer, S: Source, K: Sink, C: Clock, R: Dice, V: Verifier>(
     alloc: Global,
-    keys: &V,
     disk: D,
-    source: &mut S,
-    sink: &mut K,
-    _clock: &mut C,
-    _dice: &mut R,
+    environment: Environment<'_, P, S, K, C, R, V>,
 ) -> (D, Status)
-    ensures { Ends (outside D.Disk S.Source K.Sink C.Clock R.Dice)
-        (query_meaning (V.accepts keys.now))
-        (world disk source.old sink.old _clock.old _dice.old)
-        (world result.0 source.new sink.new _clock.new _dice.new) result.1 }
+    ensures { Ends (outside D.Disk P.Peer S.Source K.Sink C.Clock R.Dice)
+        (query_meaning (V.accepts environment.entry.keys.now))
+        (world_before disk environment.entry)
+        (world_after result.0 environment.exit) result.1 }
 {
-    let query = match read_query(alloc, source) {
+    let query = match read_query(alloc, environment.source) {
         Ok(query) => query,
         Err(status) => return (disk, status),
     };
@@ -39,8 +36,8 @@ pub(crate) fn query<D: Disk, V: Verifier, S: Source, K: Sink, C: Clock, R: Dice>
         Ok(opened) => opened,
         Err(end) => return end,
     };
-    match query_line(alloc, facts, keys, &query) {
-        Ok(line) => (disk, written(line.as_slice(), sink)),
+    match query_line(alloc, facts, environment.keys, &query) {
+        Ok(line) => (disk, written(line.as_slice(), environment.sink)),
         Err(_) => (disk, Status::NoMemory),
     }
 }

@@ -4,32 +4,30 @@ ghost use Rattle.std.specs.Option.{ForSome};
 ghost use Rattle.std.specs.FinMap.{get};
 ghost use Rattle.edge_base.specs.Edge.{Rose};
 ghost use Rattle.pack_disk.specs.Runs.{Stays};
-ghost use Rattle.perkeep_top.specs.Outside.{outside, world};
-ghost use Rattle.perkeep_top.specs.Frame.{Ends};
+ghost use Rattle.top_frame.specs.Outside.{outside, world_before, world_after};
+ghost use Rattle.top_frame.specs.Frame.{Ends};
 ghost use Rattle.perkeep_top.specs.Salvaged.{salvage_meaning, IsReport, IsPackReport, Writes, WritesFront, ComesWhileTelling};
 
-use crate::status::Status;
 use edge_base::{Clock, Dice, Failed, Sink, Source, write_all};
 use pack_disk::Disk;
 use pack_store::scan_pack;
+use peer_base::Peer;
 use perkeep_lines::report_of;
 use std::alloc::Global;
+use top_frame::{Environment, Status};
 
 /// Writes what each pack of the disk holds, pack by pack. Nothing is made, added or synced: no moment of the disk
 /// passes.
-pub(crate) fn salvage<D: Disk, S: Source, K: Sink, C: Clock, R: Dice>(
+pub(crate) fn salvage<D: Disk, P: Peer, S: Source, K: Sink, C: Clock, R: Dice, V>(
     alloc: Global,
     mut disk: D,
-    _source: &mut S,
-    sink: &mut K,
-    _clock: &mut C,
-    _dice: &mut R,
+    environment: Environment<'_, P, S, K, C, R, V>,
 ) -> (D, Status)
-    ensures { Ends (outside D.Disk S.Source K.Sink C.Clock R.Dice) salvage_meaning
-        (world disk _source.old sink.old _clock.old _dice.old)
-        (world result.0 _source.new sink.new _clock.new _dice.new) result.1 }
+    ensures { Ends (outside D.Disk P.Peer S.Source K.Sink C.Clock R.Dice) salvage_meaning
+        (world_before disk environment.entry)
+        (world_after result.0 environment.exit) result.1 }
 {
-    match tell_packs(alloc, &mut disk, sink) {
+    match tell_packs(alloc, &mut disk, environment.sink) {
         Ok(()) => (disk, Status::Done),
         Err(status) => (disk, status),
     }

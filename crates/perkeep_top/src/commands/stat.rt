@@ -1,41 +1,41 @@
 //! `stat DIR REF`
 ghost use Rattle.std.specs.Prelude.{◌≤◌, IfOk, IfErr};
 ghost use Rattle.pack_store.specs.Puts.{Stands};
-ghost use Rattle.perkeep_top.specs.Outside.{outside, world};
-ghost use Rattle.perkeep_top.specs.Frame.{Ends};
-ghost use Rattle.perkeep_top.specs.Limits.{limits};
+ghost use Rattle.top_frame.specs.Outside.{outside, world_before, world_after};
+ghost use Rattle.top_frame.specs.Frame.{Ends};
+ghost use Rattle.top_frame.specs.Limits.{limits};
 ghost use Rattle.perkeep_top.specs.Stat.{stat_meaning, IsSizeLine, RefusesSize};
-ghost use Rattle.perkeep_top.specs.Steps.{Finds};
+ghost use Rattle.top_frame.specs.Steps.{Finds};
 
-use crate::status::Status;
-use crate::steps::{opened, written};
 use blobref::{Octets, Ref};
 use edge_base::{Clock, Dice, Sink, Source};
 use pack_disk::Disk;
 use pack_store::Store;
+use peer_base::Peer;
 use perkeep_lines::size_line;
 use std::alloc::Global;
+use top_frame::{Environment, Status, opened, written};
 
 /// Writes the ref of a blob and its size.
-pub(crate) fn stat<D: Disk, S: Source, K: Sink, C: Clock, R: Dice>(
+pub(crate) fn stat<D: Disk, P: Peer, S: Source, K: Sink, C: Clock, R: Dice, V>(
     alloc: Global,
     r: &Ref,
     disk: D,
-    _source: &mut S,
-    sink: &mut K,
-    _clock: &mut C,
-    _dice: &mut R,
+    environment: Environment<'_, P, S, K, C, R, V>,
 ) -> (D, Status)
-    ensures { Ends (outside D.Disk S.Source K.Sink C.Clock R.Dice) (stat_meaning r.now)
-        (world disk _source.old sink.old _clock.old _dice.old)
-        (world result.0 _source.new sink.new _clock.new _dice.new) result.1 }
+    ensures { Ends (outside D.Disk P.Peer S.Source K.Sink C.Clock R.Dice) (stat_meaning r.now)
+        (world_before disk environment.entry)
+        (world_after result.0 environment.exit) result.1 }
 {
     let store = match opened(alloc, disk) {
         Ok(store) => store,
         Err(end) => return end,
     };
     match line_of(alloc, &store, r) {
-        Ok(line) => (store.give_back(), written(line.as_slice(), sink)),
+        Ok(line) => (
+            store.give_back(),
+            written(line.as_slice(), environment.sink),
+        ),
         Err(status) => (store.give_back(), status),
     }
 }

@@ -1,21 +1,21 @@
 use Rattle.std.proofs.Common.{ap, sym, ◌∙◌}
-use Rattle.perkeep_top.specs.declared.status.InputFault.TheVariants.{NoKey}
+use Rattle.top_frame.specs.declared.status.InputFault.TheVariants.{NoKey}
 use Rattle.perkeep_top.specs.Multi.{multi_meaning}
 use Rattle.perkeep_top.specs.Notes.{keys_of, unless_held}
-use Rattle.perkeep_top.specs.Outside.{outside, world}
-use Rattle.perkeep_top.proofs.Ending.{bad_words}
+use Rattle.top_frame.specs.Outside.{outside, world_before}
+use Rattle.top_frame.proofs.Ending.{bad_words}
 use Rattle.perkeep_top.proofs.Multi.{unread_changes, claimed}
 use Rattle.perkeep_top.proofs.commands.multi.multi.Goals as goal
 
 pub returns-then-not-is_held : goal.returns-then-not-is_held
 returns-then-not-is_held g c =
-    bad_words (outside g.D.Disk g.S.Source g.K.Sink g.C.Clock g.R.Dice) g.met.D.Disk.counts_now g.met.D.Disk.only_now (multi_meaning (keys_of (g.V.Signer.holds c.args.keys.now) (g.V.Signer.seals c.args.keys.now) (g.V.Verifier.accepts c.args.keys.now)) c.args.name.now) (world c.args.disk c.args.source.now c.args.sink.now c.args.clock.now c.args.dice.now) NoKey (ap unless_held (sym c.is_held.ensures ∙ c.if-not-is_held.true))
+    bad_words (outside g.D.Disk g.P.Peer g.S.Source g.K.Sink g.C.Clock g.R.Dice) g.met.D.Disk.counts_now g.met.D.Disk.only_now (multi_meaning (keys_of (g.V.Signer.holds c.args.environment.keys.now) (g.V.Signer.seals c.args.environment.keys.now) (g.V.Verifier.accepts c.args.environment.keys.now)) c.args.name.now) (world_before c.args.disk c.args.environment) NoKey (ap unless_held (sym c.is_held.ensures ∙ c.if-not-is_held.true))
 
 pub returns-in-Err : goal.returns-in-Err
 returns-in-Err g c =
-    unread_changes (outside g.D.Disk g.S.Source g.K.Sink g.C.Clock g.R.Dice) g.met.D.Disk.counts_now g.met.D.Disk.only_now (keys_of (g.V.Signer.holds c.args.keys.now) (g.V.Signer.seals c.args.keys.now) (g.V.Verifier.accepts c.args.keys.now)) c.args.name.now (sym c.is_held.ensures ∙ c.if-not-is_held.false) (world c.args.disk c.args.source.now c.args.sink.now c.args.clock.now c.args.dice.now) c.read_changes.new.source c.in-Err.ensures.later c.in-Err.status c.in-Err.ensures.refused
+    unread_changes (outside g.D.Disk g.P.Peer g.S.Source g.K.Sink g.C.Clock g.R.Dice) g.met.D.Disk.counts_now g.met.D.Disk.only_now (keys_of (g.V.Signer.holds c.args.environment.keys.now) (g.V.Signer.seals c.args.environment.keys.now) (g.V.Verifier.accepts c.args.environment.keys.now)) c.args.name.now (sym c.is_held.ensures ∙ c.if-not-is_held.false) (world_before c.args.disk c.args.environment) c.read_changes.new.source c.in-Err.ensures.later c.in-Err.status c.in-Err.ensures.refused
 
 pub returns-in-Ok : goal.returns-in-Ok
 returns-in-Ok g c =
-    claimed (outside g.D.Disk g.S.Source g.K.Sink g.C.Clock g.R.Dice) g.met.D.Disk.counts_now g.met.D.Disk.only_now (keys_of (g.V.Signer.holds c.args.keys.now) (g.V.Signer.seals c.args.keys.now) (g.V.Verifier.accepts c.args.keys.now)) c.args.name.now (sym c.is_held.ensures ∙ c.if-not-is_held.false) (world c.args.disk c.args.source.now c.args.sink.now c.args.clock.now c.args.dice.now) c.read_changes.new.source c.in-Ok.ensures.later
+    claimed (outside g.D.Disk g.P.Peer g.S.Source g.K.Sink g.C.Clock g.R.Dice) g.met.D.Disk.counts_now g.met.D.Disk.only_now (keys_of (g.V.Signer.holds c.args.environment.keys.now) (g.V.Signer.seals c.args.environment.keys.now) (g.V.Verifier.accepts c.args.environment.keys.now)) c.args.name.now (sym c.is_held.ensures ∙ c.if-not-is_held.false) (world_before c.args.disk c.args.environment) c.read_changes.new.source c.in-Ok.ensures.later
     c.in-Ok.ensures.read.text c.in-Ok.ensures.read.read c.in-Ok.changes c.in-Ok.ensures.read.listed _ c.claim.result.1 c.claim.ensures

@@ -2,22 +2,22 @@
 use Rattle.std.proofs.Common.{ℕ, ◌≤◌, List, [], Option, refl, subst}
 use Rattle.pack_disk.specs.Packs.{Packs}
 use Rattle.pack_disk.specs.Runs.{Stays}
-use Rattle.perkeep_top.specs.declared.status.Status.{Status}
-use Rattle.perkeep_top.specs.Asking.{asking}
-use Rattle.perkeep_top.specs.Frame.{Ends}
-use Rattle.perkeep_top.specs.Outside.{Outside, World, world}
-use Rattle.perkeep_top.specs.Steps.{Finds, NeverRefuses, Writes}
-use Rattle.perkeep_top.proofs.Ending.{Begun, Far, Has, nothing_given, far_start, far_asked, refused, finished}
+use Rattle.top_frame.specs.declared.status.Status.{Status}
+use Rattle.top_frame.specs.Asking.{asking}
+use Rattle.top_frame.specs.Frame.{Ends}
+use Rattle.top_frame.specs.Outside.{Outside, World, world}
+use Rattle.top_frame.specs.Steps.{Finds, NeverRefuses, Writes}
+use Rattle.top_frame.proofs.Ending.{Begun, Far, Has, nothing_given, far_start, far_asked, refused, finished}
 
-module _ {D S K C R : Type 0} (o : Outside D S K C R)
+module _ {D P S K C R : Type 0} (o : Outside D P S K C R)
     (counts_now : (d : D) (t : ℕ) (c : Packs) → t ≤ o.disk.moment d → o.disk.images d c → o.disk.images_since d t c)
     (only_now : (d : D) (c : Packs) → o.disk.images_since d (o.disk.moment d) c → o.disk.images d c)
-    (IsAnswer : Option Packs → List ℕ → Type 0) (Refuses : Option Packs → Status → Type 0) (b : World D S K C R) where
-  abbrev run : Begun D S K C R
-  run = record { o = o; counts_now = counts_now; only_now = only_now; m = asking IsAnswer Refuses; fit = refl; b = b }
+    (IsAnswer : Option Packs → List ℕ → Type 0) (Refuses : Option Packs → Status → Type 0) (b : World D P S K C R) where
+  abbrev run : Begun D P S K C R
+  run = record { o = o; counts_now = counts_now; only_now = only_now; m = asking IsAnswer Refuses; fit = refl; alone = refl; b = b }
 
   abbrev EndsAt : D → K → Status → Type 0
-  EndsAt e k end = Ends o (asking IsAnswer Refuses) b (world e b.source k b.clock b.dice) end
+  EndsAt e k end = Ends o (asking IsAnswer Refuses) b (world e b.peer b.source k b.clock b.dice) end
 
   has : Has run b.source nothing_given
   has = record { read = (refl, refl); right = refl; drawn = (λ e. absurd (cc e), λ e. absurd (cc e)) }
@@ -27,7 +27,7 @@ module _ {D S K C R : Type 0} (o : Outside D S K C R)
   not_opened e stays later end why = refused run refl b.disk e b.source (far_start run) stays later nothing_given has refl NeverRefuses (λ end w. absurd w) end why
 
   module _ (d : D) (opened : Stays o.disk b.disk d) (opened_later : o.disk.faults b.disk ≤ o.disk.faults d) (e : D) (stays : Stays o.disk d e) (later : o.disk.faults d ≤ o.disk.faults e) where
-    open_far : Far run (world d b.source b.sink b.clock b.dice) [] []
+    open_far : Far run (world d b.peer b.source b.sink b.clock b.dice) [] []
     open_far = far_asked run refl b.disk d b.source (far_start run) opened opened_later
 
     -- what was asked of it was refused

@@ -1,7 +1,7 @@
 use Rattle.blobref.proofs.Digests.{IsOwnRef-named}
 use Rattle.pack_store.proofs.PutRuns.{put_leaves}
-use Rattle.perkeep_top.specs.Limits.{limits}
-use Rattle.perkeep_top.proofs.steps.put_blob.Goals as goal
+use Rattle.top_frame.specs.Limits.{limits}
+use Rattle.top_frame.proofs.steps.put_blob.Goals as goal
 
 pub put_own-requires : goal.put_own-requires
 put_own-requires g c = record { own = IsOwnRef-named c.args.r.now c.args.bytes.now c.requires.own }

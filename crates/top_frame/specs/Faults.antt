@@ -9,16 +9,18 @@ use Rattle.query_read.specs.declared.fault.QueryFault.{QueryFault}
 use Rattle.query_read.specs.declared.fault.QueryFault.TheVariants as query
 use Rattle.schema_write.specs.declared.draft.DraftFault.{DraftFault}
 use Rattle.schema_write.specs.declared.draft.DraftFault.TheVariants as draft
-use Rattle.perkeep_words.specs.declared.kinds.TextFault.{TextFault}
-use Rattle.perkeep_words.specs.declared.kinds.TextFault.TheVariants as text
-use Rattle.perkeep_top.specs.declared.status.InputFault.{InputFault}
+use Rattle.peer_base.specs.declared.peer.PeerFault.{PeerFault}
+use Rattle.peer_base.specs.declared.peer.PeerFault.TheVariants as peer
+use Rattle.sync_core.specs.declared.syncing.SyncFault.{SyncFault}
+use Rattle.sync_core.specs.declared.syncing.SyncFault.TheVariants as sync
+use Rattle.top_frame.specs.declared.status.ReplyFault.TheVariants as reply
 use Rattle.file_cut.specs.declared.fault.CutFault.{CutFault}
 use Rattle.file_cut.specs.declared.fault.CutFault.TheVariants as cut
 use Rattle.file_tree.specs.declared.fault.FileFault.{FileFault}
 use Rattle.file_tree.specs.declared.fault.FileFault.TheVariants as file
-use Rattle.perkeep_top.specs.declared.status.InputFault.TheVariants.{BadRef, BadDate, BadNumber, BadName, TooBig, NotAFile, Short, Deep, TooLong, BadQuery}
-use Rattle.perkeep_top.specs.declared.status.Status.{Status}
-use Rattle.perkeep_top.specs.declared.status.Status.TheVariants.{NoMemory, BadInput, Disk, Full, Damaged, Absent, ReadFault, WriteFault}
+use Rattle.top_frame.specs.declared.status.InputFault.TheVariants.{TooBig, NotAFile, Short, Deep, TooLong, BadQuery}
+use Rattle.top_frame.specs.declared.status.Status.{Status}
+use Rattle.top_frame.specs.declared.status.Status.TheVariants.{NoMemory, BadInput, Disk, Peer, Full, Damaged, BadReply, Absent, ReadFault, WriteFault}
 
 abbrev pub open_status : OpenFault → Status
 open_status opening.Disk = Disk
@@ -56,16 +58,30 @@ abbrev pub draft_status : DraftFault → Status
 draft_status (draft.TooLong len) = BadInput (TooLong len)
 draft_status draft.NoMemory = NoMemory
 
--- what is wrong with a text, as a fault of the input
-abbrev pub input_fault : TextFault → InputFault
-input_fault text.BadRef = BadRef
-input_fault text.BadDate = BadDate
-input_fault text.BadNumber = BadNumber
-input_fault text.BadName = BadName
-
 abbrev pub query_status : QueryFault → Status
 query_status query.NotJson = BadInput (BadQuery query.NotJson)
 query_status (query.BadKey at) = BadInput (BadQuery (query.BadKey at))
 query_status (query.BadValue at) = BadInput (BadQuery (query.BadValue at))
 query_status (query.TooDeep at) = BadInput (BadQuery (query.TooDeep at))
 query_status query.NoMemory = NoMemory
+
+-- a fault of one of the two between which blobs are copied; `failed` tells that it failed
+abbrev pub peer_status : Status → PeerFault → Status
+peer_status failed peer.Failed = failed
+peer_status failed peer.BadReply = BadReply reply.Grammar
+peer_status failed (peer.Refused status) = BadReply (reply.Refused status)
+peer_status failed (peer.Damaged want is) = Damaged want is
+peer_status failed (peer.Full blobs pack) = Full blobs pack
+peer_status failed peer.NoMemory = NoMemory
+
+-- where the store is copied from
+abbrev pub push_status : SyncFault → Status
+push_status (sync.Source fault) = peer_status Disk fault
+push_status (sync.Target fault) = peer_status Peer fault
+push_status (sync.Gone r) = BadReply (reply.Gone r)
+
+-- where the peer is copied from
+abbrev pub pull_status : SyncFault → Status
+pull_status (sync.Source fault) = peer_status Peer fault
+pull_status (sync.Target fault) = peer_status Disk fault
+pull_status (sync.Gone r) = BadReply (reply.Gone r)

@@ -8,11 +8,11 @@ use Rattle.edge_base.specs.declared.edge.Sink.{Ghosts as SinkGhosts}
 use Rattle.pack_disk.specs.Packs.{Packs}
 use Rattle.pack_disk.specs.declared.disk.Disk.{Ghosts as DiskGhosts}
 use Rattle.pack_store.specs.Puts.{blobs_of}
-use Rattle.perkeep_top.specs.declared.status.InputFault.TheVariants.{BadRef, BadDate, BadNumber, BadName, TooBig, NotAFile, Short, Deep}
-use Rattle.perkeep_top.specs.declared.status.InputFault.TheVariants.{NoKey, TooLong, BadQuery, BadChanges}
-use Rattle.perkeep_top.specs.declared.status.Status.{Status}
-use Rattle.perkeep_top.specs.declared.status.Status.TheVariants as status
-use Rattle.perkeep_top.specs.Frame.{IsTooBig}
+use Rattle.top_frame.specs.declared.status.InputFault.TheVariants.{BadRef, BadDate, BadNumber, BadName, TooBig, NotAFile, Short, Deep}
+use Rattle.top_frame.specs.declared.status.InputFault.TheVariants.{NoKey, TooLong, BadQuery, BadChanges}
+use Rattle.top_frame.specs.declared.status.Status.{Status}
+use Rattle.top_frame.specs.declared.status.Status.TheVariants as status
+use Rattle.top_frame.specs.Frame.{IsTooBig}
 
 -- why the input wasn't read
 abbrev pub RefusesInput : {S : Type 0} → SourceGhosts S → ℕ → S → S → Status → Type 0
@@ -42,6 +42,8 @@ too_long_status (status.Absent r) = status.Absent r
 too_long_status status.ReadFault = status.ReadFault
 too_long_status status.WriteFault = status.WriteFault
 too_long_status status.Disk = status.Disk
+too_long_status status.Peer = status.Peer
+too_long_status (status.BadReply fault) = status.BadReply fault
 too_long_status status.HandFault = status.HandFault
 too_long_status (status.Full blobs pack) = status.Full blobs pack
 too_long_status (status.Damaged want is) = status.Damaged want is

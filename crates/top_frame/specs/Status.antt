@@ -1,7 +1,7 @@
 -- The exit statuses (docs/commands.md).
 use Rattle.std.specs.Prelude.{ℕ, List, codes}
-use Rattle.perkeep_top.specs.declared.status.Status.{Status}
-use Rattle.perkeep_top.specs.declared.status.Status.TheVariants.{Done, NoMemory, BadWords, Absent, BadInput, ReadFault, WriteFault, Disk, Full, Damaged, HandFault}
+use Rattle.top_frame.specs.declared.status.Status.{Status}
+use Rattle.top_frame.specs.declared.status.Status.TheVariants.{Done, NoMemory, BadWords, Absent, BadInput, ReadFault, WriteFault, Disk, Peer, Full, Damaged, BadReply, HandFault}
 
 -- the exit status of the process
 abbrev pub code : Status → ℕ
@@ -13,8 +13,10 @@ code (BadInput fault) = 4
 code ReadFault = 5
 code WriteFault = 6
 code Disk = 7
+code Peer = 8
 code (Full blobs pack) = 9
 code (Damaged want is) = 10
+code (BadReply fault) = 11
 code HandFault = 12
 
 -- the word that is printed on standard error
@@ -27,6 +29,8 @@ word (BadInput fault) = codes "input"
 word ReadFault = codes "read"
 word WriteFault = codes "write"
 word Disk = codes "disk"
+word Peer = codes "peer"
 word (Full blobs pack) = codes "full"
 word (Damaged want is) = codes "damaged"
+word (BadReply fault) = codes "reply"
 word HandFault = codes "hand"

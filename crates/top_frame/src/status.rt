@@ -1,13 +1,12 @@
 //! How a run ends.
 ghost use Rattle.std.specs.Prelude.{◌≡◌};
-ghost use Rattle.perkeep_top.specs.Status.{code, word};
+ghost use Rattle.top_frame.specs.Status.{code, word};
 
 use blobref::{NoMemory, Ref};
 use edge_base::{GetFault, PutFault};
 use file_cut::{CutFault, LONGEST_FILE};
 use file_tree::FileFault;
 use pack_store::OpenFault;
-use perkeep_words::TextFault;
 use query_read::QueryFault;
 use schema_write::DraftFault;
 
@@ -41,6 +40,17 @@ pub enum InputFault {
     BadChanges,
 }
 
+/// Why a peer's reply can't be used (`docs/commands.md`).
+#[derive(Clone, Copy, PartialEq, Eq)]
+pub enum ReplyFault {
+    /// It can't be read, or isn't one to what was asked.
+    Grammar,
+    /// The peer replied with this status.
+    Refused { status: u16 },
+    /// A ref that was listed isn't there any more.
+    Gone { r: Ref },
+}
+
 /// How a run ended (`docs/commands.md`).
 #[derive(Drop)]
 pub enum Status {
@@ -60,9 +70,14 @@ pub enum Status {
     WriteFault,
     /// The disk failed.
     Disk,
+    /// The way to the peer failed.
+    Peer,
+    /// A reply of the peer can't be used.
+    BadReply(ReplyFault),
     /// The clock or the source of random bytes failed.
     HandFault,
-    /// The store is full: it has so many blobs, and its last pack has this number, 0 where it has none.
+    /// The store, or the peer that is pushed to, is full: it has so many blobs, and its last pack has this number, 0
+    /// where it has none.
     Full { blobs: u64, pack: u32 },
     /// The bytes stored under a ref have another one.
     Damaged { want: Ref, is: Ref },
@@ -82,8 +97,10 @@ impl Status {
             Status::ReadFault => 5,
             Status::WriteFault => 6,
             Status::Disk => 7,
+            Status::Peer => 8,
             Status::Full { .. } => 9,
             Status::Damaged { .. } => 10,
+            Status::BadReply(_) => 11,
             Status::HandFault => 12,
         }
     }
@@ -101,15 +118,17 @@ impl Status {
             Status::ReadFault => "read",
             Status::WriteFault => "write",
             Status::Disk => "disk",
+            Status::Peer => "peer",
             Status::Full { .. } => "full",
             Status::Damaged { .. } => "damaged",
+            Status::BadReply(_) => "reply",
             Status::HandFault => "hand",
         }
     }
 }
 
 impl From<NoMemory> for Status {
-    ghost use Rattle.perkeep_top.specs.declared.status.Status.TheVariants.{NoMemory as OutOfMemory};
+    ghost use Rattle.top_frame.specs.declared.status.Status.TheVariants.{NoMemory as OutOfMemory};
 
     ghost from_gives = { λ _ status. status ≡ OutOfMemory };
 
@@ -119,7 +138,7 @@ impl From<NoMemory> for Status {
 }
 
 impl From<OpenFault> for Status {
-    ghost use Rattle.perkeep_top.specs.Faults.{open_status};
+    ghost use Rattle.top_frame.specs.Faults.{open_status};
 
     ghost from_gives = { λ fault status. status ≡ open_status fault };
 
@@ -132,7 +151,7 @@ impl From<OpenFault> for Status {
 }
 
 impl From<GetFault> for Status {
-    ghost use Rattle.perkeep_top.specs.Faults.{get_status};
+    ghost use Rattle.top_frame.specs.Faults.{get_status};
 
     ghost from_gives = { λ fault status. status ≡ get_status fault };
 
@@ -146,7 +165,7 @@ impl From<GetFault> for Status {
 }
 
 impl From<PutFault> for Status {
-    ghost use Rattle.perkeep_top.specs.Faults.{put_status};
+    ghost use Rattle.top_frame.specs.Faults.{put_status};
 
     ghost from_gives = { λ fault status. status ≡ put_status fault };
 
@@ -161,23 +180,8 @@ impl From<PutFault> for Status {
     }
 }
 
-impl From<TextFault> for InputFault {
-    ghost use Rattle.perkeep_top.specs.Faults.{input_fault};
-
-    ghost from_gives = { λ fault input. input ≡ input_fault fault };
-
-    fn from(fault: TextFault) -> InputFault {
-        match fault {
-            TextFault::BadRef => InputFault::BadRef,
-            TextFault::BadDate => InputFault::BadDate,
-            TextFault::BadNumber => InputFault::BadNumber,
-            TextFault::BadName => InputFault::BadName,
-        }
-    }
-}
-
 impl From<FileFault> for Status {
-    ghost use Rattle.perkeep_top.specs.Faults.{file_status};
+    ghost use Rattle.top_frame.specs.Faults.{file_status};
 
     ghost from_gives = { λ fault status. status ≡ file_status fault };
 
@@ -197,7 +201,7 @@ impl From<FileFault> for Status {
 }
 
 impl From<CutFault> for Status {
-    ghost use Rattle.perkeep_top.specs.Faults.{cut_status};
+    ghost use Rattle.top_frame.specs.Faults.{cut_status};
 
     ghost from_gives = { λ fault status. status ≡ cut_status fault };
 
@@ -215,7 +219,7 @@ impl From<CutFault> for Status {
 }
 
 impl From<DraftFault> for Status {
-    ghost use Rattle.perkeep_top.specs.Faults.{draft_status};
+    ghost use Rattle.top_frame.specs.Faults.{draft_status};
 
     ghost from_gives = { λ fault status. status ≡ draft_status fault };
 
@@ -228,7 +232,7 @@ impl From<DraftFault> for Status {
 }
 
 impl From<QueryFault> for Status {
-    ghost use Rattle.perkeep_top.specs.Faults.{query_status};
+    ghost use Rattle.top_frame.specs.Faults.{query_status};
 
     ghost from_gives = { λ fault status. status ≡ query_status fault };
 

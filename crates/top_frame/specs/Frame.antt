@@ -1,22 +1,29 @@
 -- What a command means, and how a run of it may end: the same for every command (docs/commands.md).
-use Rattle.std.specs.Prelude.{◌≡◌, ◌⊎◌, ◌≤◌, ◌<◌, ◌+◌, ℕ, ℤ, Bool, true, false, List, [], ◌∷◌, ◌++◌, length, Option, None, Some, IfSome}
-use Rattle.std.specs.Option.{ForSome}
+use Rattle.std.specs.Prelude.{◌≡◌, ◌≢◌, ◌⊎◌, ◌≤◌, ◌<◌, ◌+◌, ℕ, ℤ, Bool, true, false, List, [], ◌∷◌, ◌++◌, length, Option, None, Some, IfSome, Ok, Err}
+use Rattle.std.specs.Option.{ForSome, option_map}
+use Rattle.std.specs.FinMap.{entries}
 use Rattle.schema_date.specs.Dates.{IsInRange}
 use Rattle.schema_write.specs.Laws.{AreBytes}
 use Rattle.schema_date.specs.DateTexts.{IsDateText}
 use Rattle.edge_base.specs.Edge.{Rose, Gave, GaveAll, GaveFront, Took, TookFront}
-use Rattle.edge_base.specs.Shelf.{Blob}
+use Rattle.edge_base.specs.Shelf.{Blob, Blobs, Keeps}
 use Rattle.edge_base.specs.declared.edge.Source.{Ghosts as SourceGhosts}
 use Rattle.pack_disk.specs.Packs.{Packs}
 use Rattle.pack_disk.specs.Disk.{Tells}
 use Rattle.pack_disk.specs.Runs.{Stays}
 use Rattle.pack_store.specs.Packs.{KeepsAll}
-use Rattle.pack_store.specs.Puts.{PutsAll, HoldAll, IsFull, IsAtLimit}
-use Rattle.perkeep_top.specs.declared.status.InputFault.{InputFault}
-use Rattle.perkeep_top.specs.declared.status.Status.{Status}
-use Rattle.perkeep_top.specs.declared.status.Status.TheVariants as status
-use Rattle.perkeep_top.specs.Limits.{limits}
-use Rattle.perkeep_top.specs.Outside.{Outside, World}
+use Rattle.pack_store.specs.Puts.{PutsAll, HoldAll, IsFull, IsAtLimit, blobs_of}
+use Rattle.peer_base.specs.declared.peer.PeerFault.{PeerFault}
+use Rattle.peer_base.specs.declared.peer.PeerFault.TheVariants as peer_fault
+use Rattle.sync_core.specs.Answers.{Listed, Fetched, Put, IsReached}
+use Rattle.sync_core.specs.Copying.{lacking, copied, StandIn}
+use Rattle.top_frame.specs.declared.status.ReplyFault.{ReplyFault}
+use Rattle.top_frame.specs.declared.status.ReplyFault.TheVariants as reply
+use Rattle.top_frame.specs.declared.status.InputFault.{InputFault}
+use Rattle.top_frame.specs.declared.status.Status.{Status}
+use Rattle.top_frame.specs.declared.status.Status.TheVariants as status
+use Rattle.top_frame.specs.Limits.{limits}
+use Rattle.top_frame.specs.Outside.{Outside, World}
 
 -- ---- what a command means
 
@@ -32,7 +39,13 @@ pub data Input : Type 0 where
   reads_first : (most : ℕ) → Input
   reads_later : (most : ℕ) → Input
 
--- what came from the outside before the command's own calls on its store
+-- whether it asks the peer, and which way blobs are copied: to the store, or from it
+pub data Exchange : Type 0 where
+  no_peer : Exchange
+  pulls : Exchange
+  pushes : Exchange
+
+-- what came from the outside before the command's own calls on its store, and what is copied between that and the peer
 pub record Given : Type 0 where
   -- what the source had left
   pub input : List ℕ
@@ -40,6 +53,11 @@ pub record Given : Type 0 where
   pub date : ℤ
   pub date_text : List ℕ
   pub random : List ℕ
+  -- the blobs that are pulled, in the order of their refs
+  pub pulled : List Blob
+  -- how many blobs of the one that is copied from the other lacked, and how many it had
+  pub lacked : ℕ
+  pub had : ℕ
 
 pub record Meaning : Type 1 where
   pub disk : DiskUse
@@ -47,6 +65,7 @@ pub record Meaning : Type 1 where
   -- whether it asks the clock and the dice
   pub draws_time : Bool
   pub draws_random : Bool
+  pub exchange : Exchange
   -- what is wrong with what the words say, if anything is that shows before anything is touched
   pub bad : Option InputFault
   -- how an input of that many bytes, one more than it may have, is told
@@ -112,7 +131,7 @@ pub record IsTooBig (size most : ℕ) (left left_now : Option (List ℕ)) : Type
 
 -- ---- the ends
 
-module _ {D S K C R : Type 0} (o : Outside D S K C R) (m : Meaning) (old new : World D S K C R) where
+module _ {D P S K C R : Type 0} (o : Outside D P S K C R) (m : Meaning) (old new : World D P S K C R) where
   abbrev pub told : Option Packs
   told = o.disk.packs old.disk
 
@@ -126,14 +145,86 @@ module _ {D S K C R : Type 0} (o : Outside D S K C R) (m : Meaning) (old new : W
     pub unread : m.input ≡ reads_nothing → new.source ≡ old.source
     pub untimed : m.draws_time ≡ false → new.clock ≡ old.clock
     pub undiced : m.draws_random ≡ false → new.dice ≡ old.dice
+    pub unmet : m.exchange ≡ no_peer → new.peer ≡ old.peer
+    -- a peer that is pulled from tells what it told
+    pub unsent : m.exchange ≡ pulls → o.peer.content new.peer ≡ o.peer.content old.peer
     -- where it only looks at the disk, no moment of that passes: nothing is synced, made or added
     pub unmoved : m.disk ≡ only_looks → o.disk.moment new.disk ≡ o.disk.moment old.disk
     -- no count of faults falls
+    pub peer_later : o.peer.faults old.peer ≤ o.peer.faults new.peer
     pub disk_later : o.disk.faults old.disk ≤ o.disk.faults new.disk
     pub source_later : o.source.faults old.source ≤ o.source.faults new.source
     pub sink_later : o.sink.faults old.sink ≤ o.sink.faults new.sink
     pub clock_later : o.clock.faults old.clock ≤ o.clock.faults new.clock
     pub dice_later : o.dice.faults old.dice ≤ o.dice.faults new.dice
+
+  -- ---- what is copied between the store and the peer
+
+  -- what the disk and the peer hold at the start meets it, where both tell
+  abbrev pub WhereBothTell : (Blobs → Blobs → Type 0) → Type 0
+  WhereBothTell P = ForSome told (λ held. ForSome (o.peer.content old.peer) (λ there. P (blobs_of held) there))
+
+  -- so many blobs of the first lacked in the second, and so many stood there
+  abbrev pub AreCounted : Given → Blobs → Blobs → Type 0
+  AreCounted given from to = (given.lacked ≡ length (lacking from to)) × (given.lacked + given.had ≡ length (entries from))
+
+  -- The peer's blobs that the store lacked were pulled, and nothing was put to the peer.
+  pub record PullsAll (given : Given) : Type 0 where
+    pub stand : StandIn (o.peer.content old.peer) given.pulled
+    pub alone : o.peer.puts old.peer [] new.peer
+    pub all : WhereBothTell (λ here there. given.pulled ≡ lacking there here)
+    pub counted : WhereBothTell (λ here there. AreCounted given there here)
+
+  -- what was to be pulled where that stopped: nothing was put to the peer
+  pub record PullsSome (given : Given) : Type 0 where
+    pub alone : o.peer.puts old.peer [] new.peer
+    pub all : WhereBothTell (λ here there. given.pulled ≡ lacking there here)
+
+  -- The store's blobs that the peer lacked, and nothing else, were put to the peer, which was reached.
+  pub record PushesAll (given : Given) : Type 0 where
+    pub sent : List Blob
+    pub stand : StandIn (option_map blobs_of told) sent
+    pub put : o.peer.puts old.peer sent new.peer
+    pub kept : Keeps (o.peer.content old.peer) (o.peer.content new.peer) sent
+    pub all : WhereBothTell (λ here there. sent ≡ lacking here there)
+    pub union : WhereBothTell (λ here there. o.peer.content new.peer ≡ Some (copied here there))
+    pub counted : WhereBothTell (λ here there. AreCounted given here there)
+    pub reached : IsReached o.peer old.peer new.peer
+
+  -- a front of them was put where that stopped, and it is known what was put unless the peer failed
+  pub record PushesSome : Type 0 where
+    pub sent : List Blob
+    pub stand : StandIn (option_map blobs_of told) sent
+    pub put : o.peer.puts old.peer sent new.peer ⊎ Rose (o.peer.faults old.peer) (o.peer.faults new.peer)
+    pub kept : Keeps (o.peer.content old.peer) (o.peer.content new.peer) sent
+    pub front : WhereBothTell (λ here there. (rest : List Blob) × (lacking here there ≡ sent ++ rest))
+
+  abbrev pub Exchanges : Exchange → Given → Type 0
+  Exchanges no_peer given = Unit {0}
+  Exchanges pulls given = PullsAll given
+  Exchanges pushes given = PushesAll given
+
+  abbrev pub ExchangesSome : Exchange → Given → Type 0
+  ExchangesSome no_peer given = Unit {0}
+  ExchangesSome pulls given = PullsSome given
+  ExchangesSome pushes given = PushesSome
+
+  -- a call of the peer answered with this fault
+  abbrev pub PeerAnswered : PeerFault → Type 0
+  PeerAnswered e = Listed o.peer old.peer new.peer (Err e)
+      ⊎ (((r : List ℕ) × Fetched o.peer old.peer new.peer r (Err e)) ⊎ ((blob : Blob) × Put o.peer old.peer new.peer blob (Err e)))
+
+  -- its reply can't be used
+  abbrev pub PeerReplied : ReplyFault → Type 0
+  PeerReplied reply.Grammar = PeerAnswered peer_fault.BadReply
+  PeerReplied (reply.Refused number) = PeerAnswered (peer_fault.Refused number)
+  PeerReplied (reply.Gone r) = Fetched o.peer old.peer new.peer r (Ok None)
+
+  -- one of the two doesn't tell what it holds: the disk, or else the peer, which answered so
+  abbrev pub WhereUntold : Type 0 → Type 0
+  WhereUntold Answered = (told ≡ None) ⊎ ((o.peer.content old.peer ≡ None) × Answered)
+
+  -- ---- how it ends
 
   -- all was done, and what was written is such a text
   pub record Finishes (Writes : List ℕ → Type 0) : Type 0 where
@@ -143,15 +234,17 @@ module _ {D S K C R : Type 0} (o : Outside D S K C R) (m : Meaning) (old new : W
     pub drawn : IsDrawn m (o.clock.time old.clock) (o.dice.random old.dice) given
     pub read : ReadsAll o.source m.input old.source new.source given.input
     pub right : m.wrong given.input ≡ None
+    pub exchanged : Exchanges m.exchange given
     pub output : m.IsOutput given told bytes
     pub put : Tells told (o.disk.packs new.disk) (PutsAll limits (m.blobs given))
     pub held : HoldAll (o.disk.images new.disk) (m.blobs given)
     pub wrote : Writes bytes
 
-  -- it was refused before it asked the disk: only the source was touched
+  -- it was refused before it asked the disk and the peer: only the source was touched
   pub record RefusedEarly (Why : Type 0) : Type 0 where
     pub unasked : new.disk ≡ old.disk
     pub unwritten : new.sink ≡ old.sink
+    pub unsent : new.peer ≡ old.peer
     pub why : Why
 
   -- what was written by the time of a refusal: exactly these bytes, and the sink is left alone where nothing is written before the end
@@ -167,6 +260,7 @@ module _ {D S K C R : Type 0} (o : Outside D S K C R) (m : Meaning) (old new : W
     pub drawn : IsDrawn m (o.clock.time old.clock) (o.dice.random old.dice) given
     pub read : ReadsSome o.source m.input old.source new.source given.input
     pub right : m.wrong given.input ≡ None
+    pub exchanged : ExchangesSome m.exchange given
     pub written : WritesSome m.streams bytes
     pub part : m.IsPart given told bytes
     pub why : Why given bytes
@@ -188,6 +282,17 @@ module _ {D S K C R : Type 0} (o : Outside D S K C R) (m : Meaning) (old new : W
   abbrev pub StopsFull : ℕ → ℕ → List Blob → Type 0
   StopsFull blobs pack [] = ⊥
   StopsFull blobs pack (next ∷ more) = IsAtLimit limits blobs pack × ForSome (o.disk.packs new.disk) (IsFull limits next blobs pack)
+
+  -- a refusal of that kind as blobs are copied from the peer or to it
+  abbrev pub WhileExchanging : Exchange → Type 0 → Type 0
+  WhileExchanging no_peer Why = ⊥
+  WhileExchanging pulls Why = Stops (λ given bytes gone rest. Why)
+  WhileExchanging pushes Why = Stops (λ given bytes gone rest. Why)
+
+  -- the peer has no room for a blob that is pushed
+  abbrev pub WhilePushing : Exchange → ℕ → ℕ → Type 0
+  WhilePushing pushes blobs pack = Stops (λ given bytes gone rest. (blob : Blob) × o.peer.fills new.peer blob blobs pack)
+  WhilePushing _ blobs pack = ⊥
 
   -- a fault of the reading, where the command reads
   abbrev pub WhileReading : Input → (ℕ → Type 0) → Type 0
@@ -240,9 +345,12 @@ module _ {D S K C R : Type 0} (o : Outside D S K C R) (m : Meaning) (old new : W
   EndsBy (status.BadInput fault) = Unusable fault
   EndsBy status.HandFault = RefusedEarly WhileDrawing
   EndsBy status.Disk = RefusedLate (λ given bytes. Rose (o.disk.faults old.disk) (o.disk.faults new.disk))
-  EndsBy (status.Full blobs pack) = Stops (λ given bytes gone rest. StopsFull blobs pack rest)
+  EndsBy status.Peer = WhileExchanging m.exchange (Rose (o.peer.faults old.peer) (o.peer.faults new.peer))
+  EndsBy (status.BadReply why) = WhileExchanging m.exchange (WhereUntold (PeerReplied why))
+  EndsBy (status.Full blobs pack) = Stops (λ given bytes gone rest. StopsFull blobs pack rest) ⊎ WhilePushing m.exchange blobs pack
   EndsBy (status.Absent r) = Stops (λ given bytes gone rest. m.Refuses given told bytes gone (status.Absent r))
   EndsBy (status.Damaged want is) = Stops (λ given bytes gone rest. m.Refuses given told bytes gone (status.Damaged want is))
+      ⊎ WhileExchanging m.exchange ((is ≢ want) × WhereUntold (PeerAnswered (peer_fault.Damaged want is)))
   EndsBy status.BadWords = ⊥
 
   pub record Ends (answer : Status) : Type 0 where

@@ -1,0 +1,194 @@
+-- How a pull ends, from what the sync gave.
+use Rattle.std.proofs.Common.{◌≡◌, inl, inr, ℕ, ◌≤◌, Option, None, Some, List, [], ◌∷◌, ◌++◌, refl, sym, ap, subst, ◌∙◌, arith, append_assoc}
+use Rattle.std.proofs.lemmas.List.{append-nil}
+use Rattle.std.specs.Option.{ForSome, option_map}
+use Rattle.edge_base.specs.Shelf.{Blob, Blobs}
+use Rattle.pack_disk.specs.Packs.{Packs}
+use Rattle.pack_disk.specs.Disk.{Tells}
+use Rattle.pack_disk.specs.Runs.{Stays}
+use Rattle.pack_store.specs.Archive.{Archive}
+use Rattle.pack_store.specs.Packs.{KeepsAll}
+use Rattle.pack_store.specs.Puts.{Stands, PutsAll, PutsBlobs, HasNoRoom, blobs_of}
+use Rattle.pack_store.specs.StoreShelf.{content_of, PutsStore, ContentStands}
+use Rattle.pack_store.proofs.Moments.{keeps_then, stays_keeps}
+use Rattle.peer_base.specs.declared.peer.PeerFault.{PeerFault}
+use Rattle.peer_base.specs.declared.peer.PeerFault.TheVariants as peer_fault
+use Rattle.sync_core.specs.declared.syncing.SyncFault.{SyncFault}
+use Rattle.sync_core.specs.declared.syncing.SyncFault.TheVariants as sync
+use Rattle.sync_core.specs.declared.syncing.Synced.{Synced}
+use Rattle.sync_core.specs.Answers.{SourceAnswered}
+use Rattle.sync_core.specs.Causes.{FirstIs}
+use Rattle.sync_core.specs.Copying.{lacking}
+use Rattle.sync_core.specs.Syncing.{ForBoth, IsStopped, IsSynced}
+use Rattle.top_frame.specs.declared.status.Status.{Status}
+use Rattle.top_frame.specs.declared.status.Status.TheVariants as status
+use Rattle.top_frame.specs.Faults.{pull_status}
+use Rattle.top_frame.specs.Frame.{pulls, Given, IsQuiet, Always, PullsAll, PullsSome, PeerAnswered, Stops, StopsFull, EndsBy, Ends}
+use Rattle.top_frame.specs.Limits.{limits}
+use Rattle.top_frame.specs.Outside.{Outside, World}
+use Rattle.top_frame.specs.Steps.{Finds, NeverRefuses, Writes}
+use Rattle.top_sync.specs.Meanings.{pull_meaning, copied_line}
+use Rattle.top_sync.proofs.Exchanged.{peer_of, holds, later_rose, untold, given_of, now_at, always, late, stops, written, unopened}
+
+abbrev its_blobs : Given → List Blob
+its_blobs given = given.pulled
+
+-- what is to be pulled: all that is lacking, where both tell
+abbrev pulled_of : Option Blobs → Option Packs → List Blob → List Blob
+pulled_of None told known = known
+pulled_of (Some there) None known = known
+pulled_of (Some there) (Some held) known = lacking there (blobs_of held)
+
+same_packs : (a b : Packs) → Some a ≡ Some b → a ≡ b
+same_packs a b e = cc e
+
+same_blobs : (a b : Blobs) → Some a ≡ Some b → a ≡ b
+same_blobs a b e = cc e
+
+module _ {D P S K C R : Type 0} (o : Outside D P S K C R)
+    (counts_now : (d : D) (t : ℕ) (c : Packs) → t ≤ o.disk.moment d → o.disk.images d c → o.disk.images_since d t c)
+    (only_now : (d : D) (c : Packs) → o.disk.images_since d (o.disk.moment d) c → o.disk.images d c) (old : World D P S K C R) where
+  abbrev told : Option Packs
+  told = o.disk.packs old.disk
+
+  abbrev there : Option Blobs
+  there = o.peer.content old.peer
+
+  abbrev here : D → P → K → World D P S K C R
+  here d p k = now_at o old pulls its_blobs d p k
+
+  -- what is to be pulled is told where both tell
+  shown : (known : List Blob) (from : Option Blobs) (packs : Option Packs) → ForSome packs (λ held. ForSome from (λ there. pulled_of from packs known ≡ lacking there (blobs_of held)))
+  shown known None packs held e there f = absurd (cc f)
+  shown known (Some from) None held e there f = absurd (cc e)
+  shown known (Some from) (Some packs) held e there f = λ i. lacking (same_blobs from there f i) (blobs_of (same_packs packs held e i))
+
+  puts_some : IsQuiet pull_meaning → ⊥
+  puts_some q = cc (q (given_of (([], []) ∷ []) 0 0))
+
+  some_of : (d : D) (p : P) (k : K) (known : List Blob) → o.peer.puts old.peer [] p → PullsSome o pull_meaning old (here d p k) (given_of (pulled_of there told known) 0 0)
+  some_of d p k known alone = record { alone = alone; all = shown known there told }
+
+  -- ---- the store wasn't opened
+
+  module _ (nothing_put : o.peer.puts old.peer [] old.peer) (e : D) (stays : Stays o.disk old.disk e) (later : o.disk.faults old.disk ≤ o.disk.faults e) where
+    pub pull_unopened : (end : Status) → Finds o.disk old.disk e NeverRefuses end → Ends o pull_meaning old (here e old.peer old.sink) end
+    pull_unopened end why = record {
+      always = always o old pulls its_blobs (λ e. absurd (cc e)) e old.peer old.sink (stays_keeps o.disk counts_now only_now old.disk e stays) (λ _. stays) (λ _. refl) later (omega arith) (omega arith);
+      ends = unopened o old pulls its_blobs e stays (given_of (pulled_of there told []) 0 0) refl (some_of e old.peer old.sink [] nothing_put) end why;
+    }
+
+  -- ---- it was
+
+  module _ (store s0 : Archive D) (is : s0 ≡ store) (s1 : Archive D) (p1 : P) (store_opened : Stays o.disk old.disk store.disk) (store_later : o.disk.faults old.disk ≤ o.disk.faults store.disk) (store_stands : Stands o.disk limits store) (tells : ContentStands o.disk)
+      (run : KeepsAll o.disk s0.disk s1.disk) (disk_later : o.disk.faults s0.disk ≤ o.disk.faults s1.disk)
+      (unsent : o.peer.content p1 ≡ o.peer.content old.peer) (alone : o.peer.puts old.peer [] p1) (peer_later : o.peer.faults old.peer ≤ o.peer.faults p1) where
+    opened : Stays o.disk old.disk s0.disk
+    opened = subst (λ (s : Archive D). Stays o.disk old.disk s.disk) (sym is) store_opened
+
+    opened_later : o.disk.faults old.disk ≤ o.disk.faults s0.disk
+    opened_later = subst (λ (s : Archive D). o.disk.faults old.disk ≤ o.disk.faults s.disk) (sym is) store_later
+
+    stands : Stands o.disk limits s0
+    stands = subst (λ (s : Archive D). Stands o.disk limits s) (sym is) store_stands
+
+    stored : content_of o.disk s0 ≡ option_map blobs_of told
+    stored = holds o.disk old.disk s0 opened stands tells
+
+    in_packs : (held : Packs) → told ≡ Some held → content_of o.disk s0 ≡ Some (blobs_of held)
+    in_packs held e = stored ∙ ap (option_map blobs_of) e
+
+    always_so : (k : K) → o.sink.faults old.sink ≤ o.sink.faults k → Always o pull_meaning old (here s1.disk p1 k)
+    always_so k sink_later = always o old pulls its_blobs (λ e. absurd (cc e)) s1.disk p1 k
+        (keeps_then o.disk counts_now only_now old.disk s0.disk s1.disk (stays_keeps o.disk counts_now only_now old.disk s0.disk opened) run) (λ q. absurd (puts_some q)) (λ _. unsent)
+        (omega (arith, opened_later, disk_later)) peer_later sink_later
+
+    of_store : (blobs : List Blob) → PutsStore o.disk s0 blobs s1 → PutsBlobs o.disk limits s0 blobs s1
+    of_store blobs puts = subst (λ l. PutsBlobs o.disk l s0 blobs s1) stands.limited puts
+
+    put_of : (blobs : List Blob) → PutsStore o.disk s0 blobs s1 → Tells told (o.disk.packs s1.disk) (PutsAll limits blobs)
+    put_of blobs puts = subst (λ t. Tells t (o.disk.packs s1.disk) (PutsAll limits blobs)) opened.told ((of_store blobs puts).packs stands)
+
+    -- ---- the sync stopped
+
+    answered : (e : PeerFault) → SourceAnswered o.peer old.peer p1 e → PeerAnswered o pull_meaning old (here s1.disk p1 old.sink) e
+    answered e (inl listed) = inl listed
+    answered e (inr fetched) = inr (inl fetched)
+
+    module _ (gone next : List Blob) (front : ForBoth o.peer (peer_of o.disk) old.peer s0 (λ from to. (rest : List Blob) × (lacking from to ≡ (gone ++ next) ++ rest))) where
+      abbrev given : Given
+      given = given_of (pulled_of there told (gone ++ next)) 0 0
+
+      some : PullsSome o pull_meaning old (here s1.disk p1 old.sink) given
+      some = some_of s1.disk p1 old.sink (gone ++ next) alone
+
+      -- what is to be pulled begins with what was copied and what was tried
+      cut_of : (from : Option Blobs) (packs : Option Packs) → there ≡ from → told ≡ packs → (rest : List Blob) × (pulled_of from packs (gone ++ next) ≡ gone ++ (next ++ rest))
+      cut_of None packs e f = ([], ap (λ l. gone ++ l) (sym (append-nil next)))
+      cut_of (Some from) None e f = ([], ap (λ l. gone ++ l) (sym (append-nil next)))
+      cut_of (Some from) (Some held) e f =
+          let all = front from e (blobs_of held) (in_packs held f) in
+          (all.0, all.1 ∙ append_assoc gone next all.0)
+
+      stopped : PutsStore o.disk s0 gone s1 → {Why : Given → List ℕ → List Blob → List Blob → Type 0} → ((rest : List Blob) → Why given [] gone (next ++ rest)) → Stops o pull_meaning old (here s1.disk p1 old.sink) Why
+      stopped puts why =
+          let cut = cut_of there told refl refl in
+          stops o old pulls its_blobs s1.disk p1 given refl some gone (next ++ cut.0) cut.1 (put_of gone puts) (of_store gone puts).held (why cut.0)
+
+      full : (count pack : ℕ) → PutsStore o.disk s0 gone s1 → (tried : List Blob) → next ≡ tried → FirstIs (λ blob. HasNoRoom o.disk s1.limits s1 blob count pack) tried
+          → EndsBy o pull_meaning old (here s1.disk p1 old.sink) (status.Full count pack)
+      full count pack puts [] is w = absurd w
+      full count pack puts (blob ∷ more) is w =
+          let own = of_store gone puts in
+          let room = subst (λ l. HasNoRoom o.disk l s1 blob count pack) (own.same_limits ∙ stands.limited) w (own.stands stands) in
+          inl (stopped puts (λ rest. subst (λ l. StopsFull o pull_meaning old (here s1.disk p1 old.sink) count pack (l ++ rest)) (sym is) room))
+
+    pull_why : (f : SyncFault) → IsStopped o.peer (peer_of o.disk) old.peer p1 s0 s1 f → EndsBy o pull_meaning old (here s1.disk p1 old.sink) (pull_status f)
+    pull_why (sync.Source peer_fault.Failed) w = stopped w.gone w.next w.front w.stopped.put (λ rest. w.stopped.why.0)
+    pull_why (sync.Source peer_fault.BadReply) w = stopped w.gone w.next w.front w.stopped.put (λ rest. inr (w.stopped.why.0, answered peer_fault.BadReply w.stopped.why.1))
+    pull_why (sync.Source (peer_fault.Refused number)) w =
+        stopped w.gone w.next w.front w.stopped.put (λ rest. inr (w.stopped.why.0, answered (peer_fault.Refused number) w.stopped.why.1))
+    pull_why (sync.Source (peer_fault.Damaged want is)) w =
+        inr (stopped w.gone w.next w.front w.stopped.put (λ rest. (w.stopped.why.0.0, inr (w.stopped.why.0.1, answered (peer_fault.Damaged want is) w.stopped.why.1))))
+    pull_why (sync.Source (peer_fault.Full count pack)) w = absurd w.stopped.why.0
+    pull_why (sync.Source peer_fault.NoMemory) w = inr (stopped w.gone w.next w.front w.stopped.put (λ rest. tt))
+    pull_why (sync.Target peer_fault.Failed) w =
+        late o old pulls its_blobs s1.disk p1 (given w.gone w.next w.front) refl (some w.gone w.next w.front)
+        (later_rose (o.disk.faults old.disk) (o.disk.faults s0.disk) (o.disk.faults s1.disk) opened_later w.stopped.why.0)
+    pull_why (sync.Target peer_fault.BadReply) w = stopped w.gone w.next w.front w.stopped.put (λ rest. inl (untold told (content_of o.disk s0) stored w.stopped.why.0))
+    pull_why (sync.Target (peer_fault.Refused number)) w = stopped w.gone w.next w.front w.stopped.put (λ rest. inl (untold told (content_of o.disk s0) stored w.stopped.why.0))
+    pull_why (sync.Target (peer_fault.Damaged want is)) w = absurd w.stopped.why.0
+    pull_why (sync.Target (peer_fault.Full count pack)) w = full w.gone w.next w.front count pack w.stopped.put w.next refl w.stopped.why.0
+    pull_why (sync.Target peer_fault.NoMemory) w = inr (stopped w.gone w.next w.front w.stopped.put (λ rest. tt))
+    pull_why (sync.Gone r) w = stopped w.gone w.next w.front w.stopped.put (λ rest. inr (w.stopped.why.0, w.stopped.why.1))
+
+    pub pull_refused : (f : SyncFault) → IsStopped o.peer (peer_of o.disk) old.peer p1 s0 s1 f → Ends o pull_meaning old (here s1.disk p1 old.sink) (pull_status f)
+    pull_refused f w = record { always = always_so old.sink (omega arith); ends = pull_why f w }
+
+    -- ---- the sync was done
+
+    module _ (done : Synced) (w : IsSynced o.peer (peer_of o.disk) old.peer s0 s1 done) where
+      abbrev pulled : Given
+      pulled = given_of w.gone done.copied done.already
+
+      all : (k : K) → PullsAll o pull_meaning old (here s1.disk p1 k) pulled
+      all k = record {
+        stand = w.copies.stand;
+        alone = alone;
+        all = λ held e from f. w.all from f (blobs_of held) (in_packs held e);
+        counted = λ held e from f. (w.copied_is from f (blobs_of held) (in_packs held e), w.already_is from f (blobs_of held) (in_packs held e));
+      }
+
+      -- and no memory was left for the line
+      pub pull_unwritten : Ends o pull_meaning old (here s1.disk p1 old.sink) status.NoMemory
+      pull_unwritten = record {
+        always = always_so old.sink (omega arith);
+        ends = inr (stops o old pulls its_blobs s1.disk p1 pulled refl (record { alone = alone; all = λ held e from f. w.all from f (blobs_of held) (in_packs held e) }) w.gone [] (sym (append-nil w.gone))
+            (put_of w.gone w.copies.put) (of_store w.gone w.copies.put).held tt);
+      }
+
+      pub pull_written : (k : K) (end : Status) → Writes o.sink old.sink k (copied_line done.copied done.already) end → o.sink.faults old.sink ≤ o.sink.faults k → Ends o pull_meaning old (here s1.disk p1 k) end
+      pull_written k end writes sink_later = record {
+        always = always_so k sink_later;
+        ends = written o old pulls its_blobs s1.disk p1 pulled refl k (all k) (put_of w.gone w.copies.put) (of_store w.gone w.copies.put).held end writes;
+      }
