@@ -18,6 +18,8 @@ _perkeep_words() {
     delete) positions=(DIR REF) options=(--key) ;;
     get-file) positions=(DIR REF) options=() ;;
     put-file) positions=(DIR NAME) options=() ;;
+    push) positions=(DIR ADDR) options=() ;;
+    pull) positions=(DIR ADDR) options=() ;;
     load) positions=(COUNT START) options=() ;;
     serve) positions=(DIR) options=(--port --workers --indexers --connections) ;;
   esac
@@ -32,7 +34,7 @@ _perkeep() {
   local word=${COMP_WORDS[COMP_CWORD]} place count=0 is_over='' given=' ' positions options
   COMPREPLY=()
   if [ "$COMP_CWORD" -eq 1 ]; then
-    _perkeep_offer -W 'put get stat list search query salvage search-pack permanode claim multi delete get-file put-file load serve'
+    _perkeep_offer -W 'put get stat list search query salvage search-pack permanode claim multi delete get-file put-file push pull load serve'
     return
   fi
   _perkeep_words "${COMP_WORDS[1]}"

@@ -33,8 +33,8 @@ SECONDS = 100
 # A group in which so many checks failed is given up.
 FAILURES_OF_A_GROUP = 3
 # The words of docs/commands.md ("Exit statuses") that these tests meet.
-WORDS = {1: b"memory", 2: b"words", 3: b"absent", 4: b"input", 5: b"read", 6: b"write", 7: b"disk", 9: b"full"}
-WORDS |= {10: b"damaged", 12: b"hand", 14: b"listener"}
+WORDS = {1: b"memory", 2: b"words", 3: b"absent", 4: b"input", 5: b"read", 6: b"write", 7: b"disk", 8: b"peer"}
+WORDS |= {9: b"full", 10: b"damaged", 11: b"reply", 12: b"hand", 14: b"listener"}
 
 
 class Difference(Exception):

@@ -16,7 +16,7 @@ from harness import SECONDS, LeftOut, check, compare
 TOP = pathlib.Path(__file__).resolve().parent.parent
 INSTALL = TOP / "install"
 MADE = ["_perkeep", "perkeep.1", "perkeep.bash"]
-COMMANDS = "put get stat list search query salvage search-pack permanode claim multi delete get-file put-file load serve".split()
+COMMANDS = "put get stat list search query salvage search-pack permanode claim multi delete get-file put-file push pull load serve".split()
 # What is written, each as bash divides it, and what is offered for the last word. There are the folders
 # `a folder` and `archive`, and a file `arrow`.
 OFFERS = [

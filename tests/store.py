@@ -15,7 +15,7 @@ import reference
 from harness import Difference, chance, compare, compare_ending, finish
 from older import older
 from reference import ref_of
-from store_packs import damaged, file_limits, flipped, memory_limits, numbers, removed, torn
+from store_packs import batches, damaged, file_limits, flipped, memory_limits, numbers, removed, torn
 from store_refusals import folders, keyrings, modes, rights, special_files, streams, texts, words
 from stores import ABC, EMPTY, NOWHERE, NOTHING_FOUND, READING, Store, check_search, ref_by_tool
 from writing import Names, deleted_record, header, pack, record
@@ -365,7 +365,7 @@ def random_searches(program, number):
 
 # Running
 
-GROUPS = [rows, older, words, texts, keyrings, folders, listings, torn, flipped, damaged, numbers, puts, large_blobs]
+GROUPS = [rows, older, words, texts, keyrings, folders, listings, torn, flipped, damaged, batches, numbers, puts, large_blobs]
 GROUPS += [searches]
 # These run code between fork and exec, stop the program, or look at the clock, so nothing else runs beside them.
 ONE_AT_A_TIME = [streams, file_limits, memory_limits, removed, rights, special_files, modes]

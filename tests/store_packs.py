@@ -102,6 +102,130 @@ def salvage_of_full_pack(length, number):
     return f"{between}{pack_name(number)} {at} {ABC} 3\n{pack_name(number)} clean\n".encode()
 
 
+# Records behind one another, whose blobs are hashed several at a time
+
+# How many records of which lengths: the blobs of at most 64 headers are hashed together, and at most 4 MiB of them.
+BATCHES = {
+    "short": (150, [(0, 400)]),
+    "of some length": (75, [(5_000, 60_000)]),
+    "long": (10, [(200_000, 1_100_000)]),
+    "of all lengths": (80, [(0, 60), (200, 500), (4_000, 20_000), (60_000, 400_000)]),
+}
+
+
+def nothing(_, records, at):
+    pass
+
+
+def flipped_in(part):
+    """A bit of the ref, of the size or of the bytes turned over."""
+    def flip(chances, records, at):
+        front = len(header(records[at]))
+        start, end = {"ref": (8, 64), "size": (65, front - 1), "bytes": (front, front + len(records[at]))}[part]
+        if start < end:
+            whole = bytearray(record(records[at]))
+            whole[chances.randrange(start, end)] ^= 1 << chances.randrange(8)
+            records[at] = bytes(whole)
+        return start < end
+
+    return flip
+
+
+def torn_at(chances, records, at):
+    whole = record(records[at])
+    records[at] = whole[: chances.randrange(len(whole))]
+    return True
+
+
+def with_front(make):
+    """Some bytes more in front of a record."""
+    def change(chances, records, at):
+        records[at] = make(chances, records, at) + record(records[at])
+        return True
+
+    return change
+
+
+def false_header(chances, records, at):
+    """A header whose ref is that of other bytes, before bytes or before the next record, which it counts as its own."""
+    body = chances.randbytes(chances.randrange(500))
+    return header(body)[:8] + ref_of(b"other")[7:].encode() + header(body)[64:] + chances.choice([body, b""])
+
+
+def long_false_header(chances, records, at):
+    """One that counts several of the next records as its own."""
+    size = sum(len(header(blob) + blob) for blob in records[at : at + chances.randrange(2, 6)] if isinstance(blob, bytes))
+    return f"[{ref_of(b'other')} {min(size, reference.LARGEST_BLOB)}]".encode()
+
+
+def neighbour(_, records, at):
+    """The ref of the next blob."""
+    other = records[at + 1] if at + 1 < len(records) else b"other"
+    records[at] = f"[{ref_of(other)} {len(records[at])}]".encode() + records[at]
+    return True
+
+
+def older(_, records, at):
+    records[at] = record(records[at], older_ref_of)
+    return True
+
+
+DAMAGES = {
+    "nothing": nothing,
+    "a flipped bit of a ref": flipped_in("ref"),
+    "a flipped bit of a size": flipped_in("size"),
+    "a flipped bit of a blob": flipped_in("bytes"),
+    "a torn record": torn_at,
+    "junk": with_front(lambda chances, *_: chances.choice([b"?", b"[", b"[sha224-", b"[x-0", b"[[x" * 80, bytes(300)])),
+    "a false header": with_front(false_header),
+    "a long false header": with_front(long_false_header),
+    "another ref": neighbour,
+    "an older ref": older,
+    "a deleted record": with_front(lambda chances, *_: deleted_record(chances.randrange(300))),
+}
+
+
+def batches(program):
+    """Records of several lengths behind one another, with damage before, within and behind those that are looked at
+    together: a pack for each place of the damage, and packs with several."""
+    return [
+        lambda kind=kind, damage=damage: damaged_batch(program, kind, damage)
+        for kind, damage in itertools.product(BATCHES, DAMAGES)
+    ] + [lambda kind=kind, turn=turn: random_batch(program, kind, turn) for kind in BATCHES for turn in range(4)]
+
+
+def blobs_of(chances, kind):
+    count, lengths = BATCHES[kind]
+    return [chances.randbytes(chances.randint(*chances.choice(lengths))) for _ in range(count)]
+
+
+def damaged_batch(program, kind, damage):
+    chances = chance("batches", kind, damage)
+    packs = {}
+    for place in (0, 1, 3, 4, 62, 63, 64, 65, -2, -1):
+        blobs = blobs_of(chances, kind)
+        if -len(blobs) <= place < len(blobs):
+            packs[len(packs)] = batch(blobs, {place % len(blobs): DAMAGES[damage]}, chances)
+    Store(program, packs).lists(f"{damage} among blobs {kind}")
+
+
+def random_batch(program, kind, turn):
+    chances = chance("batches", kind, turn)
+    blobs = blobs_of(chances, kind)
+    places = {at: DAMAGES[chances.choice(sorted(DAMAGES))] for at in range(len(blobs)) if chances.random() < 0.1}
+    Store(program, {0: batch(blobs, places, chances)}).lists(f"much among blobs {kind}, {turn}")
+
+
+def batch(blobs, damages, chances):
+    """A pack of these blobs, where some are damaged. Each damage has the blobs behind it as they are."""
+    parts = []
+    for at, blob in enumerate(blobs):
+        records = [blob] + blobs[at + 1 :]
+        changed = at in damages and damages[at](chances, records, 0)
+        parts.append(records[0] if changed else record(blob))
+    return b"".join(parts)
+
+
 # Files that can't grow
 
 def file_limits(program):

@@ -77,6 +77,7 @@ def hints(program):
         (["permanode", folder, "--key=me"], 4, "input (the keyring doesn't hold the key)"),
         (["query", folder], 4, "input (standard input is no query)"),
         (["multi", str(keyed.path), "--key=me"], 4, "input (standard input is no list of changes)"),
+        (["push", folder, "nowhere"], 8, "peer (nobody answers at ADDR, which is HOST:PORT, or the way there broke)"),
         (["list", str(bad.path)], 4, "input (each line of the keyring is a name, a space, hexadecimal digits and a line feed)"),
     ]
     return [lambda row=row: is_told(program, *row) for row in rows] + [lambda: held(program), lambda: done(program)]

@@ -1,0 +1,143 @@
+"""Times `push` and `pull` beside programs that do the least of it, and prints how they compare, as tables.
+
+    sync.py PROGRAM HTTP_LOAD APPEND_SYNC PLAIN_PUT FOLDER
+
+Each time is the best of three, taken in turn with what it is compared with. Each copy goes to a store of its own. The
+time of a copy is that of the whole command, so the opening of its store is in it.
+"""
+
+import os
+import random
+import shutil
+import subprocess
+import sys
+import time
+
+from compare import MIB
+from serve import HOST, Bench, PlainPut, Seconds, Served, best, heading, ratio, record, row, small_blobs, stored, upload
+
+BLOBS = int(os.environ.get("BENCH_BLOBS") or 10_000)
+LARGE_BLOBS = 64
+
+
+def large_blobs():
+    noise = random.Random(2)
+    return [noise.randbytes(MIB) for _ in range(LARGE_BLOBS)]
+
+
+# Copies
+
+class Copies:
+    """Pushes and pulls of some blobs, and the peak memory of each."""
+
+    def __init__(self, bench, blobs):
+        self.bench, self.blobs, self.peaks = bench, blobs, {"push": 0, "pull": 0}
+        self.store = bench.program.new_path()
+        self.store.mkdir()
+        (self.store / "pack-00000.blobs").write_bytes(b"".join(map(record, blobs)))
+
+    def push(self):
+        with Served(self.bench, []) as server:
+            return self.copy("push", self.store, server)
+
+    def pull(self):
+        folder = self.bench.program.new_path()
+        try:
+            with Served(self.bench, self.blobs) as server:
+                return self.copy("pull", folder, server)
+        finally:
+            shutil.rmtree(folder)
+
+    def copy(self, command, folder, server):
+        line = [self.bench.program.path, command, str(folder), f"{HOST}:{server.port}"]
+        start = time.monotonic()
+        process = subprocess.Popen(line, stdin=subprocess.DEVNULL, stdout=subprocess.PIPE)
+        out = process.stdout.read()
+        _, status, usage = os.wait4(process.pid, 0)
+        seconds = time.monotonic() - start
+        process.returncode = os.waitstatus_to_exitcode(status)
+        if process.returncode != 0 or out != b"copied %d already 0\n" % len(self.blobs):
+            sys.exit(f"{command}: status {process.returncode}, {out}")
+        self.peaks[command] = max(self.peaks[command], usage.ru_maxrss * 1_024)
+        return Seconds(usage.ru_utime + usage.ru_stime, seconds)
+
+
+def plainly(bench, blobs, requests):
+    """The seconds that a server takes which does the least that an upload costs."""
+    with PlainPut(bench, requests[0], record(blobs[0]), stored(blobs[0]).body) as server:
+        return bench.load(server, requests)
+
+
+def knows_fsync():
+    """Whether rsync is there, and knows the option."""
+    if shutil.which("rsync") is None:
+        return False
+    return b"--fsync" in subprocess.run(["rsync", "--help"], stdout=subprocess.PIPE).stdout
+
+
+class Files:
+    """The same bytes in as many files, and copies of them by rsync."""
+
+    def __init__(self, bench, blobs):
+        self.bench, self.folder = bench, bench.program.new_path()
+        self.folder.mkdir()
+        for number, blob in enumerate(blobs):
+            (self.folder / str(number)).write_bytes(blob)
+
+    def copy(self):
+        copy = self.bench.program.new_path()
+        start = time.monotonic()
+        subprocess.run(["rsync", "-a", "--fsync", f"{self.folder}/", f"{copy}/"], check=True)
+        seconds = time.monotonic() - start
+        shutil.rmtree(copy)
+        return Seconds(0, seconds)
+
+
+# Tables
+
+def small(bench):
+    """Blobs a second, and those of the others."""
+    blobs = small_blobs(BLOBS)
+    copies, requests = Copies(bench, blobs), [upload([blob]) for blob in blobs]
+    others = [
+        lambda: Seconds(0, bench.append(BLOBS, len(record(blobs[0])))),
+        lambda: bench.fresh(requests)[0],
+        lambda: plainly(bench, blobs, requests),
+    ]
+    if knows_fsync():
+        others.append(Files(bench, blobs).copy)
+    heading("small blobs", "a second", "of append, sync", "of uploads", "of a plain server", "of rsync --fsync", "peak MiB")
+    push, pull, *its = best(copies.push, copies.pull, *others)
+    for command, own in (("push", push), ("pull", pull)):
+        beside = [ratio(one.wall, own.wall) for one in its] + [""] * (4 - len(its))
+        row(f"{command} of {BLOBS:,}", f"{BLOBS / own.wall:,.0f}", *beside, f"{copies.peaks[command] / MIB:.1f}")
+    if len(its) < 4:
+        print("rsync is left out, as it isn't there, or doesn't know --fsync")
+
+
+def large(bench):
+    """MiB a second, and those of the others."""
+    blobs = large_blobs()
+    copies, requests = Copies(bench, blobs), [upload([blob]) for blob in blobs]
+    heading(f"{LARGE_BLOBS} blobs of 1 MiB", "MiB a second", "of append, sync", "of uploads", "of a plain server", "", "peak MiB")
+    push, pull, *its = best(
+        copies.push,
+        copies.pull,
+        lambda: Seconds(0, bench.append(LARGE_BLOBS, len(record(blobs[0])))),
+        lambda: bench.fresh(requests)[0],
+        lambda: plainly(bench, blobs, requests),
+    )
+    for command, own in (("push", push), ("pull", pull)):
+        beside = [ratio(one.wall, own.wall) for one in its]
+        row(command, f"{LARGE_BLOBS / own.wall:,.0f}", *beside, "", f"{copies.peaks[command] / MIB:.1f}")
+
+
+def main(program, http_load, append_sync, plain_put, folder):
+    bench = Bench(program, http_load, append_sync, plain_put, folder)
+    print("speeds of `push` and `pull`, those of the other programs being 1")
+    for table in (small, large):
+        table(bench)
+
+
+if __name__ == "__main__":
+    main(*sys.argv[1:])
