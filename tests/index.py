@@ -9,7 +9,7 @@ from writing import keyring_line, pack
 
 # How many there are of each shape, and the seconds in which a run over it has to end. A chain of deletions that comes in
 # order takes time in the square of its length (docs/index.md, "What an insert costs"), so that one is shorter.
-MEMBERS, DELETIONS, DELETIONS_IN_ORDER, LATE, TREES, SOON = 20_000, 10_000, 2_000, 100_000, 60, 10
+MEMBERS, DELETIONS, DELETIONS_IN_ORDER, LATE, TREES, SOON = 20_000, 10_000, 2_000, 100_000, 60, 100
 DATE = "2020-01-01T00:00:00Z"
 KEY = writing.key_blob()
 NODE = writing.permanode()

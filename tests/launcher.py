@@ -263,7 +263,7 @@ def quick(program):
         tree.run("a start")
     seconds = (time.monotonic() - start) / 20
     print(f"starts: a start by the launcher takes {1000 * seconds:.0f} ms", flush=True)
-    check(f"a start takes {seconds:.2f} seconds", seconds < 1)
+    check(f"a start takes {seconds:.2f} seconds", seconds < 5)
 
 
 def without_toolchain(program):
@@ -283,7 +283,7 @@ EDITS = {
     "a file that is gone": lambda tree: (tree.top / "crates/blobref/specs/Lib.antt").unlink(),
     "a file of another name": lambda tree: (tree.top / "crates/blobref/src/lib.rt").rename(tree.top / "crates/blobref/src/other.rt"),
     "a text of the same length and time": lambda tree: same_length_and_time(tree, "crates/blobref/src/lib.rt"),
-    "the line of a crate": lambda tree: edit_lines(tree, "pack_format: blobref itoa", "pack_format: blobref itoa hex"),
+    "the line of a crate": lambda tree: edit_lines(tree, "pack_format: blobref edge_base itoa", "pack_format: blobref edge_base itoa hex"),
     "another toolchain": lambda tree: tree.tool("rt", RT.replace("version 1", "version 2")),
     "a program that is gone": lambda tree: (tree.top / PROGRAM).unlink(),
     "another program": lambda tree: (tree.top / PROGRAM).write_text("#!/bin/sh\necho another\n"),

@@ -609,7 +609,7 @@ def slowly(lives):
 
 # Each permanode of a ring has those up to so many places behind it as members from day 1 on, and as many before it from
 # day 2 on. A query has to end within so many seconds.
-RING, REACH, SOON = 1_000, 10, 20
+RING, REACH, SOON = 1_000, 10, 100
 # From the inside to the outside: the relation, whether any or all meet, and the date; valueInSet is a relation here.
 NESTED = [
     [("child", "any", None)] * 5,

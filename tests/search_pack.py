@@ -365,7 +365,7 @@ LONGEST = f"[sha224-{0:056x} {16 * PIECE}]".encode()
 
 
 # How many there are of each shape, and the seconds in which a search over it has to end.
-MEMBERS, DELETIONS, LATE, TREES, SOON = 20_000, 10_000, 50_000, 60, 60
+MEMBERS, DELETIONS, LATE, TREES, SOON = 20_000, 10_000, 50_000, 60, 100
 
 
 def shapes():

@@ -1,8 +1,9 @@
 """One client adds many values to one permanode of a running server, while another one searches for them.
 
 A search finds the permanode by each value that was acknowledged before it was asked, and by none that wasn't sent
-before its answer came. None takes over five seconds. Then the store is opened by a new server, which takes little more
-of a processor for it than one over as many values on as many permanodes.
+before its answer came. None takes over five seconds more than the longest upload did, which has a disk to wait for.
+Then the store is opened by a new server, which takes little more of a processor for it than one over as many values on
+as many permanodes.
 
 LOAD_VALUES is another number of values than 20,000.
 """
@@ -49,10 +50,11 @@ def search(number):
 
 
 class Progress:
-    """How many of the values were sent, and how many acknowledged."""
+    """How many of the values were sent, and how many acknowledged, and what the longest upload took."""
 
     def __init__(self):
         self.sent = self.acknowledged = 0
+        self.longest = 0.0
         self.is_over = threading.Event()
 
 
@@ -62,8 +64,10 @@ def add_all(port, blobs, progress):
             for first in range(0, len(blobs), IN_A_REQUEST):
                 some = blobs[first : first + IN_A_REQUEST]
                 progress.sent += len(some)
+                began = time.monotonic()
                 talk.ask(f"values from the {first}th on", upload(*some), stored(*some))
                 progress.acknowledged += len(some)
+                progress.longest = max(progress.longest, time.monotonic() - began)
     finally:
         progress.is_over.set()
 
@@ -117,7 +121,8 @@ def one_permanode(program):
         adding = lambda: add_all(server.port, claims, progress)
         searching = lambda: search_all_along(server.port, node, progress)
         _, (count, longest) = at_once([adding, searching], 2)
-    check(f"a search takes {longest:.1f} seconds", longest <= SECONDS_OF_A_SEARCH)
+    told = f"a search takes {longest:.1f} seconds, and an upload {progress.longest:.1f}"
+    check(told, longest <= progress.longest + SECONDS_OF_A_SEARCH)
     compare_starts(program, store_of(program, node, *claims), node)
     print(f"values: {VALUES} on one permanode, beside {count} searches, of which the longest took {longest:.2f} s", flush=True)
 

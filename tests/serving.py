@@ -27,8 +27,8 @@ HOST = "127.0.0.1"
 SECONDS_TO_START = 30
 # A port is free when it is looked for, and may be taken by another program before the server takes it.
 TRIES = 3
-# What a server does at once takes less.
-SOON = 5
+# What a server does at once takes less, also where a disk stands still for some seconds.
+SOON = 30
 # docs/commands.md, "Exit statuses"
 TAKEN = 14
 # docs/server.md, "Connections": after so many seconds a connection is ended whose first head hasn't come, and one on which

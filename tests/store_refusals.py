@@ -419,7 +419,8 @@ def pack_unread(program):
 
 # Files that are no files, and modes
 
-SOON = 5
+# Nothing here waits but for a machine that stands still for a while.
+SOON = 30
 
 
 def special_files(program):
