@@ -1,8 +1,8 @@
 -- A source is cut into chunks as it is read.
-use Rattle.std.proofs.Common.{◌≡◌, ◌≤◌, ◌<◌, ◌+◌, ◌-◌, ◌⊎◌, inl, inr, ℕ, List, [], ◌∷◌, ◌++◌, length, flat_map, Option, None, Some, IfSome, Result, Ok, Err, IfOk, IfErr, refl, sym, ap, subst, ◌∙◌, append_assoc, append-nil, arith, length-append}
+use Rattle.std.proofs.Common.{◌≡◌, ◌≤◌, ◌<◌, ◌+◌, ◌-◌, ◌*◌, ◌⊎◌, inl, inr, ℕ, List, [], ◌∷◌, ◌++◌, length, flat_map, Option, None, Some, IfSome, Result, Ok, Err, IfOk, IfErr, refl, sym, ap, subst, ◌∙◌, append_assoc, append-nil, arith, length-append}
 use Rattle.std.specs.Option.{ForSome}
 use Rattle.std.proofs.lemmas.Bool.{cases_lt}
-use Rattle.std.proofs.lemmas.List.Concat.{flat_map-append}
+use Rattle.std.proofs.Math.Nat.{add-mul}
 use Rattle.edge_base.specs.Edge.{Gave, GaveAll, GaveWithin, Rose}
 use Rattle.edge_base.proofs.Moves.{Gave-chain}
 use Rattle.edge_base.specs.Shelf.{Blob}
@@ -13,38 +13,34 @@ use Rattle.edge_base.specs.declared.edge.Source.{Ghosts as SourceGhosts}
 use Rattle.file_cut.specs.declared.fault.CutFault.{CutFault}
 use Rattle.file_cut.specs.declared.fault.CutFault.TheVariants.{TooLong, NameTooLong, ReadFault, Put, NoMemory}
 use Rattle.blobref.specs.Blobref.{ref_of}
-use Rattle.file_cut.specs.Cutting.{cut, chunk_size, run_size, below_file, own_from, blobs_from, file_blobs, AreWhole, kept_of}
+use Rattle.schema_fact.specs.Limits.{greatest_length}
+use Rattle.file_cut.specs.Cutting.{cut, chunk_size, run_size, below_file, own_from, blobs_from, file_blobs, kept_of}
 use Rattle.file_cut.specs.declared.draft.Draft.{Draft}
-use Rattle.file_cut.specs.Drafts.{Puts, IsCut, IsPut}
+use Rattle.file_cut.specs.Drafts.{Puts, IsCut, IsPut, HasRoom}
 use Rattle.file_cut.specs.Writing.{GaveSome, PutsFront, WhyUnwritten, Unwritten, Written, NotWritten, longest_name, longest_file, unput}
 use Rattle.file_cut.proofs.Drafting.{cut_early, cut_longer}
-use Rattle.file_cut.proofs.Cuts.{cut-run, cut-last, cut-runs, whole-push, kept_front}
-
-abbrev pub flat : List (List ℕ) → List ℕ
-flat chunks = flat_map (λ (chunk : List ℕ). chunk) chunks
+use Rattle.file_cut.proofs.Cuts.{cut-behind, flat-cut, kept_front}
 
 -- ---- what is left of the source
 
 -- the bytes behind those that were read
-pub record Behind (left : Option (List ℕ)) (size : ℕ) (bytes : List ℕ) (n : ℕ) : Type 0 where
-  pub rest : List ℕ
-  pub all : ForSome left (λ (l : List ℕ). bytes ++ rest ≡ l)
-  pub whole : (size ≤ n) ⊎ (rest ≡ [])
+record Behind (left : Option (List ℕ)) (bytes : List ℕ) : Type 0 where
+  rest : List ℕ
+  all : ForSome left (λ (l : List ℕ). bytes ++ rest ≡ l)
 
 some_same : (x y : List ℕ) → Some x ≡ Some y → x ≡ y
 some_same x y e = cc e
 
-pub behind : (left now : Option (List ℕ)) (size n : ℕ) (bytes : List ℕ) → Gave left now bytes → (n < size → IfSome now (λ (l : List ℕ). l ≡ [])) → Behind left size bytes n
-behind None now size n bytes h end = record { rest = []; all = λ l e. absurd (cc e); whole = inr refl }
-behind (Some all) now size n bytes h end = record {
-  rest = h.0;
-  all = λ l e. sym h.2 ∙ some_same all l e;
-  whole = go (cases_lt n size);
-}
-  where
-    go : (n < size) ⊎ (size ≤ n) → (size ≤ n) ⊎ (h.0 ≡ [])
-    go (inl less) = inr (subst (λ (o : Option (List ℕ)). IfSome o (λ (l : List ℕ). l ≡ [])) h.1 (end less))
-    go (inr le) = inl le
+behind : (left now : Option (List ℕ)) (bytes : List ℕ) → Gave left now bytes → Behind left bytes
+behind None now bytes h = record { rest = []; all = λ l e. absurd (cc e) }
+behind (Some all) now bytes h = record { rest = h.0; all = λ l e. sym h.2 ∙ some_same all l e }
+
+-- there are none at the end of the source
+none_behind : (left now : Option (List ℕ)) (bytes : List ℕ) → Gave left now bytes → IfSome now (λ (l : List ℕ). l ≡ []) → ForSome left (λ (l : List ℕ). bytes ++ [] ≡ l)
+none_behind None now bytes h end = λ l e. absurd (cc e)
+none_behind (Some all) now bytes h end =
+    let none : h.0 ≡ [] = subst (λ (o : Option (List ℕ)). IfSome o (λ (l : List ℕ). l ≡ [])) h.1 end in
+    λ l e. ap (λ (r : List ℕ). bytes ++ r) (sym none) ∙ sym h.2 ∙ some_same all l e
 
 pub gave_all : (left now : Option (List ℕ)) (bytes : List ℕ) → Gave left now bytes → IfSome now (λ (l : List ℕ). l ≡ []) → GaveAll left now bytes
 gave_all None now bytes h end = h
@@ -55,31 +51,6 @@ gave_all (Some all) now bytes h end =
 all_given : (left now : Option (List ℕ)) (bytes : List ℕ) → GaveAll left now bytes → GaveSome left now bytes
 all_given None now bytes h = (bytes, h, λ l e. absurd (cc e))
 all_given (Some all) now bytes h = (bytes, ([], h.0, h.1 ∙ sym (append-nil bytes)), λ l e. sym h.1 ∙ some_same all l e)
-
--- ---- what is cut
-
-module _ (size : ℕ) (some : 0 < size) where
-  -- chunks that are whole, and nothing behind them
-  pub cut_whole : (chunks : List (List ℕ)) → AreWhole size chunks → cut size (flat chunks) ≡ chunks
-  cut_whole chunks whole = ap (cut size) (sym (append-nil (flat chunks))) ∙ cut-runs size some chunks [] whole ∙ append-nil chunks
-
-  -- and one more behind them
-  pub cut_more : (chunks : List (List ℕ)) (bytes rest : List ℕ) → AreWhole size chunks → 0 < length bytes → length bytes ≤ size → (size ≤ length bytes) ⊎ (rest ≡ [])
-      → (more : List (List ℕ)) × (cut size ((flat chunks ++ bytes) ++ rest) ≡ chunks ++ bytes ∷ more)
-  cut_more chunks bytes rest whole nonempty fits (inl long) = (
-    cut size rest,
-    ap (cut size) (append_assoc (flat chunks) bytes rest) ∙ cut-runs size some chunks (bytes ++ rest) whole
-        ∙ ap (λ (l : List (List ℕ)). chunks ++ l) (cut-run size some bytes rest (omega (arith, long, fits))),
-  )
-  cut_more chunks bytes rest whole nonempty fits (inr none) = (
-    [],
-    ap (λ (l : List ℕ). cut size ((flat chunks ++ bytes) ++ l)) none ∙ ap (cut size) (append-nil (flat chunks ++ bytes))
-        ∙ cut-runs size some chunks bytes whole
-        ∙ ap (λ (l : List (List ℕ)). chunks ++ l) (cut-last size some bytes nonempty fits),
-  )
-
-  pub cut_end : (chunks : List (List ℕ)) (bytes : List ℕ) → AreWhole size chunks → 0 < length bytes → length bytes ≤ size → cut size (flat chunks ++ bytes) ≡ chunks ++ bytes ∷ []
-  cut_end chunks bytes whole nonempty fits = cut-runs size some chunks bytes whole ∙ ap (λ (l : List (List ℕ)). chunks ++ l) (cut-last size some bytes nonempty fits)
 
 -- what was put is a front, whatever chunks come
 module _ {B : Type 0} (h : ShelfGhosts B) (full : ℕ) (some : 0 < full) where
@@ -103,90 +74,74 @@ gave_none : (left : Option (List ℕ)) → Gave left left []
 gave_none None = refl
 gave_none (Some all) = (all, refl, refl)
 
-flat_snoc : (chunks : List (List ℕ)) (bytes : List ℕ) → flat (chunks ++ bytes ∷ []) ≡ flat chunks ++ bytes
-flat_snoc chunks bytes = flat_map-append (λ (chunk : List ℕ). chunk) chunks (bytes ∷ []) ∙ ap (λ (l : List ℕ). flat chunks ++ l) (append-nil bytes)
-
 Rose-after : (a b c : ℕ) → a ≤ b → Rose b c → Rose a c
 Rose-after a b c le rose = omega (arith, le, rose)
 
-module _ {S B : Type 0} (g : SourceGhosts S) (h : ShelfGhosts B) (size full most : ℕ) (some : 0 < size) (room : 0 < full) where
-  -- the chunks so far
-  abbrev pub SoFar : (source source_now : S) (start now : B) → Draft → ℕ → Type 0
-  SoFar source source_now start now draft left = (chunks : List (List ℕ)) × AreWhole size chunks × Gave (g.left source) (g.left source_now) (flat chunks)
-      × (length (flat chunks) + left ≡ most) × IsPut h full start now draft chunks
+-- so many whole chunks of the source were put
+pub record SoFar {S B : Type 0} (g : SourceGhosts S) (h : ShelfGhosts B) (size full most : ℕ) (source source_now : S) (start now : B) (draft : Draft) (left : ℕ) : Type 0 where
+  pub given : List ℕ
+  pub count : ℕ
+  pub whole : length given ≡ count * size
+  pub gave : Gave (g.left source) (g.left source_now) given
+  pub sum : length given + left ≡ most
+  pub put : IsPut h full start now draft (cut size given)
 
+module _ {S B : Type 0} (g : SourceGhosts S) (h : ShelfGhosts B) (size full most : ℕ) (some : 0 < size) (room : 0 < full) where
   abbrev pub blobs_in : List ℕ → List (List ℕ)
   blobs_in input = below_file full (cut size input)
 
-  pub so_far_none : (source : S) (start : B) (draft : Draft) → Puts h start [] start → draft.run ≡ [] → draft.runs ≡ [] → SoFar source source start start draft most
-  so_far_none source start draft none run runs = (
-    [],
-    tt,
-    gave_none (g.left source),
-    omega arith,
-    ([], [], record { run = run; runs_are = runs; whole = tt; fits = omega arith }, refl, inl refl, none),
-  )
+  pub so_far_none : (source : S) (start : B) (draft : Draft) → Puts h start [] start → draft.run ≡ [] → draft.runs ≡ [] → SoFar g h size full most source source start start draft most
+  so_far_none source start draft none run runs = record {
+    given = [];
+    count = 0;
+    whole = omega arith;
+    gave = gave_none (g.left source);
+    sum = omega arith;
+    put = ([], [], record { run = run; runs_are = runs; whole = tt; fits = omega arith }, refl, inl refl, none);
+  }
+
+  -- they are a front, whatever the source has behind them
+  front_of : (source mid : S) (start b : B) (draft : Draft) (left : ℕ) (so : SoFar g h size full most source mid start b draft left) (more : List ℕ) → PutsFront h start (blobs_in (so.given ++ more)) b
+  front_of source mid start b draft left so more =
+      subst (λ (cs : List (List ℕ)). PutsFront h start (below_file full cs) b) (sym (cut-behind size some so.count so.given more so.whole))
+      (front_put h full room start b draft (cut size so.given) (cut size more) so.put)
+
+  -- there is room for a piece
+  pub has_room : (source mid : S) (start b : B) (draft : Draft) (left n : ℕ) → most ≤ greatest_length → n ≤ left → SoFar g h size full most source mid start b draft left → HasRoom h full b draft n
+  has_room source mid start b draft left n limit fits so = record {
+    start = start;
+    chunks = cut size so.given;
+    put = so.put;
+    limit = omega (arith, ap (λ (l : List ℕ). length l) (flat-cut size some so.given), so.sum, limit, fits);
+  }
 
   -- the source fails
-  pub not_read : (source mid now : S) (start b : B) (draft : Draft) (left k : ℕ) → SoFar source mid start b draft left
+  pub not_read : (source mid now : S) (start b : B) (draft : Draft) (left k : ℕ) → SoFar g h size full most source mid start b draft left
       → GaveWithin (g.left mid) (g.left now) k → g.faults source ≤ g.faults mid → Rose (g.faults mid) (g.faults now)
       → Unwritten g h most blobs_in source now start b ReadFault
-  not_read source mid now start b draft left k (chunks, whole, gave, sum, put) front later rose =
-      let rest = behind (g.left source) (g.left mid) size size (flat chunks) gave (λ less. absurd (omega (arith, less))) in
+  not_read source mid now start b draft left k so front later rose =
+      let rest = behind (g.left source) (g.left mid) so.given so.gave in
       record {
-        input = flat chunks ++ rest.rest;
-        read = (flat chunks ++ front.0, Gave-chain (g.left source) (g.left mid) (g.left now) (flat chunks) front.0 gave front.2, rest.all);
+        input = so.given ++ rest.rest;
+        read = (so.given ++ front.0, Gave-chain (g.left source) (g.left mid) (g.left now) so.given front.0 so.gave front.2, rest.all);
         why = (
-          subst (λ (cs : List (List ℕ)). PutsFront h start (below_file full cs) b) (sym (cut-runs size some chunks rest.rest whole))
-              (front_put h full room start b draft chunks (cut size rest.rest) put),
+          front_of source mid start b draft left so rest.rest,
           Rose-after (g.faults source) (g.faults mid) (g.faults now) later rose,
         );
       }
 
-  -- the source is at its end
-  pub all_read : (source mid now : S) (start b : B) (draft : Draft) (left : ℕ) (bytes : List ℕ) → SoFar source mid start b draft left
-      → Gave (g.left mid) (g.left now) bytes → bytes ≡ [] → IfSome (g.left now) (λ (l : List ℕ). l ≡ [])
-      → (all : List ℕ) × GaveAll (g.left source) (g.left now) all × (length all ≤ most) × IsPut h full start b draft (cut size all)
-  all_read source mid now start b draft left bytes (chunks, whole, gave, sum, put) more none end =
-      let given = Gave-chain (g.left source) (g.left mid) (g.left now) (flat chunks) bytes gave more in
-      let same : flat chunks ++ bytes ≡ flat chunks = ap (λ (l : List ℕ). flat chunks ++ l) none ∙ append-nil (flat chunks) in (
-        flat chunks,
-        gave_all (g.left source) (g.left now) (flat chunks) (subst (Gave (g.left source) (g.left now)) same given) end,
-        omega (arith, sum),
-        subst (λ (cs : List (List ℕ)). IsPut h full start b draft cs) (sym (cut_whole size some chunks whole)) put,
-      )
-
-  -- a piece was read, which is short only at the end
-  record Piece (source now : S) (start b : B) (draft : Draft) (left n : ℕ) (bytes : List ℕ) : Type 0 where
-    chunks : List (List ℕ)
-    rest : List ℕ
-    more : List (List ℕ)
-    read : GaveSome (g.left source) (g.left now) ((flat chunks ++ bytes) ++ rest)
-    cut_is : cut size ((flat chunks ++ bytes) ++ rest) ≡ chunks ++ bytes ∷ more
-    sum : length (flat chunks) + left ≡ most
-    put : IsPut h full start b draft chunks
-
-  piece : (source mid now : S) (start b : B) (draft : Draft) (left : ℕ) (bytes : List ℕ) → SoFar source mid start b draft left
-      → Gave (g.left mid) (g.left now) bytes → 0 < length bytes → length bytes ≤ size → (length bytes < size → IfSome (g.left now) (λ (l : List ℕ). l ≡ []))
-      → Piece source now start b draft left (length bytes) bytes
-  piece source mid now start b draft left bytes (chunks, whole, gave, sum, put) more nonempty fits end =
-      let given = Gave-chain (g.left source) (g.left mid) (g.left now) (flat chunks) bytes gave more in
-      let rest = behind (g.left source) (g.left now) size (length bytes) (flat chunks ++ bytes) given end in
-      let are = cut_more size some chunks bytes rest.rest whole nonempty fits rest.whole in
-      record { chunks = chunks; rest = rest.rest; more = are.0; read = (flat chunks ++ bytes, given, rest.all); cut_is = are.1; sum = sum; put = put }
-
   -- there are too many bytes
-  pub too_long : (source mid now : S) (start b : B) (draft : Draft) (left : ℕ) (bytes : List ℕ) → SoFar source mid start b draft left
-      → Gave (g.left mid) (g.left now) bytes → 0 < length bytes → length bytes ≤ size → (length bytes < size → IfSome (g.left now) (λ (l : List ℕ). l ≡ []))
-      → left < length bytes → Unwritten g h most blobs_in source now start b TooLong
-  too_long source mid now start b draft left bytes so more nonempty fits end long =
-      let p = piece source mid now start b draft left bytes so more nonempty fits end in
+  pub too_long : (source mid now : S) (start b : B) (draft : Draft) (left : ℕ) (bytes : List ℕ) → SoFar g h size full most source mid start b draft left
+      → Gave (g.left mid) (g.left now) bytes → left < length bytes → Unwritten g h most blobs_in source now start b TooLong
+  too_long source mid now start b draft left bytes so more long =
+      let given = Gave-chain (g.left source) (g.left mid) (g.left now) so.given bytes so.gave more in
+      let rest = behind (g.left source) (g.left now) (so.given ++ bytes) given in
       record {
-        input = (flat p.chunks ++ bytes) ++ p.rest;
-        read = p.read;
+        input = (so.given ++ bytes) ++ rest.rest;
+        read = (so.given ++ bytes, given, rest.all);
         why = (
-          subst (λ (cs : List (List ℕ)). PutsFront h start (below_file full cs) b) (sym p.cut_is) (front_put h full room start b draft p.chunks (bytes ∷ p.more) p.put),
-          omega (arith, p.sum, long, length-append (flat p.chunks ++ bytes) p.rest, length-append (flat p.chunks) bytes),
+          subst (λ (input : List ℕ). PutsFront h start (blobs_in input) b) (sym (append_assoc so.given bytes rest.rest)) (front_of source mid start b draft left so (bytes ++ rest.rest)),
+          omega (arith, so.sum, long, length-append (so.given ++ bytes) rest.rest, length-append so.given bytes),
         );
       }
 
@@ -198,17 +153,51 @@ module _ {S B : Type 0} (g : SourceGhosts S) (h : ShelfGhosts B) (size full most
   why_unput faults faults_now start now input blobs put_fault.Disk cut = cut
   why_unput faults faults_now start now input blobs put_fault.NoMemory cut = cut
 
-  pub not_put : (source mid now : S) (start b c : B) (draft : Draft) (left : ℕ) (bytes : List ℕ) (e : PutFault) (fault : CutFault) → SoFar source mid start b draft left
-      → Gave (g.left mid) (g.left now) bytes → 0 < length bytes → length bytes ≤ size → (length bytes < size → IfSome (g.left now) (λ (l : List ℕ). l ≡ []))
-      → ((chunks more : List (List ℕ)) → IsPut h full start b draft chunks → IsCut h start (below_file full (chunks ++ bytes ∷ more)) c e)
+  -- what is cut once a piece was read, which is short only at the end
+  record Piece (left : Option (List ℕ)) (given bytes : List ℕ) : Type 0 where
+    rest : List ℕ
+    all : ForSome left (λ (l : List ℕ). (given ++ bytes) ++ rest ≡ l)
+    more : List (List ℕ)
+    cut_is : cut size ((given ++ bytes) ++ rest) ≡ cut size given ++ (cut size bytes ++ more)
+
+  piece : (n : ℕ) (source mid now : S) (start b : B) (draft : Draft) (left : ℕ) (bytes : List ℕ) (so : SoFar g h size full most source mid start b draft left)
+      → Gave (g.left mid) (g.left now) bytes → length bytes ≤ n * size → (length bytes < n * size → IfSome (g.left now) (λ (l : List ℕ). l ≡ []))
+      → Piece (g.left source) so.given bytes
+  piece n source mid now start b draft left bytes so more fits end = go (cases_lt (length bytes) (n * size))
+    where
+      given : Gave (g.left source) (g.left now) (so.given ++ bytes)
+      given = Gave-chain (g.left source) (g.left mid) (g.left now) so.given bytes so.gave more
+
+      cut_of : (rest : List ℕ) → cut size ((so.given ++ bytes) ++ rest) ≡ cut size so.given ++ cut size (bytes ++ rest)
+      cut_of rest = ap (cut size) (append_assoc so.given bytes rest) ∙ cut-behind size some so.count so.given (bytes ++ rest) so.whole
+
+      go : (length bytes < n * size) ⊎ (n * size ≤ length bytes) → Piece (g.left source) so.given bytes
+      go (inl less) = record {
+        rest = [];
+        all = none_behind (g.left source) (g.left now) (so.given ++ bytes) given (end less);
+        more = [];
+        cut_is = cut_of [] ∙ ap (λ (l : List (List ℕ)). cut size so.given ++ l) (ap (cut size) (append-nil bytes) ∙ sym (append-nil (cut size bytes)));
+      }
+      go (inr long) =
+          let rest = behind (g.left source) (g.left now) (so.given ++ bytes) given in
+          record {
+            rest = rest.rest;
+            all = rest.all;
+            more = cut size rest.rest;
+            cut_is = cut_of rest.rest ∙ ap (λ (l : List (List ℕ)). cut size so.given ++ l) (cut-behind size some n bytes rest.rest (omega (arith, long, fits)));
+          }
+
+  pub not_put : (n : ℕ) (source mid now : S) (start b c : B) (draft : Draft) (left : ℕ) (bytes : List ℕ) (e : PutFault) (fault : CutFault) → SoFar g h size full most source mid start b draft left
+      → Gave (g.left mid) (g.left now) bytes → length bytes ≤ n * size → (length bytes < n * size → IfSome (g.left now) (λ (l : List ℕ). l ≡ []))
+      → ((chunks more : List (List ℕ)) → IsPut h full start b draft chunks → IsCut h start (below_file full (chunks ++ (cut size bytes ++ more))) c e)
       → fault ≡ unput e → Unwritten g h most blobs_in source now start c fault
-  not_put source mid now start b c draft left bytes e fault so more nonempty fits end cut is =
-      let p = piece source mid now start b draft left bytes so more nonempty fits end in
-      let input = (flat p.chunks ++ bytes) ++ p.rest in
-      let why : IsCut h start (blobs_in input) c e = subst (λ (cs : List (List ℕ)). IsCut h start (below_file full cs) c e) (sym p.cut_is) (cut p.chunks p.more p.put) in
+  not_put n source mid now start b c draft left bytes e fault so more fits end refused is =
+      let p = piece n source mid now start b draft left bytes so more fits end in
+      let input = (so.given ++ bytes) ++ p.rest in
+      let why : IsCut h start (blobs_in input) c e = subst (λ (cs : List (List ℕ)). IsCut h start (below_file full cs) c e) (sym p.cut_is) (refused (cut size so.given) p.more so.put) in
       record {
         input = input;
-        read = p.read;
+        read = (so.given ++ bytes, Gave-chain (g.left source) (g.left mid) (g.left now) so.given bytes so.gave more, p.all);
         why = subst (λ (f : CutFault). WhyUnwritten h most (g.faults source) (g.faults now) start c input (blobs_in input) f) (sym is)
             (why_unput (g.faults source) (g.faults now) start c input (blobs_in input) e why);
       }
@@ -224,31 +213,41 @@ module _ {S B : Type 0} (g : SourceGhosts S) (h : ShelfGhosts B) (size full most
         (why_unput (g.faults source) (g.faults now) start c bytes (blobs_from full name (cut size bytes)) e refused);
   }
 
+  -- once a piece was put, its bytes are the next ones
+  put_behind : (start b c : B) (source mid : S) (draft new : Draft) (left : ℕ) (bytes : List ℕ) (so : SoFar g h size full most source mid start b draft left)
+      → ((chunks : List (List ℕ)) → IsPut h full start b draft chunks → IsPut h full start c new (chunks ++ cut size bytes))
+      → IsPut h full start c new (cut size (so.given ++ bytes))
+  put_behind start b c source mid draft new left bytes so next =
+      subst (λ (cs : List (List ℕ)). IsPut h full start c new cs) (sym (cut-behind size some so.count so.given bytes so.whole)) (next (cut size so.given) so.put)
+
   -- it is the last one
-  pub last_put : (source mid now : S) (start b c : B) (draft new : Draft) (left : ℕ) (bytes : List ℕ) → SoFar source mid start b draft left
-      → Gave (g.left mid) (g.left now) bytes → 0 < length bytes → length bytes ≤ size → length bytes ≤ left → IfSome (g.left now) (λ (l : List ℕ). l ≡ [])
-      → ((chunks : List (List ℕ)) → IsPut h full start b draft chunks → IsPut h full start c new (chunks ++ bytes ∷ []))
+  pub last_put : (source mid now : S) (start b c : B) (draft new : Draft) (left : ℕ) (bytes : List ℕ) → SoFar g h size full most source mid start b draft left
+      → Gave (g.left mid) (g.left now) bytes → length bytes ≤ left → IfSome (g.left now) (λ (l : List ℕ). l ≡ [])
+      → ((chunks : List (List ℕ)) → IsPut h full start b draft chunks → IsPut h full start c new (chunks ++ cut size bytes))
       → (all : List ℕ) × GaveAll (g.left source) (g.left now) all × (length all ≤ most) × IsPut h full start c new (cut size all)
-  last_put source mid now start b c draft new left bytes (chunks, whole, gave, sum, put) more nonempty fits within end next =
-      let given = Gave-chain (g.left source) (g.left mid) (g.left now) (flat chunks) bytes gave more in (
-        flat chunks ++ bytes,
-        gave_all (g.left source) (g.left now) (flat chunks ++ bytes) given end,
-        omega (arith, sum, within, length-append (flat chunks) bytes),
-        subst (λ (cs : List (List ℕ)). IsPut h full start c new cs) (sym (cut_end size some chunks bytes whole nonempty fits)) (next chunks put),
+  last_put source mid now start b c draft new left bytes so more within end next =
+      let given = Gave-chain (g.left source) (g.left mid) (g.left now) so.given bytes so.gave more in (
+        so.given ++ bytes,
+        gave_all (g.left source) (g.left now) (so.given ++ bytes) given end,
+        omega (arith, so.sum, within, length-append so.given bytes),
+        put_behind start b c source mid draft new left bytes so next,
       )
 
   -- it is a whole one
-  pub next_put : (source mid now : S) (start b c : B) (draft new : Draft) (left : ℕ) (bytes : List ℕ) → SoFar source mid start b draft left
-      → Gave (g.left mid) (g.left now) bytes → length bytes ≡ size → length bytes ≤ left
-      → ((chunks : List (List ℕ)) → IsPut h full start b draft chunks → IsPut h full start c new (chunks ++ bytes ∷ []))
-      → SoFar source now start c new (left - length bytes)
-  next_put source mid now start b c draft new left bytes (chunks, whole, gave, sum, put) more is within next = (
-    chunks ++ bytes ∷ [],
-    whole-push size some chunks bytes whole is,
-    subst (Gave (g.left source) (g.left now)) (sym (flat_snoc chunks bytes)) (Gave-chain (g.left source) (g.left mid) (g.left now) (flat chunks) bytes gave more),
-    omega (arith, sum, within, ap length (flat_snoc chunks bytes), length-append (flat chunks) bytes),
-    next chunks put,
-  )
+  pub next_put : (n : ℕ) (source mid now : S) (start b c : B) (draft new : Draft) (left : ℕ) (bytes : List ℕ) → SoFar g h size full most source mid start b draft left
+      → Gave (g.left mid) (g.left now) bytes → length bytes ≡ n * size → length bytes ≤ left
+      → ((chunks : List (List ℕ)) → IsPut h full start b draft chunks → IsPut h full start c new (chunks ++ cut size bytes))
+      → SoFar g h size full most source now start c new (left - length bytes)
+  next_put n source mid now start b c draft new left bytes so more is within next =
+      let long = length-append so.given bytes in
+      record {
+        given = so.given ++ bytes;
+        count = so.count + n;
+        whole = omega (arith, long, so.whole, is, add-mul so.count n size);
+        gave = Gave-chain (g.left source) (g.left mid) (g.left now) so.given bytes so.gave more;
+        sum = omega (arith, so.sum, within, long);
+        put = put_behind start b c source mid draft new left bytes so next;
+      }
 
 -- ---- the file
 

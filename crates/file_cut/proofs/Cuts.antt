@@ -1,6 +1,7 @@
 -- What is cut, one run after the other.
-use Rattle.std.proofs.Common.{◌≡◌, ◌≤◌, ◌<◌, ◌-◌, ℕ, zero, suc, Bool, true, false, List, [], ◌∷◌, ◌++◌, take, drop, length, map, flat_map, nat_le, cond, refl, sym, ap, ◌∙◌, append_assoc, append-nil, arith, length-append, length-drop}
-use Rattle.std.proofs.lemmas.List.{take-append-drop, take_at, drop_at, take_all, drop_all}
+use Rattle.std.proofs.Common.{◌≡◌, ◌≤◌, ◌<◌, ◌-◌, ◌*◌, ℕ, zero, suc, Bool, true, false, List, [], ◌∷◌, ◌++◌, take, drop, length, map, flat_map, nat_le, cond, refl, sym, ap, ◌∙◌, append_assoc, append-nil, arith, length-append, length-drop}
+use Rattle.std.proofs.Math.Nat.{suc-mul}
+use Rattle.std.proofs.lemmas.List.{take-append-drop, take_at, drop_at, take_all, drop_all, length-take-le}
 use Rattle.std.proofs.lemmas.List.Concat.{flat_map-append}
 use Rattle.std.proofs.Common.{◌⊎◌, inl, inr}
 use Rattle.std.proofs.lemmas.Bool.{cases_lt}
@@ -60,6 +61,31 @@ module _ {A : Type 0} (size : ℕ) (some : 0 < size) where
       nothing : (n : ℕ) → cut_within {A = A} n size [] ≡ []
       nothing zero = refl
       nothing (suc n) = refl
+
+  -- the first run
+  pub cut-first : (xs : List A) → 0 < length xs → cut size xs ≡ take size xs ∷ cut size (drop size xs)
+  cut-first [] h = absurd (omega arith)
+  cut-first (x ∷ xs) h =
+      let less : length (drop size (x ∷ xs)) ≡ length (x ∷ xs) - size = length-drop size (x ∷ xs) in
+      ap (λ (n : ℕ). cut_within n size (x ∷ xs)) (length-cons x xs)
+      ∙ ap (λ (l : List (List A)). take size (x ∷ xs) ∷ l) (enough (length xs) (length (drop size (x ∷ xs))) (drop size (x ∷ xs)) (omega (arith, less, some)) (omega arith))
+
+  -- so many whole runs in front
+  pub cut-behind : (n : ℕ) (front rest : List A) → length front ≡ n * size → cut size (front ++ rest) ≡ cut size front ++ cut size rest
+  cut-behind zero [] rest is = refl
+  cut-behind zero (x ∷ front) rest is = absurd (omega (arith, is))
+  cut-behind (suc n) front rest is =
+      let run = take size front in
+      let behind = drop size front in
+      let more = suc-mul n size in
+      let long : length run ≡ size = length-take-le size front (omega (arith, is, more)) in
+      let left : length behind ≡ n * size = omega (arith, length-drop size front, is, more) in
+      let both : front ≡ run ++ behind = sym (take-append-drop size front) in
+      ap (λ (l : List A). cut size (l ++ rest)) both
+      ∙ ap (cut size) (append_assoc run behind rest)
+      ∙ cut-run run (behind ++ rest) long
+      ∙ ap (λ (l : List (List A)). run ∷ l) (cut-behind n behind rest left)
+      ∙ ap (λ (l : List (List A)). l ++ cut size rest) (sym (ap (cut size) both ∙ cut-run run behind long))
 
   pub cut-runs : (runs : List (List A)) (xs : List A) → AreWhole size runs → cut size (flat_map (λ run. run) runs ++ xs) ≡ runs ++ cut size xs
   cut-runs [] xs whole = refl

@@ -23,7 +23,7 @@ use Rattle.schema_fact.specs.Limits.{greatest_length}
 use Rattle.claim_model.specs.Trees.{tree_parts}
 use Rattle.file_tree.specs.Bytes.{facts_in, bytes_of, bytes_within}
 use Rattle.file_tree.proofs.Whole.{get-facts_in}
-use Rattle.file_cut.specs.Cutting.{cut_within, cut, chunk_size, run_size, blob_part, run_blob, run_part, run_blobs, below_file, parts_of_file, own_from, blobs_from, own_blob, file_blobs}
+use Rattle.file_cut.specs.Cutting.{cut_within, cut, chunk_size, run_size, blob_part, run_blob, run_part, run_blobs, below_file, parts_of_file, own_from, blobs_from, file_blobs}
 use Rattle.file_cut.specs.Drafts.{IsShortList}
 use Rattle.file_cut.specs.Writing.{AreSizes, Written, longest_name, longest_file}
 use Rattle.file_cut.specs.Source.{AreHeld, AreApart, WrittenIsSource, ReadsBack}

@@ -1,5 +1,5 @@
 -- How a file is cut into blobs, and in which order these are kept.
-use Rattle.std.specs.Prelude.{◌≡◌, ℕ, zero, suc, List, [], ◌∷◌, ◌++◌, length, take, drop, map, flat_map, nat_le, if◌then◌else◌}
+use Rattle.std.specs.Prelude.{◌≡◌, ℕ, zero, suc, List, [], ◌∷◌, ◌++◌, ◌*◌, length, take, drop, map, flat_map, nat_le, if◌then◌else◌}
 use Rattle.blobref.specs.Blobref.{ref_of}
 use Rattle.schema_fact.specs.Limits.{total_size}
 use Rattle.schema_fact.specs.declared.parts.Part.{Part}
@@ -14,6 +14,10 @@ cut_within (suc n) size (x ∷ xs) = take size (x ∷ xs) ∷ cut_within n size 
 
 abbrev pub cut : {A : Type 0} → ℕ → List A → List (List A)
 cut size xs = cut_within (length xs) size xs
+
+-- the run of this number, of a list of bytes, and nothing past the last one
+abbrev pub chunk_at : ℕ → List ℕ → ℕ → List ℕ
+chunk_at size bytes i = take size (drop (i * size) bytes)
 
 -- how many bytes a chunk has, and how many chunks a run
 unfoldable pub chunk_size : ℕ

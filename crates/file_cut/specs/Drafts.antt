@@ -1,12 +1,12 @@
 -- A file that is being written: what was put of it, and the parts that it has so far.
-use Rattle.std.specs.Prelude.{◌≡◌, ◌≤◌, ◌<◌, ◌⊎◌, ℕ, List, [], ◌∷◌, ◌++◌, length, map, flat_map, ◌==◌, if◌then◌else◌}
+use Rattle.std.specs.Prelude.{◌≡◌, ◌≤◌, ◌<◌, ◌+◌, ◌⊎◌, ℕ, List, [], ◌∷◌, ◌++◌, length, map, flat_map, ◌==◌, if◌then◌else◌}
 use Rattle.blobref.specs.Blobref.{ref_of}
 use Rattle.edge_base.specs.Edge.{Rose}
 use Rattle.edge_base.specs.Shelf.{Keeps, named}
 use Rattle.edge_base.specs.declared.answers.PutFault.{PutFault}
 use Rattle.edge_base.specs.declared.answers.PutFault.TheVariants as fault
 use Rattle.edge_base.specs.declared.shelf.Shelf.{Ghosts}
-use Rattle.schema_fact.specs.Limits.{MeetsLimits, total_size}
+use Rattle.schema_fact.specs.Limits.{MeetsLimits, total_size, greatest_length}
 use Rattle.schema_fact.specs.declared.parts.Part.{Part}
 use Rattle.schema_fact.specs.declared.parts.Origin.TheVariants.{Tree}
 use Rattle.schema_write.specs.Blobs.{bytes_blob}
@@ -86,6 +86,13 @@ abbrev pub IsRoomy : {B : Type 0} → Ghosts B → ℕ → (start now : B) → D
 IsRoomy g size start now draft chunks = (runs : List (List (List ℕ))) × (last : List (List ℕ))
     × IsDraft size draft runs last × AreChunks runs last chunks × (length last < size)
     × Puts g start (kept_of runs last) now
+
+-- some chunks were put, and with so many bytes more they are within the limits of parts
+pub record HasRoom {B : Type 0} (g : Ghosts B) (size : ℕ) (now : B) (draft : Draft) (more : ℕ) : Type 0 where
+  pub start : B
+  pub chunks : List (List ℕ)
+  pub put : IsPut g size start now draft chunks
+  pub limit : length (flat_map (λ (chunk : List ℕ). chunk) chunks) + more ≤ greatest_length
 
 -- the parts of the file: its runs, where there is one that was closed, and else those of its only run
 abbrev pub parts_in : Draft → List Part

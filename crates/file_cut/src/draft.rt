@@ -95,24 +95,29 @@ fn close_run<B: Shelf>(alloc: Global, shelf: &mut B, draft: &mut Draft) -> Resul
     put_blob(shelf, &r, blob.as_slice())
 }
 
-// Puts a chunk into the run that is being put.
-fn put_chunk<B: Shelf>(shelf: &mut B, draft: &mut Draft, bytes: &[u8]) -> Result<(), PutFault>
-    requires { length bytes.now ≤ max_blob }
+// Puts a chunk of this ref into the run that is being put.
+fn put_chunk<B: Shelf>(
+    shelf: &mut B,
+    draft: &mut Draft,
+    r: &Ref,
+    bytes: &[u8],
+) -> Result<(), PutFault>
+    requires named { r.now ≡ ref_of bytes.now }
+    requires short { length bytes.now ≤ max_blob }
     ensures ok { OnOk result (Puts B.Shelf shelf.old (bytes.now ∷ []) shelf.new) }
     ensures draft { OnOk result
         (draft.new ≡ record { run = draft.old.run ++ blob_part bytes.now ∷ []; runs = draft.old.runs }) }
     ensures err { IfErr result (λ fault. IsCut B.Shelf shelf.old (bytes.now ∷ []) shelf.new fault) }
 {
-    let r = Ref::of(bytes);
     let part = Part {
         size: bytes.len() as u64,
         offset: 0,
-        origin: Origin::Blob(r),
+        origin: Origin::Blob(*r),
     };
     if draft.run.push(part).is_err() {
         return Err(PutFault::NoMemory);
     }
-    put_blob(shelf, &r, bytes)
+    put_blob(shelf, r, bytes)
 }
 
 // Closes the run that is being put where it is full. A chunk is to come.
@@ -136,15 +141,17 @@ fn make_room<B: Shelf>(
     Ok(())
 }
 
-/// Puts the next chunk, once the run before it is closed where it is full. After a refusal a front of the blobs below
-/// the file was put, whatever chunks were to come behind this one.
+/// Puts the next chunk, of this ref, once the run before it is closed where it is full. After a refusal a front of the
+/// blobs below the file was put, whatever chunks were to come behind this one.
 pub(crate) fn put_next<B: Shelf>(
     alloc: Global,
     shelf: &mut B,
     draft: &mut Draft,
+    r: &Ref,
     bytes: &[u8],
     full: usize,
 ) -> Result<(), PutFault>
+    requires named { r.now ≡ ref_of bytes.now }
     requires full { 0 < full }
     requires short { IsShortList draft.old.run }
     requires fits { length bytes.now ≤ max_blob }
@@ -155,7 +162,7 @@ pub(crate) fn put_next<B: Shelf>(
         → IsCut B.Shelf start (below_file full (chunks ++ bytes.now ∷ more)) shelf.new fault) }
 {
     make_room(alloc, shelf, draft, full)?;
-    put_chunk(shelf, draft, bytes)
+    put_chunk(shelf, draft, r, bytes)
 }
 
 // Closes the last run, once all chunks were put, where there are several.

@@ -3,6 +3,7 @@
 
 mod draft;
 mod fault;
+mod group;
 mod laws;
 mod pieces;
 mod writing;

@@ -1,5 +1,5 @@
-//! A source is cut into chunks, which are put as they are read.
-ghost use Rattle.std.specs.Prelude.{◌≡◌, ◌≤◌, ◌<◌, ℕ, List, length, Err, IfOk, IfErr};
+//! A source is cut into chunks, of which several are read together, and then put.
+ghost use Rattle.std.specs.Prelude.{◌≡◌, ◌≤◌, ◌<◌, ◌*◌, ℕ, List, length, Err, IfOk, IfErr};
 ghost use Rattle.blobref.specs.Blobref.{ref_of};
 ghost use Rattle.edge_base.specs.Edge.{GaveAll};
 ghost use Rattle.file_cut.specs.declared.fault.CutFault.TheVariants as fault;
@@ -8,8 +8,9 @@ ghost use Rattle.file_cut.specs.Drafts.{IsPut, Puts};
 ghost use Rattle.file_cut.specs.Source.{ReadsBack};
 ghost use Rattle.file_cut.specs.Writing.{AreSizes, Unwritten, Written, NotWritten, unput, longest_name};
 
-use crate::draft::{Draft, put_end, put_next};
+use crate::draft::{Draft, put_end};
 use crate::fault::CutFault;
+use crate::group::{TOGETHER, put_piece};
 use crate::pieces::read_piece;
 use blobref::Ref;
 use edge_base::{PutFault, Shelf, Source};
@@ -39,7 +40,8 @@ pub const LONGEST_NAME: usize = 4_096;
 /// What was written reads back: where no two of the blobs share a ref, nor one of them with another blob of the shelf,
 /// the bytes of the file at the answered ref are all that the source had left.
 ///
-/// It holds one chunk, and at most 8,192 parts.
+/// It holds four chunks, and at most 8,192 parts. Four are read before the first of them is put, so after `ReadFault` up
+/// to three whole ones that were read weren't put.
 pub fn write_file<S: Source, B: Shelf>(
     alloc: Global,
     name: &str,
@@ -57,11 +59,11 @@ pub fn write_file<S: Source, B: Shelf>(
             len: name.len() as u64,
         });
     }
-    let Ok(mut space) = zeros(alloc, CHUNK) else {
+    let Ok(mut space) = zeros(alloc, TOGETHER * CHUNK) else {
         return Err(CutFault::NoMemory);
     };
     let buf = space.as_mut_slice();
-    write_cut(alloc, name, source, shelf, buf, RUN, LONGEST_FILE)
+    write_cut(alloc, name, source, shelf, buf, CHUNK, RUN, LONGEST_FILE)
 }
 
 // So many zero bytes.
@@ -71,48 +73,53 @@ fn zeros(alloc: Global, len: usize) -> Result<Vec<u8>, AllocError>
     vec![in alloc; 0; len]
 }
 
-// Writes a file with chunks as long as the buffer, runs of so many, and at most so many bytes.
+// Writes a file with chunks of such a size, of which the buffer has room for four, runs of so many, and at most so many
+// bytes.
 fn write_cut<S: Source, B: Shelf>(
     alloc: Global,
     name: &str,
     source: &mut S,
     shelf: &mut B,
     buf: &mut [u8],
+    size: usize,
     full: usize,
     most: u64,
 ) -> Result<Ref, CutFault>
-    requires sizes { AreSizes (length buf.old) full most }
+    requires sizes { AreSizes size full most }
+    requires room { length buf.old ≡ 4 * size }
     requires named { length name.now ≤ longest_name }
     ensures ok { IfOk result (λ r. (bytes : List ℕ) × GaveAll (S.left source.old) (S.left source.new) bytes
         × (length bytes ≤ most)
-        × Puts B.Shelf shelf.old (blobs_from full name.now (cut (length buf.old) bytes)) shelf.new
-        × (r ≡ ref_of (own_from full name.now (cut (length buf.old) bytes)))) }
+        × Puts B.Shelf shelf.old (blobs_from full name.now (cut size bytes)) shelf.new
+        × (r ≡ ref_of (own_from full name.now (cut size bytes)))) }
     ensures err { IfErr result (λ fault. Unwritten S.Source B.Shelf most
-        (λ input. blobs_from full name.now (cut (length buf.old) input))
+        (λ input. blobs_from full name.now (cut size input))
         source.old source.new shelf.old shelf.new fault) }
     ensures later { S.faults source.old ≤ S.faults source.new }
 {
-    let mut draft = put_chunks(alloc, source, shelf, buf, full, most)?;
+    let mut draft = put_chunks(alloc, source, shelf, buf, size, full, most)?;
     match put_end(alloc, name, shelf, &mut draft, full) {
         Ok(r) => Ok(r),
         Err(fault) => Err(unput(fault)),
     }
 }
 
-// Puts the chunks of a source, each as it is read, as long as the buffer but for the last one.
+// Puts the chunks of a source, once four are read, or as many as there are.
 fn put_chunks<S: Source, B: Shelf>(
     alloc: Global,
     source: &mut S,
     shelf: &mut B,
     buf: &mut [u8],
+    size: usize,
     full: usize,
     most: u64,
 ) -> Result<Draft, CutFault>
-    requires { AreSizes (length buf.old) full most }
+    requires sizes { AreSizes size full most }
+    requires room { length buf.old ≡ 4 * size }
     ensures ok { IfOk result (λ draft. (bytes : List ℕ) × GaveAll (S.left source.old) (S.left source.new) bytes
-        × (length bytes ≤ most) × IsPut B.Shelf full shelf.old shelf.new draft (cut (length buf.old) bytes)) }
+        × (length bytes ≤ most) × IsPut B.Shelf full shelf.old shelf.new draft (cut size bytes)) }
     ensures err { IfErr result (λ fault. Unwritten S.Source B.Shelf most
-        (λ input. below_file full (cut (length buf.old) input))
+        (λ input. below_file full (cut size input))
         source.old source.new shelf.old shelf.new fault) }
     ensures later { S.faults source.old ≤ S.faults source.new }
 {
@@ -121,17 +128,14 @@ fn put_chunks<S: Source, B: Shelf>(
         runs: PartList::empty(alloc),
     };
     let mut left = most;
-    'chunks: loop {
+    'pieces: loop {
         let Ok(n) = read_piece(source, buf) else {
             return Err(CutFault::ReadFault);
         };
-        if n == 0 {
-            return Ok(draft);
-        }
         if n as u64 > left {
             return Err(CutFault::TooLong);
         }
-        if let Err(fault) = put_next(alloc, shelf, &mut draft, &buf[..n], full) {
+        if let Err(fault) = put_piece(alloc, shelf, &mut draft, &buf[..n], size, full) {
             return Err(unput(fault));
         }
         if n < buf.len() {

@@ -1,4 +1,4 @@
-use Rattle.std.proofs.Common.{◌≤◌, length, ap, ◌∙◌, arith}
+use Rattle.std.proofs.Common.{◌≤◌, length, refl, arith}
 use Rattle.file_cut.specs.Cutting.{file_blobs}
 use Rattle.file_cut.specs.Writing.{longest_name, longest_file}
 use Rattle.std.proofs.lemmas.Result.{IfOk-weaker}
@@ -13,22 +13,19 @@ returns-in_default-clause-err g c =
 
 pub returns-clause-ok : goal.returns-clause-ok
 returns-clause-ok g c =
-    let buf = c.as_mut_slice-buf.result.now in
-    written_result g.S.Source g.B.Shelf (length buf) (ap length c.as_mut_slice-buf.ensures.value ∙ c.in-Ok.ensures) c.args.name.now
+    written_result g.S.Source g.B.Shelf 1048576 refl c.args.name.now
     c.args.source.now c.write_cut.new.source c.args.shelf.now c.write_cut.new.shelf c.write_cut.result c.write_cut.ensures.ok
 
 pub returns-clause-err : goal.returns-clause-err
 returns-clause-err g c =
-    let buf = c.as_mut_slice-buf.result.now in
     let short : length c.args.name.now ≤ longest_name = omega (arith, c.if-name-gt-LONGEST_NAME.false) in
-    not_written_result g.S.Source g.B.Shelf (length buf) (ap length c.as_mut_slice-buf.ensures.value ∙ c.in-Ok.ensures) c.args.name.now
+    not_written_result g.S.Source g.B.Shelf 1048576 refl c.args.name.now
     c.args.source.now c.write_cut.new.source c.args.shelf.now c.write_cut.new.shelf short c.write_cut.result c.write_cut.ensures.err
 
 pub returns-clause-reads : goal.returns-clause-reads
 returns-clause-reads g c =
-    let buf = c.as_mut_slice-buf.result.now in
     let short : length c.args.name.now ≤ longest_name = omega (arith, c.if-name-gt-LONGEST_NAME.false) in
     IfOk-weaker c.write_cut.result _ _
     (λ r written. reads_back g.S.Source g.B.Shelf c.args.name.now c.utf8.name short c.args.source.now c.write_cut.new.source c.args.shelf.now c.write_cut.new.shelf r written)
-    (written_result g.S.Source g.B.Shelf (length buf) (ap length c.as_mut_slice-buf.ensures.value ∙ c.in-Ok.ensures) c.args.name.now
+    (written_result g.S.Source g.B.Shelf 1048576 refl c.args.name.now
     c.args.source.now c.write_cut.new.source c.args.shelf.now c.write_cut.new.shelf c.write_cut.result c.write_cut.ensures.ok)
