@@ -1,7 +1,9 @@
-//! Tests of peers in memory, over stores and over HTTP, and of copying between them. What is tested here stands in the
-//! crates below.
+//! Tests of peers in memory, over stores and over HTTP, of copying between them, and of `push` and `pull`. What is
+//! tested here stands in the crates below.
 #![tactic(auto)]
 
+#[cfg(test)]
+mod commands;
 #[cfg(test)]
 mod peers;
 #[cfg(test)]
