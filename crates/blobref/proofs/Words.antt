@@ -1,12 +1,14 @@
 -- The first eight bytes of two lists, as numbers, are ordered as the lists are, unless they are equal.
-use Rattle.std.proofs.Common.{◌≡◌, ℕ, zero, suc, ◌+◌, ◌*◌, ◌^◌, ◌<◌, ◌≤◌, nat_eq, List, [], ◌∷◌, length, drop, slice_index, inl, inr, refl, sym, ap, ◌∙◌, arith, Ordering}
+use Rattle.std.proofs.Common.{◌≡◌, ℕ, zero, suc, ◌+◌, ◌*◌, ◌^◌, ◌<◌, ◌≤◌, nat_eq, List, [], ◌∷◌, ◌++◌, length, drop, replicate, slice_index, inl, inr, refl, sym, ap, ◌∙◌, arith, Ordering}
 use Rattle.std.proofs.lemmas.Bool.{cases_order}
 use Rattle.std.proofs.Math.Nat.{mul-le-mul_left}
 use Rattle.std.specs.declared.cmp.Ordering.TheVariants.{Less, Equal, Greater}
 use Rattle.std.specs.Ordering.{nat_cmp, ordering_then}
 use Rattle.std.specs.Cmp.Lexicographic.{slice_cmp}
 use Rattle.std.specs.Int.{from_be_bytes, w64}
+use Rattle.std.proofs.lemmas.List.{length-append}
 use Rattle.hex.specs.Hex.{IsBytes}
+use Rattle.blobref.specs.Digits.{IsKept}
 use Rattle.blobref.proofs.Order.{below, same, above, then_assoc}
 
 -- a digit more in front: of two numbers below w, and with the same digits before them the lower ones decide
@@ -90,3 +92,26 @@ words_cmp xs ys lx ly hx hy apart =
     ∙ sym (ap (λ n. ordering_then (nat_cmp n (from_be_bytes w64 ys)) (slice_cmp nat_cmp (drop 8 xs) (drop 8 ys))) (worth_is xs lx))
     ∙ sym (ap (λ n. ordering_then (nat_cmp (worth 8 xs) n) (slice_cmp nat_cmp (drop 8 xs) (drop 8 ys))) (worth_is ys ly))
     ∙ worth_cmp 8 xs ys lx ly hx hy
+
+in_front : (x : ℕ) (xs : List ℕ) → x < 256 → IsBytes xs → IsBytes (x ∷ xs)
+in_front x xs fits h zero = fits
+in_front x xs fits h (suc k) = h k
+
+behind : (xs ys : List ℕ) → IsBytes xs → IsBytes ys → IsBytes (xs ++ ys)
+behind [] ys hx hy k = hy k
+behind (x ∷ xs) ys hx hy zero = hx 0
+behind (x ∷ xs) ys hx hy (suc k) = behind xs ys (λ j. hx (suc j)) hy k
+
+zeros : (n : ℕ) → IsBytes (replicate n 0)
+zeros zero k = omega arith
+zeros (suc n) zero = omega arith
+zeros (suc n) (suc k) = zeros n k
+
+-- a ref as it is kept has at least eight bytes
+pub kept_fits : (a : List ℕ) → IsKept a → 8 ≤ length a
+kept_fits a (inl h) = rw (h.whole, length-append h.digest (replicate 8 0), h.long) (omega arith)
+kept_fits a (inr h) = rw (h.whole, h.long) (omega arith)
+
+pub kept_digits : (a : List ℕ) → IsKept a → IsBytes a
+kept_digits a (inl h) k = rw (h.whole) (in_front 0 (h.digest ++ replicate 8 0) (omega arith) (behind h.digest (replicate 8 0) h.bytes (zeros 8)) k)
+kept_digits a (inr h) k = rw (h.whole) (in_front 1 h.digest (omega arith) h.bytes k)
