@@ -13,7 +13,12 @@ from compare import MIB, TIMES, run
 from make_pack import BLOBS, reference
 
 HASHER = ["openssl", "dgst", "-sha224"]
-WAYS = {"insert": "inserted in order", "insert-backwards": "inserted, the last first", "fill": "filled at once"}
+WAYS = {
+    "insert": "inserted in order",
+    "place": "placed in order",
+    "insert-backwards": "inserted, the last first",
+    "fill": "filled at once",
+}
 
 
 def check(what, is_so):
@@ -34,7 +39,7 @@ def timed(jobs, folder):
 
 
 def indexes(lab, folder, holders):
-    """What the three ways to make an index cost."""
+    """What the ways to make an index cost."""
     question = [(folder / "keyring").read_text(), "tag", "t0"]
     jobs = {way: ([lab, way, *question], f"{BLOBS} {holders}\n".encode()) for way in WAYS}
     best = timed({**jobs, "facts": ([lab, "facts"], None), "hash": (HASHER, None)}, folder)

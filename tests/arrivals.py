@@ -1,6 +1,6 @@
 """Runs `lab orders` over packs of a few blobs: for every order in which these can come, and each part of them, an index
-that takes them one by one, and one that takes them all at once, have to tell what the reference tells of the blobs that
-came.
+that takes them one by one, one in which each is placed, and one that takes them all at once, have to tell what the
+reference tells of the blobs that came, and not to be stale.
 
 What a permanode has once all blobs came is written down beside them, and the reference has to tell that too.
 """
@@ -22,7 +22,7 @@ MOMENTS = ("2019-12-31T00:00:00Z", *(day(number, NOON) for number in range(1, 5)
 # All the tags that a permanode has at any time. A tag is one letter.
 TAGS = "akuvxy"
 LETTERS = "abcdef"
-WAYS = ("one by one", "all at once")
+WAYS = ("one by one", "placed", "all at once")
 
 
 class Row(NamedTuple):

@@ -24,6 +24,7 @@ use Rattle.index_rows.specs.Deletes.{Deletes, row_deleted}
 use Rattle.index_rows.specs.Counted.{IsCounted}
 use Rattle.index_rows.specs.Holders.{Holders}
 use Rattle.index_rows.specs.States.{States}
+use Rattle.index_rows.proofs.LooseFacts.{in_order}
 use Rattle.index_rows.specs.declared.rows.Rows.{Rows}
 use Rattle.index_rows.specs.Values.{change_at, moment_counts, IsListed}
 use Rattle.index_rows.proofs.Orders.{change_total, change_same}
@@ -240,13 +241,13 @@ module _ (p attr v on : List ℕ) (said : List Change) (old mid : Holders) (fewe
 -- the tables where only the rows of holders may have changed
 
 module _ (old now : Rows) (facts : now.facts ≡ old.facts) (state : now.state ≡ old.state) where
-  pub counted_still : now.deletes ≡ old.deletes → IsCounted old.facts old.deletes old.state → IsCounted now.facts now.deletes now.state
-  counted_still deletes is = subst (λ (f : Facts). IsCounted f now.deletes now.state) (sym facts)
-      (subst (λ (d : Deletes). IsCounted old.facts d now.state) (sym deletes) (subst (λ (s : States). IsCounted old.facts old.deletes s) (sym state) is))
+  pub counted_still : now.deletes ≡ old.deletes → IsCounted old.facts.ordered old.deletes old.state → IsCounted now.facts.ordered now.deletes now.state
+  counted_still deletes is = subst (λ (f : Facts). IsCounted f now.deletes now.state) (sym (in_order facts))
+      (subst (λ (d : Deletes). IsCounted old.facts.ordered d now.state) (sym deletes) (subst (λ (s : States). IsCounted old.facts.ordered old.deletes s) (sym state) is))
 
-  pub listed_still : now.changes ≡ old.changes → IsListed old.facts old.state old.changes → IsListed now.facts now.state now.changes
-  listed_still changes is = subst (λ (f : Facts). IsListed f now.state now.changes) (sym facts)
-      (subst (λ (s : States). IsListed old.facts s now.changes) (sym state) (subst (λ (cs : Changes). IsListed old.facts old.state cs) (sym changes) is))
+  pub listed_still : now.changes ≡ old.changes → IsListed old.facts.ordered old.state old.changes → IsListed now.facts.ordered now.state now.changes
+  listed_still changes is = subst (λ (f : Facts). IsListed f now.state now.changes) (sym (in_order facts))
+      (subst (λ (s : States). IsListed old.facts.ordered s now.changes) (sym state) (subst (λ (cs : Changes). IsListed old.facts.ordered old.state cs) (sym changes) is))
 
 pub one_less : (changes : Changes) (p : List ℕ) (at before : Moment) → changes_before changes p at ≡ changes_before changes p before ++ ((p, before), tt) ∷ []
     → length (changes_before changes p at) ≡ length (changes_before changes p before) + 1

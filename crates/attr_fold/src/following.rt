@@ -37,8 +37,8 @@ pub fn follow<L: Ledger>(
     moment: &Moment,
     steps: &mut Steps<L>,
 ) -> Result<bool, NoMemory>
-    requires counted { IsCounted rows.old.facts rows.old.deletes rows.old.state }
-    requires listed { IsListed rows.old.facts rows.old.state rows.old.changes }
+    requires counted { IsCounted rows.old.facts.ordered rows.old.deletes rows.old.state }
+    requires listed { IsListed rows.old.facts.ordered rows.old.state rows.old.changes }
     requires there { contains_key rows.old.changes (p.now, moment.now) ≡ true }
     ensures facts { rows.new.facts ≡ rows.old.facts }
     ensures state { rows.new.state ≡ rows.old.state }
@@ -47,8 +47,8 @@ pub fn follow<L: Ledger>(
     ensures changes { rows.new.changes ≡ rows.old.changes }
     ensures followed { IfOk result (λ done. done ≡ true → (but : List (List ℕ)) (before : Changes)
         → IsOneMore before rows.old.changes p.now moment.now
-        → IsHeldBut but rows.old.facts rows.old.state rows.old.deletes before rows.old.holders
-        → IsHeldBut but rows.old.facts rows.old.state rows.old.deletes rows.old.changes rows.new.holders) }
+        → IsHeldBut but rows.old.facts.ordered rows.old.state rows.old.deletes before rows.old.holders
+        → IsHeldBut but rows.old.facts.ordered rows.old.state rows.old.deletes rows.old.changes rows.new.holders) }
     ensures left { IfOk result (λ done. done ≡ false → rows.new.holders ≡ rows.old.holders) }
     ensures ticks { steps.new ≤ steps.old + follow_steps rows.old.changes p.now }
 {
@@ -66,8 +66,8 @@ pub fn follow<L: Ledger>(
 
 // Whether p is a genuine permanode that isn't deleted.
 fn holds_values<L: Ledger>(rows: &Rows, p: &Ref, steps: &mut Steps<L>) -> bool
-    requires { IsCounted rows.now.facts rows.now.deletes rows.now.state }
-    ensures holds { result ≡ holds_values rows.now.facts rows.now.state rows.now.deletes p.now }
+    requires { IsCounted rows.now.facts.ordered rows.now.deletes rows.now.state }
+    ensures holds { result ≡ holds_values rows.now.facts.ordered rows.now.state rows.now.deletes p.now }
     ensures ticks { steps.new ≤ steps.old + 2 }
 {
     match standing(rows, p, steps) {
@@ -95,21 +95,22 @@ fn follow_last<L: Ledger>(
     moment: &Moment,
     steps: &mut Steps<L>,
 ) -> Result<bool, NoMemory>
-    requires counted { IsCounted rows.old.facts rows.old.deletes rows.old.state }
-    requires listed { IsListed rows.old.facts rows.old.state rows.old.changes }
+    requires counted { IsCounted rows.old.facts.ordered rows.old.deletes rows.old.state }
+    requires listed { IsListed rows.old.facts.ordered rows.old.state rows.old.changes }
     ensures facts { rows.new.facts ≡ rows.old.facts }
     ensures state { rows.new.state ≡ rows.old.state }
     ensures waiters { rows.new.waiters ≡ rows.old.waiters }
     ensures deletes { rows.new.deletes ≡ rows.old.deletes }
     ensures changes { rows.new.changes ≡ rows.old.changes }
-    ensures followed { IfOk result (λ done. done ≡ true → (c : Change) → change_at rows.old.facts moment.now ≡ Some c
+    ensures followed { IfOk result (λ done. done ≡ true → (c : Change)
+        → change_at rows.old.facts.ordered moment.now ≡ Some c
         → IsFollowed p.now c
-        (counted_before rows.old.facts rows.old.deletes rows.old.changes p.now moment.now)
+        (counted_before rows.old.facts.ordered rows.old.deletes rows.old.changes p.now moment.now)
         rows.old.holders rows.new.holders) }
     ensures left { IfOk result (λ done. done ≡ false → rows.new.holders ≡ rows.old.holders) }
     ensures ticks { steps.new ≤ steps.old + 3 + 4 * length (changes_before rows.old.changes p.now moment.now) }
 {
-    let Some(change) = change_said(&rows.facts, &moment.1, moment.2 as usize, steps) else {
+    let Some(change) = change_said(&rows.facts.ordered, &moment.1, moment.2 as usize, steps) else {
         return Ok(false);
     };
     let act = change.act;
@@ -127,8 +128,8 @@ fn write_change<L: Ledger>(
     key: HolderKey,
     steps: &mut Steps<L>,
 ) -> Result<(), NoMemory>
-    requires counted { IsCounted rows.old.facts rows.old.deletes rows.old.state }
-    requires listed { IsListed rows.old.facts rows.old.state rows.old.changes }
+    requires counted { IsCounted rows.old.facts.ordered rows.old.deletes rows.old.state }
+    requires listed { IsListed rows.old.facts.ordered rows.old.state rows.old.changes }
     ensures facts { rows.new.facts ≡ rows.old.facts }
     ensures state { rows.new.state ≡ rows.old.state }
     ensures waiters { rows.new.waiters ≡ rows.old.waiters }
@@ -136,7 +137,7 @@ fn write_change<L: Ledger>(
     ensures changes { rows.new.changes ≡ rows.old.changes }
     ensures followed { OnOk result ((on : List ℕ)
         → IsFollowed key.2 (record { on = on; act = act; attr = key.0; value = key.1 })
-        (counted_before rows.old.facts rows.old.deletes rows.old.changes key.2 moment.now)
+        (counted_before rows.old.facts.ordered rows.old.deletes rows.old.changes key.2 moment.now)
         rows.old.holders rows.new.holders) }
     ensures ticks { steps.new ≤ steps.old + 2 + 4 * length (changes_before rows.old.changes key.2 moment.now) }
 {
@@ -155,8 +156,8 @@ fn set_value<L: Ledger>(
     key: HolderKey,
     steps: &mut Steps<L>,
 ) -> Result<(), NoMemory>
-    requires counted { IsCounted rows.old.facts rows.old.deletes rows.old.state }
-    requires listed { IsListed rows.old.facts rows.old.state rows.old.changes }
+    requires counted { IsCounted rows.old.facts.ordered rows.old.deletes rows.old.state }
+    requires listed { IsListed rows.old.facts.ordered rows.old.state rows.old.changes }
     ensures facts { rows.new.facts ≡ rows.old.facts }
     ensures state { rows.new.state ≡ rows.old.state }
     ensures waiters { rows.new.waiters ≡ rows.old.waiters }
@@ -164,7 +165,7 @@ fn set_value<L: Ledger>(
     ensures changes { rows.new.changes ≡ rows.old.changes }
     ensures followed { OnOk result ((on : List ℕ)
         → IsFollowed key.2 (record { on = on; act = sets; attr = key.0; value = key.1 })
-        (counted_before rows.old.facts rows.old.deletes rows.old.changes key.2 moment.now)
+        (counted_before rows.old.facts.ordered rows.old.deletes rows.old.changes key.2 moment.now)
         rows.old.holders rows.new.holders) }
     ensures ticks { steps.new ≤ steps.old + 2 + 4 * length (changes_before rows.old.changes key.2 moment.now) }
 {
@@ -180,8 +181,8 @@ fn remove_value<L: Ledger>(
     key: &HolderKey,
     steps: &mut Steps<L>,
 ) -> Result<(), NoMemory>
-    requires counted { IsCounted rows.old.facts rows.old.deletes rows.old.state }
-    requires listed { IsListed rows.old.facts rows.old.state rows.old.changes }
+    requires counted { IsCounted rows.old.facts.ordered rows.old.deletes rows.old.state }
+    requires listed { IsListed rows.old.facts.ordered rows.old.state rows.old.changes }
     ensures facts { rows.new.facts ≡ rows.old.facts }
     ensures state { rows.new.state ≡ rows.old.state }
     ensures waiters { rows.new.waiters ≡ rows.old.waiters }
@@ -189,7 +190,7 @@ fn remove_value<L: Ledger>(
     ensures changes { rows.new.changes ≡ rows.old.changes }
     ensures followed { OnOk result ((on : List ℕ)
         → IsFollowed key.now.2 (record { on = on; act = removes; attr = key.now.0; value = key.now.1 })
-        (counted_before rows.old.facts rows.old.deletes rows.old.changes key.now.2 moment.now)
+        (counted_before rows.old.facts.ordered rows.old.deletes rows.old.changes key.now.2 moment.now)
         rows.old.holders rows.new.holders) }
     ensures ticks { steps.new ≤ steps.old + 2 + 4 * length (changes_before rows.old.changes key.now.2 moment.now) }
 {
@@ -209,8 +210,8 @@ fn drop_values<L: Ledger>(
     key: &HolderKey,
     steps: &mut Steps<L>,
 ) -> Result<(), NoMemory>
-    requires counted { IsCounted rows.old.facts rows.old.deletes rows.old.state }
-    requires listed { IsListed rows.old.facts rows.old.state rows.old.changes }
+    requires counted { IsCounted rows.old.facts.ordered rows.old.deletes rows.old.state }
+    requires listed { IsListed rows.old.facts.ordered rows.old.state rows.old.changes }
     ensures facts { rows.new.facts ≡ rows.old.facts }
     ensures state { rows.new.state ≡ rows.old.state }
     ensures waiters { rows.new.waiters ≡ rows.old.waiters }
@@ -218,7 +219,7 @@ fn drop_values<L: Ledger>(
     ensures changes { rows.new.changes ≡ rows.old.changes }
     ensures fewer { OnOk result (AreFewer key.now.0 key.now.2 rows.old.holders rows.new.holders) }
     ensures gone { OnOk result (AreGone key.now.0 key.now.2
-        (counted_before rows.old.facts rows.old.deletes rows.old.changes key.now.2 moment.now)
+        (counted_before rows.old.facts.ordered rows.old.deletes rows.old.changes key.now.2 moment.now)
         rows.new.holders) }
     ensures ticks { steps.new ≤ steps.old + 1 + 4 * length (changes_before rows.old.changes key.now.2 moment.now) }
 {
@@ -241,8 +242,8 @@ fn take_back<L: Ledger>(
     key: &HolderKey,
     steps: &mut Steps<L>,
 ) -> Result<bool, NoMemory>
-    requires counted { IsCounted rows.old.facts rows.old.deletes rows.old.state }
-    requires change { IsChange rows.old.facts rows.old.state key.now.2 moment.now }
+    requires counted { IsCounted rows.old.facts.ordered rows.old.deletes rows.old.state }
+    requires change { IsChange rows.old.facts.ordered rows.old.state key.now.2 moment.now }
     ensures facts { rows.new.facts ≡ rows.old.facts }
     ensures state { rows.new.state ≡ rows.old.state }
     ensures waiters { rows.new.waiters ≡ rows.old.waiters }
@@ -250,10 +251,10 @@ fn take_back<L: Ledger>(
     ensures changes { rows.new.changes ≡ rows.old.changes }
     ensures fewer { OnOk result (AreFewer key.now.0 key.now.2 rows.old.holders rows.new.holders) }
     ensures back { IfOk result (λ done. IsTakenBack key.now.0 key.now.2
-        (counted rows.old.facts rows.old.deletes (moment.now ∷ [])) done rows.new.holders) }
+        (counted rows.old.facts.ordered rows.old.deletes (moment.now ∷ [])) done rows.new.holders) }
     ensures ticks { steps.new ≤ steps.old + 3 }
 {
-    let Some(change) = change_said(&rows.facts, &moment.1, moment.2 as usize, steps) else {
+    let Some(change) = change_said(&rows.facts.ordered, &moment.1, moment.2 as usize, steps) else {
         return Ok(false);
     };
     if change.attr.as_str() != key.attr() {

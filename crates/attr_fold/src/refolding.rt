@@ -35,9 +35,10 @@ pub fn refold<L: Ledger>(
     p: &Ref,
     steps: &mut Steps<L>,
 ) -> Result<(), NoMemory>
-    requires counted { IsCounted rows.old.facts rows.old.deletes rows.old.state }
-    requires listed { IsListed rows.old.facts rows.old.state rows.old.changes }
-    requires held { IsHeldSomehow rows.old.facts rows.old.state rows.old.deletes rows.old.changes rows.old.holders }
+    requires counted { IsCounted rows.old.facts.ordered rows.old.deletes rows.old.state }
+    requires listed { IsListed rows.old.facts.ordered rows.old.state rows.old.changes }
+    requires held { IsHeldSomehow rows.old.facts.ordered rows.old.state rows.old.deletes rows.old.changes
+        rows.old.holders }
     ensures facts { rows.new.facts ≡ rows.old.facts }
     ensures state { rows.new.state ≡ rows.old.state }
     ensures waiters { rows.new.waiters ≡ rows.old.waiters }
@@ -46,11 +47,12 @@ pub fn refold<L: Ledger>(
     ensures others { (name value q : List ℕ) → bytes_eq q p.now ≡ false
         → contains_key rows.new.holders (name, value, q) ≡ contains_key rows.old.holders (name, value, q) }
     ensures own { OnOk result ((name value : List ℕ) → contains_key rows.new.holders (name, value, p.now)
-        ≡ row_holds rows.old.facts rows.old.state rows.old.deletes rows.old.changes name value p.now) }
+        ≡ row_holds rows.old.facts.ordered rows.old.state rows.old.deletes rows.old.changes name value p.now) }
     ensures held { OnOk result ((but : List (List ℕ))
-        → IsHeldBut (p.now ∷ but) rows.old.facts rows.old.state rows.old.deletes rows.old.changes rows.old.holders
-        → IsHeldBut but rows.old.facts rows.old.state rows.old.deletes rows.old.changes rows.new.holders) }
-    ensures ticks { steps.new ≤ steps.old + refold_steps rows.old.facts rows.old.state rows.old.changes p.now }
+        → IsHeldBut (p.now ∷ but) rows.old.facts.ordered rows.old.state rows.old.deletes rows.old.changes
+        rows.old.holders
+        → IsHeldBut but rows.old.facts.ordered rows.old.state rows.old.deletes rows.old.changes rows.new.holders) }
+    ensures ticks { steps.new ≤ steps.old + refold_steps rows.old.facts.ordered rows.old.state rows.old.changes p.now }
 {
     let Some(stands) = standing(rows, p, steps) else {
         return Ok(());
@@ -61,11 +63,11 @@ pub fn refold<L: Ledger>(
 
 // Whether p isn't deleted, where it is a genuine permanode.
 pub(crate) fn standing<L: Ledger>(rows: &Rows, p: &Ref, steps: &mut Steps<L>) -> Option<bool>
-    requires { IsCounted rows.now.facts rows.now.deletes rows.now.state }
-    ensures stands { result ≡ standing rows.now.facts rows.now.state rows.now.deletes p.now }
+    requires { IsCounted rows.now.facts.ordered rows.now.deletes rows.now.state }
+    ensures stands { result ≡ standing rows.now.facts.ordered rows.now.state rows.now.deletes p.now }
     ensures ticks { steps.new ≤ steps.old + 2 }
 {
-    if !is_permanode_at(&rows.facts, p, steps) {
+    if !is_permanode_at(&rows.facts.ordered, p, steps) {
         return None;
     }
     match rows.state.row(p, steps) {
@@ -81,10 +83,10 @@ fn turns_of<L: Ledger>(
     p: &Ref,
     steps: &mut Steps<L>,
 ) -> Result<Turns, NoMemory>
-    requires counted { IsCounted rows.now.facts rows.now.deletes rows.now.state }
-    requires listed { IsListed rows.now.facts rows.now.state rows.now.changes }
+    requires counted { IsCounted rows.now.facts.ordered rows.now.deletes rows.now.state }
+    requires listed { IsListed rows.now.facts.ordered rows.now.state rows.now.changes }
     ensures told { IfOk result (λ turns. Tells p.now
-        (told rows.now.facts rows.now.deletes (all_moments rows.now.changes p.now)) turns
+        (told rows.now.facts.ordered rows.now.deletes (all_moments rows.now.changes p.now)) turns
         (length (all_moments rows.now.changes p.now))) }
     ensures few { IfOk result (λ turns.
         number (λ e. true) (entries turns.given) ≤ length (changes_after rows.now.changes p.now None)) }
@@ -134,14 +136,14 @@ fn note_moment<L: Ledger>(
     n: usize,
     steps: &mut Steps<L>,
 ) -> Result<(), NoMemory>
-    requires counted { IsCounted rows.now.facts rows.now.deletes rows.now.state }
-    requires change { IsChange rows.now.facts rows.now.state p.now moment.now }
+    requires counted { IsCounted rows.now.facts.ordered rows.now.deletes rows.now.state }
+    requires change { IsChange rows.now.facts.ordered rows.now.state p.now moment.now }
     requires small { n + 1 < 2 ^ 64 }
     ensures noted { OnOk result
-        (turns.new ≡ moment_noted rows.now.facts rows.now.deletes p.now turns.old moment.now n) }
+        (turns.new ≡ moment_noted rows.now.facts.ordered rows.now.deletes p.now turns.old moment.now n) }
     ensures ticks { steps.new ≤ steps.old + 2 }
 {
-    let Some(change) = change_said(&rows.facts, &moment.1, moment.2 as usize, steps) else {
+    let Some(change) = change_said(&rows.facts.ordered, &moment.1, moment.2 as usize, steps) else {
         return Ok(());
     };
     let counts = !has_deleters(&rows.state, &moment.1, steps);

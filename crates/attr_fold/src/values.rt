@@ -29,11 +29,11 @@ pub fn fold_at<L: Ledger>(
     when: &When,
     steps: &mut Steps<L>,
 ) -> Result<TextList, NoMemory>
-    requires ringless { Ringless rows.now.facts rows.now.deletes }
-    requires listed { IsListed rows.now.facts rows.now.state rows.now.changes }
+    requires ringless { Ringless rows.now.facts.ordered rows.now.deletes }
+    requires listed { IsListed rows.now.facts.ordered rows.now.state rows.now.changes }
     ensures values { IfOk result (λ texts.
-        texts ≡ row_values rows.now.facts rows.now.deletes rows.now.changes when.now p.now attr.now) }
-    ensures ticks { steps.new ≤ steps.old + 1 + sum_by (moment_steps rows.now.facts rows.now.deletes)
+        texts ≡ row_values rows.now.facts.ordered rows.now.deletes rows.now.changes when.now p.now attr.now) }
+    ensures ticks { steps.new ≤ steps.old + 1 + sum_by (moment_steps rows.now.facts.ordered rows.now.deletes)
         (moments_after rows.now.changes when.now p.now None) }
 {
     let mut found = Vec::new(alloc);
@@ -55,17 +55,18 @@ fn apply_moment<'a, L: Ledger>(
     when: &When,
     steps: &mut Steps<L>,
 ) -> Result<(), NoMemory>
-    requires ringless { Ringless rows.now.facts rows.now.deletes }
-    requires change { IsChange rows.now.facts rows.now.state p.now moment.now }
+    requires ringless { Ringless rows.now.facts.ordered rows.now.deletes }
+    requires change { IsChange rows.now.facts.ordered rows.now.state p.now moment.now }
     ensures values { OnOk result (map (λ t. t.now) found.new.items
-        ≡ moment_values rows.now.facts rows.now.deletes when.now attr.now (map (λ t. t.now) found.old.items) moment.now) }
-    ensures ticks { steps.new ≤ steps.old + 5 + 6 * tree_rows rows.now.facts rows.now.deletes moment.now.1 }
+        ≡ moment_values rows.now.facts.ordered rows.now.deletes when.now attr.now
+        (map (λ t. t.now) found.old.items) moment.now) }
+    ensures ticks { steps.new ≤ steps.old + 5 + 6 * tree_rows rows.now.facts.ordered rows.now.deletes moment.now.1 }
 {
     if deleted_at(rows, &moment.1, when, steps) {
         return Ok(());
     }
     let place = moment.2 as usize;
-    apply_place(&rows.facts, found, &moment.1, place, attr, steps)
+    apply_place(&rows.facts.ordered, found, &moment.1, place, attr, steps)
 }
 
 /// The date of the last change of a permanode that counts at that time, as the rows of its changes tell it; `None`
@@ -77,10 +78,10 @@ pub fn last_change_at<L: Ledger>(
     when: &When,
     steps: &mut Steps<L>,
 ) -> Option<Date>
-    requires ringless { Ringless rows.now.facts rows.now.deletes }
-    requires listed { IsListed rows.now.facts rows.now.state rows.now.changes }
-    ensures change { result ≡ row_last_change rows.now.facts rows.now.deletes rows.now.changes when.now p.now }
-    ensures ticks { steps.new ≤ steps.old + 2 + sum_by (moment_steps rows.now.facts rows.now.deletes)
+    requires ringless { Ringless rows.now.facts.ordered rows.now.deletes }
+    requires listed { IsListed rows.now.facts.ordered rows.now.state rows.now.changes }
+    ensures change { result ≡ row_last_change rows.now.facts.ordered rows.now.deletes rows.now.changes when.now p.now }
+    ensures ticks { steps.new ≤ steps.old + 2 + sum_by (moment_steps rows.now.facts.ordered rows.now.deletes)
         (moments_after rows.now.changes when.now p.now None) }
 {
     let mut found = None;
@@ -103,9 +104,9 @@ fn last_with<L: Ledger>(
     when: &When,
     steps: &mut Steps<L>,
 ) -> Option<Moment>
-    requires { Ringless rows.now.facts rows.now.deletes }
-    ensures later { result ≡ last_with rows.now.facts rows.now.deletes when.now found moment.now }
-    ensures ticks { steps.new ≤ steps.old + 4 + 6 * tree_rows rows.now.facts rows.now.deletes moment.now.1 }
+    requires { Ringless rows.now.facts.ordered rows.now.deletes }
+    ensures later { result ≡ last_with rows.now.facts.ordered rows.now.deletes when.now found moment.now }
+    ensures ticks { steps.new ≤ steps.old + 4 + 6 * tree_rows rows.now.facts.ordered rows.now.deletes moment.now.1 }
 {
     if deleted_at(rows, &moment.1, when, steps) {
         found
@@ -116,10 +117,10 @@ fn last_with<L: Ledger>(
 
 // The date of the claim of a ref.
 fn date_at<L: Ledger>(rows: &Rows, r: &Ref, steps: &mut Steps<L>) -> Option<Date>
-    ensures date { result ≡ option_and_then (λ fact. claim_date fact.kind) (get rows.now.facts r.now) }
+    ensures date { result ≡ option_and_then (λ fact. claim_date fact.kind) (get rows.now.facts.ordered r.now) }
     ensures ticks { steps.new ≡ steps.old + 1 }
 {
-    match rows.facts.row(r, steps) {
+    match rows.facts.ordered.row(r, steps) {
         Some(fact) => claim_date(&fact.kind),
         None => None,
     }

@@ -37,6 +37,7 @@ use Rattle.claim_index.proofs.OneEntered.{same_genuine}
 use Rattle.claim_index.proofs.AddTicks.{one_concerns}
 use Rattle.claim_index.proofs.LoopTicks.{or_cases, left, right, in_either}
 use Rattle.claim_index.proofs.TakeUp.{says_delete, is_one}
+use Rattle.index_rows.proofs.LooseFacts.{in_order}
 
 -- ---- lists that begin others
 
@@ -205,50 +206,50 @@ row_says facts accepts state judged y h = by (get state y) refl h
 
 -- while claims are entered, in an index that has taken up all facts
 module _ (accepts : Accepts) (rows : Rows) (others : List (List ℕ)) (d : List ℕ) (concerned : List (List ℕ)) (half : IsHalfway accepts [] (others ++ d ∷ []) concerned rows) (all : AreTaken rows) where
-  whole : taken rows ≡ rows.facts
-  whole = all_have_arrived rows.facts rows.state all
+  whole : taken rows ≡ rows.facts.ordered
+  whole = all_have_arrived rows.facts.ordered rows.state all
 
-  pub one_front : IsFront (entered_targets rows.facts rows.deletes d) (targets_of rows.facts accepts d)
-  one_front = entered_front rows.facts accepts rows.deletes (others ++ d ∷ [])
+  pub one_front : IsFront (entered_targets rows.facts.ordered rows.deletes d) (targets_of rows.facts.ordered accepts d)
+  one_front = entered_front rows.facts.ordered accepts rows.deletes (others ++ d ∷ [])
       (subst (λ (f : Facts). IsDeletesBut (others ++ d ∷ []) f accepts rows.deletes) whole half.deleted) d
       (ap (λ (f : Facts). is_genuine_delete f accepts d) (sym whole) ∙ is_one (taken rows) accepts d (half.claims d (among_last others d)))
 
-  pub one_failed : (first last : ℕ) → last ≤ first + 3 + 4 * length (entered_targets rows.facts rows.deletes d) → last ≤ first + enter_steps rows.facts accepts d
-  one_failed first last h = entered_ticks rows.facts accepts d [] (entered_targets rows.facts rows.deletes d) (entered_targets rows.facts rows.deletes d, refl) one_front first last last h (omega arith)
+  pub one_failed : (first last : ℕ) → last ≤ first + 3 + 4 * length (entered_targets rows.facts.ordered rows.deletes d) → last ≤ first + enter_steps rows.facts.ordered accepts d
+  one_failed first last h = entered_ticks rows.facts.ordered accepts d [] (entered_targets rows.facts.ordered rows.deletes d) (entered_targets rows.facts.ordered rows.deletes d, refl) one_front first last last h (omega arith)
 
-  pub one_ticks : (changed slice : List (List ℕ)) → slice ≡ changed → IsFront changed (entered_targets rows.facts rows.deletes d) → (first mid last : ℕ)
-      → mid ≤ first + 3 + 4 * length (entered_targets rows.facts rows.deletes d) → last ≤ mid + 2 * length slice → last ≤ first + enter_steps rows.facts accepts d
+  pub one_ticks : (changed slice : List (List ℕ)) → slice ≡ changed → IsFront changed (entered_targets rows.facts.ordered rows.deletes d) → (first mid last : ℕ)
+      → mid ≤ first + 3 + 4 * length (entered_targets rows.facts.ordered rows.deletes d) → last ≤ mid + 2 * length slice → last ≤ first + enter_steps rows.facts.ordered accepts d
   one_ticks changed slice same front first mid last h k =
       let e : length slice ≡ length changed = ap (λ (zs : List (List ℕ)). length zs) same in
-      entered_ticks rows.facts accepts d changed (entered_targets rows.facts rows.deletes d) front one_front first mid last h (omega (arith, k, e))
+      entered_ticks rows.facts.ordered accepts d changed (entered_targets rows.facts.ordered rows.deletes d) front one_front first mid last h (omega (arith, k, e))
 
-  pub one_adds : (now : Rows) → now.facts ≡ rows.facts → (changed slice : List (List ℕ)) → IsEntered rows.facts rows.deletes now.deletes rows.state now.state d changed
-      → slice ≡ changed → IsFront changed (entered_targets rows.facts rows.deletes d) → (cs cs' : List (List ℕ))
-      → cs' ≡ cs ++ flat_map (concerned_by now.facts now.state) slice → AddsEntered rows.facts accepts (d ∷ []) cs cs'
+  pub one_adds : (now : Rows) → now.facts ≡ rows.facts → (changed slice : List (List ℕ)) → IsEntered rows.facts.ordered rows.deletes now.deletes rows.state now.state d changed
+      → slice ≡ changed → IsFront changed (entered_targets rows.facts.ordered rows.deletes d) → (cs cs' : List (List ℕ))
+      → cs' ≡ cs ++ flat_map (concerned_by now.facts.ordered now.state) slice → AddsEntered rows.facts.ordered accepts (d ∷ []) cs cs'
   one_adds now facts changed slice entered same front cs cs' is =
-      entered_adds rows.facts accepts now.state says d changed cs cs' (front_then changed (entered_targets rows.facts rows.deletes d) (targets_of rows.facts accepts d) front one_front)
-      (is ∙ λ i. cs ++ flat_map (concerned_by (facts i) now.state) (same i))
+      entered_adds rows.facts.ordered accepts now.state says d changed cs cs' (front_then changed (entered_targets rows.facts.ordered rows.deletes d) (targets_of rows.facts.ordered accepts d) front one_front)
+      (is ∙ λ i. cs ++ flat_map (concerned_by (in_order facts i) now.state) (same i))
     where
-      says : (y : List ℕ) → says_genuine now.state y ≡ true → is_genuine rows.facts accepts y ≡ true
-      says y t = row_says rows.facts accepts rows.state (subst (λ (f : Facts). IsJudged f accepts [] rows.state) whole half.judged) y
+      says : (y : List ℕ) → says_genuine now.state y ≡ true → is_genuine rows.facts.ordered accepts y ≡ true
+      says y t = row_says rows.facts.ordered accepts rows.state (subst (λ (f : Facts). IsJudged f accepts [] rows.state) whole half.judged) y
           (sym (same_genuine rows now.deletes now.state d changed entered y) ∙ t)
 
 -- ---- all that is left
 
 module _ (accepts : Accepts) (rows now : Rows) (same : now.facts ≡ rows.facts) (deletes concerned concerned' heads ps : List (List ℕ))
-    (adds : AddsEntered rows.facts accepts deletes concerned concerned') where
-  pub covers_still : IsCovered rows.facts accepts (all_concerned rows.facts accepts deletes concerned) heads ps → IsCovered now.facts accepts concerned' heads ps
-  covers_still is = subst (λ (f : Facts). IsCovered f accepts concerned' heads ps) (sym same) (record {
+    (adds : AddsEntered rows.facts.ordered accepts deletes concerned concerned') where
+  pub covers_still : IsCovered rows.facts.ordered accepts (all_concerned rows.facts.ordered accepts deletes concerned) heads ps → IsCovered now.facts.ordered accepts concerned' heads ps
+  covers_still is = subst (λ (f : Facts). IsCovered f accepts concerned' heads ps) (sym (in_order same)) (record {
     permanodes = λ p one t. is.permanodes p one (all p t);
     each = λ p t. is.each p (all p t);
   })
     where
-      all : (p : List ℕ) → list_any (bytes_eq p) concerned' ≡ true → list_any (bytes_eq p) (all_concerned rows.facts accepts deletes concerned) ≡ true
-      all p t = list_any-append (bytes_eq p) concerned (may_concern rows.facts (is_genuine rows.facts accepts) (ends_of rows.facts accepts deletes)) ∙ adds p t
+      all : (p : List ℕ) → list_any (bytes_eq p) concerned' ≡ true → list_any (bytes_eq p) (all_concerned rows.facts.ordered accepts deletes concerned) ≡ true
+      all p t = list_any-append (bytes_eq p) concerned (may_concern rows.facts.ordered (is_genuine rows.facts.ordered accepts) (ends_of rows.facts.ordered accepts deletes)) ∙ adds p t
 
-  pub finish_sum : (slice : List (List ℕ)) → slice ≡ deletes → (first mid last : ℕ) → mid ≤ first + sum_by (enter_steps rows.facts accepts) slice
-      → last ≤ mid + refolds_steps now.facts accepts heads ps → last ≤ first + finish_steps rows.facts accepts deletes heads ps
+  pub finish_sum : (slice : List (List ℕ)) → slice ≡ deletes → (first mid last : ℕ) → mid ≤ first + sum_by (enter_steps rows.facts.ordered accepts) slice
+      → last ≤ mid + refolds_steps now.facts.ordered accepts heads ps → last ≤ first + finish_steps rows.facts.ordered accepts deletes heads ps
   finish_sum slice is first mid last a b =
-      let e : sum_by (enter_steps rows.facts accepts) slice ≡ sum_by (enter_steps rows.facts accepts) deletes = ap (sum_by (enter_steps rows.facts accepts)) is in
-      let f : refolds_steps now.facts accepts heads ps ≡ refolds_steps rows.facts accepts heads ps = ap (λ (g : Facts). refolds_steps g accepts heads ps) same in
+      let e : sum_by (enter_steps rows.facts.ordered accepts) slice ≡ sum_by (enter_steps rows.facts.ordered accepts) deletes = ap (sum_by (enter_steps rows.facts.ordered accepts)) is in
+      let f : refolds_steps now.facts.ordered accepts heads ps ≡ refolds_steps rows.facts.ordered accepts heads ps = ap (λ (g : Facts). refolds_steps g accepts heads ps) (in_order same) in
       omega (arith, a, b, e, f)

@@ -28,7 +28,7 @@ arrived_within facts state y fact h =
 
 module _ (accepts : Accepts) (deletes concerned : List (List ℕ)) (rows : Rows)
     (is : IsHalfway accepts [] deletes concerned rows) where
-  taking_up : IsTakingUp [] deletes rows.facts accepts rows.state rows.waiters rows.deletes rows.changes
+  taking_up : IsTakingUp [] deletes rows.facts.ordered accepts rows.state rows.waiters rows.deletes rows.changes
   taking_up = record {
     waiting = is.waiting;
     judged = is.judged;
@@ -38,11 +38,11 @@ module _ (accepts : Accepts) (deletes concerned : List (List ℕ)) (rows : Rows)
   }
 
   known : (y : List ℕ) → contains_key rows.state y ≡ contains_key (taken rows) y
-  known = arrived_is_known rows.facts rows.state is.waiting.known
+  known = arrived_is_known rows.facts.ordered rows.state is.waiting.known
 
-  fresh : (d : List ℕ) → list_any (bytes_eq d) deletes ≡ true → IsNewDelete rows.facts rows.deletes rows.state d
+  fresh : (d : List ℕ) → list_any (bytes_eq d) deletes ≡ true → IsNewDelete rows.facts.ordered rows.deletes rows.state d
   fresh d h =
-      let within = arrived_within rows.facts rows.state in
+      let within = arrived_within rows.facts.ordered rows.state in
       let claim = is.claims d h in
       let there : IsDelete (taken rows) claim.target d claim.date
       = delete_of (taken rows) accepts claim.target d claim.date claim.says in
@@ -54,7 +54,7 @@ module _ (accepts : Accepts) (deletes concerned : List (List ℕ)) (rows : Rows)
           signed = there.signed;
           found = within d there.fact there.found;
           says = there.says;
-          ready = ready_grows (taken rows) rows.facts within d there.ready;
+          ready = ready_grows (taken rows) rows.facts.ordered within d there.ready;
         };
         target_arrived = known claim.target ∙ target_known (taken rows) claim.target d claim.date there;
         arrived = known d ∙ ap is_some there.found;
@@ -65,7 +65,7 @@ module _ (accepts : Accepts) (deletes concerned : List (List ℕ)) (rows : Rows)
   pub can_be_finished : CanBeFinished deletes concerned rows
   can_be_finished = record {
     counted = is.counted;
-    listed = taking_up_is_listed [] deletes rows.facts accepts rows.state rows.waiters rows.deletes rows.changes
+    listed = taking_up_is_listed [] deletes rows.facts.ordered accepts rows.state rows.waiters rows.deletes rows.changes
         taking_up;
     fresh = fresh;
     once = is.once;

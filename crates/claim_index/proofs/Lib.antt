@@ -16,6 +16,8 @@ pub mod Texts
 pub mod Telling
 mod Whole
 mod OneMore
+pub mod Settled
+pub mod Numbering
 mod Listed
 pub mod TouchedSum
 pub mod Changed

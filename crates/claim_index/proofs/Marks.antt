@@ -21,13 +21,13 @@ use Rattle.index_rows.proofs.Deleting.{any_get, any_entry}
 use Rattle.claim_index.specs.Numbers.{NumberSet, Masks, numbered, has_bit, block_numbers, numbers_in, blocks_in}
 
 -- the numbers are equal
-abbrev same : ℕ → ℕ → Bool
+abbrev pub same : ℕ → ℕ → Bool
 same a b = eq_by_cmp nat_cmp a b
 
-same_is : (a b : ℕ) → same a b ≡ true → a ≡ b
+pub same_is : (a b : ℕ) → same a b ≡ true → a ≡ b
 same_is a b h = nat_cmp-IsAntisymmetric a b (is_Equal (nat_cmp a b) h)
 
-same_own : (a : ℕ) → same a a ≡ true
+pub same_own : (a : ℕ) → same a a ≡ true
 same_own a = (eq_by_cmp_equiv nat_cmp_total).refl a
 
 -- tests that pass alike
@@ -43,7 +43,7 @@ same_unit (Some x) None h = absurd (false≢true (sym h))
 same_unit (Some x) (Some y) h = refl
 
 -- sets that contain the same are the same
-same_set : (s t : NumberSet) → ((q : ℕ) → contains_key s q ≡ contains_key t q) → s ≡ t
+pub same_set : (s t : NumberSet) → ((q : ℕ) → contains_key s q ≡ contains_key t q) → s ≡ t
 same_set s t h = same_map nat_cmp_total nat_cmp-IsAntisymmetric s t (λ q. same_unit (get s q) (get t q) (h q))
 
 has-numbered : (ns : List ℕ) (q : ℕ) → contains_key (numbered ns) q ≡ list_any (same q) ns

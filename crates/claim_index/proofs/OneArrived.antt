@@ -61,7 +61,7 @@ with_arrived rows state waiters = record { facts = rows.facts; state = state; wa
 
 module _ (accepts : Accepts) (rows : Rows) (state : States) (waiters : Waiters) (r : List ℕ) (order deletes concerned : List (List ℕ))
     (h : IsHalfway accepts [] deletes concerned rows) (absent : get rows.state r ≡ None)
-    (came : HasArrived rows.facts rows.state state waiters r order) where
+    (came : HasArrived rows.facts.ordered rows.state state waiters r order) where
   abbrev pub now : Rows
   now = with_arrived rows state waiters
 
@@ -73,10 +73,10 @@ module _ (accepts : Accepts) (rows : Rows) (state : States) (waiters : Waiters) 
       or_right false b t = t
 
   within : IsWithin (taken rows) (taken now)
-  within = arrived_grows rows.facts rows.state state grown
+  within = arrived_grows rows.facts.ordered rows.state state grown
 
-  taken_up : IsTakingUp order (order ++ deletes) rows.facts accepts state waiters rows.deletes rows.changes
-  taken_up = one_arrives deletes (order ++ deletes) rows.facts accepts rows.state state rows.waiters waiters rows.deletes rows.changes r order
+  taken_up : IsTakingUp order (order ++ deletes) rows.facts.ordered accepts state waiters rows.deletes rows.changes
+  taken_up = one_arrives deletes (order ++ deletes) rows.facts.ordered accepts rows.state state rows.waiters waiters rows.deletes rows.changes r order
       (record { absent = absent; waiting = came.waiting; ready = came.became.ready; once = came.once; same = came.same; kept = came.kept; own = came.own })
       (λ d. list_any-append (bytes_eq d) order deletes ∙ turned (list_any (bytes_eq d) order) (list_any (bytes_eq d) deletes))
       (record { waiting = h.waiting; judged = h.judged; deleted = h.deleted; changed = h.changed; counted = h.counted })
@@ -87,9 +87,9 @@ module _ (accepts : Accepts) (rows : Rows) (state : States) (waiters : Waiters) 
       turned false true = refl
       turned false false = refl
 
-  listed : IsListed rows.facts rows.state rows.changes
-  listed = rows_stay_listed (taken rows) rows.facts rows.state rows.state rows.changes (arrived_within rows.facts rows.state) (λ y t. t)
-      (rows_are_listed (taken rows) accepts [] rows.state rows.changes (arrived_is_known rows.facts rows.state h.waiting.known) h.judged h.changed)
+  listed : IsListed rows.facts.ordered rows.state rows.changes
+  listed = rows_stay_listed (taken rows) rows.facts.ordered rows.state rows.state rows.changes (arrived_within rows.facts.ordered rows.state) (λ y t. t)
+      (rows_are_listed (taken rows) accepts [] rows.state rows.changes (arrived_is_known rows.facts.ordered rows.state h.waiting.known) h.judged h.changed)
 
   order_new : (y : List ℕ) → list_any (bytes_eq y) order ≡ true → is_ready (taken rows) y ≡ false
   order_new = new_fails (is_ready (taken rows)) [] order came.once
@@ -104,7 +104,7 @@ module _ (accepts : Accepts) (rows : Rows) (state : States) (waiters : Waiters) 
     claims = λ d t. delete_stays (taken rows) (taken now) accepts within d (h.claims d t);
     once = h.once;
     apart = λ d t. not_true (list_any (bytes_eq d) order) (λ there. false≢true (sym (order_new d there) ∙ delete_ready (taken rows) (taken now) accepts within d (h.claims d t)));
-    held = held_stays_with_facts concerned rows.facts rows.facts rows.state state rows.deletes rows.changes rows.holders (λ y fact e. e) h.counted.ringless listed h.waiting.known
+    held = held_stays_with_facts concerned rows.facts.ordered rows.facts.ordered rows.state state rows.deletes rows.changes rows.holders (λ y fact e. e) h.counted.ringless listed h.waiting.known
         (one_has_arrived r rows.state state absent came.same came.kept came.own) h.held;
   }
 
@@ -137,7 +137,7 @@ arrived_is rows new facts deletes changes holders = λ i.
 -- the tables after a ref has arrived, whose order is at hand as a slice
 module _ (accepts : Accepts) (rows new : Rows) (facts : new.facts ≡ rows.facts) (same_deletes : new.deletes ≡ rows.deletes) (changes : new.changes ≡ rows.changes) (holders : new.holders ≡ rows.holders)
     (r : List ℕ) (order refs deletes concerned : List (List ℕ)) (same : refs ≡ order) (h : IsHalfway accepts [] deletes concerned rows) (absent : get rows.state r ≡ None)
-    (came : HasArrived rows.facts rows.state new.state new.waiters r order) where
+    (came : HasArrived rows.facts.ordered rows.state new.state new.waiters r order) where
   pub half_arrived : IsHalfway accepts refs deletes concerned new
   half_arrived = subst (IsHalfway accepts refs deletes concerned) (arrived_is rows new facts same_deletes changes holders)
       (subst (λ (xs : List (List ℕ)). IsHalfway accepts xs deletes concerned (with_arrived rows new.state new.waiters)) (sym same)

@@ -41,9 +41,10 @@ use Rattle.index_meaning.specs.Touching.{kind_concerns, fact_concerns, concerned
 use Rattle.claim_index.specs.Halfway.{taken, IsGenuineDelete, IsHalfway, CanBeFinished}
 use Rattle.claim_index.proofs.Members.{among_more, among_front, among_last, among_apart, once_front, among_all}
 use Rattle.claim_index.proofs.Finishable.{arrived_within, can_be_finished}
+use Rattle.index_rows.proofs.LooseFacts.{in_order}
 
 module _ (rows : Rows) (entered : Deletes) (state : States) (d : List ℕ) (changed : List (List ℕ))
-    (is : IsEntered rows.facts rows.deletes entered rows.state state d changed) where
+    (is : IsEntered rows.facts.ordered rows.deletes entered rows.state state d changed) where
   -- the tables behind it
   abbrev pub after : Rows
   after = record {
@@ -57,9 +58,9 @@ module _ (rows : Rows) (entered : Deletes) (state : States) (d : List ℕ) (chan
 
   -- whom it concerns
   abbrev pub touched : List (List ℕ)
-  touched = flat_map (concerned_by rows.facts state) changed
+  touched = flat_map (concerned_by rows.facts.ordered state) changed
 
-  enters : Enters rows.facts rows.state state rows.deletes entered is.target d is.date changed
+  enters : Enters rows.facts.ordered rows.state state rows.deletes entered is.target d is.date changed
   enters = record { is = is.is; row = is.row; counted = is.counted; kept = is.kept; turns = is.turns }
 
   pub same_genuine : (y : List ℕ) → says_genuine state y ≡ says_genuine rows.state y
@@ -79,8 +80,8 @@ module _ (rows : Rows) (entered : Deletes) (state : States) (d : List ℕ) (chan
       ap (λ b. cond b (map (λ (c : Change). c.on) (changes_of what)) []) (sym (same_genuine y))
   same_kind y (Unread name) = refl
 
-  same_concerns : (y : List ℕ) → concerned_by rows.facts rows.state y ≡ concerned_by rows.facts state y
-  same_concerns y = by (get rows.facts y)
+  same_concerns : (y : List ℕ) → concerned_by rows.facts.ordered rows.state y ≡ concerned_by rows.facts.ordered state y
+  same_concerns y = by (get rows.facts.ordered y)
     where
       by : (o : Option Fact) → fact_concerns rows.state y o ≡ fact_concerns state y o
       by None = refl
@@ -95,17 +96,17 @@ module _ (rows : Rows) (entered : Deletes) (state : States) (d : List ℕ) (chan
     in_more q = list_any-append (bytes_eq q) concerned touched
 
     touches : (y : List ℕ) → list_any (bytes_eq y) changed ≡ true
-        → AreAmong (concerned_by rows.facts rows.state y) more
+        → AreAmong (concerned_by rows.facts.ordered rows.state y) more
     touches y turned q h =
         in_more q ∙ or_right (list_any (bytes_eq q) concerned) (list_any (bytes_eq q) touched)
-        (among_all (concerned_by rows.facts state) q y changed turned
+        (among_all (concerned_by rows.facts.ordered state) q y changed turned
         (ap (list_any (bytes_eq q)) (sym (same_concerns y)) ∙ h))
 
-    held_after : IsListed rows.facts rows.state rows.changes
-        → IsHeldBut concerned rows.facts rows.state rows.deletes rows.changes rows.holders
-        → IsHeldBut more rows.facts state entered rows.changes rows.holders
+    held_after : IsListed rows.facts.ordered rows.state rows.changes
+        → IsHeldBut concerned rows.facts.ordered rows.state rows.deletes rows.changes rows.holders
+        → IsHeldBut more rows.facts.ordered state entered rows.changes rows.holders
     held_after listed held =
-        entering_concerns concerned more changed rows.facts rows.state state rows.deletes entered rows.changes
+        entering_concerns concerned more changed rows.facts.ordered rows.state state rows.deletes entered rows.changes
         rows.holders is.target d is.date enters listed
         (λ q h. in_more q ∙ or_left (list_any (bytes_eq q) concerned) (list_any (bytes_eq q) touched) h) touches held
 
@@ -132,7 +133,7 @@ module _ (rows : Rows) (entered : Deletes) (state : States) (d : List ℕ) (chan
         → CanBeFinished others (concerned ++ touched) after
     finished_after can = record {
       counted = is.counted;
-      listed = rows_stay_listed rows.facts rows.facts rows.state state rows.changes (λ r fact h. h)
+      listed = rows_stay_listed rows.facts.ordered rows.facts.ordered rows.state state rows.changes (λ r fact h. h)
           (λ y h. same_genuine y ∙ h) can.listed;
       fresh = λ y h.
           let was = can.fresh y (among_front others d y h) in
@@ -151,7 +152,7 @@ module _ (rows : Rows) (entered : Deletes) (state : States) (d : List ℕ) (chan
   -- ---- what the tables mean
 
   same_taken : taken rows ≡ taken after
-  same_taken = arrived_same rows.facts rows.state state (λ y. sym (same_refs beside_count rows.state state is.kept y))
+  same_taken = arrived_same rows.facts.ordered rows.state state (λ y. sym (same_refs beside_count rows.state state is.kept y))
 
   module _ (accepts : Accepts) where
     still_judged : IsJudged (taken rows) accepts [] rows.state → IsJudged (taken rows) accepts [] state
@@ -173,7 +174,7 @@ module _ (rows : Rows) (entered : Deletes) (state : States) (d : List ℕ) (chan
       same_claim =
           let there = delete_of (taken rows) accepts claim.target d claim.date claim.says in
           let both : Some there.fact ≡ Some is.is.fact
-          = sym (arrived_within rows.facts rows.state d there.fact there.found) ∙ is.is.found in
+          = sym (arrived_within rows.facts.ordered rows.state d there.fact there.found) ∙ is.is.found in
           let same : there.fact ≡ is.is.fact = cc both in
           record {
             fact = there.fact;
@@ -199,7 +200,7 @@ module _ (rows : Rows) (entered : Deletes) (state : States) (d : List ℕ) (chan
           let can = finished_after others concerned
           (can_be_finished accepts (others ++ d ∷ []) concerned rows half) in
           record {
-            waiting = waiting_kept beside_count rows.state state is.kept rows.facts rows.waiters half.waiting
+            waiting = waiting_kept beside_count rows.state state is.kept rows.facts.ordered rows.waiters half.waiting
                 (λ t. t.0) (λ t. t.3) (λ row. refl) (λ row. refl);
             counted = is.counted;
             judged = subst (λ (facts : Facts). IsJudged facts accepts [] state) same_taken (still_judged half.judged);
@@ -220,11 +221,11 @@ module _ (rows : Rows) (entered : Deletes) (state : States) (d : List ℕ) (chan
 
 -- the same where the tables behind it are given
 module _ (rows new : Rows) (d : List ℕ) (changed : List (List ℕ))
-    (is : IsEntered rows.facts rows.deletes new.deletes rows.state new.state d changed)
+    (is : IsEntered rows.facts.ordered rows.deletes new.deletes rows.state new.state d changed)
     (same_facts : new.facts ≡ rows.facts) (same_waiters : new.waiters ≡ rows.waiters)
     (same_changes : new.changes ≡ rows.changes) (same_holders : new.holders ≡ rows.holders)
     (slice concerned more : List (List ℕ)) (all : slice ≡ changed)
-    (told : more ≡ concerned ++ flat_map (concerned_by new.facts new.state) slice) where
+    (told : more ≡ concerned ++ flat_map (concerned_by new.facts.ordered new.state) slice) where
   abbrev behind : Rows
   behind = after rows new.deletes new.state d changed is
 
@@ -239,7 +240,7 @@ module _ (rows new : Rows) (d : List ℕ) (changed : List (List ℕ))
   }
 
   same_told : concerned ++ touched rows new.deletes new.state d changed is ≡ more
-  same_told = sym (told ∙ (λ i. concerned ++ flat_map (concerned_by (same_facts i) new.state) (all i)))
+  same_told = sym (told ∙ (λ i. concerned ++ flat_map (concerned_by (in_order same_facts i) new.state) (all i)))
 
   pub can_go_on : (others : List (List ℕ)) → CanBeFinished (others ++ d ∷ []) concerned rows
       → CanBeFinished others more new

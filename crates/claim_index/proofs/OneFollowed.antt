@@ -133,48 +133,48 @@ unit_same (Some x) (Some y) h = refl
 
 -- what is known once x was judged to be an attribute claim
 pub record IsJudgedClaim (accepts : Accepts) (old : Rows) (left deletes concerned : List (List ℕ)) (x : List ℕ) (rows : Rows) : Type 0 where
-  pub more : IsHalfway accepts left deletes (concerned ++ concerned_by rows.facts rows.state x) rows
+  pub more : IsHalfway accepts left deletes (concerned ++ concerned_by rows.facts.ordered rows.state x) rows
   pub able : CanBeFollowed rows x
-  pub one : (p : List ℕ) (k : Moment) → ◌≡◌ {A = Option (List ℕ × Moment)} (change_by rows.facts x) (Some (p, k)) → IsOneMore old.changes rows.changes p k
-  pub held : (p : List ℕ) (k : Moment) → ◌≡◌ {A = Option (List ℕ × Moment)} (change_by rows.facts x) (Some (p, k))
-      → IsHeldBut concerned rows.facts rows.state rows.deletes old.changes rows.holders
+  pub one : (p : List ℕ) (k : Moment) → ◌≡◌ {A = Option (List ℕ × Moment)} (change_by rows.facts.ordered x) (Some (p, k)) → IsOneMore old.changes rows.changes p k
+  pub held : (p : List ℕ) (k : Moment) → ◌≡◌ {A = Option (List ℕ × Moment)} (change_by rows.facts.ordered x) (Some (p, k))
+      → IsHeldBut concerned rows.facts.ordered rows.state rows.deletes old.changes rows.holders
 
 module _ (accepts : Accepts) (rows : Rows) (x : List ℕ) (left deletes concerned : List (List ℕ))
     (h : IsHalfway accepts (x ∷ left) deletes concerned rows) (can : CanBeJudged (x ∷ left) rows)
-    (state : States) (changes : Changes) (marks : IsMarked rows.facts accepts rows.state state x) (puts : IsChanged rows.facts accepts rows.changes changes x)
+    (state : States) (changes : Changes) (marks : IsMarked rows.facts.ordered accepts rows.state state x) (puts : IsChanged rows.facts.ordered accepts rows.changes changes x)
     (judged_now : IsJudged (taken rows) accepts left state) (changed_now : IsChangesOf (taken rows) accepts left changes)
-    (is : judged_in rows.facts accepts x ≡ judged.Changes) where
+    (is : judged_in rows.facts.ordered accepts x ≡ judged.Changes) where
   abbrev rows_now : Rows
   rows_now = with_judged rows state changes
 
-  more_now : IsHalfway accepts left deletes (concerned ++ concerned_by rows.facts state x) rows_now
+  more_now : IsHalfway accepts left deletes (concerned ++ concerned_by rows.facts.ordered state x) rows_now
   more_now = concerns_more accepts rows x left deletes concerned h can state changes marks puts judged_now changed_now (others_are_no_delete (inr is))
 
-  listed_after : IsListed rows.facts state changes
-  listed_after = rows_stay_listed (taken rows_now) rows.facts state state changes (arrived_within rows.facts state) (λ y t. t)
-      (rows_are_listed (taken rows_now) accepts left state changes (arrived_is_known rows.facts state more_now.waiting.known) more_now.judged more_now.changed)
+  listed_after : IsListed rows.facts.ordered state changes
+  listed_after = rows_stay_listed (taken rows_now) rows.facts.ordered state state changes (arrived_within rows.facts.ordered state) (λ y t. t)
+      (rows_are_listed (taken rows_now) accepts left state changes (arrived_is_known rows.facts.ordered state more_now.waiting.known) more_now.judged more_now.changed)
 
-  signed_here : is_signed_at rows.facts accepts x ≡ true
-  signed_here = by (get rows.facts x) is
+  signed_here : is_signed_at rows.facts.ordered accepts x ≡ true
+  signed_here = by (get rows.facts.ordered x) is
     where
-      by : (o : Option Fact) → fact_judged rows.facts accepts o ≡ judged.Changes → passes (is_signed rows.facts accepts) o ≡ true
+      by : (o : Option Fact) → fact_judged rows.facts.ordered accepts o ≡ judged.Changes → passes (is_signed rows.facts.ordered accepts) o ≡ true
       by None e = let d : judged.Nothing ≡ judged.Changes = e in absurd (cc d)
-      by (Some fact) e = on (is_signed rows.facts accepts fact) e
+      by (Some fact) e = on (is_signed rows.facts.ordered accepts fact) e
         where
           on : (b : Bool) → cond b (kind_judged fact.kind) judged.Nothing ≡ judged.Changes → b ≡ true
           on true e = refl
           on false e = let d : judged.Nothing ≡ judged.Changes = e in absurd (cc d)
 
-  module _ (p : List ℕ) (k : Moment) (says : ◌≡◌ {A = Option (List ℕ × Moment)} (change_by rows.facts x) (Some (p, k))) where
-    of : IsChangeOf rows.facts x p k
-    of = change_of rows.facts x p k says
+  module _ (p : List ℕ) (k : Moment) (says : ◌≡◌ {A = Option (List ℕ × Moment)} (change_by rows.facts.ordered x) (Some (p, k))) where
+    of : IsChangeOf rows.facts.ordered x p k
+    of = change_of rows.facts.ordered x p k says
 
     abbrev on_it : List ℕ → Moment → Bool
-    on_it q j = passes (λ (fact : Fact). is_change_on q j fact.kind) (get rows.facts x)
+    on_it q j = passes (λ (fact : Fact). is_change_on q j fact.kind) (get rows.facts.ordered x)
 
-    own_here : (bytes_eq k.1 x && (is_signed_at rows.facts accepts x && on_it p k)) ≡ true
+    own_here : (bytes_eq k.1 x && (is_signed_at rows.facts.ordered accepts x && on_it p k)) ≡ true
     own_here = and_from (bytes_eq k.1 x) _ (ap (λ r. bytes_eq r x) of.its.claim ∙ own_bytes x)
-        (and_from (is_signed_at rows.facts accepts x) (on_it p k) signed_here
+        (and_from (is_signed_at rows.facts.ordered accepts x) (on_it p k) signed_here
         (ap (passes (λ (fact : Fact). is_change_on p k fact.kind)) of.found ∙ of.its.own))
 
     put_here : contains_key changes (p, k) ≡ true
@@ -193,15 +193,15 @@ module _ (accepts : Accepts) (rows : Rows) (x : List ℕ) (left deletes concerne
             ∙ (listed_now accepts rows x left deletes concerned h can p k t).genuine))
         by false f = f
 
-    same_test : (q : ChangeKey) → (bytes_eq q.1.1 x && (is_signed_at rows.facts accepts x && on_it q.0 q.1)) ≡ eq_by_cmp change_cmp q (p, k)
-    same_test q = both_ways (bytes_eq q.1.1 x && (is_signed_at rows.facts accepts x && on_it q.0 q.1)) (eq_by_cmp change_cmp q (p, k))
-        (λ t. let first = and_parts (bytes_eq q.1.1 x) (is_signed_at rows.facts accepts x && on_it q.0 q.1) t in
-        let second = and_parts (is_signed_at rows.facts accepts x) (on_it q.0 q.1) first.1 in
+    same_test : (q : ChangeKey) → (bytes_eq q.1.1 x && (is_signed_at rows.facts.ordered accepts x && on_it q.0 q.1)) ≡ eq_by_cmp change_cmp q (p, k)
+    same_test q = both_ways (bytes_eq q.1.1 x && (is_signed_at rows.facts.ordered accepts x && on_it q.0 q.1)) (eq_by_cmp change_cmp q (p, k))
+        (λ t. let first = and_parts (bytes_eq q.1.1 x) (is_signed_at rows.facts.ordered accepts x && on_it q.0 q.1) t in
+        let second = and_parts (is_signed_at rows.facts.ordered accepts x) (on_it q.0 q.1) first.1 in
         let same : ◌≡◌ {A = ChangeKey} q (p, k) = of.its.one q.0 q.1 (ap (passes (λ (fact : Fact). is_change_on q.0 q.1 fact.kind)) (sym of.found) ∙ second.1)
         ((bytes_eq-Decides q.1.1 x).0 first.0) in
         ap (λ (r : ChangeKey). eq_by_cmp change_cmp r (p, k)) same ∙ (eq_by_cmp_equiv change_total).refl (p, k))
         (λ t. let same : ◌≡◌ {A = ChangeKey} q (p, k) = change_same q (p, k) (is_Equal (change_cmp q (p, k)) t) in
-        ap (λ (r : ChangeKey). bytes_eq r.1.1 x && (is_signed_at rows.facts accepts x && on_it r.0 r.1)) same ∙ own_here)
+        ap (λ (r : ChangeKey). bytes_eq r.1.1 x && (is_signed_at rows.facts.ordered accepts x && on_it r.0 r.1)) same ∙ own_here)
 
     turned : (a b : Bool) → (a || b) ≡ (b || a)
     turned true true = refl
@@ -218,25 +218,25 @@ module _ (accepts : Accepts) (rows : Rows) (x : List ℕ) (left deletes concerne
     }
 
     -- a claim is no permanode, so its mark leaves what permanodes' rows say
-    same_says : (q : List ℕ) → says_permanode rows.facts state q ≡ says_permanode rows.facts rows.state q
+    same_says : (q : List ℕ) → says_permanode rows.facts.ordered state q ≡ says_permanode rows.facts.ordered rows.state q
     same_says q = by (cases_Bool (bytes_eq q x))
       where
-        by : (bytes_eq q x ≡ true) ⊎ (bytes_eq q x ≡ false) → says_permanode rows.facts state q ≡ says_permanode rows.facts rows.state q
+        by : (bytes_eq q x ≡ true) ⊎ (bytes_eq q x ≡ false) → says_permanode rows.facts.ordered state q ≡ says_permanode rows.facts.ordered rows.state q
         by (inl t) =
             let own : q ≡ x = (bytes_eq-Decides q x).0 t in
-            let out : passes (λ (fact : Fact). is_permanode fact.kind) (get rows.facts q) ≡ false =
-            ap (λ r. passes (λ (fact : Fact). is_permanode fact.kind) (get rows.facts r)) own
+            let out : passes (λ (fact : Fact). is_permanode fact.kind) (get rows.facts.ordered q) ≡ false =
+            ap (λ r. passes (λ (fact : Fact). is_permanode fact.kind) (get rows.facts.ordered r)) own
             ∙ ap (passes (λ (fact : Fact). is_permanode fact.kind)) of.found ∙ of.its.none in
             ap (λ b. b && says_genuine state q) out ∙ sym (ap (λ b. b && says_genuine rows.state q) out)
-        by (inr f) = ap (λ b. passes (λ (fact : Fact). is_permanode fact.kind) (get rows.facts q) && b) (still q f)
+        by (inr f) = ap (λ b. passes (λ (fact : Fact). is_permanode fact.kind) (get rows.facts.ordered q) && b) (still q f)
           where
             still : (y : List ℕ) → bytes_eq y x ≡ false → says_genuine state y ≡ says_genuine rows.state y
-            still y out = ap (passes (λ (row : StateRow). row.genuine)) (marks y ∙ ap (λ b. marked b (is_signed_at rows.facts accepts x) (fits_at rows.facts rows.state x) (get rows.state y)) out)
+            still y out = ap (passes (λ (row : StateRow). row.genuine)) (marks y ∙ ap (λ b. marked b (is_signed_at rows.facts.ordered accepts x) (fits_at rows.facts.ordered rows.state x) (get rows.state y)) out)
 
-    held_still : IsHeldBut concerned rows.facts state rows.deletes rows.changes rows.holders
+    held_still : IsHeldBut concerned rows.facts.ordered state rows.deletes rows.changes rows.holders
     held_still = record {
       held = λ name value q out. h.held.held name value q out
-          ∙ ap (λ b. (b && not (row_deleted rows.facts rows.deletes Always q)) && list_any (bytes_eq value) (row_values rows.facts rows.deletes rows.changes Always q name)) (sym (same_says q));
+          ∙ ap (λ b. (b && not (row_deleted rows.facts.ordered rows.deletes Always q)) && list_any (bytes_eq value) (row_values rows.facts.ordered rows.deletes rows.changes Always q name)) (sym (same_says q));
       permanode = λ name value q t. same_says q ∙ h.held.permanode name value q t;
       given = h.held.given;
     }
@@ -256,7 +256,7 @@ module _ (accepts : Accepts) (rows : Rows) (x : List ℕ) (left deletes concerne
 
 module _ (accepts : Accepts) (left deletes : List (List ℕ)) (mid new : Rows) (same : IsSameBeside mid new) where
   half_with : (any concerned : List (List ℕ)) → IsHalfway accepts left deletes any mid
-      → IsHeldBut concerned mid.facts mid.state mid.deletes mid.changes new.holders → IsHalfway accepts left deletes concerned new
+      → IsHeldBut concerned mid.facts.ordered mid.state mid.deletes mid.changes new.holders → IsHalfway accepts left deletes concerned new
   half_with any concerned half held = subst (IsHalfway accepts left deletes concerned) (same_rows mid new same)
       (record {
         waiting = half.waiting;
@@ -277,13 +277,13 @@ module _ (accepts : Accepts) (left deletes : List (List ℕ)) (mid new : Rows) (
   pub half_taken : (old : Rows) (concerned after : List (List ℕ)) (x : List ℕ) → IsJudgedClaim accepts old left deletes concerned x mid
       → IsTaken mid new.holders x concerned after → IsHalfway accepts left deletes after new
   half_taken old concerned after x judged (written did as_before) =
-      half_with (concerned ++ concerned_by mid.facts mid.state x) after judged.more
+      half_with (concerned ++ concerned_by mid.facts.ordered mid.state x) after judged.more
       (did.held after old.changes (judged.one did.on did.moment did.says)
-      (subst (λ (cs : List (List ℕ)). IsHeldBut cs mid.facts mid.state mid.deletes old.changes mid.holders) (sym as_before) (judged.held did.on did.moment did.says)))
+      (subst (λ (cs : List (List ℕ)). IsHeldBut cs mid.facts.ordered mid.state mid.deletes old.changes mid.holders) (sym as_before) (judged.held did.on did.moment did.says)))
   half_taken old concerned after x judged (was_left is) =
-      half_with (concerned ++ concerned_by mid.facts mid.state x) after judged.more
-      (subst (λ (hs : Holders). IsHeldBut after mid.facts mid.state mid.deletes mid.changes hs) (sym is.same)
-      (subst (λ (cs : List (List ℕ)). IsHeldBut cs mid.facts mid.state mid.deletes mid.changes mid.holders) (sym is.added) judged.more.held))
+      half_with (concerned ++ concerned_by mid.facts.ordered mid.state x) after judged.more
+      (subst (λ (hs : Holders). IsHeldBut after mid.facts.ordered mid.state mid.deletes mid.changes hs) (sym is.same)
+      (subst (λ (cs : List (List ℕ)). IsHeldBut cs mid.facts.ordered mid.state mid.deletes mid.changes mid.holders) (sym is.added) judged.more.held))
 
 -- ---- how many changes there are
 
@@ -317,11 +317,11 @@ changed_here facts x p k h = by (get facts x) h
     by (Some fact) h = kind_here x fact.kind p k h
 
 pub are_numbered : (accepts : Accepts) (rows : Rows) → AreTaken rows → IsChangesOf (taken rows) accepts [] rows.changes → (x : List ℕ) (n : ℕ)
-    → AreFew rows.facts accepts x n → IsNumbered rows.facts rows.changes x n
+    → AreFew rows.facts.ordered accepts x n → IsNumbered rows.facts.ordered rows.changes x n
 are_numbered accepts rows all changed x n few p k says =
-    let g = group_count rows.facts accepts rows.changes
-    (subst (λ (f : Facts). IsChangesOf f accepts [] rows.changes) (all_have_arrived rows.facts rows.state all) changed) p in
-    let f = few p (changed_here rows.facts x p k says) in
+    let g = group_count rows.facts.ordered accepts rows.changes
+    (subst (λ (f : Facts). IsChangesOf f accepts [] rows.changes) (all_have_arrived rows.facts.ordered rows.state all) changed) p in
+    let f = few p (changed_here rows.facts.ordered x p k says) in
     omega (arith, g, f)
 
 pub few_still : (accepts : Accepts) (old new : Facts) → new ≡ old → (x : List ℕ) (n : ℕ) → AreFew old accepts x n → AreFew new accepts x n
@@ -329,8 +329,8 @@ few_still accepts old new same x n few = subst (λ (f : Facts). AreFew f accepts
 
 -- what was written concerns no one
 pub adds_taken : (facts : Facts) (accepts : Accepts) (x : List ℕ) (ds cs : List (List ℕ)) → is_signed_at facts accepts x ≡ true
-    → (rows : Rows) (holders : Holders) (cs' : List (List ℕ)) → rows.facts ≡ facts → IsTaken rows holders x cs cs' → AddsFor facts accepts (x ∷ []) ds ds cs cs'
+    → (rows : Rows) (holders : Holders) (cs' : List (List ℕ)) → rows.facts.ordered ≡ facts → IsTaken rows holders x cs cs' → AddsFor facts accepts (x ∷ []) ds ds cs cs'
 adds_taken facts accepts x ds cs signed rows holders cs' same (written did as_before) =
     subst (λ (rs : List (List ℕ)). AddsFor facts accepts (x ∷ []) ds ds cs rs) (sym as_before) (adds_nothing facts accepts x ds cs)
 adds_taken facts accepts x ds cs signed rows holders cs' same (was_left is) =
-    adds_concerned facts accepts x ds cs signed rows.facts rows.state cs' same is.added
+    adds_concerned facts accepts x ds cs signed rows.facts.ordered rows.state cs' same is.added

@@ -155,11 +155,11 @@ module _ (accepts : Accepts) (rows : Rows) (x : List ℕ) (left deletes concerne
   x_ready : is_ready (taken rows) x ≡ true
   x_ready = can.ready x (or_left (bytes_eq x x) (list_any (bytes_eq x) left) (own x))
 
-  pub can_judge : CanJudge (taken rows) rows.facts rows.state left x
+  pub can_judge : CanJudge (taken rows) rows.facts.ordered rows.state left x
   can_judge = record {
-    within = arrived_within rows.facts rows.state;
+    within = arrived_within rows.facts.ordered rows.state;
     ready = x_ready;
-    known = λ y t. arrived_is_known rows.facts rows.state h.waiting.known y ∙ t;
+    known = λ y t. arrived_is_known rows.facts.ordered rows.state h.waiting.known y ∙ t;
     before = has_all-implies (taken rows) (passes_or_in (was_judged rows (x ∷ left)) []) (λ d. not (list_any (bytes_eq d) (x ∷ left)))
         (λ d t. (and_parts (is_ready (taken rows) d) (not (list_any (bytes_eq d) (x ∷ left))) (one (was_judged rows (x ∷ left) d) t)).1) x can.reached.0;
     once = x_apart;
@@ -180,17 +180,17 @@ module _ (accepts : Accepts) (rows : Rows) (x : List ℕ) (left deletes concerne
           none true b t = ap not t
           none false b t = refl
 
-  pub listed_now : IsListed rows.facts rows.state rows.changes
-  listed_now = rows_stay_listed (taken rows) rows.facts rows.state rows.state rows.changes (arrived_within rows.facts rows.state) (λ y t. t)
-      (rows_are_listed (taken rows) accepts (x ∷ left) rows.state rows.changes (arrived_is_known rows.facts rows.state h.waiting.known) h.judged h.changed)
+  pub listed_now : IsListed rows.facts.ordered rows.state rows.changes
+  listed_now = rows_stay_listed (taken rows) rows.facts.ordered rows.state rows.state rows.changes (arrived_within rows.facts.ordered rows.state) (λ y t. t)
+      (rows_are_listed (taken rows) accepts (x ∷ left) rows.state rows.changes (arrived_is_known rows.facts.ordered rows.state h.waiting.known) h.judged h.changed)
 
-  module _ (state : States) (changes : Changes) (marks : IsMarked rows.facts accepts rows.state state x) (puts : IsChanged rows.facts accepts rows.changes changes x)
+  module _ (state : States) (changes : Changes) (marks : IsMarked rows.facts.ordered accepts rows.state state x) (puts : IsChanged rows.facts.ordered accepts rows.changes changes x)
       (judged_now : IsJudged (taken rows) accepts left state) (changed_now : IsChangesOf (taken rows) accepts left changes) where
     keys : (y : List ℕ) → contains_key state y ≡ contains_key rows.state y
-    keys = keys_stay rows.facts accepts rows.state state x marks
+    keys = keys_stay rows.facts.ordered accepts rows.state state x marks
 
     same : taken rows ≡ taken (with_judged rows state changes)
-    same = sym (arrived_same rows.facts state rows.state keys)
+    same = sym (arrived_same rows.facts.ordered state rows.state keys)
 
     -- what is left can be judged next
     pub can_go_on : CanBeJudged left (with_judged rows state changes)
@@ -219,18 +219,18 @@ module _ (accepts : Accepts) (rows : Rows) (x : List ℕ) (left deletes concerne
         → ((d : List ℕ) → list_any (bytes_eq d) deletes_now ≡ true → IsGenuineDelete (taken rows) accepts d)
         → AreOnce deletes_now → ((d : List ℕ) → list_any (bytes_eq d) deletes_now ≡ true → list_any (bytes_eq d) left ≡ false)
         → ((q : List ℕ) → list_any (bytes_eq q) concerned ≡ true → list_any (bytes_eq q) concerned_now ≡ true)
-        → ((q : List ℕ) → is_signed_at rows.facts accepts x ≡ true → list_any (bytes_eq q) (fact_concerned x (get rows.facts x)) ≡ true → list_any (bytes_eq q) concerned_now ≡ true)
+        → ((q : List ℕ) → is_signed_at rows.facts.ordered accepts x ≡ true → list_any (bytes_eq q) (fact_concerned x (get rows.facts.ordered x)) ≡ true → list_any (bytes_eq q) concerned_now ≡ true)
         → IsHalfway accepts left deletes_now concerned_now (with_judged rows state changes)
     after deletes_now concerned_now but claims once apart wider covers = record {
-      waiting = waits_still rows.facts accepts rows.state state x marks rows.facts rows.waiters h.waiting;
-      counted = counts_still rows.facts accepts rows.state state x marks rows.facts rows.deletes h.counted;
+      waiting = waits_still rows.facts.ordered accepts rows.state state x marks rows.facts.ordered rows.waiters h.waiting;
+      counted = counts_still rows.facts.ordered accepts rows.state state x marks rows.facts.ordered rows.deletes h.counted;
       judged = subst (λ (at : Facts). IsJudged at accepts left state) same judged_now;
       changed = subst (λ (at : Facts). IsChangesOf at accepts left changes) same changed_now;
       deleted = subst (λ (at : Facts). IsDeletesBut (left ++ deletes_now) at accepts rows.deletes) same but;
       claims = λ d t. subst (λ (at : Facts). IsGenuineDelete at accepts d) same (claims d t);
       once = once;
       apart = apart;
-      held = held_once_judged rows.facts accepts rows.state state rows.changes changes x marks puts fresh concerned_now covers concerned rows.deletes rows.holders wider listed_now h.held;
+      held = held_once_judged rows.facts.ordered accepts rows.state state rows.changes changes x marks puts fresh concerned_now covers concerned rows.deletes rows.holders wider listed_now h.held;
     }
 
     still_apart : (d : List ℕ) → list_any (bytes_eq d) deletes ≡ true → list_any (bytes_eq d) left ≡ false
@@ -239,23 +239,23 @@ module _ (accepts : Accepts) (rows : Rows) (x : List ℕ) (left deletes concerne
     held_fact : (fact : Fact) × (get (taken rows) x ≡ Some fact)
     held_fact = let own_fact = has_fact (taken rows) x x_ready in (own_fact.0, own_fact.1)
 
-    in_facts : get rows.facts x ≡ Some held_fact.0
-    in_facts = arrived_within rows.facts rows.state x held_fact.0 held_fact.1
+    in_facts : get rows.facts.ordered x ≡ Some held_fact.0
+    in_facts = arrived_within rows.facts.ordered rows.state x held_fact.0 held_fact.1
 
-    signed_same : is_signed_at rows.facts accepts x ≡ is_genuine (taken rows) accepts x
-    signed_same = signed_is (taken rows) rows.facts accepts rows.state left x can_judge
+    signed_same : is_signed_at rows.facts.ordered accepts x ≡ is_genuine (taken rows) accepts x
+    signed_same = signed_is (taken rows) rows.facts.ordered accepts rows.state left x can_judge
 
     -- it is judged by its kind where it is signed
-    by_kind : is_signed_at rows.facts accepts x ≡ true → judged_in rows.facts accepts x ≡ kind_judged held_fact.0.kind
-    by_kind t = ap (fact_judged rows.facts accepts) in_facts ∙ ap (λ b. cond b (kind_judged held_fact.0.kind) judged.Nothing) (sym (ap (passes (is_signed rows.facts accepts)) in_facts) ∙ t)
+    by_kind : is_signed_at rows.facts.ordered accepts x ≡ true → judged_in rows.facts.ordered accepts x ≡ kind_judged held_fact.0.kind
+    by_kind t = ap (fact_judged rows.facts.ordered accepts) in_facts ∙ ap (λ b. cond b (kind_judged held_fact.0.kind) judged.Nothing) (sym (ap (passes (is_signed rows.facts.ordered accepts)) in_facts) ∙ t)
 
-    concerned_here : fact_concerned x (get rows.facts x) ≡ concerned_of x held_fact.0.kind
+    concerned_here : fact_concerned x (get rows.facts.ordered x) ≡ concerned_of x held_fact.0.kind
     concerned_here = ap (fact_concerned x) in_facts
 
     -- where it is no genuine delete claim, none is left more or less
-    pub stays_as_it_is : (concerned_now : List (List ℕ)) → (judged_in rows.facts accepts x ≡ judged.Delete → ⊥)
+    pub stays_as_it_is : (concerned_now : List (List ℕ)) → (judged_in rows.facts.ordered accepts x ≡ judged.Delete → ⊥)
         → ((q : List ℕ) → list_any (bytes_eq q) concerned ≡ true → list_any (bytes_eq q) concerned_now ≡ true)
-        → ((q : List ℕ) → is_signed_at rows.facts accepts x ≡ true → list_any (bytes_eq q) (fact_concerned x (get rows.facts x)) ≡ true → list_any (bytes_eq q) concerned_now ≡ true)
+        → ((q : List ℕ) → is_signed_at rows.facts.ordered accepts x ≡ true → list_any (bytes_eq q) (fact_concerned x (get rows.facts.ordered x)) ≡ true → list_any (bytes_eq q) concerned_now ≡ true)
         → IsHalfway accepts left deletes concerned_now (with_judged rows state changes)
     stays_as_it_is concerned_now never wider covers =
         after deletes concerned_now
@@ -276,29 +276,29 @@ module _ (accepts : Accepts) (rows : Rows) (x : List ℕ) (left deletes concerne
         none : (t d : List ℕ) → bytes_eq d x ≡ true → genuine_delete (taken rows) accepts t d ≡ None
         none t d e = ap (genuine_delete (taken rows) accepts t) ((bytes_eq-Decides d x).0 e) ∙ no_date t (is_genuine (taken rows) accepts x) refl
 
-    pub nothing_more : judged_in rows.facts accepts x ≡ judged.Nothing → IsHalfway accepts left deletes concerned (with_judged rows state changes)
+    pub nothing_more : judged_in rows.facts.ordered accepts x ≡ judged.Nothing → IsHalfway accepts left deletes concerned (with_judged rows state changes)
     nothing_more is = stays_as_it_is concerned (λ e. nothing_is_delete (sym is ∙ e)) (λ q t. t) (λ q signed t. absurd (false≢true
         (sym (ap (list_any (bytes_eq q)) (concerned_here ∙ concerns_none x held_fact.0.kind (inl (sym (by_kind signed) ∙ is)))) ∙ t)))
 
-    pub concerns_more : (judged_in rows.facts accepts x ≡ judged.Delete → ⊥)
-        → IsHalfway accepts left deletes (concerned ++ concerned_by rows.facts state x) (with_judged rows state changes)
-    concerns_more never = stays_as_it_is (concerned ++ concerned_by rows.facts state x) never
+    pub concerns_more : (judged_in rows.facts.ordered accepts x ≡ judged.Delete → ⊥)
+        → IsHalfway accepts left deletes (concerned ++ concerned_by rows.facts.ordered state x) (with_judged rows state changes)
+    concerns_more never = stays_as_it_is (concerned ++ concerned_by rows.facts.ordered state x) never
         (λ q t. list_any-append (bytes_eq q) concerned _ ∙ or_left (list_any (bytes_eq q) concerned) _ t)
         (λ q signed t. list_any-append (bytes_eq q) concerned _
-        ∙ or_right (list_any (bytes_eq q) concerned) _ (ap (list_any (bytes_eq q)) (kind_concerns_same state x (get rows.facts x) (genuine_now signed)) ∙ t))
+        ∙ or_right (list_any (bytes_eq q) concerned) _ (ap (list_any (bytes_eq q)) (kind_concerns_same state x (get rows.facts.ordered x) (genuine_now signed)) ∙ t))
       where
-        genuine_now : is_signed_at rows.facts accepts x ≡ true → says_genuine state x ≡ true
+        genuine_now : is_signed_at rows.facts.ordered accepts x ≡ true → says_genuine state x ≡ true
         genuine_now signed = by (get state x) refl
           where
             there : is_some (get state x) ≡ true
-            there = keys x ∙ arrived_is_known rows.facts rows.state h.waiting.known x ∙ ap is_some held_fact.1
+            there = keys x ∙ arrived_is_known rows.facts.ordered rows.state h.waiting.known x ∙ ap is_some held_fact.1
 
             by : (o : Option StateRow) → get state x ≡ o → passes (λ (row : StateRow). row.genuine) o ≡ true
             by None is = absurd (false≢true (sym (ap is_some is) ∙ there))
             by (Some row) is = judged_now.genuine x row is ∙ (λ i. (sym signed_same ∙ signed) i && not (x_apart i))
 
     -- a genuine delete claim joins those that are left to be entered
-    pub delete_more : judged_in rows.facts accepts x ≡ judged.Delete → IsHalfway accepts left (deletes ++ x ∷ []) concerned (with_judged rows state changes)
+    pub delete_more : judged_in rows.facts.ordered accepts x ≡ judged.Delete → IsHalfway accepts left (deletes ++ x ∷ []) concerned (with_judged rows state changes)
     delete_more is =
         after (deletes ++ x ∷ []) concerned
         (fewer_are_left ((x ∷ left) ++ deletes) (left ++ (deletes ++ x ∷ [])) (taken rows) accepts rows.deletes h.deleted
@@ -327,13 +327,13 @@ module _ (accepts : Accepts) (rows : Rows) (x : List ℕ) (left deletes concerne
             list_any-append (bytes_eq d) left (deletes ++ x ∷ []) ∙ ap (λ b. list_any (bytes_eq d) left || b) (list_any-append (bytes_eq d) deletes (x ∷ []))
             ∙ turned (bytes_eq d x) (list_any (bytes_eq d) left) (list_any (bytes_eq d) deletes) ∙ ap (λ b. bytes_eq d x || b) (sym (list_any-append (bytes_eq d) left deletes))
 
-        signed_true : is_signed_at rows.facts accepts x ≡ true
-        signed_true = from (passes (is_signed rows.facts accepts) (get rows.facts x)) refl
+        signed_true : is_signed_at rows.facts.ordered accepts x ≡ true
+        signed_true = from (passes (is_signed rows.facts.ordered accepts) (get rows.facts.ordered x)) refl
           where
-            from : (b : Bool) → passes (is_signed rows.facts accepts) (get rows.facts x) ≡ b → is_signed_at rows.facts accepts x ≡ true
+            from : (b : Bool) → passes (is_signed rows.facts.ordered accepts) (get rows.facts.ordered x) ≡ b → is_signed_at rows.facts.ordered accepts x ≡ true
             from true e = e
-            from false e = absurd (nothing_is_delete (sym (ap (fact_judged rows.facts accepts) in_facts
-                ∙ ap (λ b. cond b (kind_judged held_fact.0.kind) judged.Nothing) (sym (ap (passes (is_signed rows.facts accepts)) in_facts) ∙ e)) ∙ is))
+            from false e = absurd (nothing_is_delete (sym (ap (fact_judged rows.facts.ordered accepts) in_facts
+                ∙ ap (λ b. cond b (kind_judged held_fact.0.kind) judged.Nothing) (sym (ap (passes (is_signed rows.facts.ordered accepts)) in_facts) ∙ e)) ∙ is))
 
         this_one : IsGenuineDelete (taken rows) accepts x
         this_one =

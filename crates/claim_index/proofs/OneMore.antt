@@ -1,5 +1,5 @@
 -- A fact that is put among those of an index at rest is one more.
-use Rattle.std.proofs.Common.{◌≡◌, ℕ, Bool, true, false, ◌||◌, cond, List, [], Option, None, Some, is_some, refl, sym, ap, ◌∙◌, ◌⊎◌, inl, inr}
+use Rattle.std.proofs.Common.{◌≡◌, ℕ, Bool, true, false, ◌||◌, cond, List, [], Option, None, Some, is_some, refl, sym, ap, subst, ◌∙◌, ◌⊎◌, inl, inr}
 use Rattle.std.proofs.lemmas.Bool.{cases_Bool, false≢true}
 use Rattle.std.proofs.lemmas.Slice.Eq.{bytes_eq-Decides}
 use Rattle.std.specs.Str.{bytes_eq}
@@ -11,13 +11,15 @@ use Rattle.schema_fact.specs.declared.kinds.Fact.{Fact}
 use Rattle.claim_model.specs.Facts.{Facts}
 use Rattle.claim_model.specs.Least.{IsWithin}
 use Rattle.index_look.proofs.Order.{is_Equal}
+use Rattle.index_rows.specs.declared.fact_rows.FactRows.{FactRows}
 use Rattle.index_rows.specs.declared.rows.Rows.{Rows}
+use Rattle.index_rows.specs.Loose.{LooseRow}
 use Rattle.index_rows.proofs.Orders.{ref_total, ref_same}
 use Rattle.index_rows.proofs.Puts.{put_at, put_beside}
 use Rattle.index_meaning.proofs.Growth.{held_stays_with_facts, rows_are_as_before}
 use Rattle.index_meaning.proofs.Listing.{rows_are_listed}
 use Rattle.index_meaning.proofs.Progressing.{rest_is_taken_up, facts_are_added}
-use Rattle.claim_index.specs.Halfway.{HasOneMore, Rests}
+use Rattle.claim_index.specs.Halfway.{with_facts, HasOneMore, Rests}
 
 lacking : {A : Type 0} (o : Option A) → is_some o ≡ false → o ≡ None
 lacking None h = refl
@@ -52,19 +54,11 @@ module _ (facts : Facts) (r : List ℕ) (fact : Fact) (absent : contains_key fac
           same_eq y t = ref_same y r (is_Equal (ref_cmp y r) t)
       by y (inr f) = twice (eq_by_cmp ref_cmp y r) (get facts y) f
 
-abbrev pub with_fact : Rows → List ℕ → Fact → Rows
-with_fact rows r fact = record {
-  facts = insert rows.facts r fact;
-  state = rows.state;
-  waiters = rows.waiters;
-  deletes = rows.deletes;
-  changes = rows.changes;
-  holders = rows.holders;
-}
-
-pub one_more : (accepts : Accepts) (rows : Rows) (r : List ℕ) (fact : Fact) → Rests accepts rows → contains_key rows.facts r ≡ false → HasOneMore accepts (with_fact rows r fact) r
-one_more accepts rows r fact rest absent =
-    let facts = rows.facts in
+one_in_order : (accepts : Accepts) (rows : Rows) (loose : List LooseRow) (r : List ℕ) (fact : Fact) → Rests accepts rows
+    → contains_key rows.facts.ordered r ≡ false
+    → HasOneMore accepts (with_facts rows (record { ordered = insert rows.facts.ordered r fact; loose = loose })) r
+one_in_order accepts rows loose r fact rest absent =
+    let facts = rows.facts.ordered in
     let more = insert facts r fact in
     let within = added_within facts r fact absent in
     let known : (y : List ℕ) → contains_key rows.state y ≡ true → contains_key facts y ≡ true = λ y t. sym (rest.arrived y) ∙ t in
@@ -87,6 +81,14 @@ one_more accepts rows r fact rest absent =
       others = λ y. by y (cases_Bool (bytes_eq y r)) ∙ ap (λ b. bytes_eq y r || b) (sym (rest.arrived y));
     }
   where
-    by : (y : List ℕ) → (bytes_eq y r ≡ true) ⊎ (bytes_eq y r ≡ false) → contains_key (insert rows.facts r fact) y ≡ (bytes_eq y r || contains_key rows.facts y)
-    by y (inl t) = ap is_some (put_at rows.facts r fact y t) ∙ sym (ap (λ b. b || contains_key rows.facts y) t)
-    by y (inr f) = ap is_some (put_beside rows.facts r fact y f) ∙ sym (ap (λ b. b || contains_key rows.facts y) f)
+    by : (y : List ℕ) → (bytes_eq y r ≡ true) ⊎ (bytes_eq y r ≡ false) → contains_key (insert rows.facts.ordered r fact) y ≡ (bytes_eq y r || contains_key rows.facts.ordered y)
+    by y (inl t) = ap is_some (put_at rows.facts.ordered r fact y t) ∙ sym (ap (λ b. b || contains_key rows.facts.ordered y) t)
+    by y (inr f) = ap is_some (put_beside rows.facts.ordered r fact y f) ∙ sym (ap (λ b. b || contains_key rows.facts.ordered y) f)
+
+-- whatever rows are loose
+pub one_more : (accepts : Accepts) (rows : Rows) (facts : FactRows) (r : List ℕ) (fact : Fact) → Rests accepts rows
+    → contains_key rows.facts.ordered r ≡ false → facts.ordered ≡ insert rows.facts.ordered r fact
+    → HasOneMore accepts (with_facts rows facts) r
+one_more accepts rows facts r fact rest absent is =
+    subst (λ (m : Facts). HasOneMore accepts (with_facts rows (record { ordered = m; loose = facts.loose })) r) (sym is)
+    (one_in_order accepts rows facts.loose r fact rest absent)

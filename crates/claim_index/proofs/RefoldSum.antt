@@ -27,6 +27,7 @@ use Rattle.claim_index.specs.Costs.{AreTaken, IsCovered, change_count, refolds_s
 use Rattle.claim_index.proofs.Distinct.{once_sorted}
 use Rattle.claim_index.proofs.LoopTicks.{left, right}
 use Rattle.claim_index.proofs.TouchedSum.{sum_bound, sum_both}
+use Rattle.index_rows.proofs.LooseFacts.{in_order}
 
 module _ (f : List ℕ → ℕ) where
   abbrev nothing : List ℕ → Bool
@@ -177,13 +178,13 @@ module _ (facts : Facts) (accepts : Accepts) (state : States) (changes : Changes
 
 -- rows whose facts, states and changes stay ask for as many steps
 pub same_steps : (rows after : Rows) → after.facts ≡ rows.facts → after.state ≡ rows.state → after.changes ≡ rows.changes → (p : List ℕ)
-    → refold_steps after.facts after.state after.changes p ≡ refold_steps rows.facts rows.state rows.changes p
-same_steps rows after facts state changes p = λ i. refold_steps (facts i) (state i) (changes i) p
+    → refold_steps after.facts.ordered after.state after.changes p ≡ refold_steps rows.facts.ordered rows.state rows.changes p
+same_steps rows after facts state changes p = λ i. refold_steps (in_order facts i) (state i) (changes i) p
 
 pub refolds_whole : (rows : Rows) (accepts : Accepts) (items concerned heads ps : List (List ℕ)) → IsStrictlySortedBy ref_cmp items
     → ((q : List ℕ) → list_any (bytes_eq q) items ≡ list_any (bytes_eq q) concerned) → IsChangesOf (taken rows) accepts [] rows.changes → AreTaken rows
-    → IsCovered rows.facts accepts concerned heads ps
-    → sum_by (refold_steps rows.facts rows.state rows.changes) items ≤ refolds_steps rows.facts accepts heads ps
+    → IsCovered rows.facts.ordered accepts concerned heads ps
+    → sum_by (refold_steps rows.facts.ordered rows.state rows.changes) items ≤ refolds_steps rows.facts.ordered accepts heads ps
 refolds_whole rows accepts items concerned heads ps up same changed all is =
-    refolds_sum rows.facts accepts rows.state rows.changes (subst (λ (f : Facts). IsChangesOf f accepts [] rows.changes) (all_have_arrived rows.facts rows.state all) changed)
+    refolds_sum rows.facts.ordered accepts rows.state rows.changes (subst (λ (f : Facts). IsChangesOf f accepts [] rows.changes) (all_have_arrived rows.facts.ordered rows.state all) changed)
     items concerned heads ps (once_sorted items up) same is

@@ -41,7 +41,7 @@ same-trans rows mid new a b = record {
 
 -- the rows of holders are right but for these permanodes
 abbrev pub AreHeldBut : List (List ℕ) → Rows → Type 0
-AreHeldBut but rows = IsHeldBut but rows.facts rows.state rows.deletes rows.changes rows.holders
+AreHeldBut but rows = IsHeldBut but rows.facts.ordered rows.state rows.deletes rows.changes rows.holders
 
 module _ (rows new : Rows) (same : IsSameBeside rows new) where
   pub same_rows : with_holders rows new.holders ≡ new
@@ -56,11 +56,11 @@ module _ (rows new : Rows) (same : IsSameBeside rows new) where
 
   -- right for the tables as they were is right for them now
   pub held_now : (but : List (List ℕ))
-      → IsHeldBut but rows.facts rows.state rows.deletes rows.changes new.holders → AreHeldBut but new
+      → IsHeldBut but rows.facts.ordered rows.state rows.deletes rows.changes new.holders → AreHeldBut but new
   held_now but held = subst (AreHeldBut but) same_rows held
 
   held_before : (but : List (List ℕ)) → AreHeldBut but new
-      → IsHeldBut but rows.facts rows.state rows.deletes rows.changes new.holders
+      → IsHeldBut but rows.facts.ordered rows.state rows.deletes rows.changes new.holders
   held_before but held = subst (AreHeldBut but) (sym same_rows) held
 
   pub still_finished : (but concerned : List (List ℕ)) → CanBeFinished [] concerned rows → AreHeldBut but new

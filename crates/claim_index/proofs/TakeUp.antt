@@ -24,6 +24,7 @@ use Rattle.claim_index.specs.Following.{AreFewOn}
 use Rattle.claim_index.specs.Judging.{is_signed_at}
 use Rattle.claim_index.proofs.Concerned.{all_covered, few_changes, in_keys, puts_covered}
 use Rattle.claim_index.proofs.TouchedSum.{heads, touched_sum}
+use Rattle.index_rows.proofs.LooseFacts.{in_order}
 
 pub says_delete : (x : List ℕ) (kind : Kind) → is_some (delete_date x kind) ≡ true → is_delete kind ≡ true
 says_delete x Plain h = absurd (false≢true h)
@@ -52,79 +53,79 @@ or_none : {b : Bool} → (false || b) ≡ true → b ≡ true
 or_none t = t
 
 module _ (accepts : Accepts) (rows : Rows) (r : List ℕ) (more : HasOneMore accepts rows r) where
-  all_with : arrived_with rows.facts rows.state r ≡ rows.facts
+  all_with : arrived_with rows.facts.ordered rows.state r ≡ rows.facts.ordered
   all_with = same_map ref_total ref_same _ _ (λ y.
-      get-retain_keys rows.facts (λ x. bytes_eq x r || contains_key rows.state x) y (λ x t. ap (λ z. bytes_eq z r || contains_key rows.state z) (sym (ref_same y x t)))
-      ∙ ap (λ b. cond b (get rows.facts y) None) (sym (more.others y)) ∙ own (get rows.facts y))
+      get-retain_keys rows.facts.ordered (λ x. bytes_eq x r || contains_key rows.state x) y (λ x t. ap (λ z. bytes_eq z r || contains_key rows.state z) (sym (ref_same y x t)))
+      ∙ ap (λ b. cond b (get rows.facts.ordered y) None) (sym (more.others y)) ∙ own (get rows.facts.ordered y))
     where
       own : (o : Option Fact) → cond (is_some o) o None ≡ o
       own None = refl
       own (Some fact) = refl
 
-  known : list_any (bytes_eq r) (keys rows.facts) ≡ true
-  known = in_keys rows.facts r (ap is_some more.fresh.found)
+  known : list_any (bytes_eq r) (keys rows.facts.ordered) ≡ true
+  known = in_keys rows.facts.ordered r (ap is_some more.fresh.found)
 
   abbrev fresh : List (List ℕ)
-  fresh = became (is_ready (taken rows)) rows.facts
+  fresh = became (is_ready (taken rows)) rows.facts.ordered
 
-  freed_is : freed rows.facts rows.state r ≡ fresh
+  freed_is : freed rows.facts.ordered rows.state r ≡ fresh
   freed_is = ap (λ (f : Facts). became (is_ready (taken rows)) f) all_with
 
-  taking_is : taking_steps rows.facts accepts rows.state r
-      ≡ 2 + 3 * length (needs_of rows.facts r) + length fresh + 4 * length (namings rows.facts (becomes (is_ready (taken rows)) rows.facts)) + sum_by (look_steps rows.facts accepts) fresh
-  taking_is = ap (λ (f : Facts). 2 + 3 * length (needs_of rows.facts r) + length (became (is_ready (taken rows)) f) + 4 * length (namings f (becomes (is_ready (taken rows)) f))
-      + sum_by (look_steps rows.facts accepts) (became (is_ready (taken rows)) f)) all_with
+  taking_is : taking_steps rows.facts.ordered accepts rows.state r
+      ≡ 2 + 3 * length (needs_of rows.facts.ordered r) + length fresh + 4 * length (namings rows.facts.ordered (becomes (is_ready (taken rows)) rows.facts.ordered)) + sum_by (look_steps rows.facts.ordered accepts) fresh
+  taking_is = ap (λ (f : Facts). 2 + 3 * length (needs_of rows.facts.ordered r) + length (became (is_ready (taken rows)) f) + 4 * length (namings f (becomes (is_ready (taken rows)) f))
+      + sum_by (look_steps rows.facts.ordered accepts) (became (is_ready (taken rows)) f)) all_with
 
   -- the genuine changes on all whom what is new changes
   abbrev pub all_changes : ℕ
-  all_changes = sum_by (change_count rows.facts accepts) (changed_refs (taken rows) rows.facts accepts r)
+  all_changes = sum_by (change_count rows.facts.ordered accepts) (changed_refs (taken rows) rows.facts.ordered accepts r)
 
-  pub few_freed : AreFewOn rows.facts accepts (freed rows.facts rows.state r) all_changes
-  few_freed = subst (λ (xs : List (List ℕ)). AreFewOn rows.facts accepts xs all_changes) (sym freed_is) (few_changes (taken rows) rows.facts accepts r known)
+  pub few_freed : AreFewOn rows.facts.ordered accepts (freed rows.facts.ordered rows.state r) all_changes
+  few_freed = subst (λ (xs : List (List ℕ)). AreFewOn rows.facts.ordered accepts xs all_changes) (sym freed_is) (few_changes (taken rows) rows.facts.ordered accepts r known)
 
   -- where taking in ends for want of memory
-  pub taken_ticks : (first last : ℕ) → last ≤ first + taking_steps rows.facts accepts rows.state r + 8 + 4 * all_changes → last ≤ first + 14 + 16 * length (touched_in (taken rows) rows.facts accepts r)
+  pub taken_ticks : (first last : ℕ) → last ≤ first + taking_steps rows.facts.ordered accepts rows.state r + 8 + 4 * all_changes → last ≤ first + 12 + 16 * length (touched_in (taken rows) rows.facts.ordered accepts r)
   taken_ticks first last h =
-      let s = touched_sum (taken rows) rows.facts accepts r known [] tt (λ d t. absurd (false≢true t)) (λ d t. absurd (false≢true t)) (puts_covered (taken rows) rows.facts accepts r known) in
+      let s = touched_sum (taken rows) rows.facts.ordered accepts r known [] tt (λ d t. absurd (false≢true t)) (λ d t. absurd (false≢true t)) (puts_covered (taken rows) rows.facts.ordered accepts r known) in
       let e = taking_is in
       omega (arith, h, s, e)
 
   module _ (now : Rows) (same : now.facts ≡ rows.facts) (arrived_now : (y : List ℕ) → contains_key now.state y ≡ (bytes_eq y r || contains_key rows.state y))
       (ds cs deletes concerned : List (List ℕ)) (no_deletes : ds ≡ []) (none_concerned : cs ≡ [])
-      (adds : AddsFor rows.facts accepts (freed rows.facts rows.state r) ds deletes cs concerned) (half : IsHalfway accepts [] deletes concerned now) where
+      (adds : AddsFor rows.facts.ordered accepts (freed rows.facts.ordered rows.state r) ds deletes cs concerned) (half : IsHalfway accepts [] deletes concerned now) where
     pub are_taken : AreTaken now
-    are_taken y = arrived_now y ∙ sym (more.others y) ∙ ap (λ (f : Facts). contains_key f y) (sym same)
+    are_taken y = arrived_now y ∙ sym (more.others y) ∙ ap (λ (f : Facts). contains_key f y) (sym (in_order same))
 
-    is_taken : taken now ≡ rows.facts
-    is_taken = all_have_arrived now.facts now.state are_taken ∙ same
+    is_taken : taken now ≡ rows.facts.ordered
+    is_taken = all_have_arrived now.facts.ordered now.state are_taken ∙ in_order same
 
-    genuine : (d : List ℕ) → list_any (bytes_eq d) deletes ≡ true → is_genuine_delete rows.facts accepts d ≡ true
+    genuine : (d : List ℕ) → list_any (bytes_eq d) deletes ≡ true → is_genuine_delete rows.facts.ordered accepts d ≡ true
     genuine d t = ap (λ (f : Facts). is_genuine_delete f accepts d) (sym is_taken) ∙ is_one (taken now) accepts d (half.claims d t)
 
     among : (d : List ℕ) → list_any (bytes_eq d) deletes ≡ true → list_any (bytes_eq d) fresh ≡ true
-    among d t = ap (list_any (bytes_eq d)) (sym freed_is) ∙ or_none (ap (λ (xs : List (List ℕ)). list_any (bytes_eq d) xs || list_any (bytes_eq d) (freed rows.facts rows.state r)) (sym no_deletes) ∙ adds.deletes d t)
+    among d t = ap (list_any (bytes_eq d)) (sym freed_is) ∙ or_none (ap (λ (xs : List (List ℕ)). list_any (bytes_eq d) xs || list_any (bytes_eq d) (freed rows.facts.ordered rows.state r)) (sym no_deletes) ∙ adds.deletes d t)
 
-    by_fresh : (p : List ℕ) → list_any (bytes_eq p) concerned ≡ true → list_any (bytes_eq p) (may_concern rows.facts (is_signed_at rows.facts accepts) fresh) ≡ true
-    by_fresh p t = ap (λ (xs : List (List ℕ)). list_any (bytes_eq p) (may_concern rows.facts (is_signed_at rows.facts accepts) xs)) (sym freed_is)
-        ∙ or_none (ap (λ (xs : List (List ℕ)). list_any (bytes_eq p) xs || list_any (bytes_eq p) (may_concern rows.facts (is_signed_at rows.facts accepts) (freed rows.facts rows.state r))) (sym none_concerned)
+    by_fresh : (p : List ℕ) → list_any (bytes_eq p) concerned ≡ true → list_any (bytes_eq p) (may_concern rows.facts.ordered (is_signed_at rows.facts.ordered accepts) fresh) ≡ true
+    by_fresh p t = ap (λ (xs : List (List ℕ)). list_any (bytes_eq p) (may_concern rows.facts.ordered (is_signed_at rows.facts.ordered accepts) xs)) (sym freed_is)
+        ∙ or_none (ap (λ (xs : List (List ℕ)). list_any (bytes_eq p) xs || list_any (bytes_eq p) (may_concern rows.facts.ordered (is_signed_at rows.facts.ordered accepts) (freed rows.facts.ordered rows.state r))) (sym none_concerned)
         ∙ adds.concerned p t)
 
     abbrev first_refs : List (List ℕ)
-    first_refs = heads (taken rows) rows.facts accepts r
+    first_refs = heads (taken rows) rows.facts.ordered accepts r
 
     abbrev second_refs : List (List ℕ)
-    second_refs = changed_refs (taken rows) rows.facts accepts r
+    second_refs = changed_refs (taken rows) rows.facts.ordered accepts r
 
-    pub covers_all : IsCovered now.facts accepts (all_concerned now.facts accepts deletes concerned) first_refs second_refs
-    covers_all = subst (λ (f : Facts). IsCovered f accepts (all_concerned f accepts deletes concerned) first_refs second_refs) (sym same)
-        (all_covered (taken rows) rows.facts accepts r known deletes concerned genuine among by_fresh)
+    pub covers_all : IsCovered now.facts.ordered accepts (all_concerned now.facts.ordered accepts deletes concerned) first_refs second_refs
+    covers_all = subst (λ (f : Facts). IsCovered f accepts (all_concerned f accepts deletes concerned) first_refs second_refs) (sym (in_order same))
+        (all_covered (taken rows) rows.facts.ordered accepts r known deletes concerned genuine among by_fresh)
 
-    pub finished_ticks : (first mid last : ℕ) → mid ≤ first + taking_steps rows.facts accepts rows.state r + 8 + 4 * all_changes
-        → last ≤ mid + finish_steps now.facts accepts deletes first_refs second_refs
-        → last ≤ first + 14 + 16 * length (touched_in (taken rows) rows.facts accepts r)
+    pub finished_ticks : (first mid last : ℕ) → mid ≤ first + taking_steps rows.facts.ordered accepts rows.state r + 8 + 4 * all_changes
+        → last ≤ mid + finish_steps now.facts.ordered accepts deletes first_refs second_refs
+        → last ≤ first + 12 + 16 * length (touched_in (taken rows) rows.facts.ordered accepts r)
     finished_ticks first mid last a b =
-        let s = touched_sum (taken rows) rows.facts accepts r known deletes half.once genuine among (puts_covered (taken rows) rows.facts accepts r known) in
+        let s = touched_sum (taken rows) rows.facts.ordered accepts r known deletes half.once genuine among (puts_covered (taken rows) rows.facts.ordered accepts r known) in
         let e = taking_is in
-        let f : finish_steps now.facts accepts deletes first_refs second_refs ≡ finish_steps rows.facts accepts deletes first_refs second_refs
-        = ap (λ (g : Facts). finish_steps g accepts deletes first_refs second_refs) same in
+        let f : finish_steps now.facts.ordered accepts deletes first_refs second_refs ≡ finish_steps rows.facts.ordered accepts deletes first_refs second_refs
+        = ap (λ (g : Facts). finish_steps g accepts deletes first_refs second_refs) (in_order same) in
         omega (arith, a, b, s, e, f)

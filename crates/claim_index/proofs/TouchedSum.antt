@@ -189,7 +189,7 @@ module _ (facts more : Facts) (accepts : Accepts) (r : List ℕ) (known : list_a
 
     pub touched_sum : 2 + 3 * length (needs_of more r) + length fresh + 4 * length (namings more (becomes (is_ready facts) more))
         + sum_by (look_steps more accepts) fresh + finish_steps more accepts deletes (heads facts more accepts r) ps
-        + 8 + 4 * sum_by (change_count more accepts) ps ≤ 14 + 16 * length (touched_in facts more accepts r)
+        + 8 + 4 * sum_by (change_count more accepts) ps ≤ 12 + 16 * length (touched_in facts more accepts r)
     touched_sum =
         let a = fresh_length in let b = own_needs in let c = namings_less more (becomes (is_ready facts) more) (is_new facts more r) becomes_new in
         let d = looked in let e = entered (enter_steps more accepts) in let f = heads_length in

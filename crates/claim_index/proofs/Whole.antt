@@ -21,6 +21,7 @@ use Rattle.index_meaning.proofs.Progressing.{nothing_is_taken_up, taken_up_is_at
 use Rattle.index_meaning.proofs.Concerning.{none_is_held}
 use Rattle.pending_deps.specs.Arriving.{IsNew}
 use Rattle.claim_index.specs.Halfway.{IsHalfway, IsNext, IsTakenTo, Rests}
+use Rattle.index_rows.proofs.LooseFacts.{in_order}
 
 -- ---- tables without rows
 
@@ -29,7 +30,7 @@ facts_alone rows = record { facts = rows.facts; state = empty; waiters = empty; 
 
 nothing_left : (accepts : Accepts) (rows : Rows) → IsHalfway accepts [] [] [] (facts_alone rows)
 nothing_left accepts rows =
-    let up = nothing_is_taken_up rows.facts accepts in
+    let up = nothing_is_taken_up rows.facts.ordered accepts in
     record {
       waiting = up.waiting;
       counted = up.counted;
@@ -39,7 +40,7 @@ nothing_left accepts rows =
       claims = λ d t. absurd (false≢true t);
       once = tt;
       apart = λ d t. absurd (false≢true t);
-      held = none_is_held [] rows.facts empty empty empty (λ p t. absurd (false≢true (sym (unsaid p) ∙ (and_parts _ (says_genuine empty p) t).1)));
+      held = none_is_held [] rows.facts.ordered empty empty empty (λ p t. absurd (false≢true (sym (unsaid p) ∙ (and_parts _ (says_genuine empty p) t).1)));
     }
   where
     unsaid : (p : List ℕ) → says_genuine empty p ≡ false
@@ -52,7 +53,7 @@ no_rows accepts rows state waiters deletes changes holders = subst (IsHalfway ac
     (nothing_left accepts rows)
 
 pub none_taken : (rows : Rows) → rows.state ≡ empty → IsTakenTo rows None
-none_taken rows state y = ap (λ (m : States). contains_key m y) state ∙ ap is_some (get-empty ref_cmp y) ∙ sym (none (contains_key rows.facts y))
+none_taken rows state y = ap (λ (m : States). contains_key m y) state ∙ ap is_some (get-empty ref_cmp y) ∙ sym (none (contains_key rows.facts.ordered y))
   where
     none : (b : Bool) → (b && false) ≡ false
     none true = refl
@@ -88,17 +89,17 @@ behind facts last y = any-filter (λ (e : Entry). bytes_eq y e.0) (λ (e : Entry
         let value = a_value (get facts y) parts.0 in
         any_get ref_total ref_same test facts y value.0 value.1 (λ i. parts.1 i && (bytes_eq-Decides y y).1 refl i)
 
-module _ (rows : Rows) (last : Option (List ℕ)) (r : List ℕ) (next : IsNext rows.facts last r) (taken : IsTakenTo rows last) where
+module _ (rows : Rows) (last : Option (List ℕ)) (r : List ℕ) (next : IsNext rows.facts.ordered last r) (taken : IsTakenTo rows last) where
   -- r is behind the last one, and what else is, is behind r
-  split : (y : List ℕ) → (contains_key rows.facts y && is_after last y) ≡ (bytes_eq y r || (contains_key rows.facts y && is_after (Some r) y))
-  split y = sym (behind rows.facts last y) ∙ ap (list_any (λ (e : Entry). bytes_eq y e.0)) next.rest ∙ ap (λ b. bytes_eq y r || b) (behind rows.facts (Some r) y)
+  split : (y : List ℕ) → (contains_key rows.facts.ordered y && is_after last y) ≡ (bytes_eq y r || (contains_key rows.facts.ordered y && is_after (Some r) y))
+  split y = sym (behind rows.facts.ordered last y) ∙ ap (list_any (λ (e : Entry). bytes_eq y e.0)) next.rest ∙ ap (λ b. bytes_eq y r || b) (behind rows.facts.ordered (Some r) y)
 
-  own_parts : (contains_key rows.facts r ≡ true) × (is_after last r ≡ true)
-  own_parts = and_parts (contains_key rows.facts r) (is_after last r) (split r ∙ ap (λ b. b || (contains_key rows.facts r && is_after (Some r) r)) ((bytes_eq-Decides r r).1 refl))
+  own_parts : (contains_key rows.facts.ordered r ≡ true) × (is_after last r ≡ true)
+  own_parts = and_parts (contains_key rows.facts.ordered r) (is_after last r) (split r ∙ ap (λ b. b || (contains_key rows.facts.ordered r && is_after (Some r) r)) ((bytes_eq-Decides r r).1 refl))
 
-  pub next_is_new : IsNew rows.facts rows.state r
+  pub next_is_new : IsNew rows.facts.ordered rows.state r
   next_is_new =
-      let found = a_value (get rows.facts r) own_parts.0 in
+      let found = a_value (get rows.facts.ordered r) own_parts.0 in
       record { fact = found.0; found = found.1; absent = lacking (get rows.state r) (taken r ∙ (λ i. own_parts.0 i && not (own_parts.1 i))) }
     where
       lacking : (o : Option StateRow) → is_some o ≡ false → o ≡ None
@@ -107,10 +108,10 @@ module _ (rows : Rows) (last : Option (List ℕ)) (r : List ℕ) (next : IsNext 
 
   pub taken_to_next : (new : Rows) → new.facts ≡ rows.facts → ((y : List ℕ) → contains_key new.state y ≡ (bytes_eq y r || contains_key rows.state y)) → IsTakenTo new (Some r)
   taken_to_next new facts came y =
-      came y ∙ ap (λ b. bytes_eq y r || b) (taken y) ∙ by (cases_Bool (bytes_eq y r)) ∙ ap (λ (f : Facts). contains_key f y && not (is_after (Some r) y)) (sym facts)
+      came y ∙ ap (λ b. bytes_eq y r || b) (taken y) ∙ by (cases_Bool (bytes_eq y r)) ∙ ap (λ (f : Facts). contains_key f y && not (is_after (Some r) y)) (sym (in_order facts))
     where
       goal_at : Bool → Type 0
-      goal_at b = (b || (contains_key rows.facts y && not (is_after last y))) ≡ (contains_key rows.facts y && not (is_after (Some r) y))
+      goal_at b = (b || (contains_key rows.facts.ordered y && not (is_after last y))) ≡ (contains_key rows.facts.ordered y && not (is_after (Some r) y))
 
       other : (c a b : Bool) → (c && a) ≡ (false || (c && b)) → (c && not a) ≡ (c && not b)
       other true a b e = ap not e
@@ -119,15 +120,15 @@ module _ (rows : Rows) (last : Option (List ℕ)) (r : List ℕ) (next : IsNext 
       by : (bytes_eq y r ≡ true) ⊎ (bytes_eq y r ≡ false) → goal_at (bytes_eq y r)
       by (inl t) =
           let same = (bytes_eq-Decides y r).0 t in
-          subst goal_at (sym t) (sym (λ i. (ap (contains_key rows.facts) same ∙ own_parts.0) i && not ((ap (is_after (Some r)) same ∙ not_behind r) i)))
-      by (inr f) = subst goal_at (sym f) (other (contains_key rows.facts y) (is_after last y) (is_after (Some r) y)
-          (split y ∙ ap (λ b. b || (contains_key rows.facts y && is_after (Some r) y)) f))
+          subst goal_at (sym t) (sym (λ i. (ap (contains_key rows.facts.ordered) same ∙ own_parts.0) i && not ((ap (is_after (Some r)) same ∙ not_behind r) i)))
+      by (inr f) = subst goal_at (sym f) (other (contains_key rows.facts.ordered y) (is_after last y) (is_after (Some r) y)
+          (split y ∙ ap (λ b. b || (contains_key rows.facts.ordered y && is_after (Some r) y)) f))
 
-  pub fewer_left : length (entries_after rows.facts (Some r)) < length (entries_after rows.facts last)
-  fewer_left = let e : length (entries_after rows.facts last) ≡ suc (length (entries_after rows.facts (Some r))) = ap length next.rest in omega (arith, e)
+  pub fewer_left : length (entries_after rows.facts.ordered (Some r)) < length (entries_after rows.facts.ordered last)
+  fewer_left = let e : length (entries_after rows.facts.ordered last) ≡ suc (length (entries_after rows.facts.ordered (Some r))) = ap length next.rest in omega (arith, e)
 
-pub all_taken : (rows : Rows) (last : Option (List ℕ)) → entries_after rows.facts last ≡ [] → IsTakenTo rows last → (y : List ℕ) → contains_key rows.state y ≡ contains_key rows.facts y
-all_taken rows last none taken y = taken y ∙ by (contains_key rows.facts y) (is_after last y) (sym (behind rows.facts last y) ∙ ap (list_any (λ (e : Entry). bytes_eq y e.0)) none)
+pub all_taken : (rows : Rows) (last : Option (List ℕ)) → entries_after rows.facts.ordered last ≡ [] → IsTakenTo rows last → (y : List ℕ) → contains_key rows.state y ≡ contains_key rows.facts.ordered y
+all_taken rows last none taken y = taken y ∙ by (contains_key rows.facts.ordered y) (is_after last y) (sym (behind rows.facts.ordered last y) ∙ ap (list_any (λ (e : Entry). bytes_eq y e.0)) none)
   where
     by : (c a : Bool) → (c && a) ≡ false → (c && not a) ≡ c
     by true a h = ap not h
@@ -135,12 +136,12 @@ all_taken rows last none taken y = taken y ∙ by (contains_key rows.facts y) (i
 
 -- ---- the end
 
-pub all_rests : (accepts : Accepts) (rows : Rows) → IsHalfway accepts [] [] [] rows → ((y : List ℕ) → contains_key rows.state y ≡ contains_key rows.facts y) → Rests accepts rows
-all_rests accepts rows h all = taken_up_is_at_rest rows.facts accepts rows.state rows.waiters rows.deletes rows.changes rows.holders
+pub all_rests : (accepts : Accepts) (rows : Rows) → IsHalfway accepts [] [] [] rows → ((y : List ℕ) → contains_key rows.state y ≡ contains_key rows.facts.ordered y) → Rests accepts rows
+all_rests accepts rows h all = taken_up_is_at_rest rows.facts.ordered accepts rows.state rows.waiters rows.deletes rows.changes rows.holders
     (record { waiting = h.waiting; judged = h.judged; deleted = h.deleted; changed = h.changed; counted = h.counted }) all h.held
 
 -- once what is left was done
-pub rests_once : {T E : Type 0} (r : Result T E) (accepts : Accepts) (rows new : Rows) → new.facts ≡ rows.facts → ((y : List ℕ) → contains_key rows.state y ≡ contains_key rows.facts y)
+pub rests_once : {T E : Type 0} (r : Result T E) (accepts : Accepts) (rows new : Rows) → new.facts ≡ rows.facts → ((y : List ℕ) → contains_key rows.state y ≡ contains_key rows.facts.ordered y)
     → OnOk r ((y : List ℕ) → contains_key new.state y ≡ contains_key rows.state y) → OnOk r (IsHalfway accepts [] [] [] new) → OnOk r (Rests accepts new)
-rests_once (Ok x) accepts rows new facts all taken half = all_rests accepts new half (λ y. taken y ∙ all y ∙ ap (λ (f : Facts). contains_key f y) (sym facts))
+rests_once (Ok x) accepts rows new facts all taken half = all_rests accepts new half (λ y. taken y ∙ all y ∙ ap (λ (f : Facts). contains_key f y) (sym (in_order facts)))
 rests_once (Err e) accepts rows new facts all taken half = tt

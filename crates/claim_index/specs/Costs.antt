@@ -87,7 +87,7 @@ all_concerned facts accepts deletes concerned =
 
 -- each fact was taken up
 abbrev pub AreTaken : Rows → Type 0
-AreTaken rows = (y : List ℕ) → contains_key rows.state y ≡ contains_key rows.facts y
+AreTaken rows = (y : List ℕ) → contains_key rows.state y ≡ contains_key rows.facts.ordered y
 
 -- three for each of the heads, and seven for each change on one of the others: four to fold it, and three for its ref
 abbrev pub refolds_steps : Facts → Accepts → List (List ℕ) → List (List ℕ) → ℕ

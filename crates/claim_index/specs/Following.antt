@@ -42,22 +42,22 @@ change_by facts x = option_and_then (λ fact. kind_change x fact.kind) (get fact
 
 -- the counts are right, each row of a change is that of a change, and the change of x has its row
 pub record CanBeFollowed (rows : Rows) (x : List ℕ) : Type 0 where
-  pub counted : IsCounted rows.facts rows.deletes rows.state
-  pub listed : IsListed rows.facts rows.state rows.changes
-  pub there : (p : List ℕ) (k : Moment) → change_by rows.facts x ≡ Some (p, k) → contains_key rows.changes (p, k) ≡ true
+  pub counted : IsCounted rows.facts.ordered rows.deletes rows.state
+  pub listed : IsListed rows.facts.ordered rows.state rows.changes
+  pub there : (p : List ℕ) (k : Moment) → change_by rows.facts.ordered x ≡ Some (p, k) → contains_key rows.changes (p, k) ≡ true
 
 -- rows that were right without the change of x are right with it
 pub record IsFollowed (rows : Rows) (holders : Holders) (x : List ℕ) : Type 0 where
   pub on : List ℕ
   pub moment : Moment
-  pub says : change_by rows.facts x ≡ Some (on, moment)
+  pub says : change_by rows.facts.ordered x ≡ Some (on, moment)
   pub held : (but : List (List ℕ)) (before : Changes) → IsOneMore before rows.changes on moment
-      → IsHeldBut but rows.facts rows.state rows.deletes before rows.holders
-      → IsHeldBut but rows.facts rows.state rows.deletes rows.changes holders
+      → IsHeldBut but rows.facts.ordered rows.state rows.deletes before rows.holders
+      → IsHeldBut but rows.facts.ordered rows.state rows.deletes rows.changes holders
 
 -- whom x changes was added to the list, and nothing was written
 pub record IsLeft (rows : Rows) (holders : Holders) (x : List ℕ) (before concerned : List (List ℕ)) : Type 0 where
-  pub added : concerned ≡ before ++ concerned_by rows.facts rows.state x
+  pub added : concerned ≡ before ++ concerned_by rows.facts.ordered rows.state x
   pub same : holders ≡ rows.holders
 
 -- the one or the other

@@ -11,7 +11,9 @@ use Rattle.claim_model.specs.Facts.{Facts}
 use Rattle.claim_model.specs.Ready.{is_ready}
 use Rattle.claim_model.specs.Least.{AreReached}
 use Rattle.index_look.specs.Walk.{entries_after}
+use Rattle.index_rows.specs.declared.fact_rows.FactRows.{FactRows}
 use Rattle.index_rows.specs.declared.rows.Rows.{Rows}
+use Rattle.index_rows.specs.Loose.{numbers_of, with_loose}
 use Rattle.index_rows.specs.Once.{AreOnce}
 use Rattle.index_rows.specs.Waiting.{arrived, IsWaiting}
 use Rattle.index_rows.specs.Counted.{IsCounted}
@@ -24,7 +26,7 @@ use Rattle.index_meaning.specs.Steps.{IsDeletesBut}
 
 -- the facts that were taken up
 abbrev pub taken : Rows → Facts
-taken rows = arrived rows.facts rows.state
+taken rows = arrived rows.facts.ordered rows.state
 
 -- d is a genuine delete claim
 pub record IsGenuineDelete (facts : Facts) (accepts : Accepts) (d : List ℕ) : Type 0 where
@@ -35,15 +37,15 @@ pub record IsGenuineDelete (facts : Facts) (accepts : Accepts) (d : List ℕ) : 
 -- what the tables mean for the facts that were taken up, while `left` are to be judged, `deletes` to be entered, and the holders' rows of
 -- `concerned` to be made anew
 pub record IsHalfway (accepts : Accepts) (left deletes concerned : List (List ℕ)) (rows : Rows) : Type 0 where
-  pub waiting : IsWaiting rows.facts rows.state rows.waiters
-  pub counted : IsCounted rows.facts rows.deletes rows.state
+  pub waiting : IsWaiting rows.facts.ordered rows.state rows.waiters
+  pub counted : IsCounted rows.facts.ordered rows.deletes rows.state
   pub judged : IsJudged (taken rows) accepts left rows.state
   pub changed : IsChangesOf (taken rows) accepts left rows.changes
   pub deleted : IsDeletesBut (left ++ deletes) (taken rows) accepts rows.deletes
   pub claims : (d : List ℕ) → list_any (bytes_eq d) deletes ≡ true → IsGenuineDelete (taken rows) accepts d
   pub once : AreOnce deletes
   pub apart : (d : List ℕ) → list_any (bytes_eq d) deletes ≡ true → list_any (bytes_eq d) left ≡ false
-  pub held : IsHeldBut concerned rows.facts rows.state rows.deletes rows.changes rows.holders
+  pub held : IsHeldBut concerned rows.facts.ordered rows.state rows.deletes rows.changes rows.holders
 
 -- whether y is ready, and isn't left to be judged
 abbrev pub was_judged : Rows → List (List ℕ) → List ℕ → Bool
@@ -62,21 +64,45 @@ IsNextToJudge accepts x deletes concerned rows =
 
 -- what the tables tell without the meaning of keys: delete claims can be entered, and permanodes be looked at again
 pub record CanBeFinished (deletes concerned : List (List ℕ)) (rows : Rows) : Type 0 where
-  pub counted : IsCounted rows.facts rows.deletes rows.state
-  pub listed : IsListed rows.facts rows.state rows.changes
-  pub fresh : (d : List ℕ) → list_any (bytes_eq d) deletes ≡ true → IsNewDelete rows.facts rows.deletes rows.state d
+  pub counted : IsCounted rows.facts.ordered rows.deletes rows.state
+  pub listed : IsListed rows.facts.ordered rows.state rows.changes
+  pub fresh : (d : List ℕ) → list_any (bytes_eq d) deletes ≡ true → IsNewDelete rows.facts.ordered rows.deletes rows.state d
   pub once : AreOnce deletes
-  pub held : IsHeldBut concerned rows.facts rows.state rows.deletes rows.changes rows.holders
+  pub held : IsHeldBut concerned rows.facts.ordered rows.state rows.deletes rows.changes rows.holders
 
 -- nothing is left of the facts that were taken up, which are all but that of r
 pub record HasOneMore (accepts : Accepts) (rows : Rows) (r : List ℕ) : Type 0 where
   pub halfway : IsHalfway accepts [] [] [] rows
-  pub fresh : IsNew rows.facts rows.state r
-  pub others : (y : List ℕ) → contains_key rows.facts y ≡ (bytes_eq y r || contains_key rows.state y)
+  pub fresh : IsNew rows.facts.ordered rows.state r
+  pub others : (y : List ℕ) → contains_key rows.facts.ordered y ≡ (bytes_eq y r || contains_key rows.state y)
 
 -- all facts were taken up, and nothing is left to be done
 abbrev pub Rests : Accepts → Rows → Type 0
-Rests accepts rows = IsAtRest rows.facts accepts rows.state rows.waiters rows.deletes rows.changes rows.holders
+Rests accepts rows = IsAtRest rows.facts.ordered accepts rows.state rows.waiters rows.deletes rows.changes rows.holders
+
+-- all facts of a table, those of its loose rows among them
+abbrev pub facts_in : FactRows → Facts
+facts_in rows = with_loose rows.loose rows.ordered
+
+-- the tables with another one of facts
+abbrev pub with_facts : Rows → FactRows → Rows
+with_facts rows facts = record {
+  facts = facts;
+  state = rows.state;
+  waiters = rows.waiters;
+  deletes = rows.deletes;
+  changes = rows.changes;
+  holders = rows.holders;
+}
+
+-- the tables with all facts in order
+abbrev pub all_in_order : Rows → Rows
+all_in_order rows = with_facts rows (record { ordered = facts_in rows.facts; loose = [] })
+
+-- no row is loose, and nothing is left to be done
+pub record IsSettled (accepts : Accepts) (rows : Rows) : Type 0 where
+  pub none : numbers_of rows.facts.loose ≡ []
+  pub rest : Rests accepts rows
 
 -- r is the next ref of a fact behind another, or the first
 pub record IsNext (facts : Facts) (after : Option (List ℕ)) (r : List ℕ) : Type 0 where
@@ -85,4 +111,4 @@ pub record IsNext (facts : Facts) (after : Option (List ℕ)) (r : List ℕ) : T
 
 -- what was taken up is what isn't behind the ref
 abbrev pub IsTakenTo : Rows → Option (List ℕ) → Type 0
-IsTakenTo rows last = (y : List ℕ) → contains_key rows.state y ≡ (contains_key rows.facts y && not (is_after last y))
+IsTakenTo rows last = (y : List ℕ) → contains_key rows.state y ≡ (contains_key rows.facts.ordered y && not (is_after last y))

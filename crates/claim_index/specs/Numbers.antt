@@ -1,17 +1,22 @@
 -- Sets of numbers, as masks tell them: each mask says which of 64 numbers that follow one another are there.
-use Rattle.std.specs.Prelude.{ℕ, ◌+◌, ◌*◌, ◌/◌, ◌==◌, ◌&&◌, Bool, List, map, filter, nat_lt}
+use Rattle.std.specs.Prelude.{ℕ, ◌+◌, ◌*◌, ◌/◌, ◌==◌, ◌&&◌, Bool, List, [], ◌∷◌, map, filter, nat_lt}
 use Rattle.std.specs.List.{flat_map, range_with_len}
 use Rattle.std.specs.Int.{bit_at}
 use Rattle.std.specs.Ordering.{nat_cmp}
 use Rattle.std.specs.Coded.{Coded, code_by, coded_ℕ, coded×}
 use base.Stored.{coded_unit}
-use Rattle.std.specs.FinMap.{FinMap, contains_key, entries, from_entries, len, code}
+use Rattle.std.specs.FinMap.{FinMap, contains_key, entries, from_entries, insert, len, code}
 
 abbrev pub NumberSet : Type 0
 NumberSet = FinMap nat_cmp (Unit {0})
 
 abbrev pub numbered : List ℕ → NumberSet
 numbered ns = from_entries (map (λ n. (n, tt)) ns)
+
+-- a set with the numbers of a list
+abbrev pub with_numbers : List ℕ → NumberSet → NumberSet
+with_numbers [] s = s
+with_numbers (n ∷ ns) s = with_numbers ns (insert s n tt)
 
 -- masks under the numbers of their blocks
 abbrev pub Masks : Type 0

@@ -28,10 +28,10 @@ pub(crate) fn fact_of<'a, L: Ledger>(
     r: &Ref,
     steps: &mut Steps<L>,
 ) -> Option<&'a Fact>
-    ensures { option_copied result ≡ told_fact rows.now.facts rows.now.state r.now }
+    ensures { option_copied result ≡ told_fact rows.now.facts.ordered rows.now.state r.now }
 {
     if says_ready(&rows.state, r, steps) {
-        rows.facts.row(r, steps)
+        rows.facts.ordered.row(r, steps)
     } else {
         None
     }
@@ -39,9 +39,9 @@ pub(crate) fn fact_of<'a, L: Ledger>(
 
 // Whether it is a genuine permanode. Two look-ups.
 pub(crate) fn is_genuine_permanode<L: Ledger>(rows: &Rows, r: &Ref, steps: &mut Steps<L>) -> bool
-    ensures { result ≡ says_permanode rows.now.facts rows.now.state r.now }
+    ensures { result ≡ says_permanode rows.now.facts.ordered rows.now.state r.now }
 {
-    is_permanode_at(&rows.facts, r, steps) && says_genuine(&rows.state, r, steps)
+    is_permanode_at(&rows.facts.ordered, r, steps) && says_genuine(&rows.state, r, steps)
 }
 
 // The same of a ref whose fact is at hand. A look-up, where it is a permanode.
@@ -51,8 +51,8 @@ pub(crate) fn is_genuine_here<L: Ledger>(
     fact: &Fact,
     steps: &mut Steps<L>,
 ) -> bool
-    requires { get rows.now.facts r.now ≡ Some fact.now }
-    ensures { result ≡ says_permanode rows.now.facts rows.now.state r.now }
+    requires { get rows.now.facts.ordered r.now ≡ Some fact.now }
+    ensures { result ≡ says_permanode rows.now.facts.ordered rows.now.state r.now }
 {
     is_permanode(&fact.kind) && says_genuine(&rows.state, r, steps)
 }
@@ -63,10 +63,10 @@ pub(crate) fn permanode_after<L: Ledger>(
     after: Option<&Ref>,
     steps: &mut Steps<L>,
 ) -> Option<Ref>
-    ensures { result ≡ told_after rows.now.facts rows.now.state (option_copied after.entry) }
+    ensures { result ≡ told_after rows.now.facts.ordered rows.now.state (option_copied after.entry) }
 {
     let mut place = after.copied();
-    'walk: while let Some(entry) = rows.facts.next_after(place.as_ref(), steps) {
+    'walk: while let Some(entry) = rows.facts.ordered.next_after(place.as_ref(), steps) {
         if is_genuine_here(rows, &entry.0, entry.1, steps) {
             return Some(entry.0);
         }
@@ -77,8 +77,8 @@ pub(crate) fn permanode_after<L: Ledger>(
 
 // Whether it is deleted at that time. Two look-ups for all dates.
 pub(crate) fn deleted<L: Ledger>(rows: &Rows, r: &Ref, when: &When, steps: &mut Steps<L>) -> bool
-    requires { IsCounted rows.now.facts rows.now.deletes rows.now.state }
-    ensures { result ≡ row_deleted rows.now.facts rows.now.deletes when.now r.now }
+    requires { IsCounted rows.now.facts.ordered rows.now.deletes rows.now.state }
+    ensures { result ≡ row_deleted rows.now.facts.ordered rows.now.deletes when.now r.now }
 {
     match when {
         When::Always => is_gone(rows, r, steps),
@@ -95,10 +95,10 @@ pub(crate) fn values<L: Ledger>(
     when: &When,
     steps: &mut Steps<L>,
 ) -> Result<TextList, NoMemory>
-    requires ringless { Ringless rows.now.facts rows.now.deletes }
-    requires listed { IsListed rows.now.facts rows.now.state rows.now.changes }
+    requires ringless { Ringless rows.now.facts.ordered rows.now.deletes }
+    requires listed { IsListed rows.now.facts.ordered rows.now.state rows.now.changes }
     ensures { IfOk result (λ texts. texts
-        ≡ told_values rows.now.facts rows.now.state rows.now.deletes rows.now.changes when.now p.now attr.now) }
+        ≡ told_values rows.now.facts.ordered rows.now.state rows.now.deletes rows.now.changes when.now p.now attr.now) }
 {
     if !is_genuine_permanode(rows, p, steps) {
         return Ok(TextList::empty(alloc));
@@ -113,10 +113,10 @@ pub(crate) fn last_change<L: Ledger>(
     when: &When,
     steps: &mut Steps<L>,
 ) -> Option<Date>
-    requires ringless { Ringless rows.now.facts rows.now.deletes }
-    requires listed { IsListed rows.now.facts rows.now.state rows.now.changes }
+    requires ringless { Ringless rows.now.facts.ordered rows.now.deletes }
+    requires listed { IsListed rows.now.facts.ordered rows.now.state rows.now.changes }
     ensures { result
-        ≡ told_change rows.now.facts rows.now.state rows.now.deletes rows.now.changes when.now p.now }
+        ≡ told_change rows.now.facts.ordered rows.now.state rows.now.deletes rows.now.changes when.now p.now }
 {
     if !is_genuine_permanode(rows, p, steps) {
         return None;
@@ -126,10 +126,10 @@ pub(crate) fn last_change<L: Ledger>(
 
 // The size of a sound file. Two look-ups.
 pub(crate) fn file_size<L: Ledger>(rows: &Rows, r: &Ref, steps: &mut Steps<L>) -> Option<u64>
-    ensures { result ≡ told_size rows.now.facts rows.now.state r.now }
+    ensures { result ≡ told_size rows.now.facts.ordered rows.now.state r.now }
 {
     let sound = says_sound(&rows.state, r, steps);
-    let fact = rows.facts.row(r, steps)?;
+    let fact = rows.facts.ordered.row(r, steps)?;
     if sound && is_file(&fact.kind) {
         own_size(fact)
     } else {
@@ -146,9 +146,9 @@ pub(crate) fn parents<L: Ledger>(
     when: &When,
     steps: &mut Steps<L>,
 ) -> Result<RefList, NoMemory>
-    requires ringless { Ringless rows.now.facts rows.now.deletes }
-    requires listed { IsListed rows.now.facts rows.now.state rows.now.changes }
-    ensures { IfOk result (λ refs. refs ≡ told_parents rows.now.facts rows.now.state rows.now.deletes
+    requires ringless { Ringless rows.now.facts.ordered rows.now.deletes }
+    requires listed { IsListed rows.now.facts.ordered rows.now.state rows.now.changes }
+    ensures { IfOk result (λ refs. refs ≡ told_parents rows.now.facts.ordered rows.now.state rows.now.deletes
         rows.now.changes rows.now.holders when.now child.now) }
 {
     let text = child.spell();
@@ -181,14 +181,14 @@ fn holding<L: Ledger>(
     when: &When,
     steps: &mut Steps<L>,
 ) -> Result<RefList, NoMemory>
-    requires ringless { Ringless rows.now.facts rows.now.deletes }
-    requires listed { IsListed rows.now.facts rows.now.state rows.now.changes }
-    ensures { IfOk result (λ refs. refs ≡ filter (told_holds rows.now.facts rows.now.state
-        rows.now.deletes rows.now.changes when.now attr.now value.now) (keys rows.now.facts)) }
+    requires ringless { Ringless rows.now.facts.ordered rows.now.deletes }
+    requires listed { IsListed rows.now.facts.ordered rows.now.state rows.now.changes }
+    ensures { IfOk result (λ refs. refs ≡ filter (told_holds rows.now.facts.ordered rows.now.state
+        rows.now.deletes rows.now.changes when.now attr.now value.now) (keys rows.now.facts.ordered)) }
 {
     let mut found = RefList::empty(alloc);
     let mut place = None;
-    'walk: while let Some(entry) = rows.facts.next_after(place.as_ref(), steps) {
+    'walk: while let Some(entry) = rows.facts.ordered.next_after(place.as_ref(), steps) {
         let (r, fact) = (&entry.0, entry.1);
         keep_holder(alloc, rows, &mut found, r, fact, attr, value, when, steps)?;
         place = Some(entry.0);
@@ -208,10 +208,10 @@ fn keep_holder<L: Ledger>(
     when: &When,
     steps: &mut Steps<L>,
 ) -> Result<(), NoMemory>
-    requires fact { get rows.now.facts r.now ≡ Some fact.now }
-    requires ringless { Ringless rows.now.facts rows.now.deletes }
-    requires listed { IsListed rows.now.facts rows.now.state rows.now.changes }
-    ensures { OnOk result (found.new ≡ found.old ++ filter (told_holds rows.now.facts rows.now.state
+    requires fact { get rows.now.facts.ordered r.now ≡ Some fact.now }
+    requires ringless { Ringless rows.now.facts.ordered rows.now.deletes }
+    requires listed { IsListed rows.now.facts.ordered rows.now.state rows.now.changes }
+    ensures { OnOk result (found.new ≡ found.old ++ filter (told_holds rows.now.facts.ordered rows.now.state
         rows.now.deletes rows.now.changes when.now attr.now value.now) (r.now ∷ [])) }
 {
     if holds(alloc, rows, r, fact, attr, value, when, steps)? {
@@ -230,10 +230,10 @@ fn holds<L: Ledger>(
     when: &When,
     steps: &mut Steps<L>,
 ) -> Result<bool, NoMemory>
-    requires fact { get rows.now.facts r.now ≡ Some fact.now }
-    requires ringless { Ringless rows.now.facts rows.now.deletes }
-    requires listed { IsListed rows.now.facts rows.now.state rows.now.changes }
-    ensures { IfOk result (λ holds. holds ≡ told_holds rows.now.facts rows.now.state
+    requires fact { get rows.now.facts.ordered r.now ≡ Some fact.now }
+    requires ringless { Ringless rows.now.facts.ordered rows.now.deletes }
+    requires listed { IsListed rows.now.facts.ordered rows.now.state rows.now.changes }
+    ensures { IfOk result (λ holds. holds ≡ told_holds rows.now.facts.ordered rows.now.state
         rows.now.deletes rows.now.changes when.now attr.now value.now r.now) }
 {
     if !is_genuine_here(rows, r, fact, steps) || deleted_at(rows, r, when, steps) {

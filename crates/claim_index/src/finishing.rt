@@ -34,9 +34,9 @@ pub(crate) fn finish<L: Ledger>(
         → IsHalfway accepts [] work.deletes work.concerned rows.old → IsHalfway accepts [] [] [] rows.new) }
     ensures ticks { (accepts : Accepts) (heads changed : List (List ℕ))
         → IsHalfway accepts [] work.deletes work.concerned rows.old → AreTaken rows.old
-        → IsCovered rows.old.facts accepts (all_concerned rows.old.facts accepts work.deletes work.concerned)
-        heads changed
-        → steps.new ≤ steps.old + finish_steps rows.old.facts accepts work.deletes heads changed }
+        → IsCovered rows.old.facts.ordered accepts
+        (all_concerned rows.old.facts.ordered accepts work.deletes work.concerned) heads changed
+        → steps.new ≤ steps.old + finish_steps rows.old.facts.ordered accepts work.deletes heads changed }
 {
     let Work {
         deletes,
@@ -62,10 +62,10 @@ fn enter_all<L: Ledger>(
         → IsHalfway accepts [] deletes.now concerned.old rows.old → IsHalfway accepts [] [] concerned.new rows.new) }
     ensures adds { OnOk result ((accepts : Accepts)
         → IsHalfway accepts [] deletes.now concerned.old rows.old → AreTaken rows.old
-        → AddsEntered rows.old.facts accepts deletes.now concerned.old concerned.new) }
+        → AddsEntered rows.old.facts.ordered accepts deletes.now concerned.old concerned.new) }
     ensures ticks { (accepts : Accepts)
         → IsHalfway accepts [] deletes.now concerned.old rows.old → AreTaken rows.old
-        → steps.new ≤ steps.old + sum_by (enter_steps rows.old.facts accepts) deletes.now }
+        → steps.new ≤ steps.old + sum_by (enter_steps rows.old.facts.ordered accepts) deletes.now }
 {
     'claims: for i in (0..deletes.len()).rev() {
         enter_one(alloc, rows, &deletes[i], concerned, steps)?;
@@ -81,8 +81,8 @@ fn enter_one<L: Ledger>(
     concerned: &mut RefList,
     steps: &mut Steps<L>,
 ) -> Result<(), NoMemory>
-    requires counted { IsCounted rows.old.facts rows.old.deletes rows.old.state }
-    requires fresh { IsNewDelete rows.old.facts rows.old.deletes rows.old.state d.now }
+    requires counted { IsCounted rows.old.facts.ordered rows.old.deletes rows.old.state }
+    requires fresh { IsNewDelete rows.old.facts.ordered rows.old.deletes rows.old.state d.now }
     ensures facts { rows.new.facts ≡ rows.old.facts }
     ensures taken { OnOk result ((y : List ℕ) → contains_key rows.new.state y ≡ contains_key rows.old.state y) }
     ensures finished { OnOk result ((others : List (List ℕ))
@@ -92,10 +92,10 @@ fn enter_one<L: Ledger>(
         → IsHalfway accepts [] others concerned.new rows.new) }
     ensures adds { OnOk result ((accepts : Accepts) (others : List (List ℕ))
         → IsHalfway accepts [] (others ++ d.now ∷ []) concerned.old rows.old → AreTaken rows.old
-        → AddsEntered rows.old.facts accepts (d.now ∷ []) concerned.old concerned.new) }
+        → AddsEntered rows.old.facts.ordered accepts (d.now ∷ []) concerned.old concerned.new) }
     ensures ticks { (accepts : Accepts) (others : List (List ℕ))
         → IsHalfway accepts [] (others ++ d.now ∷ []) concerned.old rows.old → AreTaken rows.old
-        → steps.new ≤ steps.old + enter_steps rows.old.facts accepts d.now }
+        → steps.new ≤ steps.old + enter_steps rows.old.facts.ordered accepts d.now }
 {
     let changed = enter(alloc, rows, d, steps)?;
     concern_all(rows, changed.as_slice(), concerned, steps)
@@ -109,7 +109,7 @@ fn concern_all<L: Ledger>(
     steps: &mut Steps<L>,
 ) -> Result<(), NoMemory>
     ensures added { OnOk result
-        (concerned.new ≡ concerned.old ++ flat_map (concerned_by rows.now.facts rows.now.state) changed.now) }
+        (concerned.new ≡ concerned.old ++ flat_map (concerned_by rows.now.facts.ordered rows.now.state) changed.now) }
     ensures ticks { steps.new ≤ steps.old + 2 * length changed.now }
 {
     for y in changed {
@@ -131,8 +131,8 @@ fn refold_all<L: Ledger>(
     ensures halfway { OnOk result ((accepts : Accepts)
         → IsHalfway accepts [] [] concerned rows.old → IsHalfway accepts [] [] [] rows.new) }
     ensures ticks { (accepts : Accepts) (heads changed : List (List ℕ)) → IsHalfway accepts [] [] concerned rows.old
-        → AreTaken rows.old → IsCovered rows.old.facts accepts concerned heads changed
-        → steps.new ≤ steps.old + refolds_steps rows.old.facts accepts heads changed }
+        → AreTaken rows.old → IsCovered rows.old.facts.ordered accepts concerned heads changed
+        → steps.new ≤ steps.old + refolds_steps rows.old.facts.ordered accepts heads changed }
 {
     let refs = RefSet::of(concerned)?;
     for p in refs.as_slice() {

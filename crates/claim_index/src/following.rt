@@ -7,7 +7,7 @@ use crate::touching::concern;
 use attr_fold::follow;
 use blobref::{NoMemory, Ref, RefList};
 use edge_base::Steps;
-use index_rows::{FactRows, Moment, Rows};
+use index_rows::{Moment, OrderedFacts, Rows};
 use schema_date::Date;
 use schema_fact::{Kind, What};
 use std::alloc::Global;
@@ -31,7 +31,7 @@ pub(crate) fn take_changes<L: Ledger>(
     ensures changes { rows.new.changes ≡ rows.old.changes }
     ensures taken { OnOk result (IsTaken rows.old rows.new.holders x.now concerned.old concerned.new) }
     ensures ticks { alone ≡ false → steps.new ≤ steps.old + 2 }
-    ensures more_ticks { (n : ℕ) → IsNumbered rows.old.facts rows.old.changes x.now n
+    ensures more_ticks { (n : ℕ) → IsNumbered rows.old.facts.ordered rows.old.changes x.now n
         → steps.new ≤ steps.old + 10 + 4 * n }
 {
     if !alone {
@@ -58,17 +58,21 @@ fn follow_claim<L: Ledger>(
     ensures changes { rows.new.changes ≡ rows.old.changes }
     ensures followed { IfOk result (λ done. done ≡ true → IsFollowed rows.old rows.new.holders x.now) }
     ensures left { IfOk result (λ done. done ≡ false → rows.new.holders ≡ rows.old.holders) }
-    ensures ticks { (n : ℕ) → IsNumbered rows.old.facts rows.old.changes x.now n
+    ensures ticks { (n : ℕ) → IsNumbered rows.old.facts.ordered rows.old.changes x.now n
         → steps.new ≤ steps.old + 8 + 4 * n }
 {
-    let Some(change) = change_by(&rows.facts, x, steps) else {
+    let Some(change) = change_by(&rows.facts.ordered, x, steps) else {
         return Ok(false);
     };
     follow(alloc, rows, &change.0, &change.1, steps)
 }
 
 // The permanode that the claim x changes, and the moment of that, where it has one change alone.
-fn change_by<L: Ledger>(facts: &FactRows, x: &Ref, steps: &mut Steps<L>) -> Option<(Ref, Moment)>
+fn change_by<L: Ledger>(
+    facts: &OrderedFacts,
+    x: &Ref,
+    steps: &mut Steps<L>,
+) -> Option<(Ref, Moment)>
     ensures change { result ≡ change_by facts.now x.now }
     ensures ticks { steps.new ≡ steps.old + 1 }
 {

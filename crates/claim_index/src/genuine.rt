@@ -5,13 +5,13 @@ ghost use Rattle.claim_model.specs.Genuine.{is_signed};
 use claim_verify::Verifier;
 use edge_base::Steps;
 use index_look::claim::{key_accepts, signature};
-use index_rows::FactRows;
+use index_rows::OrderedFacts;
 use schema_fact::Fact;
 use std::sync::ledger::Ledger;
 
 // Whether the fact is a permanode or a claim that the key it names accepts. A ready one is genuine then. One look-up.
 pub(crate) fn is_signed<V: Verifier, L: Ledger>(
-    facts: &FactRows,
+    facts: &OrderedFacts,
     keys: &V,
     fact: &Fact,
     steps: &mut Steps<L>,

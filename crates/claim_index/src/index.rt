@@ -1,19 +1,20 @@
 //! An index of facts.
-ghost use Rattle.std.specs.Prelude.{◌≡◌, ◌≤◌, ◌+◌, ◌*◌, ℕ, false, length, nat_lt, IfOk, OnOk, OnErr};
+ghost use Rattle.std.specs.Prelude.{◌≡◌, ◌≤◌, ◌<◌, ◌+◌, ◌*◌, ◌^◌, ℕ, true, false, length, nat_lt, IfOk, OnOk, OnErr};
 ghost use Rattle.std.specs.FinMap as finite;
 ghost use Rattle.schema_fact.specs.Validity.{IsValid};
 ghost use Rattle.claim_model.specs.Facts.{AreValid};
 ghost use Rattle.index_rows.specs.Touched.{touched};
-ghost use Rattle.claim_index.specs.Indexed.{Inserts, IsSame, with_all};
+ghost use Rattle.claim_index.specs.Indexed.{Inserts, IsPut, IsSame, with_all};
 
 use crate::answers;
+use crate::moving::{put_in_order, renew, settle};
 use crate::numbers::Numbers;
 use crate::rebuilding::{rebuild, take_up};
 use blobref::{ListOf, NoMemory, Ref, RefList, TextList};
 use claim_verify::Verifier;
 use edge_base::{Inserted, Steps};
-use index_look::Look;
-use index_rows::{FactRows, Rows};
+use index_look::{FactTable, Look};
+use index_rows::{Made, OrderedFacts, Rows};
 use schema_date::{Date, When};
 use schema_fact::Fact;
 use std::alloc::Global;
@@ -30,24 +31,37 @@ pub type FactList = ListOf<(Ref, Fact)>;
 pub struct Index<V: Verifier> {
     alloc: Global,
     rows: Rows,
+    // Those of the facts that are in order.
     numbers: Numbers,
+    // How many numbers stand, those of the loose rows among them.
+    count: u64,
     keys: V,
     stale: bool,
 }
 
 impl<V: Verifier> Model for Index<V> {
-    ghost use Rattle.std.specs.Prelude.{◌≡◌, false};
-    ghost use Rattle.index_meaning.specs.Meaning.{IsAtRest};
+    ghost use Rattle.std.specs.Prelude.{◌≡◌, ◌≤◌, length, false};
+    ghost use Rattle.std.specs.FinMap as finite;
+    ghost use Rattle.index_rows.specs.Loose.{numbers_of};
+    ghost use Rattle.claim_index.specs.Halfway.{facts_in, IsSettled};
     ghost use Rattle.claim_index.specs.Indexed.{Indexed, indexed_code};
+    ghost use Rattle.claim_index.specs.Numbers.{with_numbers};
 
     ghost Value = { Indexed V };
 
     ghost coded = { indexed_code V.code };
 
-    ghost view = { λ a. record { facts = a.rows.facts; numbers = a.numbers.numbers; keys = a.keys; stale = a.stale } };
+    ghost view = { λ a. record {
+      facts = facts_in a.rows.facts;
+      numbers = with_numbers (numbers_of a.rows.facts.loose) a.numbers.numbers;
+      keys = a.keys;
+      stale = a.stale;
+    } };
 
-    ghost invariant = { λ a. a.stale ≡ false → IsAtRest a.rows.facts (V.accepts a.keys) a.rows.state
-        a.rows.waiters a.rows.deletes a.rows.changes a.rows.holders };
+    ghost invariant = { λ a.
+        (a.count ≡ finite.len (with_numbers (numbers_of a.rows.facts.loose) a.numbers.numbers))
+        × (a.stale ≡ false → IsSettled (V.accepts a.keys) a.rows)
+        × (length (numbers_of a.rows.facts.loose) ≤ a.count) };
 }
 
 impl<V: Verifier> Index<V> {
@@ -64,6 +78,7 @@ impl<V: Verifier> Index<V> {
             alloc,
             rows: Rows::empty(alloc),
             numbers: Numbers::empty(alloc),
+            count: 0,
             keys,
             stale: false,
         }
@@ -93,13 +108,15 @@ impl<V: Verifier> Index<V> {
         ensures stale { IfOk result (λ index. index.stale ≡ false) }
     {
         let numbers = Numbers::below(alloc, facts.len() as u64)?;
+        let count = numbers.len();
         let mut rows = Rows::empty(alloc);
-        put_all(alloc, &mut rows.facts, facts, steps)?;
+        put_all(alloc, &mut rows.facts.ordered, facts, steps)?;
         rebuild(alloc, &mut rows, &keys, steps)?;
         Ok(Index {
             alloc,
             rows,
             numbers,
+            count,
             keys,
             stale: false,
         })
@@ -136,21 +153,72 @@ impl<V: Verifier> Index<V> {
         ensures ticks { self.old.stale ≡ false → steps.new ≤ steps.old
             + 16 * (1 + length (touched self.old.facts (V.accepts self.old.keys) r.now fact)) }
     {
-        if self.numbers.has(number) {
+        if self.holds(number) {
             self.refresh(steps)?;
             return Ok(Inserted::Already);
         }
-        self.numbers.make_room(number)?;
-        self.rows.facts.put(self.alloc, r, fact, steps)?;
+        put_in_order(
+            self.alloc,
+            &mut self.rows.facts,
+            &mut self.numbers,
+            number,
+            r,
+            fact,
+            steps,
+        )?;
         let taken_up = take_up(self.alloc, &mut self.rows, &self.keys, self.stale, r, steps);
         if taken_up.is_err() {
-            self.rows.facts.drop_row(r, steps);
+            self.rows.facts.ordered.drop_row(r, steps);
             self.stale = true;
             return Err(NoMemory);
         }
         self.stale = false;
         self.numbers.set(number);
+        self.count += 1;
         Ok(Inserted::New)
+    }
+
+    /// Puts a fact that brought its memory, and takes it up, so it can't be refused. Nothing is put where its number
+    /// stood in the index. Where the index was stale, the tables are made anew of all facts. A ref must stand under one
+    /// number alone, and with the new one fewer than 2^63 numbers must stand in the index.
+    ///
+    /// Afterwards the index may be stale only where no memory is left for its tables. It answers by the facts all the
+    /// same, and the next insert or place makes the tables anew.
+    ///
+    /// It does what `insert` does, and moves a row. Where the index isn't stale it takes at most as many steps, 16 (1 +
+    /// n).
+    pub fn place<L: Ledger>(&mut self, made: Made, steps: &mut Steps<L>)
+        requires valid { IsValid made.2 }
+        requires alone { finite.contains_key self.old.numbers made.0 ≡ false
+            → finite.contains_key self.old.facts made.1 ≡ false }
+        requires room { finite.contains_key self.old.numbers made.0 ≡ false
+            → finite.len self.old.numbers + 1 < 2 ^ 63 }
+        ensures put { finite.contains_key self.old.numbers made.0 ≡ false
+            → IsPut self.old self.new made.0 made.1 made.2 }
+        ensures stood { finite.contains_key self.old.numbers made.0 ≡ true → IsSame self.old self.new }
+        ensures keys { self.new.keys ≡ self.old.keys }
+        ensures ticks { self.old.stale ≡ false → steps.new ≤ steps.old
+            + 16 * (1 + length (touched self.old.facts (V.accepts self.old.keys) made.1 made.2)) }
+    {
+        if self.holds(made.number()) {
+            let _renewed = self.refresh(steps);
+            return;
+        }
+        let r = made.r();
+        let was_stale = self.stale;
+        self.stale = true;
+        self.count += 1;
+        self.rows.facts.put_made(made, steps);
+        let settled = settle(
+            self.alloc,
+            &mut self.rows,
+            &mut self.numbers,
+            &self.keys,
+            was_stale,
+            &r,
+            steps,
+        );
+        self.stale = settled.is_err();
     }
 
     // Makes the tables anew of all facts, where the index is stale.
@@ -161,7 +229,13 @@ impl<V: Verifier> Index<V> {
         ensures ticks { self.old.stale ≡ false → steps.new ≡ steps.old }
     {
         if self.stale {
-            rebuild(self.alloc, &mut self.rows, &self.keys, steps)?;
+            renew(
+                self.alloc,
+                &mut self.rows,
+                &mut self.numbers,
+                &self.keys,
+                steps,
+            )?;
             self.stale = false;
         }
         Ok(())
@@ -171,14 +245,15 @@ impl<V: Verifier> Index<V> {
     pub fn len(&self) -> u64
         ensures { result ≡ finite.len self.now.numbers }
     {
-        self.numbers.len()
+        self.count
     }
 
-    /// Whether a number stands in the index. It takes time in the logarithm of the number of blocks of 64 numbers.
+    /// Whether a number stands in the index. It takes time in the logarithm of the number of blocks of 64 numbers, and
+    /// looks at the rows that were placed and wait for memory, which are none where the index isn't stale.
     pub fn holds(&self, number: u64) -> bool
         ensures { result ≡ finite.contains_key self.now.numbers number }
     {
-        self.numbers.has(number)
+        self.numbers.has(number) || self.rows.facts.loose.has(number)
     }
 
     /// Whether the index is stale. It then answers as before, but walks over all facts for each answer.
@@ -188,12 +263,12 @@ impl<V: Verifier> Index<V> {
         self.stale
     }
 
-    /// Whether a fact was inserted under the ref. One look-up.
+    /// Whether a fact was put under the ref. One look-up where the index isn't stale.
     pub fn stands<L: Ledger>(&self, r: &Ref, steps: &mut Steps<L>) -> bool
         ensures value { result ≡ finite.contains_key self.now.facts r.now }
-        ensures ticks { steps.new ≡ steps.old + 1 }
+        ensures ticks { self.now.stale ≡ false → steps.new ≤ steps.old + 1 }
     {
-        self.rows.facts.row(r, steps).is_some()
+        self.rows.facts.fact_at(r, steps).is_some()
     }
 }
 
@@ -308,7 +383,7 @@ impl<V: Verifier> Look for Index<V> {
 // Puts the facts of a list, the last one first: of facts under the same ref the first one stands.
 fn put_all<L: Ledger>(
     alloc: Global,
-    facts: &mut FactRows,
+    facts: &mut OrderedFacts,
     list: FactList,
     steps: &mut Steps<L>,
 ) -> Result<(), NoMemory>

@@ -53,19 +53,19 @@ pub(crate) fn judge<V: Verifier, L: Ledger>(
     ensures deletes { rows.new.deletes ≡ rows.old.deletes }
     ensures holders { rows.new.holders ≡ rows.old.holders }
     ensures state { OnOk result
-        (IsMarked rows.old.facts (V.accepts keys.now) rows.old.state rows.new.state x.now) }
+        (IsMarked rows.old.facts.ordered (V.accepts keys.now) rows.old.state rows.new.state x.now) }
     ensures changes { OnOk result
-        (IsChanged rows.old.facts (V.accepts keys.now) rows.old.changes rows.new.changes x.now) }
-    ensures answer { IfOk result (λ judged. judged ≡ judged_in rows.old.facts (V.accepts keys.now) x.now) }
+        (IsChanged rows.old.facts.ordered (V.accepts keys.now) rows.old.changes rows.new.changes x.now) }
+    ensures answer { IfOk result (λ judged. judged ≡ judged_in rows.old.facts.ordered (V.accepts keys.now) x.now) }
     ensures judged { OnOk result ((facts : Facts) (left : List (List ℕ))
-        → CanJudge facts rows.old.facts rows.old.state left x.now
+        → CanJudge facts rows.old.facts.ordered rows.old.state left x.now
         → IsJudged facts (V.accepts keys.now) (x.now ∷ left) rows.old.state
         → IsJudged facts (V.accepts keys.now) left rows.new.state) }
     ensures changed { OnOk result ((facts : Facts) (left : List (List ℕ))
-        → CanJudge facts rows.old.facts rows.old.state left x.now
+        → CanJudge facts rows.old.facts.ordered rows.old.state left x.now
         → IsChangesOf facts (V.accepts keys.now) (x.now ∷ left) rows.old.changes
         → IsChangesOf facts (V.accepts keys.now) left rows.new.changes) }
-    ensures ticks { steps.new ≤ steps.old + judge_steps rows.old.facts (V.accepts keys.now) x.now }
+    ensures ticks { steps.new ≤ steps.old + judge_steps rows.old.facts.ordered (V.accepts keys.now) x.now }
 {
     look_into(rows, keys, x, steps)
 }
@@ -82,17 +82,17 @@ fn look_into<V: Verifier, L: Ledger>(
     ensures deletes { rows.new.deletes ≡ rows.old.deletes }
     ensures holders { rows.new.holders ≡ rows.old.holders }
     ensures state { OnOk result
-        (IsMarked rows.old.facts (V.accepts keys.now) rows.old.state rows.new.state x.now) }
+        (IsMarked rows.old.facts.ordered (V.accepts keys.now) rows.old.state rows.new.state x.now) }
     ensures changes { OnOk result
-        (IsChanged rows.old.facts (V.accepts keys.now) rows.old.changes rows.new.changes x.now) }
-    ensures answer { IfOk result (λ judged. judged ≡ judged_in rows.old.facts (V.accepts keys.now) x.now) }
-    ensures ticks { steps.new ≤ steps.old + judge_steps rows.old.facts (V.accepts keys.now) x.now }
+        (IsChanged rows.old.facts.ordered (V.accepts keys.now) rows.old.changes rows.new.changes x.now) }
+    ensures answer { IfOk result (λ judged. judged ≡ judged_in rows.old.facts.ordered (V.accepts keys.now) x.now) }
+    ensures ticks { steps.new ≤ steps.old + judge_steps rows.old.facts.ordered (V.accepts keys.now) x.now }
 {
-    let Some(fact) = rows.facts.row(x, steps) else {
+    let Some(fact) = rows.facts.ordered.row(x, steps) else {
         return Ok(Judged::Nothing);
     };
-    let genuine = is_signed(&rows.facts, keys, fact, steps);
-    let sound = parts_fit(&rows.facts, &rows.state, fact, steps);
+    let genuine = is_signed(&rows.facts.ordered, keys, fact, steps);
+    let sound = parts_fit(&rows.facts.ordered, &rows.state, fact, steps);
     mark(&mut rows.state, x, genuine, sound, steps)?;
     if !genuine {
         return Ok(Judged::Nothing);

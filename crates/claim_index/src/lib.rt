@@ -7,6 +7,7 @@ mod following;
 mod genuine;
 mod index;
 mod judging;
+mod moving;
 mod numbers;
 mod rebuilding;
 mod said;
@@ -16,3 +17,4 @@ mod touching;
 mod work;
 
 pub use index::{FactList, Index};
+pub use index_rows::Made;

@@ -11,7 +11,7 @@ use crate::work::Work;
 use blobref::{NoMemory, Ref};
 use claim_verify::Verifier;
 use edge_base::Steps;
-use index_rows::{ChangeRows, FactRows, HolderRows, PairRows, RefRows, Rows};
+use index_rows::{ChangeRows, HolderRows, OrderedFacts, PairRows, RefRows, Rows};
 use std::alloc::Global;
 use std::sync::ledger::Ledger;
 
@@ -29,7 +29,7 @@ pub(crate) fn take_up<V: Verifier, L: Ledger>(
     ensures facts { rows.new.facts ≡ rows.old.facts }
     ensures rest { OnOk result (Rests (V.accepts keys.now) rows.new) }
     ensures ticks { stale ≡ false → steps.new ≤ steps.old
-        + 14 + 16 * length (touched_in (taken rows.old) rows.old.facts (V.accepts keys.now) r.now) }
+        + 12 + 16 * length (touched_in (taken rows.old) rows.old.facts.ordered (V.accepts keys.now) r.now) }
 {
     if stale {
         return rebuild(alloc, rows, keys, steps);
@@ -72,10 +72,10 @@ fn take_all<V: Verifier, L: Ledger>(
     ensures facts { rows.new.facts ≡ rows.old.facts }
     ensures halfway { OnOk result
         (IsHalfway (V.accepts keys.now) [] work.new.deletes work.new.concerned rows.new) }
-    ensures all { OnOk result ((y : List ℕ) → contains_key rows.new.state y ≡ contains_key rows.new.facts y) }
+    ensures all { OnOk result ((y : List ℕ) → contains_key rows.new.state y ≡ contains_key rows.new.facts.ordered y) }
 {
     let mut last: Option<Ref> = None;
-    'walk: while let Some(r) = next_ref(&rows.facts, last.as_ref(), steps) {
+    'walk: while let Some(r) = next_ref(&rows.facts.ordered, last.as_ref(), steps) {
         take_in(alloc, rows, keys, &r, work, steps)?;
         last = Some(r);
     }
@@ -83,7 +83,11 @@ fn take_all<V: Verifier, L: Ledger>(
 }
 
 // The next ref of a fact.
-fn next_ref<L: Ledger>(facts: &FactRows, last: Option<&Ref>, steps: &mut Steps<L>) -> Option<Ref>
+fn next_ref<L: Ledger>(
+    facts: &OrderedFacts,
+    last: Option<&Ref>,
+    steps: &mut Steps<L>,
+) -> Option<Ref>
     ensures next { IfSome result (λ r. IsNext facts.now (option_copied last.entry) r) }
     ensures last { IfNone result (entries_after facts.now (option_copied last.entry) ≡ []) }
 {

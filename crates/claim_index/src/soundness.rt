@@ -11,14 +11,14 @@ use crate::said::says_sound;
 use blobref::Ref;
 use edge_base::Steps;
 use index_look::tree::{blob_holds, own_size, part_end, tree_holds, tree_parts};
-use index_rows::{FactRows, RefRows, StateRow};
+use index_rows::{OrderedFacts, RefRows, StateRow};
 use schema_fact::{Fact, Origin, Part};
 use std::sync::ledger::Ledger;
 
 // Whether the fact is a file or bytes blob all of whose parts stand in their origins, where a tree is sound if its row
 // says so. A part of a blob takes one look-up, and one of a tree two.
 pub(crate) fn parts_fit<L: Ledger>(
-    facts: &FactRows,
+    facts: &OrderedFacts,
     state: &RefRows<StateRow>,
     fact: &Fact,
     steps: &mut Steps<L>,
@@ -35,7 +35,7 @@ pub(crate) fn parts_fit<L: Ledger>(
 
 #[tactic(auto, using(crate::proofs::PartTicks::part_first))]
 fn all_fit<L: Ledger>(
-    facts: &FactRows,
+    facts: &OrderedFacts,
     state: &RefRows<StateRow>,
     parts: &[Part],
     steps: &mut Steps<L>,
@@ -53,7 +53,7 @@ fn all_fit<L: Ledger>(
 }
 
 fn part_fits<L: Ledger>(
-    facts: &FactRows,
+    facts: &OrderedFacts,
     state: &RefRows<StateRow>,
     part: &Part,
     steps: &mut Steps<L>,
@@ -73,7 +73,7 @@ fn part_fits<L: Ledger>(
 }
 
 // The size of the tree at a ref.
-fn tree_size<L: Ledger>(facts: &FactRows, r: &Ref, steps: &mut Steps<L>) -> Option<u64>
+fn tree_size<L: Ledger>(facts: &OrderedFacts, r: &Ref, steps: &mut Steps<L>) -> Option<u64>
     ensures size { result ≡ tree_size facts.now r.now }
     ensures ticks { steps.new ≡ steps.old + 1 }
 {

@@ -31,17 +31,17 @@ pub(crate) fn take_in<V: Verifier, L: Ledger>(
     steps: &mut Steps<L>,
 ) -> Result<(), NoMemory>
     requires halfway { IsHalfway (V.accepts keys.now) [] work.old.deletes work.old.concerned rows.old }
-    requires fresh { IsNew rows.old.facts rows.old.state r.now }
+    requires fresh { IsNew rows.old.facts.ordered rows.old.state r.now }
     ensures facts { rows.new.facts ≡ rows.old.facts }
     ensures taken { OnOk result ((y : List ℕ)
         → contains_key rows.new.state y ≡ (bytes_eq y r.now || contains_key rows.old.state y)) }
     ensures halfway { OnOk result
         (IsHalfway (V.accepts keys.now) [] work.new.deletes work.new.concerned rows.new) }
-    ensures adds { OnOk result (AddsFor rows.old.facts (V.accepts keys.now)
-        (freed rows.old.facts rows.old.state r.now)
+    ensures adds { OnOk result (AddsFor rows.old.facts.ordered (V.accepts keys.now)
+        (freed rows.old.facts.ordered rows.old.state r.now)
         work.old.deletes work.new.deletes work.old.concerned work.new.concerned) }
     ensures ticks { steps.new ≤ steps.old
-        + taking_steps rows.old.facts (V.accepts keys.now) rows.old.state r.now }
+        + taking_steps rows.old.facts.ordered (V.accepts keys.now) rows.old.state r.now }
 {
     let order = arrive(alloc, rows, r, steps)?;
     judge_all(alloc, rows, keys, order.as_slice(), work, steps)
@@ -58,21 +58,21 @@ pub(crate) fn take_last<V: Verifier, L: Ledger>(
     steps: &mut Steps<L>,
 ) -> Result<(), NoMemory>
     requires halfway { IsHalfway (V.accepts keys.now) [] work.old.deletes work.old.concerned rows.old }
-    requires fresh { IsNew rows.old.facts rows.old.state r.now }
+    requires fresh { IsNew rows.old.facts.ordered rows.old.state r.now }
     requires others { (y : List ℕ)
-        → contains_key rows.old.facts y ≡ (bytes_eq y r.now || contains_key rows.old.state y) }
+        → contains_key rows.old.facts.ordered y ≡ (bytes_eq y r.now || contains_key rows.old.state y) }
     ensures facts { rows.new.facts ≡ rows.old.facts }
     ensures taken { OnOk result ((y : List ℕ)
         → contains_key rows.new.state y ≡ (bytes_eq y r.now || contains_key rows.old.state y)) }
     ensures halfway { OnOk result
         (IsHalfway (V.accepts keys.now) [] work.new.deletes work.new.concerned rows.new) }
-    ensures adds { OnOk result (AddsFor rows.old.facts (V.accepts keys.now)
-        (freed rows.old.facts rows.old.state r.now)
+    ensures adds { OnOk result (AddsFor rows.old.facts.ordered (V.accepts keys.now)
+        (freed rows.old.facts.ordered rows.old.state r.now)
         work.old.deletes work.new.deletes work.old.concerned work.new.concerned) }
-    ensures ticks { (n : ℕ) → AreFewOn rows.old.facts (V.accepts keys.now)
-        (freed rows.old.facts rows.old.state r.now) n
+    ensures ticks { (n : ℕ) → AreFewOn rows.old.facts.ordered (V.accepts keys.now)
+        (freed rows.old.facts.ordered rows.old.state r.now) n
         → steps.new ≤ steps.old
-        + taking_steps rows.old.facts (V.accepts keys.now) rows.old.state r.now + 8 + 4 * n }
+        + taking_steps rows.old.facts.ordered (V.accepts keys.now) rows.old.state r.now + 8 + 4 * n }
 {
     let order = arrive(alloc, rows, r, steps)?;
     let refs = order.as_slice();
@@ -97,9 +97,9 @@ fn judge_all<V: Verifier, L: Ledger>(
     ensures taken { OnOk result ((y : List ℕ) → contains_key rows.new.state y ≡ contains_key rows.old.state y) }
     ensures halfway { OnOk result
         (IsHalfway (V.accepts keys.now) [] work.new.deletes work.new.concerned rows.new) }
-    ensures adds { OnOk result (AddsFor rows.old.facts (V.accepts keys.now) order.now
+    ensures adds { OnOk result (AddsFor rows.old.facts.ordered (V.accepts keys.now) order.now
         work.old.deletes work.new.deletes work.old.concerned work.new.concerned) }
-    ensures ticks { steps.new ≤ steps.old + sum_by (look_steps rows.old.facts (V.accepts keys.now)) order.now }
+    ensures ticks { steps.new ≤ steps.old + sum_by (look_steps rows.old.facts.ordered (V.accepts keys.now)) order.now }
 {
     for x in order {
         judge_one(alloc, rows, keys, x, false, work, steps)?;
@@ -129,13 +129,14 @@ fn judge_one<V: Verifier, L: Ledger>(
     ensures reached { OnOk result ((left : List (List ℕ))
         → IsHalfway (V.accepts keys.now) (x.now ∷ left) work.old.deletes work.old.concerned rows.old
         → CanBeJudged (x.now ∷ left) rows.old → CanBeJudged left rows.new) }
-    ensures adds { OnOk result (AddsFor rows.old.facts (V.accepts keys.now) (x.now ∷ [])
+    ensures adds { OnOk result (AddsFor rows.old.facts.ordered (V.accepts keys.now) (x.now ∷ [])
         work.old.deletes work.new.deletes work.old.concerned work.new.concerned) }
-    ensures ticks { alone ≡ false → steps.new ≤ steps.old + look_steps rows.old.facts (V.accepts keys.now) x.now }
+    ensures ticks { alone ≡ false
+        → steps.new ≤ steps.old + look_steps rows.old.facts.ordered (V.accepts keys.now) x.now }
     ensures more_ticks { IsHalfway (V.accepts keys.now) (x.now ∷ []) work.old.deletes work.old.concerned rows.old
         → CanBeJudged (x.now ∷ []) rows.old → AreTaken rows.old
-        → (n : ℕ) → AreFew rows.old.facts (V.accepts keys.now) x.now n
-        → steps.new ≤ steps.old + look_steps rows.old.facts (V.accepts keys.now) x.now + 8 + 4 * n }
+        → (n : ℕ) → AreFew rows.old.facts.ordered (V.accepts keys.now) x.now n
+        → steps.new ≤ steps.old + look_steps rows.old.facts.ordered (V.accepts keys.now) x.now + 8 + 4 * n }
 {
     match judge(rows, keys, x, steps)? {
         Judged::Nothing => Ok(()),

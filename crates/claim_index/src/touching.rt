@@ -19,10 +19,11 @@ pub(crate) fn concern<L: Ledger>(
     concerned: &mut RefList,
     steps: &mut Steps<L>,
 ) -> Result<(), NoMemory>
-    ensures added { OnOk result (concerned.new ≡ concerned.old ++ concerned_by rows.now.facts rows.now.state y.now) }
+    ensures added { OnOk result
+        (concerned.new ≡ concerned.old ++ concerned_by rows.now.facts.ordered rows.now.state y.now) }
     ensures ticks { steps.new ≤ steps.old + 2 }
 {
-    let Some(fact) = rows.facts.row(y, steps) else {
+    let Some(fact) = rows.facts.ordered.row(y, steps) else {
         return Ok(());
     };
     match &fact.kind {

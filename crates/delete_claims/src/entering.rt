@@ -10,7 +10,7 @@ use crate::flipping::flip_from;
 use blobref::{NoMemory, Ref, RefList};
 use edge_base::Steps;
 use index_look::claim::can_be_deleted_at;
-use index_rows::{FactRows, RefRows, Rows, StateRow};
+use index_rows::{OrderedFacts, RefRows, Rows, StateRow};
 use schema_date::Date;
 use schema_fact::{Kind, What};
 use std::alloc::Global;
@@ -35,19 +35,21 @@ pub fn enter<L: Ledger>(
     d: &Ref,
     steps: &mut Steps<L>,
 ) -> Result<RefList, NoMemory>
-    requires counted { IsCounted rows.old.facts rows.old.deletes rows.old.state }
-    requires fresh { IsNewDelete rows.old.facts rows.old.deletes rows.old.state d.now }
+    requires counted { IsCounted rows.old.facts.ordered rows.old.deletes rows.old.state }
+    requires fresh { IsNewDelete rows.old.facts.ordered rows.old.deletes rows.old.state d.now }
     ensures facts { rows.new.facts ≡ rows.old.facts }
     ensures waiters { rows.new.waiters ≡ rows.old.waiters }
     ensures changes { rows.new.changes ≡ rows.old.changes }
     ensures holders { rows.new.holders ≡ rows.old.holders }
     ensures entered { IfOk result (λ changed.
-        IsEntered rows.old.facts rows.old.deletes rows.new.deletes rows.old.state rows.new.state d.now changed) }
+        IsEntered rows.old.facts.ordered rows.old.deletes rows.new.deletes rows.old.state rows.new.state
+        d.now changed) }
     ensures front { IfOk result (λ changed.
-        IsFront changed (entered_targets rows.old.facts rows.old.deletes d.now)) }
-    ensures ticks { steps.new ≤ steps.old + 3 + 4 * length (entered_targets rows.old.facts rows.old.deletes d.now) }
+        IsFront changed (entered_targets rows.old.facts.ordered rows.old.deletes d.now)) }
+    ensures ticks { steps.new ≤ steps.old
+        + 3 + 4 * length (entered_targets rows.old.facts.ordered rows.old.deletes d.now) }
 {
-    let Some((target, date)) = delete_in(&rows.facts, d, steps) else {
+    let Some((target, date)) = delete_in(&rows.facts.ordered, d, steps) else {
         unreachable!()
     };
     rows.deletes.put(&target, d, date, steps)?;
@@ -56,7 +58,7 @@ pub fn enter<L: Ledger>(
     }
     flip_from(
         alloc,
-        &rows.facts,
+        &rows.facts.ordered,
         &mut rows.state,
         &rows.deletes,
         &target,
@@ -67,11 +69,11 @@ pub fn enter<L: Ledger>(
 /// Whether a blob is deleted at `When::Always` by the delete claims whose rows stand, where the counts of delete claims
 /// are right for these rows. At most two look-ups.
 pub fn is_gone<L: Ledger>(rows: &Rows, y: &Ref, steps: &mut Steps<L>) -> bool
-    requires { IsCounted rows.now.facts rows.now.deletes rows.now.state }
-    ensures gone { result ≡ row_deleted rows.now.facts rows.now.deletes Always y.now }
+    requires { IsCounted rows.now.facts.ordered rows.now.deletes rows.now.state }
+    ensures gone { result ≡ row_deleted rows.now.facts.ordered rows.now.deletes Always y.now }
     ensures ticks { steps.new ≤ steps.old + 2 }
 {
-    can_be_deleted_at(&rows.facts, y, steps) && has_deleters(&rows.state, y, steps)
+    can_be_deleted_at(&rows.facts.ordered, y, steps) && has_deleters(&rows.state, y, steps)
 }
 
 fn has_deleters<L: Ledger>(state: &RefRows<StateRow>, y: &Ref, steps: &mut Steps<L>) -> bool
@@ -85,7 +87,7 @@ fn has_deleters<L: Ledger>(state: &RefRows<StateRow>, y: &Ref, steps: &mut Steps
 }
 
 // The target and the date of a delete claim.
-fn delete_in<L: Ledger>(facts: &FactRows, d: &Ref, steps: &mut Steps<L>) -> Option<(Ref, Date)>
+fn delete_in<L: Ledger>(facts: &OrderedFacts, d: &Ref, steps: &mut Steps<L>) -> Option<(Ref, Date)>
     ensures value { result ≡ delete_in facts.now d.now }
     ensures ticks { steps.new ≡ steps.old + 1 }
 {

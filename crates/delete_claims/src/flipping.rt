@@ -8,7 +8,7 @@ ghost use Rattle.delete_claims.specs.Flipping.{deletable, row_target, CanRecount
 use blobref::{NoMemory, Ref, RefList};
 use edge_base::Steps;
 use index_look::claim::can_be_deleted;
-use index_rows::{FactRows, PairRows, RefRows, StateRow};
+use index_rows::{OrderedFacts, PairRows, RefRows, StateRow};
 use schema_date::Date;
 use schema_fact::{Kind, What};
 use std::alloc::Global;
@@ -18,7 +18,7 @@ use std::sync::ledger::Ledger;
 // and isn't.
 pub(crate) fn flip_from<L: Ledger>(
     alloc: Global,
-    facts: &FactRows,
+    facts: &OrderedFacts,
     state: &mut RefRows<StateRow>,
     deletes: &PairRows<Date>,
     start: &Ref,
@@ -92,7 +92,11 @@ fn row_of<L: Ledger>(
 }
 
 // What a ref says, if it is a permanode or a claim.
-fn deletable<'a, L: Ledger>(facts: &'a FactRows, y: &Ref, steps: &mut Steps<L>) -> Option<&'a Kind>
+fn deletable<'a, L: Ledger>(
+    facts: &'a OrderedFacts,
+    y: &Ref,
+    steps: &mut Steps<L>,
+) -> Option<&'a Kind>
     ensures kind { option_copied result ≡ deletable facts.now y.now }
     ensures ticks { steps.new ≡ steps.old + 1 }
 {

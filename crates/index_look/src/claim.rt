@@ -1,5 +1,5 @@
 //! What single facts say as claims and signed blobs.
-ghost use Rattle.std.specs.Prelude.{◌≡◌, ◌+◌, option_copied, option_map};
+ghost use Rattle.std.specs.Prelude.{◌≡◌, ◌≤◌, ◌+◌, option_copied, option_map};
 ghost use Rattle.std.specs.FinMap.{get};
 ghost use Rattle.std.specs.Str.{bytes_eq};
 ghost use Rattle.schema_fact.specs.Changes.{change_seen};
@@ -27,7 +27,7 @@ pub fn is_permanode(kind: &Kind) -> bool
 /// Whether the fact of a ref is a permanode; false where the table has none. One look-up.
 pub fn is_permanode_at<T: FactTable, L: Ledger>(table: &T, r: &Ref, steps: &mut Steps<L>) -> bool
     ensures value { result ≡ passes (λ fact. is_permanode fact.kind) (get (T.facts table.now) r.now) }
-    ensures ticks { steps.new ≡ steps.old + 1 }
+    ensures ticks { steps.new ≤ steps.old + 1 + T.loose table.now }
 {
     match table.fact_at(r, steps) {
         Some(fact) => is_permanode(&fact.kind),
@@ -75,7 +75,7 @@ pub fn can_be_deleted(kind: &Kind) -> bool
 /// Whether a delete claim can delete the fact of a ref; false where the table has none. One look-up.
 pub fn can_be_deleted_at<T: FactTable, L: Ledger>(table: &T, r: &Ref, steps: &mut Steps<L>) -> bool
     ensures value { result ≡ passes (λ fact. can_be_deleted fact.kind) (get (T.facts table.now) r.now) }
-    ensures ticks { steps.new ≡ steps.old + 1 }
+    ensures ticks { steps.new ≤ steps.old + 1 + T.loose table.now }
 {
     match table.fact_at(r, steps) {
         Some(fact) => can_be_deleted(&fact.kind),
@@ -136,7 +136,7 @@ pub fn change_said<'a, T: FactTable, L: Ledger>(
     steps: &mut Steps<L>,
 ) -> Option<ChangeView<'a>>
     ensures value { option_map change_seen result ≡ change_said (T.facts table.now) r.now place }
-    ensures ticks { steps.new ≡ steps.old + 1 }
+    ensures ticks { steps.new ≤ steps.old + 1 + T.loose table.now }
 {
     claim_says(&table.fact_at(r, steps)?.kind)?.change(place)
 }

@@ -1,5 +1,5 @@
 //! The values of attributes, folded out of counted claims.
-ghost use Rattle.std.specs.Prelude.{◌≡◌, ◌+◌, [], IfOk, OnOk, fold, map, filter, not, option_copied, length, slice_get, ◌==◌, if◌then◌else◌};
+ghost use Rattle.std.specs.Prelude.{◌≡◌, ◌≤◌, ◌+◌, [], IfOk, OnOk, fold, map, filter, not, option_copied, length, slice_get, ◌==◌, if◌then◌else◌};
 ghost use Rattle.std.specs.List.{list_any};
 ghost use Rattle.std.specs.Str.{bytes_eq};
 ghost use Rattle.claim_model.specs.ByClaim.{apply};
@@ -134,7 +134,7 @@ pub fn apply_place<'a, T: FactTable, L: Ledger>(
 ) -> Result<(), NoMemory>
     ensures values { OnOk result (map (λ t. t.now) found.new.items ≡ values_with attr.now
         (map (λ t. t.now) found.old.items) (change_said (T.facts table.now) r.now place)) }
-    ensures ticks { steps.new ≡ steps.old + 1 }
+    ensures ticks { steps.new ≤ steps.old + 1 + T.loose table.now }
 {
     match change_said(table, r, place, steps) {
         Some(change) => apply_change(found, change, attr),

@@ -16,3 +16,5 @@ pub mod DeletionSteps
 pub mod Counting
 pub mod DeletionCounts
 pub mod Sums
+pub mod LooseFacts
+pub mod LooseOrder

@@ -9,3 +9,4 @@ pub mod Counted
 pub mod Values
 pub mod Holders
 pub mod Touched
+pub mod Loose

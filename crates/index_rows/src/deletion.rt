@@ -14,11 +14,11 @@ use std::sync::ledger::Ledger;
 /// a ready delete claim, so that no chain of them is a ring. It takes no memory and isn't recursive. Its time is that
 /// of looking through the delete claims on the blob, those on these, and so on, once each.
 pub fn deleted_at<L: Ledger>(rows: &Rows, r: &Ref, when: &When, steps: &mut Steps<L>) -> bool
-    requires { Ringless rows.now.facts rows.now.deletes }
-    ensures deleted { result ≡ row_deleted rows.now.facts rows.now.deletes when.now r.now }
-    ensures ticks { steps.new ≤ steps.old + 4 + 6 * tree_rows rows.now.facts rows.now.deletes r.now }
+    requires { Ringless rows.now.facts.ordered rows.now.deletes }
+    ensures deleted { result ≡ row_deleted rows.now.facts.ordered rows.now.deletes when.now r.now }
+    ensures ticks { steps.new ≤ steps.old + 4 + 6 * tree_rows rows.now.facts.ordered rows.now.deletes r.now }
 {
-    if !can_be_deleted_at(&rows.facts, r, steps) {
+    if !can_be_deleted_at(&rows.facts.ordered, r, steps) {
         return false;
     }
     // `at` is the blob whose delete claims are looked through, and those up to `last` don't make it deleted.
@@ -51,10 +51,10 @@ pub fn deleted_at<L: Ledger>(rows: &Rows, r: &Ref, when: &When, steps: &mut Step
 
 // The target of a delete claim, and of all else the ref itself.
 fn target_in<L: Ledger>(rows: &Rows, y: &Ref, steps: &mut Steps<L>) -> Ref
-    ensures target { result ≡ target_in rows.now.facts y.now }
+    ensures target { result ≡ target_in rows.now.facts.ordered y.now }
     ensures ticks { steps.new ≡ steps.old + 1 }
 {
-    match rows.facts.row(y, steps) {
+    match rows.facts.ordered.row(y, steps) {
         Some(fact) => kind_target(y, &fact.kind),
         None => *y,
     }

@@ -1,140 +1,140 @@
-//! Facts under refs.
-ghost use Rattle.std.specs.Prelude.{◌≡◌, ◌+◌, ◌∷◌, [], Some, OnOk, OnErr, IfSome, IfNone, option_copied};
+//! Facts under refs: those in a tree, and those of rows that brought their memory.
+ghost use Rattle.std.specs.Prelude.{◌≡◌, ◌+◌, ◌≤◌, ◌<◌, ◌^◌, ◌∷◌, [], false, length, option_map, IfOk, OnOk, OnErr};
 ghost use Rattle.std.specs.FinMap as finite;
-ghost use Rattle.index_look.specs.Walk.{entries_after};
-ghost use Rattle.index_rows.specs.Stored.{start_after};
+ghost use Rattle.std.specs.List.{list_any};
 ghost use Rattle.schema_fact.specs.Validity.{IsValid};
+ghost use Rattle.index_rows.specs.Loose.{first_of, is_number, numbers_of, with_fact, with_first, with_loose, IsMoved};
 
+use crate::loose_rows::{LooseRows, Made, Row};
+use crate::ordered_facts::OrderedFacts;
 use blobref::{NoMemory, Ref};
 use edge_base::Steps;
 use index_look::FactTable;
 use schema_fact::Fact;
 use std::alloc::Global;
-use std::collections::BTreeMap;
-use std::marker::Model;
-use std::ops::Bound;
 use std::sync::ledger::Ledger;
 
-/// Valid facts under their refs. A contract sees them as the map. `steps` counts the look-ups, the steps from one row
-/// to the next and the changes, each of which takes time in the logarithm of the number of rows.
+/// Valid facts under their refs. As a table they are those in order, and behind them those of the loose rows: a look-up
+/// asks the tree, and then the loose rows one by one. `put` and the other calls on the tree alone are those of
+/// `ordered`.
 #[derive(Drop)]
 pub struct FactRows {
-    rows: BTreeMap<Ref, Box<Fact>>,
-}
-
-impl Model for FactRows {
-    ghost use Rattle.std.specs.FinMap as finite;
-    ghost use Rattle.std.specs.Coded.{coded_ℕ, coded_list};
-    ghost use Rattle.claim_model.specs.Facts.{Facts};
-    ghost use Rattle.schema_fact.specs.contracts.kinds.Fact as fact;
-    ghost use Rattle.index_rows.specs.Stored.{stored_facts, AreAllValid};
-
-    ghost Value = { Facts };
-
-    ghost coded = { finite.code (coded_list coded_ℕ) fact.the_row.coded };
-
-    ghost view = { λ a. stored_facts a.rows.entries };
-
-    ghost invariant = { λ a. AreAllValid (stored_facts a.rows.entries) };
+    /// The facts in the order of their refs.
+    pub ordered: OrderedFacts,
+    /// The rows that were put without memory, and not moved into the tree since. While there is one, no other table of
+    /// an index is of use.
+    pub loose: LooseRows,
 }
 
 impl FactRows {
     /// No facts.
     pub fn empty(alloc: Global) -> FactRows
-        ensures { result ≡ finite.empty }
+        ensures ordered { result.ordered ≡ finite.empty }
+        ensures loose { result.loose ≡ [] }
     {
         FactRows {
-            rows: BTreeMap::new(alloc),
+            ordered: OrderedFacts::empty(alloc),
+            loose: LooseRows::empty(alloc),
         }
     }
 
-    /// The fact of a ref, and `None` exactly where there is none.
-    pub fn row<L: Ledger>(&self, r: &Ref, steps: &mut Steps<L>) -> Option<&Fact>
-        ensures value { option_copied result ≡ finite.get self.now r.now }
-        ensures valid { IfSome result (λ fact. IsValid fact.now) }
+    /// Puts a fact under a new ref. It takes no memory: the row is put in front of the loose ones, which with it must be
+    /// fewer than 2^63.
+    pub fn put_made<L: Ledger>(&mut self, made: Made, steps: &mut Steps<L>)
+        requires valid { IsValid made.2 }
+        requires room { length self.old.loose + 1 < 2 ^ 63 }
+        requires fresh { finite.contains_key (with_loose self.old.loose self.old.ordered) made.1 ≡ false }
+        ensures map { with_loose self.new.loose self.new.ordered
+            ≡ finite.insert (with_loose self.old.loose self.old.ordered) made.1 made.2 }
+        ensures ordered { self.new.ordered ≡ self.old.ordered }
+        ensures loose { self.new.loose ≡ made ∷ self.old.loose }
         ensures ticks { steps.new ≡ steps.old + 1 }
     {
         steps.tick();
-        match self.rows.get(r) {
-            Some(fact) => Some(&**fact),
-            None => None,
-        }
+        self.loose.push(made);
     }
 
-    /// The least ref greater than `after`, or of all where `after` is `None`, with its fact; `None` exactly where there
-    /// is none.
-    pub fn next_after<L: Ledger>(
-        &self,
-        after: Option<&Ref>,
-        steps: &mut Steps<L>,
-    ) -> Option<(Ref, &Fact)>
-        ensures next { IfSome result (λ e.
-            entries_after self.now (option_copied after.entry) ≡ (e.0, e.1.now) ∷ entries_after self.now (Some e.0)) }
-        ensures last { IfNone result (entries_after self.now (option_copied after.entry) ≡ []) }
-        ensures ticks { steps.new ≡ steps.old + 1 }
-    {
-        steps.tick();
-        match self
-            .rows
-            .range((start_after(after), Bound::Unbounded))
-            .next()
-        {
-            Some((r, fact)) => Some((*r, &**fact)),
-            None => None,
-        }
-    }
-
-    /// Puts a valid fact under a ref, in place of the one there. Where there is no memory nothing changes, and the fact
-    /// is dropped.
-    pub fn put<L: Ledger>(
+    /// Moves the loose row that was put last into the tree, and answers its number; `None` exactly where there is none.
+    /// A copy of the fact is put, and the row is taken off only when it was. `NoMemory` comes only where no memory is
+    /// left, and then the loose rows are as they were. No fact comes or goes. It ticks for the row, a look-up and a
+    /// put.
+    pub fn move_one<L: Ledger>(
         &mut self,
         alloc: Global,
-        r: &Ref,
-        fact: Fact,
         steps: &mut Steps<L>,
-    ) -> Result<(), NoMemory>
-        requires valid { IsValid fact }
-        ensures ok { OnOk result (self.new ≡ finite.insert self.old r.now fact) }
-        ensures err { OnErr result (self.new ≡ self.old) }
-        ensures ticks { steps.new ≡ steps.old + 1 }
+    ) -> Result<Option<u64>, NoMemory>
+        ensures map { with_loose self.new.loose self.new.ordered ≡ with_loose self.old.loose self.old.ordered }
+        ensures moved { IfOk result (λ number. IsMoved number (numbers_of self.old.loose) (numbers_of self.new.loose)) }
+        ensures err { OnErr result (self.new.loose ≡ self.old.loose) }
+        ensures ticks { steps.new ≤ steps.old + 3 }
     {
-        steps.tick();
-        let boxed = Box::new(alloc, fact)?;
-        self.rows.insert(*r, boxed)?;
-        Ok(())
-    }
-
-    /// Drops the fact of a ref. Where there is none nothing changes.
-    pub fn drop_row<L: Ledger>(&mut self, r: &Ref, steps: &mut Steps<L>)
-        ensures value { self.new ≡ finite.remove self.old r.now }
-        ensures ticks { steps.new ≡ steps.old + 1 }
-    {
-        steps.tick();
-        self.rows.remove(r);
+        copy_first(alloc, &mut self.ordered, &self.loose, steps)?;
+        Ok(number_of(self.loose.pop()))
     }
 }
 
 impl FactTable for FactRows {
-    ghost facts = { λ rows. rows };
+    ghost facts = { λ rows. with_loose rows.loose rows.ordered };
+
+    ghost loose = { λ rows. length rows.loose };
 
     fn fact_at<L: Ledger>(&self, r: &Ref, steps: &mut Steps<L>) -> Option<&Fact> {
-        self.row(r, steps)
+        match self.ordered.row(r, steps) {
+            Some(fact) => Some(fact),
+            None => self.loose.find(r, steps),
+        }
     }
 
     fn fact_after<L: Ledger>(&self, after: Option<&Ref>, steps: &mut Steps<L>) -> Option<Ref> {
-        match self.next_after(after, steps) {
-            Some(entry) => Some(entry.0),
-            None => None,
-        }
+        let ordered = self.ordered.fact_after(after, steps);
+        self.loose.least_after(after, ordered, steps)
     }
 }
 
-// Where the rows behind a ref begin.
-fn start_after(after: Option<&Ref>) -> Bound<Ref>
-    ensures { result ≡ start_after (option_copied after.entry) }
+fn number_of(row: Option<Row>) -> Option<u64>
+    ensures { result ≡ option_map (λ row. row.0) row }
 {
-    match after {
-        Some(r) => Bound::Excluded(*r),
-        None => Bound::Unbounded,
+    match row {
+        Some(row) => Some(row.0),
+        None => None,
     }
+}
+
+// Puts a copy of the first loose fact into the tree, unless one of its ref is there. Where there is no memory nothing
+// changes.
+fn copy_first<L: Ledger>(
+    alloc: Global,
+    ordered: &mut OrderedFacts,
+    loose: &LooseRows,
+    steps: &mut Steps<L>,
+) -> Result<(), NoMemory>
+    ensures ok { OnOk result (ordered.new ≡ with_first ordered.old loose.now) }
+    ensures err { OnErr result (ordered.new ≡ ordered.old) }
+    ensures ticks { steps.new ≤ steps.old + 3 }
+{
+    let Some(first) = loose.first() else {
+        return Ok(());
+    };
+    steps.tick();
+    put_new(alloc, ordered, &first.0, first.1, steps)
+}
+
+// Puts a copy of a valid fact, unless one of its ref is there.
+fn put_new<L: Ledger>(
+    alloc: Global,
+    ordered: &mut OrderedFacts,
+    r: &Ref,
+    fact: &Fact,
+    steps: &mut Steps<L>,
+) -> Result<(), NoMemory>
+    requires { IsValid fact.now }
+    ensures ok { OnOk result (ordered.new ≡ with_fact ordered.old r.now fact.now) }
+    ensures err { OnErr result (ordered.new ≡ ordered.old) }
+    ensures ticks { steps.new ≤ steps.old + 2 }
+{
+    if ordered.row(r, steps).is_some() {
+        return Ok(());
+    }
+    let copy = fact.copy(alloc)?;
+    ordered.put(alloc, r, copy, steps)
 }

@@ -1,5 +1,5 @@
 //! The tables of an index.
-ghost use Rattle.std.specs.Prelude.{◌≡◌};
+ghost use Rattle.std.specs.Prelude.{◌≡◌, []};
 ghost use Rattle.std.specs.FinMap as finite;
 
 use crate::change_rows::ChangeRows;
@@ -45,7 +45,8 @@ pub struct Rows {
 impl Rows {
     /// Tables without rows.
     pub fn empty(alloc: Global) -> Rows
-        ensures facts { result.facts ≡ finite.empty }
+        ensures facts { result.facts.ordered ≡ finite.empty }
+        ensures loose { result.facts.loose ≡ [] }
         ensures state { result.state ≡ finite.empty }
         ensures waiters { result.waiters ≡ finite.empty }
         ensures deletes { result.deletes ≡ finite.empty }

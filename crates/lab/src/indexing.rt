@@ -3,7 +3,7 @@ ghost use Rattle.std.specs.Prelude.{◌≡◌, ◌<◌, IfOk, OnOk};
 ghost use Rattle.claim_model.specs.Facts.{AreValid};
 
 use blobref::{NoMemory, Ref, Text};
-use claim_index::{FactList, Index};
+use claim_index::{FactList, Index, Made};
 use claim_verify::Keyring;
 use edge_base::Steps;
 use index_look::Look;
@@ -14,12 +14,13 @@ use std::alloc::Global;
 use std::marker::Brand;
 use std::sync::ledger::{Blank, Ledger};
 
-/// How the blobs of a pack come to an index: one by one in the order of the pack, or with the last one first, or all
-/// at once.
+/// How the blobs of a pack come to an index: one by one in the order of the pack, or with the last one first, or in the
+/// order of the pack with each bringing its memory, or all at once.
 #[derive(Clone, Copy)]
 pub enum Arrival {
     InOrder,
     Backwards,
+    Placed,
     AtOnce,
 }
 
@@ -102,6 +103,7 @@ pub(crate) fn index_of<'a, L: Ledger>(
     match arrival {
         Arrival::InOrder => inserted(alloc, pack, found, false, keys, steps),
         Arrival::Backwards => inserted(alloc, pack, found, true, keys, steps),
+        Arrival::Placed => placed(alloc, pack, found, keys, steps),
         Arrival::AtOnce => filled(alloc, pack, found, keys, steps),
     }
 }
@@ -139,6 +141,38 @@ fn insert<L: Ledger>(
     if !index.stands(&place.r, steps) {
         let said = fact(alloc, blob_at(pack, place))?;
         index.insert(number as u64, &place.r, said, steps)?;
+    }
+    Ok(())
+}
+
+// An index in which the blobs are placed one by one.
+fn placed<'a, L: Ledger>(
+    alloc: Global,
+    pack: &[u8],
+    found: &[Found],
+    keys: &'a Keyring,
+    steps: &mut Steps<L>,
+) -> Result<Index<&'a Keyring>, NoMemory> {
+    let mut index = Index::fresh(alloc, keys);
+    for number in 0..found.len() {
+        place(alloc, &mut index, number, pack, &found[number], steps)?;
+    }
+    Ok(index)
+}
+
+// Places a blob, unless one stands under its ref.
+fn place<L: Ledger>(
+    alloc: Global,
+    index: &mut Index<&Keyring>,
+    number: usize,
+    pack: &[u8],
+    place: &Found,
+    steps: &mut Steps<L>,
+) -> Result<(), NoMemory> {
+    if !index.stands(&place.r, steps) && index.len() < i64::MAX as u64 {
+        let said = fact(alloc, blob_at(pack, place))?;
+        let made = Made::make(alloc, number as u64, &place.r, said)?;
+        index.place(made, steps);
     }
     Ok(())
 }

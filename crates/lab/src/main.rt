@@ -4,9 +4,9 @@
 //!
 //! `lab orders KEYRING ATTRIBUTE VALUE DATE ORDER..` makes indexes of the blobs of the pack on standard input in the
 //! orders that are given, each a word of letters: `a` is the first blob of the pack, and what isn't named doesn't come.
-//! For each order it prints what two indexes tell, the first of which takes the blobs one by one, and the second all at
-//! once: their first permanode, the values of each permanode at the date, and the holders of the value. A date that is
-//! none stands for all dates.
+//! For each order it prints what three indexes tell, the first of which takes the blobs one by one, as does the second,
+//! to which each brings its memory, and the third all at once: that it is stale, where it is, their first permanode, the
+//! values of each permanode at the date, and the holders of the value. A date that is none stands for all dates.
 //!
 //! `lab http PACK KEYRING PIECE` answers the requests on standard input over the blobs of the file PACK, by the keys of
 //! the file KEYRING: the requests are handed on at most PIECE bytes at a time, or as many as are asked for where that is

@@ -12,8 +12,9 @@ use std::alloc::Global;
 use std::marker::Brand;
 use std::sync::ledger::{Blank, Ledger};
 
-// For each order two lines: what an index tells that takes the blobs one by one, and what one tells that takes them all
-// at once. An order names blobs of the pack by letters, the first one by `a`.
+// For each order three lines: what an index tells that takes the blobs one by one, what one tells in which each is
+// placed, and what one tells that takes them all at once. An order names blobs of the pack by letters, the first one by
+// `a`.
 pub(crate) fn order_lines(
     alloc: Global,
     pack: &[u8],
@@ -63,7 +64,7 @@ fn push_lines<L: Ledger>(
     requires some { 0 < blank.parts }
 {
     let mut steps = Steps::<L>::start(blank);
-    for arrival in [Arrival::InOrder, Arrival::AtOnce] {
+    for arrival in [Arrival::InOrder, Arrival::Placed, Arrival::AtOnce] {
         let index = index_of(alloc, pack, came, &arrival, &question.keys, &mut steps)?;
         push_told(&index, found, question, &mut steps, lines)?;
         lines.push(b'\n')?;
@@ -71,7 +72,8 @@ fn push_lines<L: Ledger>(
     Ok(())
 }
 
-// What an index tells: its first permanode, each of the pack with its values, and who holds the value.
+// What an index tells: that it is stale, where it is; its first permanode, each of the pack with its values, and who
+// holds the value.
 fn push_told<L: Ledger>(
     index: &Index<&Keyring>,
     found: &[Found],
@@ -79,6 +81,9 @@ fn push_told<L: Ledger>(
     steps: &mut Steps<L>,
     line: &mut Vec<u8>,
 ) -> Result<(), NoMemory> {
+    if index.stale() {
+        line.extend_from_slice(b" stale")?;
+    }
     if let Some(r) = index.permanode_after(None, steps) {
         push_words(line, b" first ", r.spell().as_slice())?;
     }

@@ -28,6 +28,7 @@ impl Yardstick {
             "facts" => Some(Yardstick::Facts),
             "insert" => Some(Yardstick::Index(Arrival::InOrder)),
             "insert-backwards" => Some(Yardstick::Index(Arrival::Backwards)),
+            "place" => Some(Yardstick::Index(Arrival::Placed)),
             "fill" => Some(Yardstick::Index(Arrival::AtOnce)),
             _ => None,
         }

@@ -7,7 +7,7 @@ ghost use Rattle.pending_deps.specs.Arriving.{says_ready, HasPut, IsEnlisted, Is
 use crate::settling::settle;
 use blobref::{NoMemory, Ref, RefList};
 use edge_base::Steps;
-use index_rows::{FactRows, PairRows, RefRows, Rows, StateRow};
+use index_rows::{OrderedFacts, PairRows, RefRows, Rows, StateRow};
 use std::alloc::Global;
 use std::sync::ledger::Ledger;
 
@@ -22,17 +22,23 @@ pub fn arrive<L: Ledger>(
     r: &Ref,
     steps: &mut Steps<L>,
 ) -> Result<RefList, NoMemory>
-    requires waiting { IsWaiting rows.old.facts rows.old.state rows.old.waiters }
-    requires fresh { IsNew rows.old.facts rows.old.state r.now }
+    requires waiting { IsWaiting rows.old.facts.ordered rows.old.state rows.old.waiters }
+    requires fresh { IsNew rows.old.facts.ordered rows.old.state r.now }
     ensures facts { rows.new.facts ≡ rows.old.facts }
     ensures deletes { rows.new.deletes ≡ rows.old.deletes }
     ensures changes { rows.new.changes ≡ rows.old.changes }
     ensures holders { rows.new.holders ≡ rows.old.holders }
     ensures arrived { IfOk result (λ order.
-        HasArrived rows.old.facts rows.old.state rows.new.state rows.new.waiters r.now order) }
-    ensures ticks { steps.new ≤ steps.old + arrival_steps rows.old.facts rows.old.state r.now }
+        HasArrived rows.old.facts.ordered rows.old.state rows.new.state rows.new.waiters r.now order) }
+    ensures ticks { steps.new ≤ steps.old + arrival_steps rows.old.facts.ordered rows.old.state r.now }
 {
-    let missing = enlist(&rows.facts, &rows.state, &mut rows.waiters, r, steps)?;
+    let missing = enlist(
+        &rows.facts.ordered,
+        &rows.state,
+        &mut rows.waiters,
+        r,
+        steps,
+    )?;
     let row = StateRow {
         ready: missing == 0,
         genuine: false,
@@ -51,7 +57,7 @@ pub fn arrive<L: Ledger>(
 
 // Puts a row for each ref that r has to wait for, and counts them.
 fn enlist<L: Ledger>(
-    facts: &FactRows,
+    facts: &OrderedFacts,
     state: &RefRows<StateRow>,
     waiters: &mut PairRows<()>,
     r: &Ref,

@@ -66,6 +66,8 @@ impl<V: Verifier> PlainIndex<V> {
 impl<V: Verifier> FactTable for PlainIndex<V> {
     ghost facts = { λ index. index.0 };
 
+    ghost loose = { λ index. 0 };
+
     /// It takes time in the logarithm of the number of facts.
     fn fact_at<L: Ledger>(&self, r: &Ref, steps: &mut Steps<L>) -> Option<&Fact> {
         steps.tick();

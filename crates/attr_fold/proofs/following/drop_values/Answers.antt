@@ -1,6 +1,7 @@
 use Rattle.std.proofs.Common.{◌≡◌, length, ap, ◌∙◌, arith}
 use Rattle.std.specs.FinMap.{contains_key}
 use Rattle.index_rows.specs.Changes.{Changes, changes_before}
+use Rattle.index_rows.proofs.LooseFacts.{in_order}
 use Rattle.attr_fold.proofs.Dropping.{back_in, before_stands, counted_still, first_in, listed_still, fewer_then, gone_at_end, gone_at_last, one_back, one_less, prev_in}
 use Rattle.attr_fold.proofs.following.drop_values.Goals as goal
 
@@ -41,8 +42,8 @@ walk-preserved g c =
     let prev = prev_in old.changes c.walk.rows.changes p c.permanode.result.now c.walk.at c.in-Some.before at.changes c.permanode.ensures c.in-Some.ensures.prev in
     let told = c.in_ok-take_back.ensures in
     let done = c.in_ok-take_back.field-0 in
-    let back = back_in attr p old.facts c.walk.rows.facts old.deletes c.walk.rows.deletes c.in-Some.before done c.take_back.new.rows.holders at.facts at.deletes told.back in
-    let one = one_back old.facts old.deletes old.changes attr p c.args.moment.now c.walk.at c.in-Some.before prev c.walk.rows.holders c.take_back.new.rows.holders done at.left told.fewer back in
+    let back = back_in attr p old.facts.ordered c.walk.rows.facts.ordered old.deletes c.walk.rows.deletes c.in-Some.before done c.take_back.new.rows.holders (in_order at.facts) at.deletes told.back in
+    let one = one_back old.facts.ordered old.deletes old.changes attr p c.args.moment.now c.walk.at c.in-Some.before prev c.walk.rows.holders c.take_back.new.rows.holders done at.left told.fewer back in
     let less = one_less old.changes p c.walk.at c.in-Some.before prev in
     let a = at.ticks in
     let b = c.prev_of.ensures.ticks in
@@ -71,9 +72,9 @@ returns-then-branch-clause-gone g c =
     let prev = prev_in old.changes c.walk.rows.changes p c.permanode.result.now c.walk.at c.in-Some.before at.changes c.permanode.ensures c.in-Some.ensures.prev in
     let told = c.in_ok-take_back.ensures in
     let done = c.in_ok-take_back.field-0 in
-    let back = back_in attr p old.facts c.walk.rows.facts old.deletes c.walk.rows.deletes c.in-Some.before done c.take_back.new.rows.holders at.facts at.deletes told.back in
-    let one = one_back old.facts old.deletes old.changes attr p c.args.moment.now c.walk.at c.in-Some.before prev c.walk.rows.holders c.take_back.new.rows.holders done at.left told.fewer back in
-    gone_at_end old.facts old.deletes old.changes attr p c.args.moment.now c.take_back.new.rows.holders done c.if-branch.true (λ value t u. (one value t u).0)
+    let back = back_in attr p old.facts.ordered c.walk.rows.facts.ordered old.deletes c.walk.rows.deletes c.in-Some.before done c.take_back.new.rows.holders (in_order at.facts) at.deletes told.back in
+    let one = one_back old.facts.ordered old.deletes old.changes attr p c.args.moment.now c.walk.at c.in-Some.before prev c.walk.rows.holders c.take_back.new.rows.holders done at.left told.fewer back in
+    gone_at_end old.facts.ordered old.deletes old.changes attr p c.args.moment.now c.take_back.new.rows.holders done c.if-branch.true (λ value t u. (one value t u).0)
 
 pub returns-then-branch-clause-ticks : goal.returns-then-branch-clause-ticks
 returns-then-branch-clause-ticks g c =
@@ -106,5 +107,5 @@ returns-clause-gone g c =
     let at = c.walk.invariant in
     let old = c.args.rows.now in
     let p = c.args.key.now.2 in
-    gone_at_last old.facts old.deletes old.changes c.args.key.now.0 p c.args.moment.now c.walk.at c.walk.rows.holders
+    gone_at_last old.facts.ordered old.deletes old.changes c.args.key.now.0 p c.args.moment.now c.walk.at c.walk.rows.holders
     (first_in old.changes c.walk.rows.changes p c.permanode.result.now c.walk.at at.changes c.permanode.ensures c.in_default.ensures.first) at.left

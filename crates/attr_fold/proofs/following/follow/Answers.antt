@@ -14,8 +14,8 @@ pub returns-then-not-holds_values-clause-followed :
     goal.returns-then-not-holds_values-clause-followed
 returns-then-not-holds_values-clause-followed g c = λ done but before one was.
     let old = c.args.rows.now in
-    subst (λ (cs : Changes). IsHeldBut but old.facts old.state old.deletes cs old.holders) (sym one.more)
-    (nothing_held before c.args.p.now c.args.moment.now one.fresh old.facts old.state old.deletes but old.holders was
+    subst (λ (cs : Changes). IsHeldBut but old.facts.ordered old.state old.deletes cs old.holders) (sym one.more)
+    (nothing_held before c.args.p.now c.args.moment.now one.fresh old.facts.ordered old.state old.deletes but old.holders was
     (sym c.if-not-holds_values.ensures.holds))
 
 pub returns-clause-followed : goal.returns-clause-followed
@@ -27,12 +27,12 @@ returns-clause-followed g c =
     IfOk-weaker c.follow_last.result _ _
     (λ answer told done but before one was.
     let last : changes_after (_) p (Some k) ≡ [] = ap (λ (cs : Changes). changes_after cs p (Some k)) (sym one.more) ∙ c.if-not-is_last.ensures.last refl in
-    let live = lives old.facts old.state old.deletes c.requires.counted p k change c.if-has_deleters.ensures.some in
-    subst (λ (cs : Changes). IsHeldBut but old.facts old.state old.deletes cs c.follow_last.new.rows.holders) (sym one.more)
-    (followed_before before p k one.fresh old.facts old.state old.deletes but old.holders was last
+    let live = lives old.facts.ordered old.state old.deletes c.requires.counted p k change c.if-has_deleters.ensures.some in
+    subst (λ (cs : Changes). IsHeldBut but old.facts.ordered old.state old.deletes cs c.follow_last.new.rows.holders) (sym one.more)
+    (followed_before before p k one.fresh old.facts.ordered old.state old.deletes but old.holders was last
     change live (sym c.if-not-holds_values.ensures.holds) c.follow_last.new.rows.holders
-    (subst (λ (cs : Changes). IsFollowed p change.change (counted_before old.facts old.deletes cs p k) old.holders c.follow_last.new.rows.holders) one.more
-    (told done change.change (change_is old.facts old.state p k change)))))
+    (subst (λ (cs : Changes). IsFollowed p change.change (counted_before old.facts.ordered old.deletes cs p k) old.holders c.follow_last.new.rows.holders) one.more
+    (told done change.change (change_is old.facts.ordered old.state p k change)))))
     c.follow_last.ensures.followed
 
 pub returns-clause-ticks : goal.returns-clause-ticks

@@ -15,8 +15,8 @@ returns-clause-followed g c =
     let key : c.in_ok-key.key ≡ (change.attr.now, change.value.now, c.args.p.now) = c.in_ok-key.ensures ∙ (λ i. (c.as_str.ensures i, c.as_str-2.ensures i, c.args.p.now)) in
     λ is d found.
     let same : change_seen change ≡ d = same_Some (change_seen change) d (c.in-Some.ensures.value ∙ found) in
-    subst (λ (x : Change). IsFollowed c.args.p.now x (counted_before old.facts old.deletes old.changes c.args.p.now c.args.moment.now) old.holders new) same
-    (subst (λ (k : HolderKey). IsFollowed k.2 (record { on = change.on.now; act = change.act; attr = k.0; value = k.1 }) (counted_before old.facts old.deletes old.changes k.2 c.args.moment.now) old.holders new) key
+    subst (λ (x : Change). IsFollowed c.args.p.now x (counted_before old.facts.ordered old.deletes old.changes c.args.p.now c.args.moment.now) old.holders new) same
+    (subst (λ (k : HolderKey). IsFollowed k.2 (record { on = change.on.now; act = change.act; attr = k.0; value = k.1 }) (counted_before old.facts.ordered old.deletes old.changes k.2 c.args.moment.now) old.holders new) key
     (c.in_ok-write_change.ensures.followed change.on.now))
 
 pub returns-clause-ticks : goal.returns-clause-ticks

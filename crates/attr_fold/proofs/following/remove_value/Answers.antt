@@ -10,7 +10,7 @@ pub returns-then-is_empty-clause-followed : goal.returns-then-is_empty-clause-fo
 returns-then-is_empty-clause-followed g c =
     let k = c.args.key.now in
     let old = c.args.rows.now in
-    let said = counted_before old.facts old.deletes old.changes k.2 c.args.moment.now in
+    let said = counted_before old.facts.ordered old.deletes old.changes k.2 c.args.moment.now in
     on_both c.drop_values.result
     (λ fewer gone on. all_removed k.2 k.0 k.1 on said old.holders c.drop_values.new.rows.holders fewer gone (ap (λ (v : List ℕ). length v == 0) (sym c.value.ensures) ∙ sym c.if-is_empty.ensures))
     c.drop_values.ensures.fewer c.drop_values.ensures.gone
@@ -19,6 +19,6 @@ pub returns-clause-followed : goal.returns-clause-followed
 returns-clause-followed g c = λ on.
     let k = c.args.key.now in
     let old = c.args.rows.now in
-    let said = counted_before old.facts old.deletes old.changes k.2 c.args.moment.now in
+    let said = counted_before old.facts.ordered old.deletes old.changes k.2 c.args.moment.now in
     subst (λ (hs : Holders). IsFollowed k.2 (record { on = on; act = removes; attr = k.0; value = k.1 }) said old.holders hs) (sym c.drop_row.ensures.value)
     (dropped k.2 k.0 k.1 old.holders on said (ap (λ (v : List ℕ). length v == 0) (sym c.value.ensures) ∙ sym c.if-is_empty.ensures))

@@ -6,7 +6,7 @@ use Rattle.attr_fold.proofs.refolding.note_moment.Goals as goal
 pub returns-clause-noted : goal.returns-clause-noted
 returns-clause-noted g c =
     subst (λ t. OnOk c.note.result (c.note.new.self ≡ t))
-    (noted_is c.args.rows.now.facts c.args.rows.now.state c.args.rows.now.deletes c.requires.counted c.args.p.now
+    (noted_is c.args.rows.now.facts.ordered c.args.rows.now.state c.args.rows.now.deletes c.requires.counted c.args.p.now
     c.args.turns.now c.args.moment.now c.args.n c.requires.change (change_seen c.in-Some.change) c.has_deleters-counts.result
     c.in-Some.ensures.value c.has_deleters-counts.ensures.some)
     c.note.ensures

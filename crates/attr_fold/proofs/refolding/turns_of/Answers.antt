@@ -13,21 +13,21 @@ loop-n-init g c = record {
 
 pub note_moment-requires-clause-change : goal.note_moment-requires-clause-change
 note_moment-requires-clause-change g c =
-    change_there c.args.rows.now.facts c.args.rows.now.state c.args.rows.now.changes c.args.p.now c.requires.listed
+    change_there c.args.rows.now.facts.ordered c.args.rows.now.state c.args.rows.now.changes c.args.p.now c.requires.listed
     c.deref-moment-items.result.now
     (c.deref-moment-items.ensures.value ∙ c.in_ok-moments.ensures.moments) c.loop-n.n c.moment-item.result c.loop-n-test.true
     c.moment-item.is
 
 pub loop-n-preserved : goal.loop-n-preserved
 loop-n-preserved g c = record {
-  tells = tells_next c.args.rows.now.facts c.args.rows.now.state c.args.rows.now.deletes c.args.p.now
+  tells = tells_next c.args.rows.now.facts.ordered c.args.rows.now.state c.args.rows.now.deletes c.args.p.now
       c.deref-moment-items.result.now c.loop-n.n c.moment-item.result c.loop-n-test.true c.moment-item.is
-      (change_there c.args.rows.now.facts c.args.rows.now.state c.args.rows.now.changes c.args.p.now c.requires.listed
+      (change_there c.args.rows.now.facts.ordered c.args.rows.now.state c.args.rows.now.changes c.args.p.now c.requires.listed
       c.deref-moment-items.result.now
       (c.deref-moment-items.ensures.value ∙ c.in_ok-moments.ensures.moments) c.loop-n.n c.moment-item.result c.loop-n-test.true
       c.moment-item.is)
       c.loop-n.turns c.note_moment.new.turns c.loop-n.invariant.tells c.in_ok-note_moment.ensures.noted;
-  few = size_more c.args.rows.now.facts c.args.rows.now.deletes c.args.p.now c.loop-n.turns c.note_moment.new.turns c.moment-item.result c.loop-n.n c.in_ok-note_moment.ensures.noted c.loop-n.invariant.few;
+  few = size_more c.args.rows.now.facts.ordered c.args.rows.now.deletes c.args.p.now c.loop-n.turns c.note_moment.new.turns c.moment-item.result c.loop-n.n c.in_ok-note_moment.ensures.noted c.loop-n.invariant.few;
   ticks = omega (arith, c.loop-n.invariant.ticks, c.note_moment.ensures.ticks);
 }
 

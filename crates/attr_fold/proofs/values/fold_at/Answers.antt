@@ -7,7 +7,7 @@ use Rattle.attr_fold.proofs.values.fold_at.Goals as goal
 
 pub walk-init : goal.walk-init
 walk-init g c =
-    let facts = c.args.rows.now.facts in
+    let facts = c.args.rows.now.facts.ordered in
     let deletes = c.args.rows.now.deletes in
     let changes = c.args.rows.now.changes in
     record {
@@ -20,7 +20,7 @@ walk-init g c =
 
 pub walk-preserved : goal.walk-preserved
 walk-preserved g c =
-    let facts = c.args.rows.now.facts in
+    let facts = c.args.rows.now.facts.ordered in
     let deletes = c.args.rows.now.deletes in
     let f = moment_values facts deletes c.args.when.now c.args.attr.now in
     let after = moments_after c.args.rows.now.changes c.args.when.now c.args.p.now in
@@ -35,7 +35,7 @@ walk-preserved g c =
 
 pub returns-in_err-apply_moment-clause-ticks : goal.returns-in_err-apply_moment-clause-ticks
 returns-in_err-apply_moment-clause-ticks g c =
-    let facts = c.args.rows.now.facts in
+    let facts = c.args.rows.now.facts.ordered in
     let deletes = c.args.rows.now.deletes in
     let after = moments_after c.args.rows.now.changes c.args.when.now c.args.p.now in
     let k = c.in-Some.moment in

@@ -10,7 +10,7 @@ use Rattle.attr_fold.proofs.values.last_change_at.Goals as goal
 
 pub walk-init : goal.walk-init
 walk-init g c = record {
-  told = last_folded c.args.rows.now.facts c.args.rows.now.deletes c.args.when.now None
+  told = last_folded c.args.rows.now.facts.ordered c.args.rows.now.deletes c.args.when.now None
       (map (λ e. e.0.1) (changes_after c.args.rows.now.changes c.args.p.now None));
   row = tt;
   ticks = omega arith;
@@ -18,7 +18,7 @@ walk-init g c = record {
 
 pub walk-preserved : goal.walk-preserved
 walk-preserved g c =
-    let facts = c.args.rows.now.facts in
+    let facts = c.args.rows.now.facts.ordered in
     let deletes = c.args.rows.now.deletes in
     let changes = c.args.rows.now.changes in
     let f = last_with facts deletes c.args.when.now in

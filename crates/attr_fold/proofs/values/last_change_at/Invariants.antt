@@ -9,11 +9,11 @@ use Rattle.attr_fold.proofs.values.last_change_at.Given as goal
 abbrev pub invariant-walk : goal.invariant-walk
 invariant-walk g l = record {
   told : last_date
-      (fold (last_with l.rows.facts l.rows.deletes l.when) l.found (moments_after l.rows.changes l.when l.p l.last))
-      ≡ row_last_change l.rows.facts l.rows.deletes l.rows.changes l.when l.p;
+      (fold (last_with l.rows.facts.ordered l.rows.deletes l.when) l.found (moments_after l.rows.changes l.when l.p l.last))
+      ≡ row_last_change l.rows.facts.ordered l.rows.deletes l.rows.changes l.when l.p;
   row : IfSome l.found (λ k. contains_key l.rows.changes (l.p, k) ≡ true);
-  ticks : l.steps + sum_by (moment_steps l.rows.facts l.rows.deletes) (moments_after l.rows.changes l.when l.p l.last)
-      ≤ l.fn.steps + sum_by (moment_steps l.rows.facts l.rows.deletes) (moments_after l.rows.changes l.when l.p None);
+  ticks : l.steps + sum_by (moment_steps l.rows.facts.ordered l.rows.deletes) (moments_after l.rows.changes l.when l.p l.last)
+      ≤ l.fn.steps + sum_by (moment_steps l.rows.facts.ordered l.rows.deletes) (moments_after l.rows.changes l.when l.p None);
 }
 
 abbrev pub decreases-walk : goal.decreases-walk

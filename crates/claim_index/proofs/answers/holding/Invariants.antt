@@ -8,10 +8,10 @@ use Rattle.claim_index.proofs.answers.holding.Given as goal
 -- what was kept, and what is still to come, is the whole
 abbrev pub invariant-walk : goal.invariant-walk
 invariant-walk g l =
-    l.found ++ filter (told_holds l.rows.facts l.rows.state l.rows.deletes l.rows.changes l.when l.attr l.value)
-    (keys_of (entries_after l.rows.facts l.place))
-    ≡ filter (told_holds l.rows.facts l.rows.state l.rows.deletes l.rows.changes l.when l.attr l.value)
-    (keys l.rows.facts)
+    l.found ++ filter (told_holds l.rows.facts.ordered l.rows.state l.rows.deletes l.rows.changes l.when l.attr l.value)
+    (keys_of (entries_after l.rows.facts.ordered l.place))
+    ≡ filter (told_holds l.rows.facts.ordered l.rows.state l.rows.deletes l.rows.changes l.when l.attr l.value)
+    (keys l.rows.facts.ordered)
 
 abbrev pub decreases-walk : goal.decreases-walk
-decreases-walk g l = length (entries_after l.rows.facts l.place)
+decreases-walk g l = length (entries_after l.rows.facts.ordered l.place)

@@ -10,11 +10,11 @@ use Rattle.claim_index.proofs.answers.permanode_after.Goals as goal
 
 pub walk-init : goal.walk-init
 walk-init g c =
-    let facts = c.args.rows.now.facts in
+    let facts = c.args.rows.now.facts.ordered in
     let test = says_permanode facts c.args.rows.now.state in
     ap (λ o. option_map (λ (e : Entry). e.0)
     (find (λ (e : Entry). test e.0) (entries_after facts o))) c.copied-place.ensures
     ∙ found_swap test (option_copied c.args.after) (entries facts)
 
 pub is_genuine_here-requires : goal.is_genuine_here-requires
-is_genuine_here-requires g c = walk_had c.args.rows.now.facts _ _ _ _ c.in-Some.ensures.next
+is_genuine_here-requires g c = walk_had c.args.rows.now.facts.ordered _ _ _ _ c.in-Some.ensures.next

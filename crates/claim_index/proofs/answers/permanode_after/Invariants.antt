@@ -10,8 +10,8 @@ use Rattle.claim_index.proofs.answers.permanode_after.Given as goal
 abbrev pub invariant-walk : goal.invariant-walk
 invariant-walk g l =
     option_map (λ (e : Entry). e.0)
-    (find (λ e. says_permanode l.rows.facts l.rows.state e.0) (entries_after l.rows.facts l.place))
-    ≡ told_after l.rows.facts l.rows.state (option_copied l.after)
+    (find (λ e. says_permanode l.rows.facts.ordered l.rows.state e.0) (entries_after l.rows.facts.ordered l.place))
+    ≡ told_after l.rows.facts.ordered l.rows.state (option_copied l.after)
 
 abbrev pub decreases-walk : goal.decreases-walk
-decreases-walk g l = length (entries_after l.rows.facts l.place)
+decreases-walk g l = length (entries_after l.rows.facts.ordered l.place)

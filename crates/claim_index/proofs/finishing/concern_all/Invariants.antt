@@ -6,6 +6,6 @@ use Rattle.claim_index.proofs.finishing.concern_all.Given as goal
 
 abbrev pub invariant-loop-y : goal.invariant-loop-y
 invariant-loop-y g l = record {
-  added : l.concerned ≡ l.fn.concerned ++ flat_map (concerned_by l.rows.facts l.rows.state) (take l.y-index l.changed);
+  added : l.concerned ≡ l.fn.concerned ++ flat_map (concerned_by l.rows.facts.ordered l.rows.state) (take l.y-index l.changed);
   ticks : l.steps ≤ l.fn.steps + 2 * l.y-index;
 }

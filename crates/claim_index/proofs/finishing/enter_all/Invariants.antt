@@ -19,7 +19,7 @@ abbrev pub invariant-claims : goal.invariant-claims
 invariant-claims g l = record {
   entered : AreEntered l.deletes l.fn.concerned l.concerned l.fn.rows l.rows l.i;
   adds : (accepts : Accepts) → IsHalfway accepts [] l.deletes l.fn.concerned l.fn.rows → AreTaken l.fn.rows
-      → AddsEntered l.fn.rows.facts accepts (drop l.i l.deletes) l.fn.concerned l.concerned;
+      → AddsEntered l.fn.rows.facts.ordered accepts (drop l.i l.deletes) l.fn.concerned l.concerned;
   ticks : (accepts : Accepts) → IsHalfway accepts [] l.deletes l.fn.concerned l.fn.rows → AreTaken l.fn.rows
-      → l.steps ≤ l.fn.steps + sum_by (enter_steps l.fn.rows.facts accepts) (drop l.i l.deletes);
+      → l.steps ≤ l.fn.steps + sum_by (enter_steps l.fn.rows.facts.ordered accepts) (drop l.i l.deletes);
 }

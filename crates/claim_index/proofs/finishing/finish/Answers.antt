@@ -23,7 +23,7 @@ returns-clause-halfway g c =
 pub returns-in_err-enter_all-clause-ticks : goal.returns-in_err-enter_all-clause-ticks
 returns-in_err-enter_all-clause-ticks g c = λ accepts heads ps half all is.
     let entered = c.enter_all.ensures.ticks accepts (subst (λ (refs : List (List ℕ)). IsHalfway accepts [] refs c.args.work.concerned c.args.rows.now) (sym c.as_slice.ensures) half) all in
-    let same = ap (sum_by (enter_steps c.args.rows.now.facts accepts)) c.as_slice.ensures in
+    let same = ap (sum_by (enter_steps c.args.rows.now.facts.ordered accepts)) c.as_slice.ensures in
     omega (arith, entered, same)
 
 pub returns-clause-ticks : goal.returns-clause-ticks
@@ -34,7 +34,7 @@ returns-clause-ticks g c = λ accepts heads ps half all is.
     let concerned = c.enter_all.new.concerned in
     let begun = (subst (λ (refs : List (List ℕ)). IsHalfway accepts [] refs work.concerned rows) (sym c.as_slice.ensures) half) in
     let told = c.in_ok-enter_all.ensures in
-    let adds = subst (λ (refs : List (List ℕ)). AddsEntered rows.facts accepts refs work.concerned concerned) c.as_slice.ensures (told.adds accepts begun all) in
+    let adds = subst (λ (refs : List (List ℕ)). AddsEntered rows.facts.ordered accepts refs work.concerned concerned) c.as_slice.ensures (told.adds accepts begun all) in
     finish_sum accepts rows now c.enter_all.ensures.facts work.deletes work.concerned concerned heads ps adds c.as_slice.result.now c.as_slice.ensures
     c.args.steps.now c.enter_all.new.steps c.refold_all.new.steps (c.enter_all.ensures.ticks accepts begun all)
     (c.refold_all.ensures.ticks accepts heads ps (told.halfway accepts begun) (taken_still rows now c.enter_all.ensures.facts told.taken all)

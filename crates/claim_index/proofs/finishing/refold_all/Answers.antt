@@ -53,7 +53,7 @@ loop-p-preserved g c =
     (subst (λ (refs : List (List ℕ)). AreHeldBut refs c.loop-p.rows) first c.loop-p.invariant.refolded.finished.held) in
     let all = c.loop-p.invariant.refolded.same in
     let steps = same_steps c.args.rows.now c.loop-p.rows all.facts all.state all.changes c.p-item.result in
-    let next = sum_next (refold_steps c.args.rows.now.facts c.args.rows.now.state c.args.rows.now.changes) c.as_slice-p-items.result.now c.loop-p.p-index c.p-item.result c.loop-p-test.true c.p-item.is in
+    let next = sum_next (refold_steps c.args.rows.now.facts.ordered c.args.rows.now.state c.args.rows.now.changes) c.as_slice-p-items.result.now c.loop-p.p-index c.p-item.result c.loop-p-test.true c.p-item.is in
     record {
       refolded = record {
         same = same-trans c.args.rows.now c.loop-p.rows c.refold.new.rows c.loop-p.invariant.refolded.same same;
@@ -78,7 +78,7 @@ returns-in_err-refold-clause-ticks g c = λ accepts heads ps half taken is.
     let items = c.as_slice-p-items.result.now in
     let all = c.loop-p.invariant.refolded.same in
     let steps = same_steps c.args.rows.now c.loop-p.rows all.facts all.state all.changes c.p-item.result in
-    let upto = sum_upto (refold_steps c.args.rows.now.facts c.args.rows.now.state c.args.rows.now.changes) items c.loop-p.p-index c.p-item.result c.loop-p-test.true c.p-item.is in
+    let upto = sum_upto (refold_steps c.args.rows.now.facts.ordered c.args.rows.now.state c.args.rows.now.changes) items c.loop-p.p-index c.p-item.result c.loop-p-test.true c.p-item.is in
     let whole = refolds_whole c.args.rows.now accepts items c.args.concerned heads ps c.as_slice-p-items.ensures.order
     (λ q. ap (list_any (bytes_eq q)) c.as_slice-p-items.ensures.refs ∙ c.in_ok-refs.ensures q) half.changed taken is in
     omega (arith, c.loop-p.invariant.ticks, c.refold.ensures.ticks, steps, upto, whole)
@@ -86,7 +86,7 @@ returns-in_err-refold-clause-ticks g c = λ accepts heads ps half taken is.
 pub returns-clause-ticks : goal.returns-clause-ticks
 returns-clause-ticks g c = λ accepts heads ps half taken is.
     let items = c.as_slice-p-items.result.now in
-    let part = sum_by-take-le (refold_steps c.args.rows.now.facts c.args.rows.now.state c.args.rows.now.changes) items c.loop-p.p-index in
+    let part = sum_by-take-le (refold_steps c.args.rows.now.facts.ordered c.args.rows.now.state c.args.rows.now.changes) items c.loop-p.p-index in
     let whole = refolds_whole c.args.rows.now accepts items c.args.concerned heads ps c.as_slice-p-items.ensures.order
     (λ q. ap (list_any (bytes_eq q)) c.as_slice-p-items.ensures.refs ∙ c.in_ok-refs.ensures q) half.changed taken is in
     omega (arith, c.loop-p.invariant.ticks, part, whole)

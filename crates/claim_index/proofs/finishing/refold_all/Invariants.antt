@@ -14,5 +14,5 @@ pub record AreRefolded (rows after : Rows) (left : List (List ℕ)) : Type 0 whe
 abbrev pub invariant-loop-p : goal.invariant-loop-p
 invariant-loop-p g l = record {
   refolded : AreRefolded l.fn.rows l.rows (drop l.p-index l.p-items);
-  ticks : l.steps ≤ l.fn.steps + sum_by (refold_steps l.fn.rows.facts l.fn.rows.state l.fn.rows.changes) (take l.p-index l.p-items);
+  ticks : l.steps ≤ l.fn.steps + sum_by (refold_steps l.fn.rows.facts.ordered l.fn.rows.state l.fn.rows.changes) (take l.p-index l.p-items);
 }

@@ -4,7 +4,7 @@ use Rattle.claim_index.specs.Halfway.{IsHalfway, IsTakenTo}
 use Rattle.claim_index.proofs.rebuilding.take_all.Given as goal
 
 abbrev pub decreases-walk : goal.decreases-walk
-decreases-walk g l = length (entries_after l.rows.facts l.last)
+decreases-walk g l = length (entries_after l.rows.facts.ordered l.last)
 
 -- what isn't behind the last ref was taken up
 abbrev pub invariant-walk : goal.invariant-walk

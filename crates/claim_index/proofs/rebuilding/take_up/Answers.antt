@@ -9,6 +9,7 @@ use Rattle.claim_index.proofs.Finishable.{can_be_finished}
 use Rattle.claim_index.proofs.OneJudged.{ok_then}
 use Rattle.claim_index.proofs.Whole.{rests_once}
 use Rattle.claim_index.proofs.rebuilding.take_up.Goals as goal
+use Rattle.index_rows.proofs.LooseFacts.{in_order}
 
 pub finish-requires : goal.finish-requires
 finish-requires g c = can_be_finished (g.V.Verifier.accepts c.args.keys.now) c.take_last.new.work.deletes c.take_last.new.work.concerned c.take_last.new.rows c.in_ok-take_last.ensures.halfway
@@ -18,7 +19,7 @@ returns-clause-rest g c =
     let a = g.V.Verifier.accepts c.args.keys.now in
     let more = c.requires c.if-stale.false in
     rests_once c.finish.result a c.take_last.new.rows c.finish.new.rows c.finish.ensures.facts
-    (λ y. c.in_ok-take_last.ensures.taken y ∙ sym (more.others y) ∙ ap (λ (f : Facts). contains_key f y) (sym c.in_ok-take_last.ensures.facts)) c.finish.ensures.taken
+    (λ y. c.in_ok-take_last.ensures.taken y ∙ sym (more.others y) ∙ ap (λ (f : Facts). contains_key f y) (sym (in_order c.in_ok-take_last.ensures.facts))) c.finish.ensures.taken
     (ok_then c.finish.result (λ f. f a c.in_ok-take_last.ensures.halfway) c.finish.ensures.halfway)
 
 pub returns-in_err-take_last-clause-ticks : goal.returns-in_err-take_last-clause-ticks
@@ -34,7 +35,7 @@ returns-clause-ticks g c = λ fresh.
     let told = c.in_ok-take_last.ensures in
     let work = c.take_last.new.work in
     let none = c.none-work.result in
-    let done = c.finish.ensures.ticks a (heads (taken rows) rows.facts a r) (changed_refs (taken rows) rows.facts a r) told.halfway
+    let done = c.finish.ensures.ticks a (heads (taken rows) rows.facts.ordered a r) (changed_refs (taken rows) rows.facts.ordered a r) told.halfway
     (are_taken a rows r (c.requires fresh) c.take_last.new.rows told.facts told.taken none.deletes none.concerned work.deletes work.concerned c.none-work.ensures.deletes c.none-work.ensures.concerned told.adds told.halfway)
     (covers_all a rows r (c.requires fresh) c.take_last.new.rows told.facts told.taken none.deletes none.concerned work.deletes work.concerned c.none-work.ensures.deletes c.none-work.ensures.concerned told.adds told.halfway) in
     finished_ticks a rows r (c.requires fresh) c.take_last.new.rows told.facts told.taken none.deletes none.concerned work.deletes work.concerned c.none-work.ensures.deletes c.none-work.ensures.concerned told.adds told.halfway

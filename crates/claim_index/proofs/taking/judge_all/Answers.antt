@@ -5,6 +5,7 @@ use Rattle.claim_index.specs.Halfway.{IsHalfway, CanBeJudged}
 use Rattle.claim_index.proofs.Members.{drop_first}
 use Rattle.claim_index.proofs.AddTicks.{judged_adds, judged_ticks, judged_upto}
 use Rattle.claim_index.proofs.taking.judge_all.Goals as goal
+use Rattle.index_rows.proofs.LooseFacts.{in_order}
 
 pub judge_one-requires : goal.judge_one-requires
 judge_one-requires g c = λ t. absurd (false≢true t)
@@ -25,11 +26,11 @@ loop-x-preserved g c =
       λ y. told.taken y ∙ was.1 y,
       told.halfway rest half can,
       told.reached rest half can,
-      judged_adds c.loop-x.rows.facts c.args.rows.now.facts was.0 a order i x c.loop-x-test.true c.x-item.is _ _ _ _ _ _ was.4 told.adds,
-      judged_ticks c.loop-x.rows.facts c.args.rows.now.facts was.0 a order i x c.loop-x-test.true c.x-item.is c.args.steps.now c.loop-x.steps c.judge_one.new.steps was.5 (c.judge_one.ensures.ticks refl),
+      judged_adds c.loop-x.rows.facts.ordered c.args.rows.now.facts.ordered (in_order was.0) a order i x c.loop-x-test.true c.x-item.is _ _ _ _ _ _ was.4 told.adds,
+      judged_ticks c.loop-x.rows.facts.ordered c.args.rows.now.facts.ordered (in_order was.0) a order i x c.loop-x-test.true c.x-item.is c.args.steps.now c.loop-x.steps c.judge_one.new.steps was.5 (c.judge_one.ensures.ticks refl),
     )
 
 pub returns-in_err-judge_one-clause-ticks : goal.returns-in_err-judge_one-clause-ticks
 returns-in_err-judge_one-clause-ticks g c =
-    judged_upto c.loop-x.rows.facts c.args.rows.now.facts c.loop-x.invariant.0 (g.V.Verifier.accepts c.args.keys.now) c.args.order.now c.loop-x.x-index c.x-item.result c.loop-x-test.true c.x-item.is
+    judged_upto c.loop-x.rows.facts.ordered c.args.rows.now.facts.ordered (in_order c.loop-x.invariant.0) (g.V.Verifier.accepts c.args.keys.now) c.args.order.now c.loop-x.x-index c.x-item.result c.loop-x-test.true c.x-item.is
     c.args.steps.now c.loop-x.steps c.judge_one.new.steps c.loop-x.invariant.5 (c.judge_one.ensures.ticks refl)

@@ -11,5 +11,5 @@ invariant-loop-x g l =
     (l.rows.facts ≡ l.fn.rows.facts) × ((y : List ℕ) → contains_key l.rows.state y ≡ contains_key l.fn.rows.state y)
     × IsHalfway (g.V.Verifier.accepts l.keys) (drop l.x-index l.order) l.work.deletes l.work.concerned l.rows
     × CanBeJudged (drop l.x-index l.order) l.rows
-    × AddsFor l.fn.rows.facts (g.V.Verifier.accepts l.keys) (take l.x-index l.order) l.fn.work.deletes l.work.deletes l.fn.work.concerned l.work.concerned
-    × (l.steps ≤ l.fn.steps + sum_by (look_steps l.fn.rows.facts (g.V.Verifier.accepts l.keys)) (take l.x-index l.order))
+    × AddsFor l.fn.rows.facts.ordered (g.V.Verifier.accepts l.keys) (take l.x-index l.order) l.fn.work.deletes l.work.deletes l.fn.work.concerned l.work.concerned
+    × (l.steps ≤ l.fn.steps + sum_by (look_steps l.fn.rows.facts.ordered (g.V.Verifier.accepts l.keys)) (take l.x-index l.order))

@@ -11,6 +11,7 @@ use Rattle.claim_index.proofs.OneFollowed.{judged_claim, half_taken, can_still, 
 use Rattle.claim_index.proofs.Marking.{keys_stay}
 use Rattle.claim_index.proofs.Refolds.{IsSameBeside}
 use Rattle.claim_index.proofs.taking.judge_one.Goals as goal
+use Rattle.index_rows.proofs.LooseFacts.{in_order}
 
 pub returns-in-Nothing-clause-halfway : goal.returns-in-Nothing-clause-halfway
 returns-in-Nothing-clause-halfway g c = λ left h can.
@@ -74,8 +75,8 @@ returns-in-Permanode-clause-halfway g c = ok_then c.concern.result (λ added lef
     let x = c.args.x.now in
     let work = c.args.work.now in
     let able = can_judge a old x left work.deletes work.concerned h can in
-    subst (λ (cs : List (List ℕ)). IsHalfway a left work.deletes cs new) (ap (λ facts. work.concerned ++ concerned_by facts new.state x) (sym e.facts) ∙ sym added)
-    (subst (IsHalfway a left work.deletes (work.concerned ++ concerned_by old.facts new.state x)) (judged_is old new e.facts e.waiters e.deletes e.holders)
+    subst (λ (cs : List (List ℕ)). IsHalfway a left work.deletes cs new) (ap (λ facts. work.concerned ++ concerned_by facts new.state x) (sym (in_order e.facts)) ∙ sym added)
+    (subst (IsHalfway a left work.deletes (work.concerned ++ concerned_by old.facts.ordered new.state x)) (judged_is old new e.facts e.waiters e.deletes e.holders)
     (concerns_more a old x left work.deletes work.concerned h can new.state new.changes e.state e.changes
     (e.judged (taken old) left able h.judged) (e.changed (taken old) left able h.changed)
     (λ d. others_are_no_delete (inl c.in-Permanode.is) (e.answer ∙ d))))) c.concern.ensures.added
@@ -94,20 +95,20 @@ returns-in-Permanode-clause-reached g c = ok_then c.concern.result (λ added lef
     (e.judged (taken old) left able h.judged) (e.changed (taken old) left able h.changed))) c.concern.ensures.added
 
 pub returns-in-Nothing-clause-adds : goal.returns-in-Nothing-clause-adds
-returns-in-Nothing-clause-adds g c = adds_nothing c.args.rows.now.facts (g.V.Verifier.accepts c.args.keys.now) c.args.x.now c.args.work.now.deletes c.args.work.now.concerned
+returns-in-Nothing-clause-adds g c = adds_nothing c.args.rows.now.facts.ordered (g.V.Verifier.accepts c.args.keys.now) c.args.x.now c.args.work.now.deletes c.args.work.now.concerned
 
 pub returns-in-Delete-clause-adds : goal.returns-in-Delete-clause-adds
 returns-in-Delete-clause-adds g c = on_ok_weaker c.push.result
-    (adds_delete c.args.rows.now.facts (g.V.Verifier.accepts c.args.keys.now) c.args.x.now c.args.work.now.deletes c.args.work.now.concerned _) c.push.ensures.ok
+    (adds_delete c.args.rows.now.facts.ordered (g.V.Verifier.accepts c.args.keys.now) c.args.x.now c.args.work.now.deletes c.args.work.now.concerned _) c.push.ensures.ok
 
 pub returns-in-Permanode-clause-adds : goal.returns-in-Permanode-clause-adds
 returns-in-Permanode-clause-adds g c =
-    let facts = c.args.rows.now.facts in
+    let facts = c.args.rows.now.facts.ordered in
     let a = g.V.Verifier.accepts c.args.keys.now in
     let x = c.args.x.now in
     on_ok_weaker c.concern.result
     (λ added. adds_concerned facts a x c.args.work.now.deletes c.args.work.now.concerned (judged_signed facts a x _ c.in_ok-judge.ensures.answer (inl c.in-Permanode.is))
-    c.judge.new.rows.facts c.judge.new.rows.state _ c.in_ok-judge.ensures.facts added) c.concern.ensures.added
+    c.judge.new.rows.facts.ordered c.judge.new.rows.state _ (in_order c.in_ok-judge.ensures.facts) added) c.concern.ensures.added
 
 pub take_changes-requires : goal.take_changes-requires
 take_changes-requires g c = λ alone.
@@ -158,12 +159,12 @@ returns-in-Changes-clause-reached g c = ok_then c.take_changes.result (λ done l
 
 pub returns-in-Changes-clause-adds : goal.returns-in-Changes-clause-adds
 returns-in-Changes-clause-adds g c =
-    let facts = c.args.rows.now.facts in
+    let facts = c.args.rows.now.facts.ordered in
     let a = g.V.Verifier.accepts c.args.keys.now in
     let x = c.args.x.now in
     on_ok_weaker c.take_changes.result
     (adds_taken facts a x c.args.work.now.deletes c.args.work.now.concerned (judged_signed facts a x _ c.in_ok-judge.ensures.answer (inr c.in-Changes.is))
-    c.judge.new.rows c.take_changes.new.rows.holders _ c.in_ok-judge.ensures.facts) c.take_changes.ensures.taken
+    c.judge.new.rows c.take_changes.new.rows.holders _ (in_order c.in_ok-judge.ensures.facts)) c.take_changes.ensures.taken
 
 pub returns-in-Changes-clause-ticks : goal.returns-in-Changes-clause-ticks
 returns-in-Changes-clause-ticks g c = λ one.
@@ -183,7 +184,7 @@ returns-in-Changes-clause-more_ticks g c = λ h can all n few.
     let judged = judged_claim a old x [] work.deletes work.concerned h can new.state new.changes e.state e.changes
     (e.judged (taken old) [] able h.judged) (e.changed (taken old) [] able h.changed) (sym e.answer ∙ c.in-Changes.is)
     new (judged_is old new e.facts e.waiters e.deletes e.holders) in
-    let still : AreTaken new = λ y. keys_stay old.facts a old.state new.state x e.state y ∙ all y ∙ ap (λ (f : Facts). contains_key f y) (sym e.facts) in
-    let t = c.take_changes.ensures.more_ticks n (are_numbered a new still judged.more.changed x n (λ p u. few_still a old.facts new.facts e.facts x n few p u)) in
+    let still : AreTaken new = λ y. keys_stay old.facts.ordered a old.state new.state x e.state y ∙ all y ∙ ap (λ (f : Facts). contains_key f y) (sym (in_order e.facts)) in
+    let t = c.take_changes.ensures.more_ticks n (are_numbered a new still judged.more.changed x n (λ p u. few_still a old.facts.ordered new.facts.ordered (in_order e.facts) x n few p u)) in
     let j = c.judge.ensures.ticks in
     omega (arith, t, j)

@@ -7,4 +7,4 @@ pub returns-then-can_be_deleted_at-clause-gone : goal.returns-then-can_be_delete
 returns-then-can_be_deleted_at-clause-gone g c =
     c.has_deleters.ensures.some ∙ ap
     (λ b. b && has_deleters c.args.rows.now.state c.args.y.now) c.if-can_be_deleted_at.ensures.value
-    ∙ counts_are_deletion c.args.rows.now.facts c.args.rows.now.deletes c.args.rows.now.state c.requires c.args.y.now
+    ∙ counts_are_deletion c.args.rows.now.facts.ordered c.args.rows.now.deletes c.args.rows.now.state c.requires c.args.y.now

@@ -1,12 +1,16 @@
-use Rattle.std.proofs.Common.{◌∙◌}
+use Rattle.std.proofs.Common.{◌∙◌, sym, ap}
 use Rattle.claim_model.specs.Deleted.{is_deleted}
+use Rattle.claim_index.specs.Indexed.{Indexed}
+use Rattle.claim_index.proofs.Settled.{all_ordered}
 use Rattle.claim_index.proofs.Telling.{deletion_told}
 use Rattle.claim_index.proofs.index.IndexLook.deleted.Goals as goal
 
 pub returns-else-self : goal.returns-else-self
 returns-else-self g c =
     let a = c.self.inside in
-    let rest = c.self.invariant c.if-self.false in
+    let settled = c.self.invariant.1 c.if-self.false in
+    let rest = settled.rest in
+    let facts = sym (all_ordered a.rows.facts settled.none) ∙ ap (λ (v : Indexed g.row.V.Denot). v.facts) c.self.view_is in
     c.deleted-else-self.ensures
-    ∙ deletion_told a.rows.facts
-    (g.V.Verifier.accepts a.keys) a.rows.state a.rows.waiters a.rows.deletes a.rows.changes a.rows.holders rest c.args.when.now c.args.r.now ∙ (λ i. is_deleted (c.self.view_is i).facts (g.V.Verifier.accepts (c.self.view_is i).keys) c.args.when.now c.args.r.now)
+    ∙ deletion_told a.rows.facts.ordered
+    (g.V.Verifier.accepts a.keys) a.rows.state a.rows.waiters a.rows.deletes a.rows.changes a.rows.holders rest c.args.when.now c.args.r.now ∙ (λ i. is_deleted (facts i) (g.V.Verifier.accepts (c.self.view_is i).keys) c.args.when.now c.args.r.now)

@@ -1,19 +1,24 @@
-use Rattle.std.proofs.Common.{◌≡◌, ◌∙◌, subst, IfOk, List, ℕ}
+use Rattle.std.proofs.Common.{◌≡◌, ◌∙◌, subst, IfOk, List, ℕ, sym, ap}
 use Rattle.claim_model.specs.Claims.{parents}
+use Rattle.claim_index.specs.Indexed.{Indexed}
+use Rattle.claim_index.proofs.Settled.{all_ordered}
 use Rattle.claim_index.proofs.Telling.{all_listed, parents_told}
 use Rattle.claim_index.proofs.index.IndexLook.parents.Goals as goal
 
 pub parents-requires-else-self-clause-listed : goal.parents-requires-else-self-clause-listed
 parents-requires-else-self-clause-listed g c =
     let a = c.self.inside in
-    let rest = c.self.invariant c.if-self.false in
-    all_listed a.rows.facts
+    let settled = c.self.invariant.1 c.if-self.false in
+    let rest = settled.rest in
+    all_listed a.rows.facts.ordered
     (g.V.Verifier.accepts a.keys) a.rows.state a.rows.waiters a.rows.deletes a.rows.changes a.rows.holders rest
 
 pub returns-else-self : goal.returns-else-self
 returns-else-self g c =
     let a = c.self.inside in
-    let rest = c.self.invariant c.if-self.false in
-    let is = parents_told a.rows.facts
-    (g.V.Verifier.accepts a.keys) a.rows.state a.rows.waiters a.rows.deletes a.rows.changes a.rows.holders rest c.args.when.now c.args.child.now ∙ (λ i. parents (c.self.view_is i).facts (g.V.Verifier.accepts (c.self.view_is i).keys) c.args.when.now c.args.child.now) in
+    let settled = c.self.invariant.1 c.if-self.false in
+    let rest = settled.rest in
+    let facts = sym (all_ordered a.rows.facts settled.none) ∙ ap (λ (v : Indexed g.row.V.Denot). v.facts) c.self.view_is in
+    let is = parents_told a.rows.facts.ordered
+    (g.V.Verifier.accepts a.keys) a.rows.state a.rows.waiters a.rows.deletes a.rows.changes a.rows.holders rest c.args.when.now c.args.child.now ∙ (λ i. parents (facts i) (g.V.Verifier.accepts (c.self.view_is i).keys) c.args.when.now c.args.child.now) in
     subst (λ (v : List (List ℕ)). IfOk c.parents-else-self.result (λ refs. refs ≡ v)) is c.parents-else-self.ensures

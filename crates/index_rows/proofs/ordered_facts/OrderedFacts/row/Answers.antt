@@ -2,7 +2,7 @@ use Rattle.std.proofs.Common.{Some, refl, sym, ap, subst, ◌∙◌}
 use Rattle.schema_fact.specs.Validity.{IsValid}
 use Rattle.index_rows.specs.Stored.{stored_facts}
 use Rattle.index_rows.proofs.Stored.{found_at, none_at}
-use Rattle.index_rows.proofs.fact_rows.FactRows.row.Goals as goal
+use Rattle.index_rows.proofs.ordered_facts.OrderedFacts.row.Goals as goal
 
 pub returns-in-Some-clause-value : goal.returns-in-Some-clause-value
 returns-in-Some-clause-value g c = ap (λ fact. Some fact) c.deref.ensures ∙ found_at c.args.self.now c.self.inside.rows.entries c.self.view_is c.args.r.now c.in-Some.fact.now c.in-Some.ensures.value

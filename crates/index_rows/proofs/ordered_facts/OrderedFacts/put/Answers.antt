@@ -3,7 +3,7 @@ use Rattle.std.specs.FinMap as finite
 use Rattle.schema_fact.specs.Validity.{IsValid}
 use Rattle.index_rows.specs.Stored.{AreAllValid}
 use Rattle.index_rows.proofs.Stored.{one_stored, valid-insert}
-use Rattle.index_rows.proofs.fact_rows.FactRows.put.Goals as goal
+use Rattle.index_rows.proofs.ordered_facts.OrderedFacts.put.Goals as goal
 
 pub returns-clause-ok : goal.returns-clause-ok
 returns-clause-ok g c =

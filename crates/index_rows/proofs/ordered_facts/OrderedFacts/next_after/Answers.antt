@@ -5,7 +5,7 @@ use Rattle.blobref.specs.Blobref.{ref_cmp}
 use Rattle.index_look.specs.Walk.{entries_after}
 use Rattle.index_rows.specs.Stored.{start_after}
 use Rattle.index_rows.proofs.Stored.{stored_next, stored_last}
-use Rattle.index_rows.proofs.fact_rows.FactRows.next_after.Goals as goal
+use Rattle.index_rows.proofs.ordered_facts.OrderedFacts.next_after.Goals as goal
 
 pub returns-in-Some-clause-next : goal.returns-in-Some-clause-next
 returns-in-Some-clause-next g c =
