@@ -3,8 +3,8 @@ use Rattle.std.proofs.Common.{◌≡◌, ℕ, List, [], ◌∷◌, ◌++◌, Boo
 use Rattle.std.proofs.Common.{Some, None, inl, inr, ap, subst, append_assoc, ◌+◌, length, arith, length-append}
 use Rattle.std.specs.Option.{IfSome}
 use Rattle.std.specs.List.{flat_map}
-use Rattle.edge_base.specs.Edge.{Gave, Took, TookFront}
-use Rattle.edge_base.proofs.Moves.{Took-chain}
+use Rattle.edge_base.specs.Edge.{SourceGave, SinkTook, SinkTookFront}
+use Rattle.edge_base.proofs.Moves.{SinkTook-chain}
 use Rattle.histories.specs.declared.stamped.Stamped.{Stamped}
 use Rattle.histories.specs.declared.events.StoreEvent.{StoreEvent}
 use Rattle.home_places.specs.Passes.{Sight}
@@ -23,12 +23,12 @@ use Rattle.blob_http.specs.Serving.{NoneComes, IsFair}
 use Rattle.std.proofs.lemmas.List.{append-nil}
 use Rattle.blob_http.proofs.Staying.{longer_none, owns_none}
 use Rattle.blob_http.proofs.Stepping.{serves_none, serves_more, serves_ends}
-use Rattle.http_exchange.proofs.Taking.{took_none, TookFront-chain}
+use Rattle.http_exchange.proofs.Taking.{took_none, SinkTookFront-chain}
 use Rattle.http_exchange.proofs.Hearing.{open_none, heard_none, heard_full, heard_more, heard_last, heard_breaks}
 
 -- ---- what stands in the rest of a stream stands in the stream
 
-gave_from : (x0 now : Option (List ℕ)) (text : List ℕ) → Gave (stream [] x0) now text → Gave x0 now text
+gave_from : (x0 now : Option (List ℕ)) (text : List ℕ) → SourceGave (stream [] x0) now text → SourceGave x0 now text
 gave_from None now text g = g
 gave_from (Some x) now text g = g
 
@@ -36,9 +36,9 @@ behind_place : (start taken place size text : ℕ) → taken ≡ counted start t
     → place ≡ counted start (text + size)
 behind_place start taken place size text at is = omega (arith, at, is)
 
-module _ (x0 now : Option (List ℕ)) (text : List ℕ) (start taken : ℕ) (g : Gave x0 now text)
+module _ (x0 now : Option (List ℕ)) (text : List ℕ) (start taken : ℕ) (g : SourceGave x0 now text)
     (at : taken ≡ counted start (length text)) where
-  stands_behind : (x0 now : Option (List ℕ)) (b : Begun) (place : ℕ) → Gave x0 now text
+  stands_behind : (x0 now : Option (List ℕ)) (b : Begun) (place : ℕ) → SourceGave x0 now text
       → IfSome now (λ bytes. (before after : List ℕ) × (place ≡ counted taken (length before))
       × (bytes ≡ before ++ (b.head ++ (b.framed ++ after))))
       → IfSome x0 (λ bytes. (before after : List ℕ) × (place ≡ counted start (length before))
@@ -81,7 +81,7 @@ module _ (x0 now : Option (List ℕ)) (text : List ℕ) (start taken : ℕ) (g :
   rest_behind ended.NoMemory turns added is = is
 
 module _ (tells : Bool) (v w : Sight) (noted noted' : List Answered → Type 0) (x0 x1 w0 w1 : Option (List ℕ))
-    (flow : Flow) (s : Serves tells v w noted (Open x0 x1 fresh_flow flow) (Took w0 w1) HasNone) where
+    (flow : Flow) (s : Serves tells v w noted (Open x0 x1 fresh_flow flow) (SinkTook w0 w1) HasNone) where
   -- one more entry was noted
   abbrev Adds : Answered → Type 0
   Adds entry = (before : List Answered) → noted before → noted' (before ++ entry ∷ [])
@@ -94,35 +94,35 @@ module _ (tells : Bool) (v w : Sight) (noted noted' : List Answered → Type 0) 
   pub step_goes_on : (x : Sight) (entry : Answered) (m : ReplyText) (x2 w2 : Option (List ℕ)) (new : WireView)
       (closes : Bool)
       → Adds entry → Replies x1 x2 flow new tells w x entry m closes → closes ≡ false
-      → Took w1 w2 (text_of m)
-      → Serves tells v x noted' (Open x0 x2 fresh_flow new.flow) (Took w0 w2) HasNone
+      → SinkTook w1 w2 (text_of m)
+      → Serves tells v x noted' (Open x0 x2 fresh_flow new.flow) (SinkTook w0 w2) HasNone
   step_goes_on x entry m x2 w2 new closes adds r still took =
-      serves_more tells v w x noted noted' (Open x0 x1 fresh_flow flow) (Open x0 x2 fresh_flow new.flow) (Took w0 w1)
-      (Took w0 w2) r.asked entry (text_of m) s r.handles adds
+      serves_more tells v w x noted noted' (Open x0 x1 fresh_flow flow) (Open x0 x2 fresh_flow new.flow) (SinkTook w0 w1)
+      (SinkTook w0 w2) r.asked entry (text_of m) s r.handles adds
       (λ before o. heard_more x0 x1 x2 flow new.flow before r.asked o r.comes (sym r.closing ∙ still))
-      (λ texts t. Took-chain w0 w1 w2 texts (text_of m) t took)
+      (λ texts t. SinkTook-chain w0 w1 w2 texts (text_of m) t took)
 
   -- a request was answered, and the connection closes
   pub step_closes : (x : Sight) (entry : Answered) (m : ReplyText) (x2 w2 : Option (List ℕ)) (new : WireView) (closes : Bool)
       → Adds entry → Replies x1 x2 flow new tells w x entry m closes → closes ≡ true
-      → Took w1 w2 (text_of m)
+      → SinkTook w1 w2 (text_of m)
       → Serves tells v x noted' (Heard x0 x2 ended.Closed) (Wrote w0 w2 ended.Closed) (IsRest x0 0 ended.Closed)
   step_closes x entry m x2 w2 new closes adds r closed took =
-      serves_more tells v w x noted noted' (Open x0 x1 fresh_flow flow) (Heard x0 x2 ended.Closed) (Took w0 w1)
+      serves_more tells v w x noted noted' (Open x0 x1 fresh_flow flow) (Heard x0 x2 ended.Closed) (SinkTook w0 w1)
       (Wrote w0 w2 ended.Closed) r.asked entry (text_of m) s r.handles adds
       (λ before o. heard_last IsFair x0 x1 x2 flow new.flow before r.asked o r.comes (sym r.closing ∙ closed))
-      (λ texts t. Took-chain w0 w1 w2 texts (text_of m) t took)
+      (λ texts t. SinkTook-chain w0 w1 w2 texts (text_of m) t took)
 
   -- the reply wasn't written whole
   pub step_breaks : (x : Sight) (entry : Answered) (m : ReplyText) (x2 w2 : Option (List ℕ)) (new : WireView) (closes : Bool)
-      → Adds entry → Replies x1 x2 flow new tells w x entry m closes → TookFront w1 w2 (text_of m)
+      → Adds entry → Replies x1 x2 flow new tells w x entry m closes → SinkTookFront w1 w2 (text_of m)
       → Serves tells v x noted' (Heard x0 x2 ended.WriteFault) (Wrote w0 w2 ended.WriteFault)
       (IsRest x0 0 ended.WriteFault)
   step_breaks x entry m x2 w2 new closes adds r took =
-      serves_more tells v w x noted noted' (Open x0 x1 fresh_flow flow) (Heard x0 x2 ended.WriteFault) (Took w0 w1)
+      serves_more tells v w x noted noted' (Open x0 x1 fresh_flow flow) (Heard x0 x2 ended.WriteFault) (SinkTook w0 w1)
       (Wrote w0 w2 ended.WriteFault) r.asked entry (text_of m) s r.handles adds
       (λ before o. heard_breaks IsFair x0 x1 x2 flow new.flow before r.asked closes o r.comes (sym r.closing))
-      (λ texts t. TookFront-chain w0 w1 w2 texts (text_of m) t took)
+      (λ texts t. SinkTookFront-chain w0 w1 w2 texts (text_of m) t took)
 
   -- no request came, or one that has no answer
   pub step_ends : (x : Sight) (x2 : Option (List ℕ)) (end : Ended) → Same
@@ -130,7 +130,7 @@ module _ (tells : Bool) (v w : Sight) (noted noted' : List Answered → Type 0) 
       → Passes (stream flow.bytes x1) flow.taken end w x
       → Serves tells v x noted' (Heard x0 x2 end) (Wrote w0 w1 end) (IsRest x0 0 end)
   step_ends x x2 end same none passes =
-      serves_ends tells v w x noted noted' (Open x0 x1 fresh_flow flow) (Heard x0 x2 end) (Took w0 w1)
+      serves_ends tells v w x noted noted' (Open x0 x1 fresh_flow flow) (Heard x0 x2 end) (SinkTook w0 w1)
       (Wrote w0 w1 end) (IsRest x0 0 end) passes.turns passes.added s same
       (λ asked o. heard_none IsFair x0 x1 x2 flow asked end o none) (written end none) passes.drawn passes.owned
       (rest_behind x0 (stream flow.bytes x1) (flat_map text_in s.heard.requests) 0 flow.taken
@@ -139,7 +139,7 @@ module _ (tells : Bool) (v w : Sight) (noted noted' : List Answered → Type 0) 
       passes.longer
     where
       written : (end : Ended) → NoneComes (stream flow.bytes x1) x2 flow.taken end → (texts : List ℕ)
-          → Took w0 w1 texts
+          → SinkTook w0 w1 texts
           → Wrote w0 w1 end texts
       written ended.Closed none texts t = t
       written (ended.Cut n) none texts t = t
@@ -151,7 +151,7 @@ module _ (tells : Bool) (v w : Sight) (noted noted' : List Answered → Type 0) 
   pub step_full : Same
       → Serves tells v w noted' (Heard x0 x1 ended.NoMemory) (Wrote w0 w1 ended.NoMemory) (IsRest x0 0 ended.NoMemory)
   step_full same =
-      serves_ends tells v w w noted noted' (Open x0 x1 fresh_flow flow) (Heard x0 x1 ended.NoMemory) (Took w0 w1)
+      serves_ends tells v w w noted noted' (Open x0 x1 fresh_flow flow) (Heard x0 x1 ended.NoMemory) (SinkTook w0 w1)
       (Wrote w0 w1 ended.NoMemory) (IsRest x0 0 ended.NoMemory) [] [] s same
       (λ asked o. heard_full IsFair x0 x1 flow asked o) (λ texts t. t) (sym (append-nil w.store.turns)) (owns_none w)
       (refl, refl) (longer_none w)
@@ -161,5 +161,5 @@ pub no_memory : (tells : Bool) (v : Sight) (noted : List Answered → Type 0) (x
     → Serves tells v v noted (Heard x x ended.NoMemory) (Wrote w w ended.NoMemory) (IsRest x 0 ended.NoMemory)
 no_memory tells v noted x w none =
     step_full tells v v noted noted x x w w fresh_flow
-    (serves_none tells v noted (Open x x fresh_flow fresh_flow) (Took w w) none (open_none x) (took_none w))
+    (serves_none tells v noted (Open x x fresh_flow fresh_flow) (SinkTook w w) none (open_none x) (took_none w))
     (λ entries n. n)

@@ -3,7 +3,7 @@ use Rattle.std.proofs.Common.{◌≡◌, ℕ, List, [], ◌++◌, length, take, 
 use Rattle.std.proofs.Common.{Result, Ok, Err, IfOk, IfErr, IsErrOf, refl, ap, sym, subst, ◌∙◌, inl, inr, ◌⊎◌, arith}
 use Rattle.std.proofs.Common.{if◌then◌else◌, codes, All, append_assoc}
 use Rattle.std.specs.Option.{IfSome}
-use Rattle.edge_base.specs.Edge.{Gave}
+use Rattle.edge_base.specs.Edge.{SourceGave}
 use Rattle.std.proofs.lemmas.List.{append-nil, take_all, length-map}
 use Rattle.std.proofs.lemmas.List.Elements.{All-weaker}
 use Rattle.answer_text.specs.declared.refusal.Refusal.TheVariants as refusal
@@ -211,7 +211,7 @@ added_longer parts next c v w adds = record {
 }
 
 -- what was taken of a stream stands in it
-gave_stands : (o now : Option (List ℕ)) (head framed : List ℕ) (start place : ℕ) → Gave o now (head ++ framed)
+gave_stands : (o now : Option (List ℕ)) (head framed : List ℕ) (start place : ℕ) → SourceGave o now (head ++ framed)
     → place ≡ start → IfSome o (λ bytes. (before after : List ℕ) × (place ≡ counted_on start (length before))
     × (bytes ≡ before ++ (head ++ (framed ++ after))))
 gave_stands None now head framed start place gave at = tt

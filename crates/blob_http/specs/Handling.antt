@@ -21,7 +21,7 @@ use Rattle.blob_http.specs.Questions.{refused}
 use Rattle.blob_http.specs.declared.operations.Operation.{Operation}
 use Rattle.blob_http.specs.declared.replies.ReplyText.{ReplyText}
 use Rattle.blob_http.specs.declared.replies.ReplyText.TheVariants as made
-use Rattle.http_exchange.specs.Asked.{Asked, Comes, closes_of}
+use Rattle.http_exchange.specs.Asked.{Asked, RequestComes, closes_of}
 use Rattle.http_exchange.specs.Written.{reply_bytes}
 use Rattle.blob_http.specs.Answers.{IsAnswer, outcome_of, text_of}
 use Rattle.blob_http.specs.Serving.{HasCauseIn, LooksAt, Longer, Handles, Owns, PutsNothing}
@@ -82,7 +82,7 @@ pub record IsUploadEntry (v : Sight) (n : ℕ) (m : ReplyText) (entry : Answered
 pub record Replies (before now : Option (List ℕ)) (old : Flow) (new : WireView) (tells : Bool) (v w : Sight)
     (entry : Answered) (m : ReplyText) (closes : Bool) : Type 0 where
   pub asked : Asked
-  pub comes : Comes before now old new.flow asked
+  pub comes : RequestComes before now old new.flow asked
   pub handles : Handles tells asked v w entry (text_of m)
   pub closing : closes ≡ closes_of asked
   pub ready : closes ≡ false → new.body ≡ body.Done

@@ -1,7 +1,7 @@
 //! The texts of replies.
 ghost use Rattle.std.specs.Prelude.{◌≡◌, [], IsSome, IfOk, OnOk, option_copied};
 ghost use Rattle.http.specs.StatusCode.{IsStatusCode, reason_phrase};
-ghost use Rattle.edge_base.specs.Edge.{Took, TookFront, HasCause};
+ghost use Rattle.edge_base.specs.Edge.{SinkTook, SinkTookFront, HasCause};
 ghost use Rattle.answer_text.specs.Search.{search_text};
 ghost use Rattle.answer_text.specs.Listings.{stat_text};
 ghost use Rattle.http_exchange.specs.Replies.{reply_text, json_reply, refused_reply};
@@ -194,8 +194,8 @@ pub(crate) fn write_made<K: Sink>(
     sink: &mut K,
     made: &ReplyText,
 ) -> Result<(), Failed>
-    ensures whole { OnOk result (Took (K.written sink.old) (K.written sink.new) (text_of made.now)) }
-    ensures front { TookFront (K.written sink.old) (K.written sink.new) (text_of made.now) }
+    ensures whole { OnOk result (SinkTook (K.written sink.old) (K.written sink.new) (text_of made.now)) }
+    ensures front { SinkTookFront (K.written sink.old) (K.written sink.new) (text_of made.now) }
     ensures cause { HasCause (K.faults sink.old) (K.faults sink.new) result }
 {
     match made {

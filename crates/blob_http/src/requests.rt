@@ -1,6 +1,6 @@
 //! One request, from its head to its reply.
 ghost use Rattle.std.specs.Prelude.{◌≡◌, ◌≤◌, ◌||◌, ℕ, List, Option, Bool, true, false, Ok, Err, IfOk, IfErr, IsErrOf};
-ghost use Rattle.edge_base.specs.Edge.{Rose};
+ghost use Rattle.edge_base.specs.Edge.{FaultsRose};
 ghost use Rattle.http_wire.specs.Heads.{HeadSays};
 ghost use Rattle.http_wire.specs.Stream.{Flow, stream};
 ghost use Rattle.http_wire.specs.Wires.{WireView, body_of};
@@ -53,7 +53,7 @@ pub(crate) fn reply_next<H: Home, S: Source, R: Wait>(
         wire.old.flow.taken ended (H.sight pass.old) (H.sight pass.new)) }
     ensures none { IfErr result (NoneComes (stream wire.old.flow.bytes (S.left source.old)) (S.left source.new)
         wire.old.flow.taken) }
-    ensures fault { IsErrOf result Ended.ReadFault → Rose (S.faults source.old) (S.faults source.new) }
+    ensures fault { IsErrOf result Ended.ReadFault → FaultsRose (S.faults source.old) (S.faults source.new) }
     ensures later { S.faults source.old ≤ S.faults source.new }
 {
     let end = match wire.next_head(source) {
@@ -88,7 +88,7 @@ fn reply_to<H: Home, S: Source, R: Wait>(
         (H.sight pass.new)) }
     ensures none { (x0 : Option (List ℕ)) (flow : Flow) → ReadsHead x0 (S.left source.old) flow wire.old head.now
         → IfErr result (NoneComes (stream flow.bytes x0) (S.left source.new) flow.taken) }
-    ensures fault { IsErrOf result Ended.ReadFault → Rose (S.faults source.old) (S.faults source.new) }
+    ensures fault { IsErrOf result Ended.ReadFault → FaultsRose (S.faults source.old) (S.faults source.new) }
     ensures later { S.faults source.old ≤ S.faults source.new }
 {
     let found = match route_of_head(wire, head) {
@@ -126,7 +126,7 @@ fn reply_to_question<H: Home, S: Source, R: Wait>(
         (H.sight pass.new)) }
     ensures none { (x0 : Option (List ℕ)) (flow : Flow) → ReadsHead x0 (S.left source.old) flow wire.old head.now
         → IfErr result (NoneComes (stream flow.bytes x0) (S.left source.new) flow.taken) }
-    ensures fault { IsErrOf result Ended.ReadFault → Rose (S.faults source.old) (S.faults source.new) }
+    ensures fault { IsErrOf result Ended.ReadFault → FaultsRose (S.faults source.old) (S.faults source.new) }
     ensures later { S.faults source.old ≤ S.faults source.new }
 {
     match check_length(MOST_BODY, &head.framing) {

@@ -1,6 +1,6 @@
 //! A connection, over any home.
 ghost use Rattle.std.specs.Prelude.{◌≡◌, ◌≤◌, ℕ, List, Option, Some, None};
-ghost use Rattle.edge_base.specs.Edge.{Took};
+ghost use Rattle.edge_base.specs.Edge.{SinkTook};
 ghost use Rattle.home_places.specs.Passes.{Sight};
 ghost use Rattle.http_wire.specs.declared.body.Body.{Body};
 ghost use Rattle.blob_http.specs.Serving.{Serves, Heard, HeardBy};
@@ -72,7 +72,7 @@ fn serve_one<H: Home, S: Source, K: Sink, L: AnswerLog<Answered>, R: Wait>(
     ensures ready { result ≡ None → wire.new.body ≡ Body.Done }
     ensures serves { (v : Sight) (log0 : L) (x0 w0 : Option (List ℕ))
         → Serves (H.tells home.now) v (H.sight pass.old) (Notes L.tells log0 log.old)
-        (Open x0 (S.left source.old) fresh_flow wire.old.flow) (Took w0 (K.written sink.old)) HasNone
+        (Open x0 (S.left source.old) fresh_flow wire.old.flow) (SinkTook w0 (K.written sink.old)) HasNone
         → Serves (H.tells home.now) v (H.sight pass.new) (Notes L.tells log0 log.new)
         (HeardBy x0 (S.left source.new) fresh_flow wire.new.flow result) (WroteBy w0 (K.written sink.new) result)
         (RestBy x0 result) }

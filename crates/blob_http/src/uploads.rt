@@ -1,7 +1,7 @@
 //! Uploads, over any home.
 ghost use Rattle.std.specs.Prelude.{◌≡◌, ◌≤◌, ◌||◌, not, ℕ, List, Option, Bool, Some, None, Ok, Err, IfOk, IfErr};
 ghost use Rattle.std.specs.Prelude.{IsErrOf, length};
-ghost use Rattle.edge_base.specs.Edge.{Rose};
+ghost use Rattle.edge_base.specs.Edge.{FaultsRose};
 ghost use Rattle.answer_text.specs.Listings.{upload_text};
 ghost use Rattle.http_wire.specs.Heads.{HeadSays};
 ghost use Rattle.http_wire.specs.Stream.{Flow, stream};
@@ -52,7 +52,7 @@ pub(crate) fn reply_to_upload<H: Home, S: Source, R: Wait>(
         (H.sight pass.new)) }
     ensures none { (x0 : Option (List ℕ)) (flow : Flow) → ReadsHead x0 (S.left source.old) flow wire.old head.now
         → IfErr result (NoneComes (stream flow.bytes x0) (S.left source.new) flow.taken) }
-    ensures fault { IsErrOf result Ended.ReadFault → Rose (S.faults source.old) (S.faults source.new) }
+    ensures fault { IsErrOf result Ended.ReadFault → FaultsRose (S.faults source.old) (S.faults source.new) }
     ensures later { S.faults source.old ≤ S.faults source.new }
 {
     let boundary = match boundary_of_upload(&head.framing, content_type(wire, head)) {

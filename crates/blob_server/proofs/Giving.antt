@@ -1,7 +1,7 @@
 -- What a worker leaves, connection by connection.
 use Rattle.std.proofs.Common.{◌≡◌, ℕ, ◌+◌, ◌≤◌, ◌⊎◌, inl, inr, ⊎_elim, true, false, refl, sym, ◌∙◌, arith, Option, Some, None}
 use Rattle.std.specs.Option.{option_map}
-use Rattle.edge_base.specs.Edge.{Rose, one_more}
+use Rattle.edge_base.specs.Edge.{FaultsRose, one_more}
 use Rattle.home_places.specs.Passes.{Sight}
 use Rattle.blob_http.specs.Serving.{Longer}
 use Rattle.index_worker.specs.Works.{Works}
@@ -36,7 +36,7 @@ pub goes_dry : (a b : Counts) (k : ℕ) → Goes a b k → Gives a b false k 1
 goes_dry a b k g = record { later = g.later; most = g.most; done = λ e. (g.given, omega arith); fails = λ e. absurd (cc e) }
 
 -- an accept failed
-pub goes_fails : (a b c : Counts) (k : ℕ) → b.faults ≤ c.faults → c.accepted ≡ b.accepted → Rose b.faults c.faults → Goes a b k → Gives a c true (k + 1) 0
+pub goes_fails : (a b c : Counts) (k : ℕ) → b.faults ≤ c.faults → c.accepted ≡ b.accepted → FaultsRose b.faults c.faults → Goes a b k → Gives a c true (k + 1) 0
 goes_fails a b c k later same rose g = record {
   later = omega (arith, later, g.later);
   most = let m = g.most in omega (arith, same, m);

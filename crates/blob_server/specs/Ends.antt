@@ -2,7 +2,7 @@
 use Rattle.std.specs.Prelude.{◌≡◌, ◌+◌, ◌<◌, ◌≤◌, ◌⊎◌, if◌then◌else◌, ℕ, List, [], ◌∷◌, Bool, true, false}
 use Rattle.std.specs.Prelude.{nat_eq, Option, Some, None, Result, Ok, Err}
 use Rattle.std.specs.List.{sum_by, list_any, AllZip}
-use Rattle.edge_base.specs.Edge.{Rose}
+use Rattle.edge_base.specs.Edge.{FaultsRose}
 use Rattle.edge_base.specs.declared.answers.GetFault.{GetFault}
 use Rattle.edge_base.specs.declared.answers.GetFault.TheVariants as unread
 use Rattle.home_places.specs.Passes.{Sight, Settles}
@@ -18,7 +18,7 @@ Counted None None failed = failed ≡ false
 Counted None (Some now) failed = ⊥
 Counted (Some before) None failed = ⊥
 Counted (Some before) (Some now) failed =
-    (before.faults ≤ now.faults) × (failed ≡ true → Rose before.faults now.faults)
+    (before.faults ≤ now.faults) × (failed ≡ true → FaultsRose before.faults now.faults)
 
 -- what is left of each desk
 pub record Tended (v w : Stand) : Type 0 where

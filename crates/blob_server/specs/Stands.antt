@@ -1,7 +1,7 @@
 -- What desks are seen as, and what serving leaves of each.
 use Rattle.std.specs.Prelude.{◌≡◌, ◌+◌, ◌-◌, ◌^◌, ◌<◌, ◌≤◌, ◌⊎◌, ℕ, Bool, true, false, Option, Some, None}
 use Rattle.std.specs.Option.{option_map}
-use Rattle.edge_base.specs.Edge.{Rose}
+use Rattle.edge_base.specs.Edge.{FaultsRose}
 use Rattle.home_places.specs.Passes.{Sight}
 use Rattle.blob_http.specs.Serving.{Longer}
 use Rattle.blob_server.specs.declared.desk_list.Desk.{Desk}
@@ -41,7 +41,7 @@ pub record Gives (before now : Counts) (failed : Bool) (taken dry : ℕ) : Type 
   pub later : before.faults ≤ now.faults
   pub most : now.accepted ≤ before.accepted + taken
   pub done : failed ≡ false → IsGiven before.accepted now.accepted taken × (0 < dry)
-  pub fails : failed ≡ true → Rose before.faults now.faults
+  pub fails : failed ≡ true → FaultsRose before.faults now.faults
 
 -- of a desk: an indexer takes nothing, and doesn't fail
 abbrev pub GivesBy : Option Counts → Option Counts → Bool → ℕ → ℕ → Type 0

@@ -1,6 +1,6 @@
 //! What workers and indexers do.
 ghost use Rattle.std.specs.Prelude.{◌≡◌, ◌<◌, ◌≤◌, true, false};
-ghost use Rattle.edge_base.specs.Edge.{Rose, one_more};
+ghost use Rattle.edge_base.specs.Edge.{FaultsRose, one_more};
 ghost use Rattle.blob_http.specs.Serving.{Longer};
 ghost use Rattle.blob_server.specs.Counting.{Adds, HasParts};
 ghost use Rattle.blob_server.specs.Stands.{Attends, Gives, counts_of, stand_of};
@@ -106,7 +106,7 @@ fn serve_next<H: Home, L: Listener, R: Wait>(
     ensures later { L.faults listener.old ≤ L.faults listener.new }
     ensures some { result ≡ true → L.accepted listener.new ≡ one_more (L.accepted listener.old) }
     ensures none { result ≡ false → L.accepted listener.new ≡ L.accepted listener.old }
-    ensures failed { result ≡ false → Rose (L.faults listener.old) (L.faults listener.new) }
+    ensures failed { result ≡ false → FaultsRose (L.faults listener.old) (L.faults listener.new) }
 {
     let Ok((mut source, mut sink)) = listener.accept(rt) else {
         return false;

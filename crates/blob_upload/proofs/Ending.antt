@@ -2,7 +2,7 @@
 use Rattle.std.proofs.Common.{◌≡◌, ◌+◌, ◌≤◌, ℕ, List, [], ◌++◌, length, refl, sym, subst, ◌∙◌, arith, length-append}
 use Rattle.std.proofs.Common.{Option, Some, None, Result, Ok, Err}
 use Rattle.std.proofs.lemmas.List.{append-nil}
-use Rattle.edge_base.specs.Edge.{Gave}
+use Rattle.edge_base.specs.Edge.{SourceGave}
 use Rattle.edge_base.specs.declared.answers.Put.{Put}
 use Rattle.edge_base.specs.declared.answers.PutFault.{PutFault}
 use Rattle.edge_base.specs.declared.answers.PutFault.TheVariants as put
@@ -52,7 +52,7 @@ sound_none boundary =
     let is = fresh_waits boundary (fresh boundary).start (fresh boundary).held refl refl in
     (is.waits, λ fault is. absurd cc, is.passable)
 
-gave_none : (x : Option (List ℕ)) → Gave x x []
+gave_none : (x : Option (List ℕ)) → SourceGave x x []
 gave_none None = refl
 gave_none (Some left) = (left, refl, refl)
 

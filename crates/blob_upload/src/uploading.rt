@@ -1,6 +1,6 @@
 //! A whole upload.
 ghost use Rattle.std.specs.Prelude.{◌≡◌, ◌+◌, ◌<◌, ◌≤◌, true, length, IfOk, IfSome, OnOk, None};
-ghost use Rattle.edge_base.specs.Edge.{Rose};
+ghost use Rattle.edge_base.specs.Edge.{FaultsRose};
 ghost use Rattle.multipart_read.specs.Parameters.{is_boundary};
 ghost use Rattle.multipart_read.specs.Reader.{fresh};
 ghost use Rattle.blob_upload.specs.Faults.{most_bytes};
@@ -132,7 +132,7 @@ pub fn take_parts<H: Home, S: Source, R: Wait>(
     ensures uploads { Uploads boundary.now (S.left source.old) (S.left source.new) wire.old wire.new
         (H.sight pass.old) (H.sight pass.new) kept.old kept.new result }
     ensures head { (wire.new.head ≡ wire.old.head) × (wire.new.begun ≡ wire.old.begun) }
-    ensures fault { result ≡ UploadEnd.Ended WireEnd.ReadFault → Rose (S.faults source.old) (S.faults source.new) }
+    ensures fault { result ≡ UploadEnd.Ended WireEnd.ReadFault → FaultsRose (S.faults source.old) (S.faults source.new) }
     ensures later { S.faults source.old ≤ S.faults source.new }
 {
     let Some(mut reading) = begin(alloc, boundary) else {

@@ -2,7 +2,7 @@
 ghost use Rattle.std.specs.Prelude.{◌≡◌, ◌≤◌, ◌∷◌, [], None, length, IfOk, IfSome, OnOk, OnErr, IsErrOf, option_copied};
 ghost use Rattle.std.specs.Option.{ForSome};
 ghost use Rattle.blobref.specs.Blobref.{IsOwnRef};
-ghost use Rattle.edge_base.specs.Edge.{Rose};
+ghost use Rattle.edge_base.specs.Edge.{FaultsRose};
 ghost use Rattle.edge_base.specs.Shelf.{Keeps, max_blob};
 ghost use Rattle.peer_base.specs.Blobs.{AreHeld, IsPage, listed};
 ghost use Rattle.peer_base.specs.Causes.{ListCause, FetchCause, PutLeaves, MayKeep};
@@ -111,7 +111,7 @@ impl<'a> Peer for DialedPeer<'a> {
 fn counted<T: Drop>(done: Result<T, PeerFault>, faults: &mut u64) -> Result<T, PeerFault>
     ensures same { result ≡ done }
     ensures later { faults.old ≤ faults.new }
-    ensures rose { IsErrOf result fault.Failed → Rose faults.old faults.new }
+    ensures rose { IsErrOf result fault.Failed → FaultsRose faults.old faults.new }
 {
     if matches!(done, Err(PeerFault::Failed)) {
         *faults = faults.saturating_add(1);

@@ -3,8 +3,8 @@ use Rattle.std.proofs.Common.{◌≡◌, ◌≤◌, ◌<◌, ◌+◌, ◌-◌, �
 use Rattle.std.specs.Option.{ForSome}
 use Rattle.std.proofs.lemmas.Bool.{cases_lt}
 use Rattle.std.proofs.Math.Nat.{add-mul}
-use Rattle.edge_base.specs.Edge.{Gave, GaveAll, GaveWithin, Rose}
-use Rattle.edge_base.proofs.Moves.{Gave-chain}
+use Rattle.edge_base.specs.Edge.{SourceGave, SourceGaveAll, SourceGaveWithin, FaultsRose}
+use Rattle.edge_base.proofs.Moves.{SourceGave-chain}
 use Rattle.edge_base.specs.Shelf.{Blob}
 use Rattle.edge_base.specs.declared.answers.PutFault.{PutFault}
 use Rattle.edge_base.specs.declared.answers.PutFault.TheVariants as put_fault
@@ -31,24 +31,24 @@ record Behind (left : Option (List ℕ)) (bytes : List ℕ) : Type 0 where
 some_same : (x y : List ℕ) → Some x ≡ Some y → x ≡ y
 some_same x y e = cc e
 
-behind : (left now : Option (List ℕ)) (bytes : List ℕ) → Gave left now bytes → Behind left bytes
+behind : (left now : Option (List ℕ)) (bytes : List ℕ) → SourceGave left now bytes → Behind left bytes
 behind None now bytes h = record { rest = []; all = λ l e. absurd (cc e) }
 behind (Some all) now bytes h = record { rest = h.0; all = λ l e. sym h.2 ∙ some_same all l e }
 
 -- there are none at the end of the source
-none_behind : (left now : Option (List ℕ)) (bytes : List ℕ) → Gave left now bytes → IfSome now (λ (l : List ℕ). l ≡ []) → ForSome left (λ (l : List ℕ). bytes ++ [] ≡ l)
+none_behind : (left now : Option (List ℕ)) (bytes : List ℕ) → SourceGave left now bytes → IfSome now (λ (l : List ℕ). l ≡ []) → ForSome left (λ (l : List ℕ). bytes ++ [] ≡ l)
 none_behind None now bytes h end = λ l e. absurd (cc e)
 none_behind (Some all) now bytes h end =
     let none : h.0 ≡ [] = subst (λ (o : Option (List ℕ)). IfSome o (λ (l : List ℕ). l ≡ [])) h.1 end in
     λ l e. ap (λ (r : List ℕ). bytes ++ r) (sym none) ∙ sym h.2 ∙ some_same all l e
 
-pub gave_all : (left now : Option (List ℕ)) (bytes : List ℕ) → Gave left now bytes → IfSome now (λ (l : List ℕ). l ≡ []) → GaveAll left now bytes
+pub gave_all : (left now : Option (List ℕ)) (bytes : List ℕ) → SourceGave left now bytes → IfSome now (λ (l : List ℕ). l ≡ []) → SourceGaveAll left now bytes
 gave_all None now bytes h end = h
 gave_all (Some all) now bytes h end =
     let none : h.0 ≡ [] = subst (λ (o : Option (List ℕ)). IfSome o (λ (l : List ℕ). l ≡ [])) h.1 end in
     (h.1 ∙ ap Some none, h.2 ∙ ap (λ (l : List ℕ). bytes ++ l) none ∙ append-nil bytes)
 
-all_given : (left now : Option (List ℕ)) (bytes : List ℕ) → GaveAll left now bytes → GaveSome left now bytes
+all_given : (left now : Option (List ℕ)) (bytes : List ℕ) → SourceGaveAll left now bytes → GaveSome left now bytes
 all_given None now bytes h = (bytes, h, λ l e. absurd (cc e))
 all_given (Some all) now bytes h = (bytes, ([], h.0, h.1 ∙ sym (append-nil bytes)), λ l e. sym h.1 ∙ some_same all l e)
 
@@ -70,19 +70,19 @@ module _ {B : Type 0} (h : ShelfGhosts B) (full : ℕ) (some : 0 < full) where
 
 -- ---- the loop
 
-gave_none : (left : Option (List ℕ)) → Gave left left []
+gave_none : (left : Option (List ℕ)) → SourceGave left left []
 gave_none None = refl
 gave_none (Some all) = (all, refl, refl)
 
-Rose-after : (a b c : ℕ) → a ≤ b → Rose b c → Rose a c
-Rose-after a b c le rose = omega (arith, le, rose)
+FaultsRose-after : (a b c : ℕ) → a ≤ b → FaultsRose b c → FaultsRose a c
+FaultsRose-after a b c le rose = omega (arith, le, rose)
 
 -- so many whole chunks of the source were put
 pub record SoFar {S B : Type 0} (g : SourceGhosts S) (h : ShelfGhosts B) (size full most : ℕ) (source source_now : S) (start now : B) (draft : Draft) (left : ℕ) : Type 0 where
   pub given : List ℕ
   pub count : ℕ
   pub whole : length given ≡ count * size
-  pub gave : Gave (g.left source) (g.left source_now) given
+  pub gave : SourceGave (g.left source) (g.left source_now) given
   pub sum : length given + left ≡ most
   pub put : IsPut h full start now draft (cut size given)
 
@@ -117,24 +117,24 @@ module _ {S B : Type 0} (g : SourceGhosts S) (h : ShelfGhosts B) (size full most
 
   -- the source fails
   pub not_read : (source mid now : S) (start b : B) (draft : Draft) (left k : ℕ) → SoFar g h size full most source mid start b draft left
-      → GaveWithin (g.left mid) (g.left now) k → g.faults source ≤ g.faults mid → Rose (g.faults mid) (g.faults now)
+      → SourceGaveWithin (g.left mid) (g.left now) k → g.faults source ≤ g.faults mid → FaultsRose (g.faults mid) (g.faults now)
       → Unwritten g h most blobs_in source now start b ReadFault
   not_read source mid now start b draft left k so front later rose =
       let rest = behind (g.left source) (g.left mid) so.given so.gave in
       record {
         input = so.given ++ rest.rest;
-        read = (so.given ++ front.0, Gave-chain (g.left source) (g.left mid) (g.left now) so.given front.0 so.gave front.2, rest.all);
+        read = (so.given ++ front.0, SourceGave-chain (g.left source) (g.left mid) (g.left now) so.given front.0 so.gave front.2, rest.all);
         why = (
           front_of source mid start b draft left so rest.rest,
-          Rose-after (g.faults source) (g.faults mid) (g.faults now) later rose,
+          FaultsRose-after (g.faults source) (g.faults mid) (g.faults now) later rose,
         );
       }
 
   -- there are too many bytes
   pub too_long : (source mid now : S) (start b : B) (draft : Draft) (left : ℕ) (bytes : List ℕ) → SoFar g h size full most source mid start b draft left
-      → Gave (g.left mid) (g.left now) bytes → left < length bytes → Unwritten g h most blobs_in source now start b TooLong
+      → SourceGave (g.left mid) (g.left now) bytes → left < length bytes → Unwritten g h most blobs_in source now start b TooLong
   too_long source mid now start b draft left bytes so more long =
-      let given = Gave-chain (g.left source) (g.left mid) (g.left now) so.given bytes so.gave more in
+      let given = SourceGave-chain (g.left source) (g.left mid) (g.left now) so.given bytes so.gave more in
       let rest = behind (g.left source) (g.left now) (so.given ++ bytes) given in
       record {
         input = (so.given ++ bytes) ++ rest.rest;
@@ -161,12 +161,12 @@ module _ {S B : Type 0} (g : SourceGhosts S) (h : ShelfGhosts B) (size full most
     cut_is : cut size ((given ++ bytes) ++ rest) ≡ cut size given ++ (cut size bytes ++ more)
 
   piece : (n : ℕ) (source mid now : S) (start b : B) (draft : Draft) (left : ℕ) (bytes : List ℕ) (so : SoFar g h size full most source mid start b draft left)
-      → Gave (g.left mid) (g.left now) bytes → length bytes ≤ n * size → (length bytes < n * size → IfSome (g.left now) (λ (l : List ℕ). l ≡ []))
+      → SourceGave (g.left mid) (g.left now) bytes → length bytes ≤ n * size → (length bytes < n * size → IfSome (g.left now) (λ (l : List ℕ). l ≡ []))
       → Piece (g.left source) so.given bytes
   piece n source mid now start b draft left bytes so more fits end = go (cases_lt (length bytes) (n * size))
     where
-      given : Gave (g.left source) (g.left now) (so.given ++ bytes)
-      given = Gave-chain (g.left source) (g.left mid) (g.left now) so.given bytes so.gave more
+      given : SourceGave (g.left source) (g.left now) (so.given ++ bytes)
+      given = SourceGave-chain (g.left source) (g.left mid) (g.left now) so.given bytes so.gave more
 
       cut_of : (rest : List ℕ) → cut size ((so.given ++ bytes) ++ rest) ≡ cut size so.given ++ cut size (bytes ++ rest)
       cut_of rest = ap (cut size) (append_assoc so.given bytes rest) ∙ cut-behind size some so.count so.given (bytes ++ rest) so.whole
@@ -188,7 +188,7 @@ module _ {S B : Type 0} (g : SourceGhosts S) (h : ShelfGhosts B) (size full most
           }
 
   pub not_put : (n : ℕ) (source mid now : S) (start b c : B) (draft : Draft) (left : ℕ) (bytes : List ℕ) (e : PutFault) (fault : CutFault) → SoFar g h size full most source mid start b draft left
-      → Gave (g.left mid) (g.left now) bytes → length bytes ≤ n * size → (length bytes < n * size → IfSome (g.left now) (λ (l : List ℕ). l ≡ []))
+      → SourceGave (g.left mid) (g.left now) bytes → length bytes ≤ n * size → (length bytes < n * size → IfSome (g.left now) (λ (l : List ℕ). l ≡ []))
       → ((chunks more : List (List ℕ)) → IsPut h full start b draft chunks → IsCut h start (below_file full (chunks ++ (cut size bytes ++ more))) c e)
       → fault ≡ unput e → Unwritten g h most blobs_in source now start c fault
   not_put n source mid now start b c draft left bytes e fault so more fits end refused is =
@@ -197,13 +197,13 @@ module _ {S B : Type 0} (g : SourceGhosts S) (h : ShelfGhosts B) (size full most
       let why : IsCut h start (blobs_in input) c e = subst (λ (cs : List (List ℕ)). IsCut h start (below_file full cs) c e) (sym p.cut_is) (refused (cut size so.given) p.more so.put) in
       record {
         input = input;
-        read = (so.given ++ bytes, Gave-chain (g.left source) (g.left mid) (g.left now) so.given bytes so.gave more, p.all);
+        read = (so.given ++ bytes, SourceGave-chain (g.left source) (g.left mid) (g.left now) so.given bytes so.gave more, p.all);
         why = subst (λ (f : CutFault). WhyUnwritten h most (g.faults source) (g.faults now) start c input (blobs_in input) f) (sym is)
             (why_unput (g.faults source) (g.faults now) start c input (blobs_in input) e why);
       }
 
   -- what comes behind all chunks isn't put
-  pub end_unput : (name : List ℕ) (source now : S) (start c : B) (bytes : List ℕ) (e : PutFault) (fault : CutFault) → GaveAll (g.left source) (g.left now) bytes
+  pub end_unput : (name : List ℕ) (source now : S) (start c : B) (bytes : List ℕ) (e : PutFault) (fault : CutFault) → SourceGaveAll (g.left source) (g.left now) bytes
       → IsCut h start (blobs_from full name (cut size bytes)) c e → fault ≡ unput e
       → Unwritten g h most (λ input. blobs_from full name (cut size input)) source now start c fault
   end_unput name source now start c bytes e fault all refused is = record {
@@ -222,11 +222,11 @@ module _ {S B : Type 0} (g : SourceGhosts S) (h : ShelfGhosts B) (size full most
 
   -- it is the last one
   pub last_put : (source mid now : S) (start b c : B) (draft new : Draft) (left : ℕ) (bytes : List ℕ) → SoFar g h size full most source mid start b draft left
-      → Gave (g.left mid) (g.left now) bytes → length bytes ≤ left → IfSome (g.left now) (λ (l : List ℕ). l ≡ [])
+      → SourceGave (g.left mid) (g.left now) bytes → length bytes ≤ left → IfSome (g.left now) (λ (l : List ℕ). l ≡ [])
       → ((chunks : List (List ℕ)) → IsPut h full start b draft chunks → IsPut h full start c new (chunks ++ cut size bytes))
-      → (all : List ℕ) × GaveAll (g.left source) (g.left now) all × (length all ≤ most) × IsPut h full start c new (cut size all)
+      → (all : List ℕ) × SourceGaveAll (g.left source) (g.left now) all × (length all ≤ most) × IsPut h full start c new (cut size all)
   last_put source mid now start b c draft new left bytes so more within end next =
-      let given = Gave-chain (g.left source) (g.left mid) (g.left now) so.given bytes so.gave more in (
+      let given = SourceGave-chain (g.left source) (g.left mid) (g.left now) so.given bytes so.gave more in (
         so.given ++ bytes,
         gave_all (g.left source) (g.left now) (so.given ++ bytes) given end,
         omega (arith, so.sum, within, length-append so.given bytes),
@@ -235,7 +235,7 @@ module _ {S B : Type 0} (g : SourceGhosts S) (h : ShelfGhosts B) (size full most
 
   -- it is a whole one
   pub next_put : (n : ℕ) (source mid now : S) (start b c : B) (draft new : Draft) (left : ℕ) (bytes : List ℕ) → SoFar g h size full most source mid start b draft left
-      → Gave (g.left mid) (g.left now) bytes → length bytes ≡ n * size → length bytes ≤ left
+      → SourceGave (g.left mid) (g.left now) bytes → length bytes ≡ n * size → length bytes ≤ left
       → ((chunks : List (List ℕ)) → IsPut h full start b draft chunks → IsPut h full start c new (chunks ++ cut size bytes))
       → SoFar g h size full most source now start c new (left - length bytes)
   next_put n source mid now start b c draft new left bytes so more is within next =
@@ -244,7 +244,7 @@ module _ {S B : Type 0} (g : SourceGhosts S) (h : ShelfGhosts B) (size full most
         given = so.given ++ bytes;
         count = so.count + n;
         whole = omega (arith, long, so.whole, is, add-mul so.count n size);
-        gave = Gave-chain (g.left source) (g.left mid) (g.left now) so.given bytes so.gave more;
+        gave = SourceGave-chain (g.left source) (g.left mid) (g.left now) so.given bytes so.gave more;
         sum = omega (arith, so.sum, within, long);
         put = put_behind start b c source mid draft new left bytes so next;
       }
@@ -300,7 +300,7 @@ module _ {S B : Type 0} (g : SourceGhosts S) (h : ShelfGhosts B) (len : ℕ) (is
   size_is : len ≡ chunk_size
   size_is = is ∙ chunk_is
 
-  pub written_sized : (r bytes : List ℕ) → GaveAll (g.left source) (g.left source_now) bytes → length bytes ≤ longest_file → Puts h start (blobs_from 4096 name (cut len bytes)) now
+  pub written_sized : (r bytes : List ℕ) → SourceGaveAll (g.left source) (g.left source_now) bytes → length bytes ≤ longest_file → Puts h start (blobs_from 4096 name (cut len bytes)) now
       → r ≡ ref_of (own_from 4096 name (cut len bytes)) → Written g h name source source_now start now r
   written_sized r bytes all most puts own = (
     bytes,
@@ -324,7 +324,7 @@ module _ {S B : Type 0} (g : SourceGhosts S) (h : ShelfGhosts B) (len : ℕ) (is
   not_written_sized short NoMemory u = (short, unwritten_sized NoMemory u)
 
   pub written_result : (result : Result (List ℕ) CutFault)
-      → IfOk result (λ r. (bytes : List ℕ) × GaveAll (g.left source) (g.left source_now) bytes × (length bytes ≤ longest_file)
+      → IfOk result (λ r. (bytes : List ℕ) × SourceGaveAll (g.left source) (g.left source_now) bytes × (length bytes ≤ longest_file)
       × Puts h start (blobs_from 4096 name (cut len bytes)) now × (r ≡ ref_of (own_from 4096 name (cut len bytes))))
       → IfOk result (Written g h name source source_now start now)
   written_result (Ok r) w = written_sized r w.0 w.1 w.2 w.3 w.4

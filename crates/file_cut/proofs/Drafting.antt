@@ -3,7 +3,7 @@ use Rattle.std.proofs.Common.{◌≡◌, ◌≤◌, ◌<◌, ◌⊎◌, inl, inr
 use Rattle.std.proofs.lemmas.Bool.Decides.{nat_tests}
 use Rattle.std.proofs.lemmas.List.{length-map, map-append}
 use Rattle.std.proofs.lemmas.List.Concat.{flat_map-append}
-use Rattle.edge_base.specs.Edge.{Rose}
+use Rattle.edge_base.specs.Edge.{FaultsRose}
 use Rattle.blobref.specs.Blobref.{ref_of}
 use Rattle.edge_base.specs.Shelf.{Blob, Blobs, Keeps, KeepLeaves, named, max_blob}
 use Rattle.edge_base.specs.ShelfLaws.{Keeps-then}
@@ -21,8 +21,8 @@ keeps_none : (a b : Option Blobs) → b ≡ a → Keeps a b []
 keeps_none None b is = is
 keeps_none (Some held) b is = is
 
-Rose-after : (a b c : ℕ) → a ≤ b → Rose b c → Rose a c
-Rose-after a b c le rose = omega (arith, le, rose)
+FaultsRose-after : (a b c : ℕ) → a ≤ b → FaultsRose b c → FaultsRose a c
+FaultsRose-after a b c le rose = omega (arith, le, rose)
 
 named-append : (first second : List (List ℕ)) → named (first ++ second) ≡ named first ++ named second
 named-append first second = map-append {A = List ℕ} {B = Blob} (λ bytes. (ref_of bytes, bytes)) first second
@@ -102,7 +102,7 @@ module _ {B : Type 0} (g : Ghosts B)
   why_after a b c first put rest more (fault.TooBig size) p h = h
   why_after a b c first put rest more (fault.BadDigest said is) p h = h
   why_after a b c first put rest more (fault.Full blobs pack) p h = (runs_on a b c first put p.run h.0, first_more _ rest more h.1)
-  why_after a b c first put rest more fault.Disk p h = Rose-after (g.faults a) (g.faults b) (g.faults c) p.later h
+  why_after a b c first put rest more fault.Disk p h = FaultsRose-after (g.faults a) (g.faults b) (g.faults c) p.later h
   why_after a b c first put rest more fault.NoMemory p h = runs_on a b c first put p.run h
 
   pub cut_after : (a b c : B) (first blobs more whole : List (List ℕ)) (e : PutFault) → Puts g a first b → IsCut g b blobs c e → whole ≡ first ++ (blobs ++ more) → IsCut g a whole c e

@@ -8,7 +8,7 @@ use Rattle.std.proofs.lemmas.List.{length-take}
 use Rattle.std.proofs.lemmas.List.Concat.{flat_map-append}
 use Rattle.blobref.specs.Blobref.{ref_of, ref_cmp}
 use Rattle.blobref.proofs.Digests.{is_blobref-ref_of}
-use Rattle.edge_base.specs.Edge.{GaveAll}
+use Rattle.edge_base.specs.Edge.{SourceGaveAll}
 use Rattle.edge_base.specs.Shelf.{Blobs, named, with_blobs}
 use Rattle.edge_base.specs.declared.shelf.Shelf.{Ghosts as ShelfGhosts}
 use Rattle.edge_base.specs.declared.edge.Source.{Ghosts as SourceGhosts}
@@ -174,7 +174,7 @@ written_is_source held name bytes utf8 short fits apart =
 -- ---- a file that was written
 
 module _ {S B : Type 0} (g : SourceGhosts S) (h : ShelfGhosts B) where
-  same_left : (left now : Option (List ℕ)) (bytes given : List ℕ) → GaveAll left now bytes → left ≡ Some given → bytes ≡ given
+  same_left : (left now : Option (List ℕ)) (bytes given : List ℕ) → SourceGaveAll left now bytes → left ≡ Some given → bytes ≡ given
   same_left None now bytes given all is = absurd (cc is)
   same_left (Some l) now bytes given all is = sym all.1 ∙ (let e : l ≡ given = cc is in e)
 

@@ -1,7 +1,7 @@
 -- A file that is being written: what was put of it, and the parts that it has so far.
 use Rattle.std.specs.Prelude.{◌≡◌, ◌≤◌, ◌<◌, ◌+◌, ◌⊎◌, ℕ, List, [], ◌∷◌, ◌++◌, length, map, flat_map, ◌==◌, if◌then◌else◌}
 use Rattle.blobref.specs.Blobref.{ref_of}
-use Rattle.edge_base.specs.Edge.{Rose}
+use Rattle.edge_base.specs.Edge.{FaultsRose}
 use Rattle.edge_base.specs.Shelf.{Keeps, named}
 use Rattle.edge_base.specs.declared.answers.PutFault.{PutFault}
 use Rattle.edge_base.specs.declared.answers.PutFault.TheVariants as fault
@@ -31,7 +31,7 @@ abbrev pub WhyCut : {B : Type 0} → Ghosts B → (start now : B) → (put rest 
 WhyCut g start now put rest (fault.TooBig size) = ⊥
 WhyCut g start now put rest (fault.BadDigest said is) = ⊥
 WhyCut g start now put rest (fault.Full blobs pack) = g.puts start (named put) now × FirstIs (λ blob. g.fills now (ref_of blob, blob) blobs pack) rest
-WhyCut g start now put rest fault.Disk = Rose (g.faults start) (g.faults now)
+WhyCut g start now put rest fault.Disk = FaultsRose (g.faults start) (g.faults now)
 WhyCut g start now put rest fault.NoMemory = g.puts start (named put) now
 
 -- a front of these blobs was put, in their order, and no more; at `Disk` the shelf holds that front

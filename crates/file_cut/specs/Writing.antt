@@ -2,7 +2,7 @@
 use Rattle.std.specs.Prelude.{◌≡◌, ◌≤◌, ◌<◌, ◌*◌, ℕ, List, ◌++◌, length, Option}
 use Rattle.std.specs.Option.{ForSome}
 use Rattle.blobref.specs.Blobref.{ref_of}
-use Rattle.edge_base.specs.Edge.{Gave, GaveAll, Rose}
+use Rattle.edge_base.specs.Edge.{SourceGave, SourceGaveAll, FaultsRose}
 use Rattle.edge_base.specs.Shelf.{max_blob}
 use Rattle.edge_base.specs.declared.answers.PutFault.{PutFault}
 use Rattle.edge_base.specs.declared.answers.PutFault.TheVariants as put_fault
@@ -16,7 +16,7 @@ use Rattle.file_cut.specs.Drafts.{Puts, IsCut}
 
 -- some bytes were read; the input is all that the source had left, where it tells
 abbrev pub GaveSome : Option (List ℕ) → Option (List ℕ) → List ℕ → Type 0
-GaveSome left left_now input = (given : List ℕ) × Gave left left_now given × ForSome left (λ all. input ≡ all)
+GaveSome left left_now input = (given : List ℕ) × SourceGave left left_now given × ForSome left (λ all. input ≡ all)
 
 -- a front of these blobs was put, and nothing else was done
 abbrev pub PutsFront : {B : Type 0} → ShelfGhosts B → (start : B) → List (List ℕ) → (now : B) → Type 0
@@ -24,7 +24,7 @@ PutsFront h start blobs now = (put rest : List (List ℕ)) × (blobs ≡ put ++ 
 
 -- why the blobs of an input weren't all put
 abbrev pub WhyUnwritten : {B : Type 0} → ShelfGhosts B → ℕ → (faults faults_now : ℕ) → (start now : B) → List ℕ → List (List ℕ) → CutFault → Type 0
-WhyUnwritten h most faults faults_now start now input blobs ReadFault = PutsFront h start blobs now × Rose faults faults_now
+WhyUnwritten h most faults faults_now start now input blobs ReadFault = PutsFront h start blobs now × FaultsRose faults faults_now
 WhyUnwritten h most faults faults_now start now input blobs TooLong = PutsFront h start blobs now × (most < length input)
 WhyUnwritten h most faults faults_now start now input blobs (Put fault) = IsCut h start blobs now fault
 WhyUnwritten h most faults faults_now start now input blobs NoMemory = IsCut h start blobs now put_fault.NoMemory
@@ -65,7 +65,7 @@ longest_file = 17592186044416
 
 -- a file was written: its source is at its end, its blobs were put in their order, and this is the ref of the last of them
 abbrev pub Written : {S B : Type 0} → SourceGhosts S → ShelfGhosts B → List ℕ → (source source_now : S) (start now : B) → List ℕ → Type 0
-Written g h name source source_now start now r = (bytes : List ℕ) × GaveAll (g.left source) (g.left source_now) bytes
+Written g h name source source_now start now r = (bytes : List ℕ) × SourceGaveAll (g.left source) (g.left source_now) bytes
     × (length bytes ≤ longest_file) × Puts h start (file_blobs name bytes) now × (r ≡ ref_of (own_blob name bytes))
 
 -- it wasn't: its name is too long, and nothing was done; or only a front of its blobs was put

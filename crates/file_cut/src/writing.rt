@@ -1,7 +1,7 @@
 //! A source is cut into chunks, of which several are read together, and then put.
 ghost use Rattle.std.specs.Prelude.{◌≡◌, ◌≤◌, ◌<◌, ◌*◌, ℕ, List, length, Err, IfOk, IfErr};
 ghost use Rattle.blobref.specs.Blobref.{ref_of};
-ghost use Rattle.edge_base.specs.Edge.{GaveAll};
+ghost use Rattle.edge_base.specs.Edge.{SourceGaveAll};
 ghost use Rattle.file_cut.specs.declared.fault.CutFault.TheVariants as fault;
 ghost use Rattle.file_cut.specs.Cutting.{cut, below_file, blobs_from, own_from};
 ghost use Rattle.file_cut.specs.Drafts.{IsPut, Puts};
@@ -88,7 +88,7 @@ fn write_cut<S: Source, B: Shelf>(
     requires sizes { AreSizes size full most }
     requires room { length buf.old ≡ 4 * size }
     requires named { length name.now ≤ longest_name }
-    ensures ok { IfOk result (λ r. (bytes : List ℕ) × GaveAll (S.left source.old) (S.left source.new) bytes
+    ensures ok { IfOk result (λ r. (bytes : List ℕ) × SourceGaveAll (S.left source.old) (S.left source.new) bytes
         × (length bytes ≤ most)
         × Puts B.Shelf shelf.old (blobs_from full name.now (cut size bytes)) shelf.new
         × (r ≡ ref_of (own_from full name.now (cut size bytes)))) }
@@ -116,7 +116,7 @@ fn put_chunks<S: Source, B: Shelf>(
 ) -> Result<Draft, CutFault>
     requires sizes { AreSizes size full most }
     requires room { length buf.old ≡ 4 * size }
-    ensures ok { IfOk result (λ draft. (bytes : List ℕ) × GaveAll (S.left source.old) (S.left source.new) bytes
+    ensures ok { IfOk result (λ draft. (bytes : List ℕ) × SourceGaveAll (S.left source.old) (S.left source.new) bytes
         × (length bytes ≤ most) × IsPut B.Shelf full shelf.old shelf.new draft (cut size bytes)) }
     ensures err { IfErr result (λ fault. Unwritten S.Source B.Shelf most
         (λ input. below_file full (cut size input))

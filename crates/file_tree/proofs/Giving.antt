@@ -2,10 +2,10 @@
 use Rattle.std.proofs.Common.{◌≡◌, ◌≤◌, ◌+◌, ◌-◌, ℕ, zero, suc, min, take, replicate, List, [], ◌∷◌, ◌++◌, drop, length, true, Option, None, Some, Result, Ok, Err, refl, sym, ap, subst, ◌∙◌, append_assoc, append-nil, arith}
 use Rattle.std.specs.FinMap.{get}
 use Rattle.std.specs.Option.{ForSome, SomeIff}
-use Rattle.edge_base.specs.Edge.{Took, TookFront, Rose}
+use Rattle.edge_base.specs.Edge.{SinkTook, SinkTookFront, FaultsRose}
 use Rattle.edge_base.specs.Shelf.{Blob as PutBlob, Blobs}
 use Rattle.edge_base.specs.declared.shelf.Shelf.{Ghosts as ShelfGhosts}
-use Rattle.edge_base.proofs.Moves.{Took-chain}
+use Rattle.edge_base.proofs.Moves.{SinkTook-chain}
 use Rattle.edge_base.specs.declared.answers.GetFault.{GetFault}
 use Rattle.edge_base.specs.declared.answers.GetFault.TheVariants as get_fault
 use Rattle.schema_fact.specs.Limits.{total_size}
@@ -17,18 +17,18 @@ use Rattle.file_tree.proofs.Lengths.{walk_length, part_length}
 use Rattle.file_tree.specs.Walk.{Read, all_of, stops, joined, and_then, once, opened_blob, opened_tree, opened_file, walk, if_asked, walk_parts, read_by, part_read, deepest}
 use Rattle.file_tree.specs.Reading.{GivesSome, TookSome, is_of_blobs, fault_of, Finds, Gives, GetFaultCause, FaultCause, ReadCause, Rests}
 
-pub TookFront-more : (a b : Option (List ℕ)) (xs more : List ℕ) → TookFront a b xs → TookFront a b (xs ++ more)
-TookFront-more a b xs more h = (h.0, h.1 ++ more, ap (λ (l : List ℕ). l ++ more) h.2 ∙ append_assoc h.0 h.1 more, h.3)
+pub SinkTookFront-more : (a b : Option (List ℕ)) (xs more : List ℕ) → SinkTookFront a b xs → SinkTookFront a b (xs ++ more)
+SinkTookFront-more a b xs more h = (h.0, h.1 ++ more, ap (λ (l : List ℕ). l ++ more) h.2 ∙ append_assoc h.0 h.1 more, h.3)
 
-pub TookFront-after : (a b c : Option (List ℕ)) (so_far xs : List ℕ) → Took a b so_far → TookFront b c xs → TookFront a c (so_far ++ xs)
-TookFront-after a b c so_far xs took h = (so_far ++ h.0, h.1, ap (λ (l : List ℕ). so_far ++ l) h.2 ∙ sym (append_assoc so_far h.0 h.1), Took-chain a b c so_far h.0 took h.3)
+pub SinkTookFront-after : (a b c : Option (List ℕ)) (so_far xs : List ℕ) → SinkTook a b so_far → SinkTookFront b c xs → SinkTookFront a c (so_far ++ xs)
+SinkTookFront-after a b c so_far xs took h = (so_far ++ h.0, h.1, ap (λ (l : List ℕ). so_far ++ l) h.2 ∙ sym (append_assoc so_far h.0 h.1), SinkTook-chain a b c so_far h.0 took h.3)
 
-Took-none : (a : Option (List ℕ)) → Took a a []
-Took-none None = refl
-Took-none (Some held) = ap Some (sym (append-nil held))
+SinkTook-none : (a : Option (List ℕ)) → SinkTook a a []
+SinkTook-none None = refl
+SinkTook-none (Some held) = ap Some (sym (append-nil held))
 
-pub took_nothing : (a : Option (List ℕ)) (xs : List ℕ) → TookFront a a xs
-took_nothing a xs = ([], xs, refl, Took-none a)
+pub took_nothing : (a : Option (List ℕ)) (xs : List ℕ) → SinkTookFront a a xs
+took_nothing a xs = ([], xs, refl, SinkTook-none a)
 
 joined_front : (bytes : List ℕ) (stop : Option FileFault) (more : Read) → (rest : List ℕ) × ((joined bytes stop more).bytes ≡ bytes ++ rest)
 joined_front bytes None more = (more.bytes, refl)
@@ -36,16 +36,16 @@ joined_front bytes (Some fault) more = ([], sym (append-nil bytes))
 
 -- nothing is asked
 pub gives_nothing : {T : Type 0} (x : T) (a : Option (List ℕ)) → Gives (all_of []) (Ok x) a a
-gives_nothing x a = record { exact = λ told. (refl, Took-none a); front = took_nothing a [] }
+gives_nothing x a = record { exact = λ told. (refl, SinkTook-none a); front = took_nothing a [] }
 
 -- a refusal before anything is written
 pub gives_refusal : {T : Type 0} (fault : FileFault) (a : Option (List ℕ)) → Gives {T = T} (stops fault) (Err fault) a a
-gives_refusal fault a = record { exact = λ told. (refl, Took-none a); front = took_nothing a [] }
+gives_refusal fault a = record { exact = λ told. (refl, SinkTook-none a); front = took_nothing a [] }
 
 -- a fault before anything is written
 pub gives_fault : {T : Type 0} (read : Read) (fault : FileFault) (a : Option (List ℕ)) → (is_of_blobs fault ≡ true → read ≡ stops fault) → Gives {T = T} read (Err fault) a a
 gives_fault read fault a is = record {
-  exact = λ told. (ap (λ (r : Read). r.stop) (is told), subst (λ (r : Read). Took a a r.bytes) (sym (is told)) (Took-none a));
+  exact = λ told. (ap (λ (r : Read). r.stop) (is told), subst (λ (r : Read). SinkTook a a r.bytes) (sym (is told)) (SinkTook-none a));
   front = took_nothing a read.bytes;
 }
 
@@ -56,30 +56,30 @@ gives_first read more fault a b gives =
     record {
       exact = λ told.
           let here = gives.exact told in
-          let P : Option FileFault → Type 0 = λ s. ((joined read.bytes s more).stop ≡ Some fault) × Took a b (joined read.bytes s more).bytes in
+          let P : Option FileFault → Type 0 = λ s. ((joined read.bytes s more).stop ≡ Some fault) × SinkTook a b (joined read.bytes s more).bytes in
           subst P (sym here.0) (refl, here.1);
-      front = subst (TookFront a b) (sym rest.1) (TookFront-more a b read.bytes rest.0 gives.front);
+      front = subst (SinkTookFront a b) (sym rest.1) (SinkTookFront-more a b read.bytes rest.0 gives.front);
     }
 
 -- a read after bytes that were taken
 pub gives_after : {T : Type 0} (so_far : List ℕ) (read whole : Read) (result : Result T FileFault) (a b c : Option (List ℕ))
-    → whole ≡ and_then (all_of so_far) read → Took a b so_far → Gives read result b c → Gives whole result a c
+    → whole ≡ and_then (all_of so_far) read → SinkTook a b so_far → Gives read result b c → Gives whole result a c
 gives_after so_far read whole result a b c is took gives =
     let P : Read → Type 0 = λ w. Gives w result a c in
     subst P (sym is) (record {
-      exact = λ told. let here = gives.exact told in (here.0, Took-chain a b c so_far read.bytes took here.1);
-      front = TookFront-after a b c so_far read.bytes took gives.front;
+      exact = λ told. let here = gives.exact told in (here.0, SinkTook-chain a b c so_far read.bytes took here.1);
+      front = SinkTookFront-after a b c so_far read.bytes took gives.front;
     })
 
 -- bytes more are taken, of the first of two reads
 pub gives_on : {T : Type 0} (so_far : List ℕ) (read more whole : Read) (x : T) (a b c : Option (List ℕ))
-    → whole ≡ and_then (all_of so_far) (and_then read more) → Took a b so_far → Gives read (Ok x) b c
-    → (whole ≡ and_then (all_of (so_far ++ read.bytes)) more) × Took a c (so_far ++ read.bytes)
+    → whole ≡ and_then (all_of so_far) (and_then read more) → SinkTook a b so_far → Gives read (Ok x) b c
+    → (whole ≡ and_then (all_of (so_far ++ read.bytes)) more) × SinkTook a c (so_far ++ read.bytes)
 gives_on so_far read more whole x a b c is took gives =
     let here = gives.exact refl in
     let P : Option FileFault → Type 0 = λ s. whole ≡ and_then (all_of so_far) (joined read.bytes s more) in
     let open_ : whole ≡ record { bytes = so_far ++ (read.bytes ++ more.bytes); stop = more.stop } = subst P here.0 is in
-    (open_ ∙ ap (λ (l : List ℕ). record { bytes = l; stop = more.stop }) (sym (append_assoc so_far read.bytes more.bytes)), Took-chain a b c so_far read.bytes took here.1)
+    (open_ ∙ ap (λ (l : List ℕ). record { bytes = l; stop = more.stop }) (sym (append_assoc so_far read.bytes more.bytes)), SinkTook-chain a b c so_far read.bytes took here.1)
 
 -- what is asked of the next part, and of the others
 pub walk-next : (f : Part → ℕ → ℕ → Read) (left_parts parts : List Part) (part : Part) (at left here : ℕ) → left_parts ≡ part ∷ parts → here ≡ min left (part.size - at)
@@ -90,11 +90,11 @@ walk-next f left_parts parts part at left here is asked_is =
 
 -- ---- causes
 
-Rose-after : (a b c : ℕ) → a ≤ b → Rose b c → Rose a c
-Rose-after a b c le rose = omega (arith, le, rose)
+FaultsRose-after : (a b c : ℕ) → a ≤ b → FaultsRose b c → FaultsRose a c
+FaultsRose-after a b c le rose = omega (arith, le, rose)
 
 get_cause_after : (told held : Option Blobs) (a b c : ℕ) (fault : GetFault) → held ≡ told → a ≤ b → GetFaultCause held b c fault → GetFaultCause told a c fault
-get_cause_after told held a b c get_fault.Disk is le h = Rose-after a b c le h
+get_cause_after told held a b c get_fault.Disk is le h = FaultsRose-after a b c le h
 get_cause_after told held a b c (get_fault.Damaged want other) is le h = (h.0, sym is ∙ h.1)
 get_cause_after told held a b c get_fault.NoMemory is le h = h
 
@@ -103,7 +103,7 @@ cause_after told held a b c k l m (Absent r) is le sink h = tt
 cause_after told held a b c k l m (NotAFile r) is le sink h = tt
 cause_after told held a b c k l m (Short r has wants) is le sink h = tt
 cause_after told held a b c k l m (Deep r) is le sink h = tt
-cause_after told held a b c k l m WriteFault is le sink h = Rose-after k l m sink h
+cause_after told held a b c k l m WriteFault is le sink h = FaultsRose-after k l m sink h
 cause_after told held a b c k l m (Get fault) is le sink h = get_cause_after told held a b c fault is le h
 cause_after told held a b c k l m NoMemory is le sink h = tt
 
@@ -122,13 +122,13 @@ rests_then g then a b c first second = record {
 -- ---- a shelf that doesn't tell
 
 pub took_none : (a : Option (List ℕ)) → TookSome a a
-took_none a = ([], Took-none a)
+took_none a = ([], SinkTook-none a)
 
-pub took_some : (a b : Option (List ℕ)) (bytes : List ℕ) → TookFront a b bytes → TookSome a b
+pub took_some : (a b : Option (List ℕ)) (bytes : List ℕ) → SinkTookFront a b bytes → TookSome a b
 took_some a b bytes front = (front.0, front.3)
 
 pub took_then : (a b c : Option (List ℕ)) → TookSome a b → TookSome b c → TookSome a c
-took_then a b c first second = (first.0 ++ second.0, Took-chain a b c first.0 second.0 first.1 second.1)
+took_then a b c first second = (first.0 ++ second.0, SinkTook-chain a b c first.0 second.0 first.1 second.1)
 
 some_same : (x y : Blobs) → Some x ≡ Some y → x ≡ y
 some_same x y e = cc e

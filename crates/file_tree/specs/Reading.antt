@@ -1,7 +1,7 @@
 -- What reading a file leaves: what the sink took, why there is no more, and what is left of the shelf.
 use Rattle.std.specs.Prelude.{◌≡◌, ◌≢◌, ℕ, ◌≤◌, Bool, true, false, List, [], length, take, replicate, Option, None, Some, Result, Ok, Err}
 use Rattle.std.specs.Option.{ForSome}
-use Rattle.edge_base.specs.Edge.{Took, TookFront, Rose}
+use Rattle.edge_base.specs.Edge.{SinkTook, SinkTookFront, FaultsRose}
 use Rattle.edge_base.specs.declared.answers.GetFault.{GetFault}
 use Rattle.edge_base.specs.declared.answers.GetFault.TheVariants as get_fault
 use Rattle.edge_base.specs.Shelf.{Blobs}
@@ -35,12 +35,12 @@ Finds expected result = is_defined result ≡ true → result ≡ expected
 
 -- the sink took what is read up to the refusal that is answered; after another fault it took a front of that
 pub record Gives {T : Type 0} (read : Read) (result : Result T FileFault) (before now : Option (List ℕ)) : Type 0 where
-  pub exact : is_defined result ≡ true → (read.stop ≡ fault_of result) × Took before now read.bytes
-  pub front : TookFront before now read.bytes
+  pub exact : is_defined result ≡ true → (read.stop ≡ fault_of result) × SinkTook before now read.bytes
+  pub front : SinkTookFront before now read.bytes
 
 -- the sink took some bytes behind what it held
 abbrev pub TookSome : Option (List ℕ) → Option (List ℕ) → Type 0
-TookSome before now = (bytes : List ℕ) × Took before now bytes
+TookSome before now = (bytes : List ℕ) × SinkTook before now bytes
 
 -- There is a read of which the sink took so much; where the shelf tells what it holds it is the walk over that.
 pub record GivesSome {T : Type 0} (told : Option Blobs) (walk : Blobs → Read) (result : Result T FileFault) (before now : Option (List ℕ)) : Type 0 where
@@ -50,7 +50,7 @@ pub record GivesSome {T : Type 0} (told : Option Blobs) (walk : Blobs → Read) 
 
 -- when another fault comes
 abbrev pub GetFaultCause : Option Blobs → ℕ → ℕ → GetFault → Type 0
-GetFaultCause told before now get_fault.Disk = Rose before now
+GetFaultCause told before now get_fault.Disk = FaultsRose before now
 GetFaultCause told before now (get_fault.Damaged want is) = (is ≢ want) × (told ≡ None)
 GetFaultCause told before now get_fault.NoMemory = ⊥
 
@@ -59,7 +59,7 @@ FaultCause told before now sink_before sink_now (Absent r) = Unit {0}
 FaultCause told before now sink_before sink_now (NotAFile r) = Unit {0}
 FaultCause told before now sink_before sink_now (Short r has wants) = Unit {0}
 FaultCause told before now sink_before sink_now (Deep r) = Unit {0}
-FaultCause told before now sink_before sink_now WriteFault = Rose sink_before sink_now
+FaultCause told before now sink_before sink_now WriteFault = FaultsRose sink_before sink_now
 FaultCause told before now sink_before sink_now (Get fault) = GetFaultCause told before now fault
 FaultCause told before now sink_before sink_now NoMemory = Unit {0}
 

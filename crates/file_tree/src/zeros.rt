@@ -1,6 +1,6 @@
 //! Runs of zeros.
 ghost use Rattle.std.specs.Prelude.{◌≡◌, ◌<◌, ◌≤◌, length, replicate, OnOk, IfOk};
-ghost use Rattle.edge_base.specs.Edge.{HasCause, Took, TookFront};
+ghost use Rattle.edge_base.specs.Edge.{HasCause, SinkTook, SinkTookFront};
 ghost use Rattle.file_tree.specs.Reading.{AreZeros};
 
 use edge_base::{Failed, Sink, write_all};
@@ -28,8 +28,8 @@ fn zeros_of(alloc: Global, len: usize) -> Result<Vec<u8>, AllocError>
 pub(crate) fn write_zeros<K: Sink>(sink: &mut K, zeros: &[u8], count: u64) -> Result<(), Failed>
     requires zeros { AreZeros zeros.now }
     requires some { 0 < count → 0 < length zeros.now }
-    ensures whole { OnOk result (Took (K.written sink.old) (K.written sink.new) (replicate count 0)) }
-    ensures front { TookFront (K.written sink.old) (K.written sink.new) (replicate count 0) }
+    ensures whole { OnOk result (SinkTook (K.written sink.old) (K.written sink.new) (replicate count 0)) }
+    ensures front { SinkTookFront (K.written sink.old) (K.written sink.new) (replicate count 0) }
     ensures cause { HasCause (K.faults sink.old) (K.faults sink.new) result }
 {
     let mut left = count;

@@ -10,13 +10,13 @@ use Rattle.http_wire.specs.Bodies.{Moves}
 use Rattle.http_wire.specs.Wires.{WireView, to_come, BodyEnds}
 use Rattle.http_wire.proofs.Passing.{none_passed}
 use Rattle.http_wire.proofs.Leading.{BodyRun-none, Moves-chain}
-use Rattle.edge_base.specs.Edge.{Gave}
+use Rattle.edge_base.specs.Edge.{SourceGave}
 use Rattle.http_exchange.specs.Before.{most_body}
 use Rattle.http_exchange.specs.declared.gathering.BodyFault.{BodyFault}
 use Rattle.http_exchange.specs.declared.gathering.BodyFault.TheVariants as stopped
 use Rattle.http_exchange.specs.Gathering.{Gathers, GatherSays, CanStop, StopSays}
 
-gave_none : (x : Option (List ℕ)) → Gave x x []
+gave_none : (x : Option (List ℕ)) → SourceGave x x []
 gave_none None = refl
 gave_none (Some x) = (x, refl, refl)
 

@@ -5,7 +5,7 @@ use Rattle.std.specs.Option.{IfSome}
 use Rattle.std.specs.List.{flat_map}
 use Rattle.std.proofs.lemmas.List.Elements.{All-push, All-nil}
 use mathlib.Core.List.{map-append}
-use Rattle.edge_base.specs.Edge.{Gave}
+use Rattle.edge_base.specs.Edge.{SourceGave}
 use Rattle.http_wire.specs.declared.ends.WireEnd.{WireEnd}
 use Rattle.http_wire.specs.declared.ends.WireEnd.TheVariants as ends
 use Rattle.http_wire.specs.Stream.{Flow, Passed, stream}
@@ -19,7 +19,7 @@ use Rattle.http_wire.proofs.Unfinished.{no_whole_request}
 use Rattle.http_exchange.specs.declared.ended.Ended.{Ended}
 use Rattle.http_exchange.specs.declared.ended.Ended.TheVariants as ended
 use Rattle.answer_text.specs.declared.refusal.Refusal.{Refusal}
-use Rattle.http_exchange.specs.Asked.{Asked, Whole, Front, Head, Comes, closes_of, head_says}
+use Rattle.http_exchange.specs.Asked.{Asked, Whole, Front, Head, RequestComes, closes_of, head_says}
 use Rattle.http_exchange.specs.Hearing.{Stays, Open, IsCut, IsReadShort, Follows, Heard, NoneComes, fresh_flow}
 use Rattle.http_exchange.proofs.Bodies.{passed_none}
 
@@ -67,7 +67,7 @@ not_true e = absurd (cc e)
 
 -- one more, and the connection stays open
 pub heard_more : (x0 mid now : Option (List ℕ)) (flow next : Flow) (before : List Asked) (asked : Asked)
-    → Open x0 mid fresh_flow flow before → Comes mid now flow next asked → closes_of asked ≡ false
+    → Open x0 mid fresh_flow flow before → RequestComes mid now flow next asked → closes_of asked ≡ false
     → Open x0 now fresh_flow next (before ++ asked ∷ [])
 heard_more x0 mid now flow next before (Whole r) o c still = record {
   requests = o.requests ++ r ∷ [];
@@ -143,7 +143,7 @@ module _ (fair : Begun → Type 0) where
 
   -- one more, and it closes
   pub heard_last : (x0 mid now : Option (List ℕ)) (flow next : Flow) (before : List Asked) (asked : Asked)
-      → Open x0 mid fresh_flow flow before → Comes mid now flow next asked → closes_of asked ≡ true
+      → Open x0 mid fresh_flow flow before → RequestComes mid now flow next asked → closes_of asked ≡ true
       → Heard fair x0 now ended.Closed (before ++ asked ∷ [])
   heard_last None mid now flow next before asked o c closes = tt
   heard_last (Some x) mid now flow next before (Whole r) o c closes =
@@ -163,8 +163,8 @@ module _ (fair : Begun → Type 0) where
       }
   heard_last (Some x) mid now flow next before (Front b after) o c closes =
       let s = spoken x mid flow o.requests o.stays.are o.passed in
-      let g : Gave (Some s.0) (stream next.bytes now) (b.head ++ b.framed) = subst
-      (λ (z : Option (List ℕ)). Gave z (stream next.bytes now) (b.head ++ b.framed)) s.1 c.1.gave in
+      let g : SourceGave (Some s.0) (stream next.bytes now) (b.head ++ b.framed) = subst
+      (λ (z : Option (List ℕ)). SourceGave z (stream next.bytes now) (b.head ++ b.framed)) s.1 c.1.gave in
       let parts : s.0 ≡ b.head ++ (b.framed ++ g.0) = g.2 ∙ append_assoc b.head b.framed g.0 in
       record {
         requests = o.requests;
@@ -181,8 +181,8 @@ module _ (fair : Begun → Type 0) where
       }
   heard_last (Some x) mid now flow next before (Head end) o c closes =
       let s = spoken x mid flow o.requests o.stays.are o.passed in
-      let g : Gave (Some s.0) (stream next.bytes now) [] = subst
-      (λ (z : Option (List ℕ)). Gave z (stream next.bytes now) []) s.1 c.1.gave in
+      let g : SourceGave (Some s.0) (stream next.bytes now) [] = subst
+      (λ (z : Option (List ℕ)). SourceGave z (stream next.bytes now) []) s.1 c.1.gave in
       let here : HeadEnds (Some s.0) (place_behind o.requests) end =
       subst (λ (k : ℕ). HeadEnds (Some s.0) k end) s.3
       (subst (λ (z : Option (List ℕ)). HeadEnds z flow.taken end) (g.1 ∙ ap Some (sym g.2)) c.2) in
@@ -205,7 +205,7 @@ module _ (fair : Begun → Type 0) where
   -- one more, whose reply wasn't written whole
   pub heard_breaks : (x0 mid now : Option (List ℕ)) (flow next : Flow) (before : List Asked) (asked : Asked)
       (closes : Bool)
-      → Open x0 mid fresh_flow flow before → Comes mid now flow next asked → closes_of asked ≡ closes
+      → Open x0 mid fresh_flow flow before → RequestComes mid now flow next asked → closes_of asked ≡ closes
       → Heard fair x0 now ended.WriteFault (before ++ asked ∷ [])
   heard_breaks x0 mid now flow next before asked false o c closes =
       heard_broken x0 now next (before ++ asked ∷ []) (heard_more x0 mid now flow next before asked o c closes)

@@ -2,7 +2,7 @@
 use Rattle.std.proofs.Common.{◌≡◌, ℕ, ◌≤◌, if◌then◌else◌, List, [], ◌++◌, length, Bool, true, false, Option, Some, None}
 use Rattle.std.proofs.Common.{Ok, Err, refl, ap, sym, subst, ◌∙◌, inl, inr, append_assoc}
 use Rattle.std.specs.Option.{IfSome}
-use Rattle.edge_base.specs.Edge.{Gave}
+use Rattle.edge_base.specs.Edge.{SourceGave}
 use Rattle.http_wire.specs.declared.body.Body.{Body}
 use Rattle.http_wire.specs.declared.body.Body.TheVariants as body
 use Rattle.http_wire.specs.declared.head.Head.{Head}
@@ -25,7 +25,7 @@ use Rattle.http_exchange.specs.declared.ended.Ended.{Ended}
 use Rattle.http_exchange.specs.declared.ended.Ended.TheVariants as ended
 use Rattle.http_exchange.specs.Before.{most_body, is_read}
 use Rattle.http_exchange.specs.HeadPlaces.{HasPieces, ReadsHead}
-use Rattle.http_exchange.specs.Asked.{Asked, Front, Comes, head_says}
+use Rattle.http_exchange.specs.Asked.{Asked, Front, RequestComes, head_says}
 use Rattle.http_exchange.specs.Gathering.{Gathers}
 use Rattle.http_exchange.specs.Hearing.{IsCut, IsReadShort, NoneComes, StopEnds}
 
@@ -66,12 +66,12 @@ not_done ToEnd e done = absurd (cc done)
 
 -- ---- no head was read
 
-gave_same : (a b : Option (List ℕ)) → Gave a b [] → b ≡ a
+gave_same : (a b : Option (List ℕ)) → SourceGave a b [] → b ≡ a
 gave_same None b h = h
 gave_same (Some x) b h = h.1 ∙ ap Some (sym h.2)
 
 -- the bytes that were read ahead of the source
-gave_ahead : (left : Option (List ℕ)) (ahead x : List ℕ) → stream ahead left ≡ Some x → Gave (Some x) left ahead
+gave_ahead : (left : Option (List ℕ)) (ahead x : List ℕ) → stream ahead left ≡ Some x → SourceGave (Some x) left ahead
 gave_ahead None ahead x is = absurd (cc is)
 gave_ahead (Some rest) ahead x is = (rest, refl, sym (cc is))
 
@@ -102,16 +102,16 @@ module _ (x0 x1 x2 : Option (List ℕ)) (flow : Flow) (mid new : WireView) (says
   abbrev pub front : Asked
   front = Front begun (stream new.flow.bytes x2)
 
-  pub front_comes : Comes x0 x2 flow new.flow front
+  pub front_comes : RequestComes x0 x2 flow new.flow front
   front_comes = (is_begun, passed, refl)
 
 -- a read failed inside the body
 pub read_short_of_body : (before left : Option (List ℕ)) (ahead : List ℕ) (b : Begun) → IsBegun b
-    → Gave before (stream ahead left) (b.head ++ b.framed) → EndsEarly b.at ahead → IfSome before (IsReadShort left)
+    → SourceGave before (stream ahead left) (b.head ++ b.framed) → EndsEarly b.at ahead → IfSome before (IsReadShort left)
 read_short_of_body None left ahead b is gave stops = tt
 read_short_of_body (Some x) left ahead b is gave stops =
     let all : List ℕ = b.head ++ (b.framed ++ ahead) in
-    let more : Gave (Some gave.0) left ahead = gave_ahead left ahead gave.0 gave.1 in
+    let more : SourceGave (Some gave.0) left ahead = gave_ahead left ahead gave.0 gave.1 in
     let whole : x ≡ all ++ more.0 = gave.2 ∙ ap (λ (z : List ℕ). (b.head ++ b.framed) ++ z) more.2
     ∙ sym (append_assoc (b.head ++ b.framed) ahead more.0)
     ∙ ap (λ (z : List ℕ). z ++ more.0) (append_assoc b.head b.framed ahead) in
@@ -149,7 +149,7 @@ module _ (fair : Begun → Type 0) where
           let is : ended.ReadFault ≡ e = cc says in subst (NoneComes fair o x1 place) is (s refl)
 
   pub cut_body : (before now : Option (List ℕ)) (place n : ℕ) (b : Begun) → IsBegun b
-      → Gave before now (b.head ++ b.framed) → n ≡ place
+      → SourceGave before now (b.head ++ b.framed) → n ≡ place
       → IfSome now (EndsEarly b.at) → fair b → IfSome before (IsCut fair place n)
   cut_body None now place n b is gave at stops due = tt
   cut_body (Some x) now place n b is gave at stops due =

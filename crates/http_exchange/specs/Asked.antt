@@ -32,10 +32,10 @@ head_says (ends.TooLong limit) = Ok (refusal.TooLong limit)
 head_says ends.ReadFault = Err ended.ReadFault
 
 -- the next bytes are this, and they were taken; a refused head stays
-abbrev pub Comes : Option (List ℕ) → Option (List ℕ) → Flow → Flow → Asked → Type 0
-Comes before now old new (Whole r) = IsRequest r × Passed before now old new (text_of r)
-Comes before now old new (Front b after) =
+abbrev pub RequestComes : Option (List ℕ) → Option (List ℕ) → Flow → Flow → Asked → Type 0
+RequestComes before now old new (Whole r) = IsRequest r × Passed before now old new (text_of r)
+RequestComes before now old new (Front b after) =
     IsBegun b × Passed before now old new (b.head ++ b.framed) × (after ≡ stream new.bytes now)
-Comes before now old new (Head end) =
+RequestComes before now old new (Head end) =
     ((why : Refusal) × (head_says end ≡ Ok why)) × Passed before now old new []
     × HeadEnds (stream new.bytes now) old.taken end

@@ -2,7 +2,7 @@
 -- that was begun that no refusal was due by what came of it.
 use Rattle.std.specs.Prelude.{◌≡◌, ◌⊎◌, ℕ, List, [], ◌∷◌, ◌++◌, map, All, Option, Some, None, IfSome}
 use Rattle.std.specs.List.{flat_map}
-use Rattle.edge_base.specs.Edge.{Gave, Took, TookFront, Rose}
+use Rattle.edge_base.specs.Edge.{SourceGave, SinkTook, SinkTookFront, FaultsRose}
 use Rattle.http_wire.specs.declared.ends.WireEnd.TheVariants as ends
 use Rattle.http_wire.specs.Stream.{Flow, Passed}
 use Rattle.http_wire.specs.Bodies.{EndsEarly}
@@ -54,7 +54,7 @@ EndsShort bytes = LacksHead bytes ⊎ ((b : Begun) × (after : List ℕ) × IsBe
 
 -- what was read of these bytes, of which this is left in the source, ends before a request does
 abbrev pub IsReadShort : Option (List ℕ) → List ℕ → Type 0
-IsReadShort left rest = (ahead : List ℕ) × Gave (Some rest) left ahead × HasNoRequest ahead × EndsShort ahead
+IsReadShort left rest = (ahead : List ℕ) × SourceGave (Some rest) left ahead × HasNoRequest ahead × EndsShort ahead
 
 -- no further request was taken, and the connection was open
 abbrev pub StoodOpen : List Request → Last → Type 0
@@ -112,16 +112,16 @@ StopEnds stopped.ReadFault end = end ≡ ended.ReadFault
 
 -- what the sink got: the replies, and at a failed write a front of them
 abbrev pub Wrote : Option (List ℕ) → Option (List ℕ) → Ended → List ℕ → Type 0
-Wrote before now ended.WriteFault texts = TookFront before now texts
-Wrote before now ended.Closed texts = Took before now texts
-Wrote before now (ended.Cut n) texts = Took before now texts
-Wrote before now ended.ReadFault texts = Took before now texts
-Wrote before now ended.NoMemory texts = Took before now texts
+Wrote before now ended.WriteFault texts = SinkTookFront before now texts
+Wrote before now ended.Closed texts = SinkTook before now texts
+Wrote before now (ended.Cut n) texts = SinkTook before now texts
+Wrote before now ended.ReadFault texts = SinkTook before now texts
+Wrote before now ended.NoMemory texts = SinkTook before now texts
 
 -- why it ended
 abbrev pub EndCause : ℕ → ℕ → ℕ → ℕ → Ended → Type 0
-EndCause read read' wrote wrote' ended.ReadFault = Rose read read'
-EndCause read read' wrote wrote' ended.WriteFault = Rose wrote wrote'
+EndCause read read' wrote wrote' ended.ReadFault = FaultsRose read read'
+EndCause read read' wrote wrote' ended.WriteFault = FaultsRose wrote wrote'
 EndCause read read' wrote wrote' ended.Closed = Unit {0}
 EndCause read read' wrote wrote' (ended.Cut n) = Unit {0}
 EndCause read read' wrote wrote' ended.NoMemory = Unit {0}
@@ -134,7 +134,7 @@ HeardBy fair before now old new None asked = Open before now old new asked
 HeardBy fair before now old new (Some end) asked = Heard fair before now end asked
 
 abbrev pub WroteBy : Option (List ℕ) → Option (List ℕ) → Option Ended → List ℕ → Type 0
-WroteBy before now None texts = Took before now texts
+WroteBy before now None texts = SinkTook before now texts
 WroteBy before now (Some end) texts = Wrote before now end texts
 
 abbrev pub StepCause : ℕ → ℕ → ℕ → ℕ → Option Ended → Type 0

@@ -1,6 +1,6 @@
 //! Small bodies, read as a whole.
 ghost use Rattle.std.specs.Prelude.{◌≡◌, ◌≤◌, ℕ, Option, List, [], length, IfOk, IsErrOf};
-ghost use Rattle.edge_base.specs.Edge.{Rose};
+ghost use Rattle.edge_base.specs.Edge.{FaultsRose};
 ghost use Rattle.http_wire.specs.Bodies.{EndsEarly};
 ghost use Rattle.http_wire.specs.Wires.{body_of, BodyEnds};
 ghost use Rattle.http_wire.specs.declared.body.Body.{Body};
@@ -40,7 +40,7 @@ pub fn gather<S: Source>(
 ) -> Result<Octets, BodyFault>
     requires { wire.old.body ≡ body_of framing }
     ensures gathers { Gathers (S.left source.old) (S.left source.new) wire.old wire.new result }
-    ensures fault { IsErrOf result BodyFault.ReadFault → Rose (S.faults source.old) (S.faults source.new) }
+    ensures fault { IsErrOf result BodyFault.ReadFault → FaultsRose (S.faults source.old) (S.faults source.new) }
     ensures later { S.faults source.old ≤ S.faults source.new }
 {
     match framing {
@@ -52,7 +52,7 @@ pub fn gather<S: Source>(
 // The same of any framing.
 fn gather_on<S: Source>(alloc: Global, wire: &mut Wire, source: &mut S) -> Result<Octets, BodyFault>
     ensures gathers { Gathers (S.left source.old) (S.left source.new) wire.old wire.new result }
-    ensures fault { IsErrOf result BodyFault.ReadFault → Rose (S.faults source.old) (S.faults source.new) }
+    ensures fault { IsErrOf result BodyFault.ReadFault → FaultsRose (S.faults source.old) (S.faults source.new) }
     ensures later { S.faults source.old ≤ S.faults source.new }
 {
     let Ok(mut space) = zeros(alloc) else {

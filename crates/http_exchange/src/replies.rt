@@ -1,7 +1,7 @@
 //! The texts of replies.
 ghost use Rattle.std.specs.Prelude.{◌≡◌, ◌++◌, [], IsSome, IfOk, IfSome, OnOk};
 ghost use Rattle.http.specs.StatusCode.{IsStatusCode, reason_phrase};
-ghost use Rattle.edge_base.specs.Edge.{Took, TookFront, HasCause};
+ghost use Rattle.edge_base.specs.Edge.{SinkTook, SinkTookFront, HasCause};
 ghost use Rattle.http_exchange.specs.Replies.{kind_text, reply_text, refused_reply, memory_reply};
 ghost use Rattle.http_exchange.specs.Written.{reply_bytes};
 
@@ -80,8 +80,8 @@ const MOST_COPIED: usize = 16_384;
 
 /// Writes the reply, a short one by one call of the sink. For want of memory a short one may take two.
 pub fn write_reply<K: Sink>(alloc: Global, sink: &mut K, reply: &Reply) -> Result<(), Failed>
-    ensures whole { OnOk result (Took (K.written sink.old) (K.written sink.new) (reply_bytes reply.now)) }
-    ensures front { TookFront (K.written sink.old) (K.written sink.new) (reply_bytes reply.now) }
+    ensures whole { OnOk result (SinkTook (K.written sink.old) (K.written sink.new) (reply_bytes reply.now)) }
+    ensures front { SinkTookFront (K.written sink.old) (K.written sink.new) (reply_bytes reply.now) }
     ensures cause { HasCause (K.faults sink.old) (K.faults sink.new) result }
 {
     write_parts(alloc, sink, reply.head.as_slice(), reply.body.as_slice())
@@ -89,16 +89,16 @@ pub fn write_reply<K: Sink>(alloc: Global, sink: &mut K, reply: &Reply) -> Resul
 
 /// Writes the reply where no memory is left, which takes none. Behind it the connection closes.
 pub fn write_memory_reply<K: Sink>(sink: &mut K) -> Result<(), Failed>
-    ensures whole { OnOk result (Took (K.written sink.old) (K.written sink.new) memory_reply) }
-    ensures front { TookFront (K.written sink.old) (K.written sink.new) memory_reply }
+    ensures whole { OnOk result (SinkTook (K.written sink.old) (K.written sink.new) memory_reply) }
+    ensures front { SinkTookFront (K.written sink.old) (K.written sink.new) memory_reply }
     ensures cause { HasCause (K.faults sink.old) (K.faults sink.new) result }
 {
     write_all(sink, memory_reply())
 }
 
 fn write_parts<K: Sink>(alloc: Global, sink: &mut K, head: &[u8], body: &[u8]) -> Result<(), Failed>
-    ensures whole { OnOk result (Took (K.written sink.old) (K.written sink.new) (head.now ++ body.now)) }
-    ensures front { TookFront (K.written sink.old) (K.written sink.new) (head.now ++ body.now) }
+    ensures whole { OnOk result (SinkTook (K.written sink.old) (K.written sink.new) (head.now ++ body.now)) }
+    ensures front { SinkTookFront (K.written sink.old) (K.written sink.new) (head.now ++ body.now) }
     ensures cause { HasCause (K.faults sink.old) (K.faults sink.new) result }
 {
     match joined(alloc, head, body) {
@@ -120,8 +120,8 @@ fn joined(alloc: Global, head: &[u8], body: &[u8]) -> Option<Octets>
 }
 
 fn write_both<K: Sink>(sink: &mut K, head: &[u8], body: &[u8]) -> Result<(), Failed>
-    ensures whole { OnOk result (Took (K.written sink.old) (K.written sink.new) (head.now ++ body.now)) }
-    ensures front { TookFront (K.written sink.old) (K.written sink.new) (head.now ++ body.now) }
+    ensures whole { OnOk result (SinkTook (K.written sink.old) (K.written sink.new) (head.now ++ body.now)) }
+    ensures front { SinkTookFront (K.written sink.old) (K.written sink.new) (head.now ++ body.now) }
     ensures cause { HasCause (K.faults sink.old) (K.faults sink.new) result }
 {
     write_all(sink, head)?;

@@ -1,14 +1,14 @@
 -- What is taken from the stream.
 use Rattle.std.proofs.Common.{◌≡◌, ℕ, ◌+◌, ◌≤◌, ◌<◌, List, [], ◌++◌, length, take, drop, Option, Some, None, IfSome, refl, sym, ap, subst, ◌∙◌, arith, append_assoc, length-append}
 use Rattle.std.proofs.lemmas.List.{append-nil, take-append-drop, take-append-le, take-take, take_all, take_at, length-take, length-take-le}
-use Rattle.edge_base.specs.Edge.{Gave}
-use Rattle.edge_base.proofs.Moves.{Gave-chain}
+use Rattle.edge_base.specs.Edge.{SourceGave}
+use Rattle.edge_base.proofs.Moves.{SourceGave-chain}
 use Rattle.http_wire.specs.declared.line_state.LineState.{LineState}
 use Rattle.http_wire.specs.declared.scanning.Scanned.TheVariants.{End}
 use Rattle.http_wire.specs.declared.scanning.Scanned.{Scanned}
 use Rattle.http_wire.specs.Lines.{scanned, scanned_on, Reaches, Lacks}
 use Rattle.http_wire.specs.Stream.{stream, Fetched, AtEnd, Flow, Passed, counted, Begins}
-use Rattle.http_wire.proofs.Fetching.{Gave-none, Gave-front, stream_same}
+use Rattle.http_wire.proofs.Fetching.{SourceGave-none, SourceGave-front, stream_same}
 use Rattle.http_wire.proofs.Seams.{scanned-append, scanned-front, reached}
 
 counted-zero : (t : ℕ) → counted t 0 ≡ t
@@ -17,7 +17,7 @@ counted-zero t = omega arith
 -- nothing is taken where nothing moves
 pub Passed-none : (left : Option (List ℕ)) (flow : Flow) → Passed left left flow flow []
 Passed-none left flow = record {
-  gave = Gave-none (stream flow.bytes left) (stream flow.bytes left) refl;
+  gave = SourceGave-none (stream flow.bytes left) (stream flow.bytes left) refl;
   taken = sym (counted-zero flow.taken);
 }
 
@@ -27,13 +27,13 @@ counted-chain t a b = omega arith
 -- nothing was taken
 pub none_passed : (before now : Option (List ℕ)) (old new : Flow) → Fetched before now old.bytes new.bytes → new.taken ≡ old.taken → Passed before now old new []
 none_passed before now old new h e = record {
-  gave = Gave-none (stream old.bytes before) (stream new.bytes now) (stream_same before now old.bytes new.bytes h);
+  gave = SourceGave-none (stream old.bytes before) (stream new.bytes now) (stream_same before now old.bytes new.bytes h);
   taken = e ∙ sym (counted-zero old.taken);
 }
 
 pub Passed-chain : (a b c : Option (List ℕ)) (x y z : Flow) (s t : List ℕ) → Passed a b x y s → Passed b c y z t → Passed a c x z (s ++ t)
 Passed-chain a b c x y z s t h k = record {
-  gave = Gave-chain (stream x.bytes a) (stream y.bytes b) (stream z.bytes c) s t h.gave k.gave;
+  gave = SourceGave-chain (stream x.bytes a) (stream y.bytes b) (stream z.bytes c) s t h.gave k.gave;
   taken = k.taken ∙ ap (λ (n : ℕ). counted n (length t)) h.taken ∙ counted-chain x.taken (length s) (length t) ∙ ap (counted x.taken) (sym (length-append s t));
 }
 
@@ -65,7 +65,7 @@ begins_stream P n bytes (Some left) h = (take n bytes, drop n bytes ++ left, ap 
 -- a front of what was read ahead is taken
 pub pass_front : (n : ℕ) (old new : Flow) → n ≤ length old.bytes → new.bytes ≡ drop n old.bytes → new.taken ≡ counted old.taken n → (left : Option (List ℕ)) → Passed left left old new (take n old.bytes)
 pass_front n old new within is count = λ left. record {
-  gave = subst (λ (xs : List ℕ). Gave (stream old.bytes left) (stream xs left) (take n old.bytes)) (sym is) (Gave-front n old.bytes left within);
+  gave = subst (λ (xs : List ℕ). SourceGave (stream old.bytes left) (stream xs left) (take n old.bytes)) (sym is) (SourceGave-front n old.bytes left within);
   taken = count ∙ ap (counted old.taken) (sym (length-take-le n old.bytes within));
 }
 

@@ -1,6 +1,6 @@
 -- The stream that is still to come: what was read ahead, and what is left in the source.
 use Rattle.std.specs.Prelude.{◌≡◌, ℕ, ◌+◌, ◌-◌, ◌^◌, List, [], ◌++◌, length, min, max, option_map, Option, IfSome}
-use Rattle.edge_base.specs.Edge.{Gave}
+use Rattle.edge_base.specs.Edge.{SourceGave}
 
 -- the bytes still to come, where the source tells them
 abbrev pub stream : List ℕ → Option (List ℕ) → Option (List ℕ)
@@ -8,7 +8,7 @@ stream ahead left = option_map (λ bytes. ahead ++ bytes) left
 
 -- what the source gave went behind what was read ahead
 abbrev pub Fetched : Option (List ℕ) → Option (List ℕ) → List ℕ → List ℕ → Type 0
-Fetched before now ahead further = (more : List ℕ) × (further ≡ ahead ++ more) × Gave before now more
+Fetched before now ahead further = (more : List ℕ) × (further ≡ ahead ++ more) × SourceGave before now more
 
 -- nothing is left, where the source tells it
 abbrev pub AtEnd : Option (List ℕ) → Type 0
@@ -29,5 +29,5 @@ pub record Flow : Type 0 where
 
 -- these bytes of the stream were taken, and counted
 pub record Passed (before now : Option (List ℕ)) (old new : Flow) (text : List ℕ) : Type 0 where
-  pub gave : Gave (stream old.bytes before) (stream new.bytes now) text
+  pub gave : SourceGave (stream old.bytes before) (stream new.bytes now) text
   pub taken : new.taken ≡ counted old.taken (length text)

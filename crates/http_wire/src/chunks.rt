@@ -1,6 +1,6 @@
 //! The lines of a chunked body.
 ghost use Rattle.std.specs.Prelude.{◌≡◌, ◌<◌, ◌≤◌, List, ℕ, length, [], IfOk, IsErrOf, IfSome, IfNone, OnErr};
-ghost use Rattle.edge_base.specs.Edge.{Rose};
+ghost use Rattle.edge_base.specs.Edge.{FaultsRose};
 ghost use Rattle.http_wire.specs.Stream.{stream, Passed, AtEnd};
 ghost use Rattle.httparse.specs.Grammar.{ChunkLine, ReadsChunkLine, chunk_size};
 ghost use Rattle.http_wire.specs.Bodies.{IsLine, EndsEarly, IsMalformed};
@@ -22,7 +22,7 @@ pub fn take_line<S: Source>(ahead: &mut ReadAhead, source: &mut S) -> Result<u64
     ensures broken { IsErrOf result Stop.Broken
         → IfSome (stream ahead.new.bytes (S.left source.new)) (IsMalformed body.ChunkLine) }
     ensures short { IsErrOf result Stop.Failed → EndsEarly body.ChunkLine ahead.new.bytes }
-    ensures fault { IsErrOf result Stop.Failed → Rose (S.faults source.old) (S.faults source.new) }
+    ensures fault { IsErrOf result Stop.Failed → FaultsRose (S.faults source.old) (S.faults source.new) }
     ensures later { S.faults source.old ≤ S.faults source.new }
 {
     let n = match fill(ahead, source, LineState::Last, 4_096) {

@@ -1,6 +1,6 @@
 //! The bytes of a body.
 ghost use Rattle.std.specs.Prelude.{◌≡◌, ◌<◌, ◌≤◌, [], length, min, take, IfOk, IfSome, OnErr, IsErrOf};
-ghost use Rattle.edge_base.specs.Edge.{Rose};
+ghost use Rattle.edge_base.specs.Edge.{FaultsRose};
 ghost use Rattle.http_wire.specs.Stream.{stream, Passed};
 
 use crate::ahead::ReadAhead;
@@ -24,7 +24,7 @@ pub fn take_content<S: Source>(
     ensures cut { IsErrOf result Stop.Cut → IfSome (stream ahead.new.bytes (S.left source.new)) (λ x. x ≡ []) }
     ensures whole { IsErrOf result Stop.Broken → ⊥ }
     ensures short { IsErrOf result Stop.Failed → ahead.new.bytes ≡ [] }
-    ensures fault { IsErrOf result Stop.Failed → Rose (S.faults source.old) (S.faults source.new) }
+    ensures fault { IsErrOf result Stop.Failed → FaultsRose (S.faults source.old) (S.faults source.new) }
     ensures later { S.faults source.old ≤ S.faults source.new }
 {
     let room = buf.len().min(most as usize);
@@ -46,7 +46,7 @@ pub fn take_rest<S: Source>(
     ensures err { OnErr result (Passed (S.left source.old) (S.left source.new) ahead.old ahead.new []) }
     ensures failed { OnErr result (IsErrOf result Stop.Failed) }
     ensures short { IsErrOf result Stop.Failed → ahead.new.bytes ≡ [] }
-    ensures fault { IsErrOf result Stop.Failed → Rose (S.faults source.old) (S.faults source.new) }
+    ensures fault { IsErrOf result Stop.Failed → FaultsRose (S.faults source.old) (S.faults source.new) }
     ensures later { S.faults source.old ≤ S.faults source.new }
 {
     match take_into(ahead, source, buf) {
@@ -71,7 +71,7 @@ fn take_into<S: Source>(
     ensures cut { IsErrOf result Stop.Cut → IfSome (stream ahead.new.bytes (S.left source.new)) (λ x. x ≡ []) }
     ensures whole { IsErrOf result Stop.Broken → ⊥ }
     ensures short { IsErrOf result Stop.Failed → ahead.new.bytes ≡ [] }
-    ensures fault { IsErrOf result Stop.Failed → Rose (S.faults source.old) (S.faults source.new) }
+    ensures fault { IsErrOf result Stop.Failed → FaultsRose (S.faults source.old) (S.faults source.new) }
     ensures later { S.faults source.old ≤ S.faults source.new }
 {
     if ahead.len() == 0 {
@@ -103,7 +103,7 @@ fn read_on<S: Source>(ahead: &mut ReadAhead, source: &mut S, buf: &mut [u8]) -> 
     ensures cut { IsErrOf result Stop.Cut → IfSome (stream ahead.new.bytes (S.left source.new)) (λ x. x ≡ []) }
     ensures whole { IsErrOf result Stop.Broken → ⊥ }
     ensures short { IsErrOf result Stop.Failed → ahead.new.bytes ≡ [] }
-    ensures fault { IsErrOf result Stop.Failed → Rose (S.faults source.old) (S.faults source.new) }
+    ensures fault { IsErrOf result Stop.Failed → FaultsRose (S.faults source.old) (S.faults source.new) }
     ensures later { S.faults source.old ≤ S.faults source.new }
 {
     let Ok(n) = source.read(buf) else {

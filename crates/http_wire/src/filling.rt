@@ -1,6 +1,6 @@
 //! Reading on until some lines end.
 ghost use Rattle.std.specs.Prelude.{◌≡◌, ◌<◌, ◌≤◌, [], length, take, IfOk, IfSome, IsErrOf};
-ghost use Rattle.edge_base.specs.Edge.{Rose};
+ghost use Rattle.edge_base.specs.Edge.{FaultsRose};
 ghost use Rattle.http_wire.specs.Lines.{Reaches, Lacks};
 ghost use Rattle.http_wire.specs.Stream.{stream, Fetched, AtEnd, Passed};
 
@@ -40,7 +40,7 @@ pub fn fill<S: Source>(
     ensures end { IsErrOf result FillFault.Ended → AtEnd (S.left source.new) }
     ensures short { IsErrOf result FillFault.Failed
         → (length ahead.new.bytes < limit) × Lacks place limit ahead.new.bytes }
-    ensures fault { IsErrOf result FillFault.Failed → Rose (S.faults source.old) (S.faults source.new) }
+    ensures fault { IsErrOf result FillFault.Failed → FaultsRose (S.faults source.old) (S.faults source.new) }
     ensures later { S.faults source.old ≤ S.faults source.new }
 {
     fill_on(ahead, source, place, limit)
@@ -61,7 +61,7 @@ fn fill_on<S: Source>(
         × AtEnd (S.left source.new) }
     ensures short { IsErrOf result FillFault.Failed
         → (length ahead.new.bytes < limit) × Lacks place limit ahead.new.bytes }
-    ensures fault { IsErrOf result FillFault.Failed → Rose (S.faults source.old) (S.faults source.new) }
+    ensures fault { IsErrOf result FillFault.Failed → FaultsRose (S.faults source.old) (S.faults source.new) }
     ensures taken { ahead.new.taken ≡ ahead.old.taken }
     ensures later { S.faults source.old ≤ S.faults source.new }
 {

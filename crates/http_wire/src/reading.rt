@@ -1,6 +1,6 @@
 //! Reading a body from any place in it.
 ghost use Rattle.std.specs.Prelude.{◌≡◌, ◌<◌, ◌≤◌, ◌⊎◌, [], length, take, Ok, IfOk, IfErr, IfSome, OnOk, OnErr, IsErrOf};
-ghost use Rattle.edge_base.specs.Edge.{Rose};
+ghost use Rattle.edge_base.specs.Edge.{FaultsRose};
 ghost use Rattle.http_wire.specs.Stream.{stream, Passed};
 ghost use Rattle.http_wire.specs.Bodies.{Moves, BodyRun, EndsEarly, StopSays, IsPastEnd, IsPastLine, IsReady, given_by};
 
@@ -30,7 +30,7 @@ pub fn read_body<S: Source>(
     ensures ended { body.old ≡ Body.ToEnd → body.new ≡ Body.Done
         → IfSome (stream ahead.new.bytes (S.left source.new)) (λ x. x ≡ []) }
     ensures short { IsErrOf result Stop.Failed → EndsEarly body.new ahead.new.bytes }
-    ensures fault { IsErrOf result Stop.Failed → Rose (S.faults source.old) (S.faults source.new) }
+    ensures fault { IsErrOf result Stop.Failed → FaultsRose (S.faults source.old) (S.faults source.new) }
     ensures later { S.faults source.old ≤ S.faults source.new }
 {
     match get_ready(ahead, source, body) {
@@ -46,7 +46,7 @@ fn get_ready<S: Source>(ahead: &mut ReadAhead, source: &mut S, body: &mut Body) 
     ensures stays { body.old ≡ Body.ToEnd → (result ≡ Ok tt) × (body.new ≡ Body.ToEnd) }
     ensures err { IfErr result (λ stop. StopSays (stream ahead.new.bytes (S.left source.new)) body.new stop) }
     ensures short { IsErrOf result Stop.Failed → EndsEarly body.new ahead.new.bytes }
-    ensures fault { IsErrOf result Stop.Failed → Rose (S.faults source.old) (S.faults source.new) }
+    ensures fault { IsErrOf result Stop.Failed → FaultsRose (S.faults source.old) (S.faults source.new) }
     ensures later { S.faults source.old ≤ S.faults source.new }
 {
     pass_end(ahead, source, body)?;
@@ -62,7 +62,7 @@ fn pass_end<S: Source>(ahead: &mut ReadAhead, source: &mut S, body: &mut Body) -
     ensures stays { body.old ≡ Body.ToEnd → (result ≡ Ok tt) × (body.new ≡ Body.ToEnd) }
     ensures err { IfErr result (λ stop. StopSays (stream ahead.new.bytes (S.left source.new)) body.new stop) }
     ensures short { IsErrOf result Stop.Failed → EndsEarly body.new ahead.new.bytes }
-    ensures fault { IsErrOf result Stop.Failed → Rose (S.faults source.old) (S.faults source.new) }
+    ensures fault { IsErrOf result Stop.Failed → FaultsRose (S.faults source.old) (S.faults source.new) }
     ensures later { S.faults source.old ≤ S.faults source.new }
 {
     match *body {
@@ -86,7 +86,7 @@ fn pass_line<S: Source>(ahead: &mut ReadAhead, source: &mut S, body: &mut Body) 
     ensures stays { body.old ≡ Body.ToEnd → (result ≡ Ok tt) × (body.new ≡ Body.ToEnd) }
     ensures err { IfErr result (λ stop. StopSays (stream ahead.new.bytes (S.left source.new)) body.new stop) }
     ensures short { IsErrOf result Stop.Failed → EndsEarly body.new ahead.new.bytes }
-    ensures fault { IsErrOf result Stop.Failed → Rose (S.faults source.old) (S.faults source.new) }
+    ensures fault { IsErrOf result Stop.Failed → FaultsRose (S.faults source.old) (S.faults source.new) }
     ensures later { S.faults source.old ≤ S.faults source.new }
 {
     match *body {
@@ -123,7 +123,7 @@ fn pass_trailers<S: Source>(
     ensures stays { body.old ≡ Body.ToEnd → (result ≡ Ok tt) × (body.new ≡ Body.ToEnd) }
     ensures err { IfErr result (λ stop. StopSays (stream ahead.new.bytes (S.left source.new)) body.new stop) }
     ensures short { IsErrOf result Stop.Failed → EndsEarly body.new ahead.new.bytes }
-    ensures fault { IsErrOf result Stop.Failed → Rose (S.faults source.old) (S.faults source.new) }
+    ensures fault { IsErrOf result Stop.Failed → FaultsRose (S.faults source.old) (S.faults source.new) }
     ensures later { S.faults source.old ≤ S.faults source.new }
 {
     match *body {
@@ -154,7 +154,7 @@ fn give<S: Source>(
     ensures ended { body.old ≡ Body.ToEnd → body.new ≡ Body.Done
         → IfSome (stream ahead.new.bytes (S.left source.new)) (λ x. x ≡ []) }
     ensures short { IsErrOf result Stop.Failed → EndsEarly body.new ahead.new.bytes }
-    ensures fault { IsErrOf result Stop.Failed → Rose (S.faults source.old) (S.faults source.new) }
+    ensures fault { IsErrOf result Stop.Failed → FaultsRose (S.faults source.old) (S.faults source.new) }
     ensures later { S.faults source.old ≤ S.faults source.new }
 {
     match *body {

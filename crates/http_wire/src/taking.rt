@@ -1,6 +1,6 @@
 //! Taking the head of a message.
 ghost use Rattle.std.specs.Prelude.{◌≡◌, ◌<◌, ◌≤◌, ℕ, List, Option, [], length, take, IfOk, IfErr, IfSome, OnErr, IsErrOf, Ok};
-ghost use Rattle.edge_base.specs.Edge.{Rose};
+ghost use Rattle.edge_base.specs.Edge.{FaultsRose};
 ghost use Rattle.http_wire.specs.Lines.{Lacks};
 ghost use Rattle.http_wire.specs.Stream.{Passed, AtEnd, stream};
 ghost use Rattle.http_wire.specs.Heads.{IsHeadText, HeadSays};
@@ -31,7 +31,7 @@ pub fn take_head<S: Source>(
     ensures same { OnErr result (Passed (S.left source.old) (S.left source.new) ahead.old ahead.new []) }
     ensures err { IfErr result (λ end. HeadEnds (stream ahead.new.bytes (S.left source.new)) ahead.old.taken end) }
     ensures short { IsErrOf result WireEnd.ReadFault → LacksHead ahead.new.bytes }
-    ensures fault { IsErrOf result WireEnd.ReadFault → Rose (S.faults source.old) (S.faults source.new) }
+    ensures fault { IsErrOf result WireEnd.ReadFault → FaultsRose (S.faults source.old) (S.faults source.new) }
     ensures later { S.faults source.old ≤ S.faults source.new }
 {
     let place = ahead.taken();
@@ -60,7 +60,7 @@ pub fn take_reply<S: Source>(
     ensures same { OnErr result (Passed (S.left source.old) (S.left source.new) ahead.old ahead.new []) }
     ensures err { IfErr result (λ end. ReplyEnds (stream ahead.new.bytes (S.left source.new)) ahead.old.taken end) }
     ensures short { IsErrOf result WireEnd.ReadFault → LacksHead ahead.new.bytes }
-    ensures fault { IsErrOf result WireEnd.ReadFault → Rose (S.faults source.old) (S.faults source.new) }
+    ensures fault { IsErrOf result WireEnd.ReadFault → FaultsRose (S.faults source.old) (S.faults source.new) }
     ensures later { S.faults source.old ≤ S.faults source.new }
 {
     let place = ahead.taken();
@@ -86,7 +86,7 @@ fn lines_end<S: Source>(ahead: &mut ReadAhead, source: &mut S) -> Result<usize, 
     ensures reply { IfErr result
         (λ end. ReplyEnds (stream ahead.new.bytes (S.left source.new)) ahead.old.taken end) }
     ensures short { IsErrOf result WireEnd.ReadFault → LacksHead ahead.new.bytes }
-    ensures fault { IsErrOf result WireEnd.ReadFault → Rose (S.faults source.old) (S.faults source.new) }
+    ensures fault { IsErrOf result WireEnd.ReadFault → FaultsRose (S.faults source.old) (S.faults source.new) }
     ensures later { S.faults source.old ≤ S.faults source.new }
 {
     let place = ahead.taken();

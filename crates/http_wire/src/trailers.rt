@@ -1,6 +1,6 @@
 //! The trailers of a chunked body.
 ghost use Rattle.std.specs.Prelude.{◌≡◌, ◌<◌, ◌≤◌, ℕ, [], List, length, IfSome, IsTrue, IsFalse, OnOk, OnErr, IsErrOf};
-ghost use Rattle.edge_base.specs.Edge.{Rose};
+ghost use Rattle.edge_base.specs.Edge.{FaultsRose};
 ghost use Rattle.httparse.specs.Grammar.{Field, LineEnd, ReadsSection};
 ghost use Rattle.http_wire.specs.Stream.{stream, Passed};
 ghost use Rattle.http_wire.specs.Bodies.{IsTrailers, EndsEarly, IsMalformed};
@@ -23,7 +23,7 @@ pub fn take_trailers<S: Source>(ahead: &mut ReadAhead, source: &mut S) -> Result
     ensures broken { IsErrOf result Stop.Broken
         → IfSome (stream ahead.new.bytes (S.left source.new)) (IsMalformed body.Trailers) }
     ensures short { IsErrOf result Stop.Failed → EndsEarly body.Trailers ahead.new.bytes }
-    ensures fault { IsErrOf result Stop.Failed → Rose (S.faults source.old) (S.faults source.new) }
+    ensures fault { IsErrOf result Stop.Failed → FaultsRose (S.faults source.old) (S.faults source.new) }
     ensures later { S.faults source.old ≤ S.faults source.new }
 {
     let n = match fill(ahead, source, LineState::Next, 16_384) {

@@ -1,6 +1,6 @@
 //! The reader of a connection.
 ghost use Rattle.std.specs.Prelude.{◌≡◌, ◌<◌, ◌≤◌, ◌⊎◌, [], length, IfOk, IfErr, IfSome, OnOk, OnErr, IsErrOf, slice_range, Ok};
-ghost use Rattle.edge_base.specs.Edge.{Rose};
+ghost use Rattle.edge_base.specs.Edge.{FaultsRose};
 ghost use Rattle.http_wire.specs.Stream.{Passed};
 ghost use Rattle.http_wire.specs.Heads.{IsHeadText, HeadSays, IsPlaceIn};
 ghost use Rattle.http_wire.specs.ReplyHeads.{ReplySays};
@@ -95,7 +95,7 @@ impl Wire {
         ensures ended { self.old.body ≡ Body.ToEnd → self.new.body ≡ Body.Done
             → IfSome (to_come self.new (S.left source.new)) (λ left. left ≡ []) }
         ensures short { IsErrOf result WireEnd.ReadFault → EndsEarly self.new.body self.new.flow.bytes }
-        ensures fault { IsErrOf result WireEnd.ReadFault → Rose (S.faults source.old) (S.faults source.new) }
+        ensures fault { IsErrOf result WireEnd.ReadFault → FaultsRose (S.faults source.old) (S.faults source.new) }
         ensures later { S.faults source.old ≤ S.faults source.new }
     {
         let begun = self.begun;
@@ -121,7 +121,7 @@ impl Wire {
             × (self.new.body ≡ Body.Done)) }
         ensures err { IfErr result (λ end. HeadEnds (to_come self.new (S.left source.new)) self.old.flow.taken end) }
         ensures short { IsErrOf result WireEnd.ReadFault → LacksHead self.new.flow.bytes }
-        ensures fault { IsErrOf result WireEnd.ReadFault → Rose (S.faults source.old) (S.faults source.new) }
+        ensures fault { IsErrOf result WireEnd.ReadFault → FaultsRose (S.faults source.old) (S.faults source.new) }
         ensures later { S.faults source.old ≤ S.faults source.new }
     {
         self.begun = self.ahead.taken();
@@ -143,7 +143,7 @@ impl Wire {
             × (self.new.body ≡ self.old.body)) }
         ensures err { IfErr result (λ end. ReplyEnds (to_come self.new (S.left source.new)) self.old.flow.taken end) }
         ensures short { IsErrOf result WireEnd.ReadFault → LacksHead self.new.flow.bytes }
-        ensures fault { IsErrOf result WireEnd.ReadFault → Rose (S.faults source.old) (S.faults source.new) }
+        ensures fault { IsErrOf result WireEnd.ReadFault → FaultsRose (S.faults source.old) (S.faults source.new) }
         ensures later { S.faults source.old ≤ S.faults source.new }
     {
         self.begun = self.ahead.taken();

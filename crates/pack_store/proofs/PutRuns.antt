@@ -6,7 +6,7 @@ use Rattle.std.specs.Cmp.Lexicographic.{nat_list_cmp_total}
 use Rattle.std.specs.FinMap.{get, entries, from_entries, get-from_entries, from_entries_push, slice_cmp-IsAntisymmetric, nat_cmp-IsAntisymmetric}
 use Rattle.std.specs.Option.{ForSome, option_map, option_or, is_some}
 use Rattle.blobref.specs.Blobref.{IsOwnRef, ref_cmp}
-use Rattle.edge_base.specs.Edge.{Rose}
+use Rattle.edge_base.specs.Edge.{FaultsRose}
 use Rattle.edge_base.specs.declared.answers.Put.{Put as Answer}
 use Rattle.edge_base.specs.declared.answers.Put.TheVariants as put
 use Rattle.edge_base.specs.declared.answers.PutFault.{PutFault}
@@ -222,7 +222,7 @@ module _ {D : Type 0} (g : Ghosts D) (limits : Limits)
         same_limits = ap (λ t. t.limits) l;
       }
 
-      refused : (e : PutFault) → Answered (Err e) → Leaves g s new r bytes (Err e) → (◌≡◌ {A = PutAnswer} (Err e) (Err fault.Disk) → Rose (g.faults s.disk) (g.faults new.disk))
+      refused : (e : PutFault) → Answered (Err e) → Leaves g s new r bytes (Err e) → (◌≡◌ {A = PutAnswer} (Err e) (Err fault.Disk) → FaultsRose (g.faults s.disk) (g.faults new.disk))
           → PutLeaves g limits s new (r, bytes) (Err e)
       refused (fault.TooBig size) a l rose = let big = is_long size a in (same_puts l, big.1, omega (arith, ltb-true max_size (length bytes) big.0, big.1))
       refused (fault.BadDigest said other) a l rose =
@@ -234,6 +234,6 @@ module _ {D : Type 0} (g : Ghosts D) (limits : Limits)
 
       -- a blob that is put under its own ref
       pub put_leaves : (answer : PutAnswer) → Answered answer → Leaves g s new r bytes answer → OnOk answer (HeldByAll (g.images new.disk) r)
-          → (answer ≡ Err fault.Disk → Rose (g.faults s.disk) (g.faults new.disk)) → PutLeaves g limits s new (r, bytes) answer
+          → (answer ≡ Err fault.Disk → FaultsRose (g.faults s.disk) (g.faults new.disk)) → PutLeaves g limits s new (r, bytes) answer
       put_leaves (Ok answer) a l held rose = kept answer a l held
       put_leaves (Err e) a l held rose = refused e a l rose

@@ -5,7 +5,7 @@ use Rattle.std.specs.FinMap.{get, entries, from_entries, from_entries_push, find
 use Rattle.std.specs.Map.{lookup}
 use Rattle.std.specs.Option.{ForSome, option_map, is_some}
 use Rattle.blobref.specs.Blobref.{IsOwnRef, ref_cmp}
-use Rattle.edge_base.specs.Edge.{Rose}
+use Rattle.edge_base.specs.Edge.{FaultsRose}
 use Rattle.edge_base.specs.Shelf.{Blob, Blobs, with_blob, KeepLeaves, GetCause, Keeps}
 use Rattle.edge_base.specs.declared.answers.Put.{Put as Answer}
 use Rattle.edge_base.specs.declared.answers.Put.TheVariants as put
@@ -48,7 +48,7 @@ module _ {D : Type 0} (g : Ghosts D)
     (only_now : (d : D) (c : Packs) → g.images_since d (g.moment d) c → g.images d c) where
   pub store_leaves_own : (s new : Archive D) (r bytes : List ℕ) → IsOwnRef r bytes → length bytes ≤ max_size → PutsLast g → (answer : Result Answer PutFault)
       → KeepsAll g s.disk new.disk → Answers (early_answer_own s r (length bytes)) (count s) answer → Leaves g s new r bytes answer → OnOk answer (HeldByAll (g.images new.disk) r)
-      → (answer ≡ Err fault.Disk → Rose (g.faults s.disk) (g.faults new.disk))
+      → (answer ≡ Err fault.Disk → FaultsRose (g.faults s.disk) (g.faults new.disk))
       → KeepLeaves (λ blobs. PutsStore g s blobs new) (HasNoRoom g new.limits new (r, bytes)) (g.faults s.disk) (g.faults new.disk) (r, bytes) answer
   store_leaves_own s new r bytes own small puts_last answer crash a l held rose = store_leaves g s new (r, bytes) answer
       (put_leaves g s.limits counts_now only_now s new r bytes own puts_last small crash answer a l held rose)
@@ -148,7 +148,7 @@ module _ {D : Type 0} (g : Ghosts D) (s new : Archive D) where
       go (Some n) e = some_first (r, n) (want, size) e
 
   pub content_cause : (r : List ℕ) (answer : Result (Option (List ℕ)) GetFault) → IsDamage (entry_of r s.rows) (g.packs s.disk) answer
-      → (answer ≡ Err getting.Disk → Rose (g.faults s.disk) (g.faults new.disk))
+      → (answer ≡ Err getting.Disk → FaultsRose (g.faults s.disk) (g.faults new.disk))
       → GetCause (content_of g s) (g.faults s.disk) (g.faults new.disk) r answer
   content_cause r (Ok found) damage rose = tt
   content_cause r (Err getting.Disk) damage rose = rose refl

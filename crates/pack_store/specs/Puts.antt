@@ -2,7 +2,7 @@
 use Rattle.std.specs.Prelude.{◌≡◌, ◌⊎◌, ◌||◌, ◌&&◌, ◌≤◌, ◌<◌, ℕ, ◌-◌, Bool, true, false, List, [], ◌∷◌, length, nat_le, nat_lt, Result, Ok, Err}
 use Rattle.std.specs.Option.{ForSome, is_some}
 use Rattle.std.specs.FinMap.{entries, get, insert}
-use Rattle.edge_base.specs.Edge.{Rose}
+use Rattle.edge_base.specs.Edge.{FaultsRose}
 pub use Rattle.edge_base.specs.Shelf.{Blob, Blobs, HaveOwnRefs}
 use Rattle.edge_base.specs.declared.answers.Put.{Put}
 use Rattle.edge_base.specs.declared.answers.PutFault.{PutFault}
@@ -102,5 +102,5 @@ PutLeaves g limits old new blob (Ok done) = PutsBlobs g limits old (blob ∷ [])
 PutLeaves g limits old new blob (Err (fault.TooBig size)) = PutsBlobs g limits old [] new × (size ≡ length blob.1) × (max_size < size)
 PutLeaves g limits old new blob (Err (fault.BadDigest said is)) = ⊥
 PutLeaves g limits old new blob (Err (fault.Full blobs pack)) = PutsBlobs g limits old [] new × HasNoRoom g limits new blob blobs pack
-PutLeaves g limits old new blob (Err fault.Disk) = Rose (g.faults old.disk) (g.faults new.disk)
+PutLeaves g limits old new blob (Err fault.Disk) = FaultsRose (g.faults old.disk) (g.faults new.disk)
 PutLeaves g limits old new blob (Err fault.NoMemory) = PutsBlobs g limits old [] new

@@ -2,7 +2,7 @@
 ghost use Rattle.std.specs.Prelude.{◌≡◌, ◌≤◌, ◌<◌, ◌^◌, ℕ, List, [], IfOk, IfErr, IfSome, OnOk, IsSome, Some, Err};
 ghost use Rattle.std.specs.Option.{ForSome};
 ghost use Rattle.std.specs.FinMap.{get};
-ghost use Rattle.edge_base.specs.Edge.{Rose};
+ghost use Rattle.edge_base.specs.Edge.{FaultsRose};
 ghost use Rattle.pack_disk.specs.Packs.{Packs};
 ghost use Rattle.pack_disk.specs.Disk.{last_number};
 ghost use Rattle.pack_disk.specs.Runs.{Stays};
@@ -58,7 +58,7 @@ impl<D: Disk> Store<D> {
         ensures opened { IfOk result (IsOpened D.Disk disk limits) }
         ensures stays { IfOk result (λ s. Stays D.Disk disk s.disk) }
         ensures stays_err { IfErr result (λ e. Stays D.Disk disk e.0) }
-        ensures failed { IfErr result (λ e. e.1 ≡ OpenFault.Disk → Rose (D.faults disk) (D.faults e.0)) }
+        ensures failed { IfErr result (λ e. e.1 ≡ OpenFault.Disk → FaultsRose (D.faults disk) (D.faults e.0)) }
         ensures later { IfOk result (λ s. D.faults disk ≤ D.faults s.disk) }
         ensures later_err { IfErr result (λ e. D.faults disk ≤ D.faults e.0) }
     {
@@ -88,7 +88,7 @@ impl<D: Disk> Store<D> {
         ensures shown { IfOk result (λ o. IsShown L.Onlooker (D.packs disk) [] o.0.rows onlooker o.1) }
         ensures stays { IfOk result (λ o. Stays D.Disk disk o.0.disk) }
         ensures stays_err { IfErr result (λ e. Stays D.Disk disk e.0) }
-        ensures failed { IfErr result (λ e. e.1 ≡ OpenFault.Disk → Rose (D.faults disk) (D.faults e.0)) }
+        ensures failed { IfErr result (λ e. e.1 ≡ OpenFault.Disk → FaultsRose (D.faults disk) (D.faults e.0)) }
         ensures later { IfOk result (λ o. D.faults disk ≤ D.faults o.0.disk) }
         ensures later_err { IfErr result (λ e. D.faults disk ≤ D.faults e.0) }
     {
@@ -142,7 +142,7 @@ fn load<D: Disk, L: Onlooker + Drop>(
         (record { rows = l.rows.items; limits = limits; next = l.next; current = l.current; disk = disk.new })) }
     ensures shown { IfOk result (λ l. IsShown L.Onlooker (D.packs disk.old) [] l.rows.items onlooker l.onlooker) }
     ensures stays { Stays D.Disk disk.old disk.new }
-    ensures failed { result ≡ Err OpenFault.Disk → Rose (D.faults disk.old) (D.faults disk.new) }
+    ensures failed { result ≡ Err OpenFault.Disk → FaultsRose (D.faults disk.old) (D.faults disk.new) }
     ensures later { D.faults disk.old ≤ D.faults disk.new }
 {
     let mut arrivals = Arrivals {
@@ -201,7 +201,7 @@ fn take_pack<D: Disk, L: Onlooker>(
     ensures stands { OnOk result (ForSome (D.packs disk.old)
         (λ held. (image : Packs) → D.images disk.new image → get image pack ≡ get held pack)) }
     ensures stays { Stays D.Disk disk.old disk.new }
-    ensures failed { result ≡ Err OpenFault.Disk → Rose (D.faults disk.old) (D.faults disk.new) }
+    ensures failed { result ≡ Err OpenFault.Disk → FaultsRose (D.faults disk.old) (D.faults disk.new) }
     ensures later { D.faults disk.old ≤ D.faults disk.new }
 {
     if disk.sync(pack).is_err() {

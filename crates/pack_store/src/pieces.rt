@@ -2,7 +2,7 @@
 ghost use Rattle.std.specs.Prelude.{◌≡◌, ◌+◌, ◌≤◌, ◌<◌, ◌^◌, length, IfOk, OnOk, IsSome, Err};
 ghost use Rattle.std.specs.Option.{ForSome};
 ghost use Rattle.std.specs.FinMap.{get};
-ghost use Rattle.edge_base.specs.Edge.{Rose};
+ghost use Rattle.edge_base.specs.Edge.{FaultsRose};
 ghost use Rattle.pack_disk.specs.Runs.{Stays};
 ghost use Rattle.pack_store.specs.Rows.{AreBytes};
 ghost use Rattle.salvage_scan.specs.Pieces.{fed};
@@ -41,7 +41,7 @@ pub(crate) fn take_pieces<D: Disk, T: Taker>(
     ensures took { IfOk result (TookPack T.Taker (D.packs disk.old) pack taker.old taker.new) }
     ensures stays { Stays D.Disk disk.old disk.new }
     ensures still { D.moment disk.new ≡ D.moment disk.old }
-    ensures failed { result ≡ Err OpenFault.Disk → Rose (D.faults disk.old) (D.faults disk.new) }
+    ensures failed { result ≡ Err OpenFault.Disk → FaultsRose (D.faults disk.old) (D.faults disk.new) }
     ensures later { D.faults disk.old ≤ D.faults disk.new }
 {
     let Ok(size) = disk.size(pack) else {
@@ -103,7 +103,7 @@ fn take_piece<D: Disk, T: Taker>(
         scanner.old scanner.new taker.old taker.new) }
     ensures stays { Stays D.Disk disk.old disk.new }
     ensures still { D.moment disk.new ≡ D.moment disk.old }
-    ensures failed { result ≡ Err OpenFault.Disk → Rose (D.faults disk.old) (D.faults disk.new) }
+    ensures failed { result ≡ Err OpenFault.Disk → FaultsRose (D.faults disk.old) (D.faults disk.new) }
     ensures later { D.faults disk.old ≤ D.faults disk.new }
 {
     let Ok(count) = disk.read(pack, at, buf) else {

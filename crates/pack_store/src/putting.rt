@@ -2,7 +2,7 @@
 ghost use Rattle.std.specs.Prelude.{◌≡◌, ◌≤◌, ◌+◌, ◌^◌, ◌∷◌, ◌++◌, [], ℕ, length, OnOk, OnErr, IfSome, Some, None, false, Err, Vec, vec_len, vec_capacity};
 ghost use Rattle.std.specs.FinMap as finite;
 ghost use Rattle.blobref.specs.Blobref.{IsOwnRef};
-ghost use Rattle.edge_base.specs.Edge.{Rose};
+ghost use Rattle.edge_base.specs.Edge.{FaultsRose};
 ghost use Rattle.pack_format.specs.Header.{max_size};
 ghost use Rattle.pack_store.specs.Packs.{HeldByAll, KeepsAll};
 ghost use Rattle.pack_store.specs.Rows.{number_of};
@@ -35,7 +35,7 @@ impl<D: Disk> Store<D> {
         ensures leaves { Leaves D.Disk self.old self.new said.now bytes.now result }
         ensures acknowledged { OnOk result (HeldByAll (D.images self.new.disk) said.now) }
         ensures any_moment { KeepsAll D.Disk self.old.disk self.new.disk }
-        ensures failed { result ≡ Err PutFault.Disk → Rose (D.faults self.old.disk) (D.faults self.new.disk) }
+        ensures failed { result ≡ Err PutFault.Disk → FaultsRose (D.faults self.old.disk) (D.faults self.new.disk) }
         ensures later { D.faults self.old.disk ≤ D.faults self.new.disk }
     {
         match put_refusal(said, bytes) {
@@ -51,7 +51,7 @@ impl<D: Disk> Store<D> {
         ensures leaves { Leaves D.Disk self.old self.new r.now bytes.now result }
         ensures acknowledged { OnOk result (HeldByAll (D.images self.new.disk) r.now) }
         ensures any_moment { KeepsAll D.Disk self.old.disk self.new.disk }
-        ensures failed { result ≡ Err PutFault.Disk → Rose (D.faults self.old.disk) (D.faults self.new.disk) }
+        ensures failed { result ≡ Err PutFault.Disk → FaultsRose (D.faults self.old.disk) (D.faults self.new.disk) }
         ensures later { D.faults self.old.disk ≤ D.faults self.new.disk }
     {
         match self.early_answer(r, bytes.len() as u64) {
@@ -88,7 +88,7 @@ impl<D: Disk> Store<D> {
         ensures leaves { Leaves D.Disk self.old self.new r.now bytes.now result }
         ensures acknowledged { OnOk result (HeldByAll (D.images self.new.disk) r.now) }
         ensures any_moment { KeepsAll D.Disk self.old.disk self.new.disk }
-        ensures failed { result ≡ Err PutFault.Disk → Rose (D.faults self.old.disk) (D.faults self.new.disk) }
+        ensures failed { result ≡ Err PutFault.Disk → FaultsRose (D.faults self.old.disk) (D.faults self.new.disk) }
         ensures later { D.faults self.old.disk ≤ D.faults self.new.disk }
     {
         let end = self.end();

@@ -2,7 +2,7 @@
 ghost use Rattle.std.specs.Prelude.{◌≡◌, ◌↔◌, ◌≤◌, ◌<◌, length, IfOk, IfSome, Ok, Err, None, Some, slice_get};
 ghost use Rattle.std.specs.Option.{ForSome, option_map};
 ghost use Rattle.blobref.specs.Blobref.{IsOwnRef};
-ghost use Rattle.edge_base.specs.Edge.{Rose};
+ghost use Rattle.edge_base.specs.Edge.{FaultsRose};
 ghost use Rattle.pack_disk.specs.Runs.{Stays};
 ghost use Rattle.pack_store.specs.Rows.{number_of, arrival_of, arrivals_in, IsKept};
 ghost use Rattle.pack_store.specs.Archive.{count};
@@ -52,7 +52,7 @@ impl<D: Disk> Store<D> {
             (λ held. found ≡ bytes_of r.now held self.old.rows)) }
         ensures damaged { IsDamage (entry_of r.now self.old.rows) (D.packs self.old.disk) result }
         ensures stays { StaysStill D.Disk self.old self.new }
-        ensures failed { result ≡ Err GetFault.Disk → Rose (D.faults self.old.disk) (D.faults self.new.disk) }
+        ensures failed { result ≡ Err GetFault.Disk → FaultsRose (D.faults self.old.disk) (D.faults self.new.disk) }
         ensures later { D.faults self.old.disk ≤ D.faults self.new.disk }
     {
         let Some(number) = self.number(r) else {
@@ -72,7 +72,7 @@ impl<D: Disk> Store<D> {
             (λ held. found ≡ slice_get (arrivals_in held self.old.rows) number)) }
         ensures damaged { IsDamage (entry_at number self.old.rows) (D.packs self.old.disk) result }
         ensures stays { StaysStill D.Disk self.old self.new }
-        ensures failed { result ≡ Err GetFault.Disk → Rose (D.faults self.old.disk) (D.faults self.new.disk) }
+        ensures failed { result ≡ Err GetFault.Disk → FaultsRose (D.faults self.old.disk) (D.faults self.new.disk) }
         ensures later { D.faults self.old.disk ≤ D.faults self.new.disk }
     {
         if number >= self.count() {
@@ -95,7 +95,7 @@ impl<D: Disk> Store<D> {
             (λ b. ForSome (D.packs self.old.disk) (λ held. IsOwnRef b.r b.bytes))) }
         ensures damaged { IsDamage None (D.packs self.old.disk) result }
         ensures stays { StaysStill D.Disk self.old self.new }
-        ensures failed { result ≡ Err GetFault.Disk → Rose (D.faults self.old.disk) (D.faults self.new.disk) }
+        ensures failed { result ≡ Err GetFault.Disk → FaultsRose (D.faults self.old.disk) (D.faults self.new.disk) }
         ensures later { D.faults self.old.disk ≤ D.faults self.new.disk }
     {
         let Some(number) = self.number(r) else {
@@ -116,7 +116,7 @@ impl<D: Disk> Store<D> {
             (λ b. ForSome (D.packs self.old.disk) (λ held. IsOwnRef b.r b.bytes))) }
         ensures damaged { IsDamage None (D.packs self.old.disk) result }
         ensures stays { StaysStill D.Disk self.old self.new }
-        ensures failed { result ≡ Err GetFault.Disk → Rose (D.faults self.old.disk) (D.faults self.new.disk) }
+        ensures failed { result ≡ Err GetFault.Disk → FaultsRose (D.faults self.old.disk) (D.faults self.new.disk) }
         ensures later { D.faults self.old.disk ≤ D.faults self.new.disk }
     {
         if number >= self.count() {
@@ -141,7 +141,7 @@ impl<D: Disk> Store<D> {
             (λ held. Some a ≡ slice_get (arrivals_in held self.old.rows) number)) }
         ensures damaged { IsDamage (entry_at number self.old.rows) (D.packs self.old.disk) result }
         ensures stays { StaysStill D.Disk self.old self.new }
-        ensures failed { result ≡ Err GetFault.Disk → Rose (D.faults self.old.disk) (D.faults self.new.disk) }
+        ensures failed { result ≡ Err GetFault.Disk → FaultsRose (D.faults self.old.disk) (D.faults self.new.disk) }
         ensures later { D.faults self.old.disk ≤ D.faults self.new.disk }
     {
         let found = self.found(number)?;
@@ -157,7 +157,7 @@ impl<D: Disk> Store<D> {
         ensures own { IfOk result (λ b. ForSome (D.packs self.old.disk) (λ held. IsOwnRef b.r b.bytes)) }
         ensures damaged { IsDamage None (D.packs self.old.disk) result }
         ensures stays { StaysStill D.Disk self.old self.new }
-        ensures failed { result ≡ Err GetFault.Disk → Rose (D.faults self.old.disk) (D.faults self.new.disk) }
+        ensures failed { result ≡ Err GetFault.Disk → FaultsRose (D.faults self.old.disk) (D.faults self.new.disk) }
         ensures later { D.faults self.old.disk ≤ D.faults self.new.disk }
     {
         let row = self.rows[number as usize];
@@ -173,7 +173,7 @@ fn found_row<D: Disk>(alloc: Global, disk: &mut D, row: &Row) -> Result<Found, G
     ensures own { IfOk result (λ b. ForSome (D.packs disk.old) (λ held. IsOwnRef b.r b.bytes)) }
     ensures damaged { IsDamage None (D.packs disk.old) result }
     ensures stays { Stays D.Disk disk.old disk.new }
-    ensures failed { result ≡ Err GetFault.Disk → Rose (D.faults disk.old) (D.faults disk.new) }
+    ensures failed { result ≡ Err GetFault.Disk → FaultsRose (D.faults disk.old) (D.faults disk.new) }
     ensures later { D.faults disk.old ≤ D.faults disk.new }
 {
     let bytes = read_place(alloc, disk, row)?;
@@ -191,7 +191,7 @@ fn read_place<D: Disk>(alloc: Global, disk: &mut D, row: &Row) -> Result<Vec<u8>
     ensures short { IfOk result (λ bytes. length bytes.items ≤ row.now.size) }
     ensures damaged { IsDamage None (D.packs disk.old) result }
     ensures stays { Stays D.Disk disk.old disk.new }
-    ensures failed { result ≡ Err GetFault.Disk → Rose (D.faults disk.old) (D.faults disk.new) }
+    ensures failed { result ≡ Err GetFault.Disk → FaultsRose (D.faults disk.old) (D.faults disk.new) }
     ensures later { D.faults disk.old ≤ D.faults disk.new }
 {
     let Ok(mut bytes) = vec![in alloc; 0u8; row.size as usize] else {

@@ -2,7 +2,7 @@
 ghost use Rattle.std.specs.Prelude.{◌≡◌, ◌≤◌, ◌++◌, IfOk, OnOk, IsSome, Err};
 ghost use Rattle.std.specs.Option.{ForSome};
 ghost use Rattle.std.specs.FinMap.{get};
-ghost use Rattle.edge_base.specs.Edge.{Rose};
+ghost use Rattle.edge_base.specs.Edge.{FaultsRose};
 ghost use Rattle.pack_disk.specs.Runs.{Stays};
 ghost use Rattle.pack_store.specs.Scan.{IsScan};
 
@@ -31,7 +31,7 @@ pub fn scan_pack<D: Disk>(alloc: Global, disk: &mut D, pack: u32) -> Result<Pack
     ensures scanned { IfOk result (IsScan (D.packs disk.old) pack) }
     ensures stays { Stays D.Disk disk.old disk.new }
     ensures still { D.moment disk.new ≡ D.moment disk.old }
-    ensures failed { result ≡ Err OpenFault.Disk → Rose (D.faults disk.old) (D.faults disk.new) }
+    ensures failed { result ≡ Err OpenFault.Disk → FaultsRose (D.faults disk.old) (D.faults disk.new) }
     ensures later { D.faults disk.old ≤ D.faults disk.new }
 {
     let mut found = FoundList::empty(alloc);

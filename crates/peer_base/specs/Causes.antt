@@ -1,6 +1,6 @@
 -- Why a peer doesn't answer, and what a call leaves.
 use Rattle.std.specs.Prelude.{◌≡◌, ◌≢◌, ◌⊎◌, ℕ, List, [], ◌∷◌, Option, None, Result, Ok, Err}
-use Rattle.edge_base.specs.Edge.{Rose}
+use Rattle.edge_base.specs.Edge.{FaultsRose}
 use Rattle.edge_base.specs.Shelf.{Blob, Blobs, Keeps}
 use Rattle.peer_base.specs.declared.peer.PeerFault.{PeerFault}
 use Rattle.peer_base.specs.declared.peer.PeerFault.TheVariants as fault
@@ -8,7 +8,7 @@ use Rattle.peer_base.specs.declared.peer.PeerFault.TheVariants as fault
 -- why a page isn't listed
 abbrev pub ListCause : {T : Type 0} → Option Blobs → (before now : ℕ) → Result T PeerFault → Type 0
 ListCause told before now (Ok page) = Unit {0}
-ListCause told before now (Err fault.Failed) = Rose before now
+ListCause told before now (Err fault.Failed) = FaultsRose before now
 ListCause told before now (Err fault.BadReply) = told ≡ None
 ListCause told before now (Err (fault.Refused status)) = told ≡ None
 ListCause told before now (Err (fault.Damaged want is)) = ⊥
@@ -18,7 +18,7 @@ ListCause told before now (Err fault.NoMemory) = Unit {0}
 -- why a blob isn't fetched
 abbrev pub FetchCause : {T : Type 0} → Option Blobs → (before now : ℕ) → List ℕ → Result T PeerFault → Type 0
 FetchCause told before now r (Ok found) = Unit {0}
-FetchCause told before now r (Err fault.Failed) = Rose before now
+FetchCause told before now r (Err fault.Failed) = FaultsRose before now
 FetchCause told before now r (Err fault.BadReply) = told ≡ None
 FetchCause told before now r (Err (fault.Refused status)) = told ≡ None
 FetchCause told before now r (Err (fault.Damaged want is)) = (want ≡ r) × (is ≢ r) × (told ≡ None)
@@ -38,7 +38,7 @@ PutsMaybe puts before now blob = (puts [] × (now ≡ before)) ⊎ (puts (blob �
 abbrev pub PutLeaves : {T : Type 0} → (List Blob → Type 0) → (ℕ → ℕ → Type 0) → (told told_now : Option Blobs) → (before now : ℕ) → Blob
     → Result T PeerFault → Type 0
 PutLeaves puts fills told told_now before now blob (Ok done) = puts (blob ∷ [])
-PutLeaves puts fills told told_now before now blob (Err fault.Failed) = Rose before now
+PutLeaves puts fills told told_now before now blob (Err fault.Failed) = FaultsRose before now
 PutLeaves puts fills told told_now before now blob (Err fault.BadReply) = (told ≡ None) × PutsMaybe puts told told_now blob
 PutLeaves puts fills told told_now before now blob (Err (fault.Refused status)) = (told ≡ None) × PutsMaybe puts told told_now blob
 PutLeaves puts fills told told_now before now blob (Err (fault.Damaged want is)) = ⊥

@@ -2,7 +2,7 @@
 use Rattle.std.proofs.Common.{◌≡◌, ℕ, ◌≤◌, List, [], Option, Some, None}
 use Rattle.std.proofs.Common.{Result, Ok, Err, refl, sym, subst, arith}
 use Rattle.std.proofs.lemmas.List.{append-nil}
-use Rattle.edge_base.specs.Edge.{Rose, Took, TookFront}
+use Rattle.edge_base.specs.Edge.{FaultsRose, SinkTook, SinkTookFront}
 use Rattle.http_wire.specs.Wires.{WireView}
 use Rattle.peer_base.specs.declared.peer.PeerFault.{PeerFault}
 use Rattle.peer_base.specs.declared.peer.PeerFault.TheVariants as fault
@@ -17,19 +17,19 @@ use Rattle.peer_http.specs.Replies.{Reads}
 
 -- the request was written, and then a reply read
 pub asked : (most : ℕ) (p q x y : Option (List ℕ)) (old new : WireView) (request : List ℕ) (result : Result Reply ReplyFault)
-    → Took x y request → Reads most p q old new result → Asks most p q x y old new request result
+    → SinkTook x y request → Reads most p q old new result → Asks most p q x y old new request result
 asked most p q x y old new request (Ok reply) took h = (took, h)
 asked most p q x y old new request (Err reading.Failed) took h = whole_front x y request took
   where
-    whole_front : (x y : Option (List ℕ)) (bytes : List ℕ) → Took x y bytes → TookFront x y bytes
+    whole_front : (x y : Option (List ℕ)) (bytes : List ℕ) → SinkTook x y bytes → SinkTookFront x y bytes
     whole_front x y bytes took = (bytes, [], sym (append-nil bytes), took)
 asked most p q x y old new request (Err reading.Bad) took h = (took, h)
 asked most p q x y old new request (Err reading.NoMemory) took h = took
 
-pub rose_source : (a b c d : ℕ) → Rose a b → c ≤ d → Rose (both a c) (both b d)
+pub rose_source : (a b c d : ℕ) → FaultsRose a b → c ≤ d → FaultsRose (both a c) (both b d)
 rose_source a b c d rose later = omega (arith, rose, later)
 
-pub rose_sink : (a b c d : ℕ) → a ≤ b → Rose c d → Rose (both a c) (both b d)
+pub rose_sink : (a b c d : ℕ) → a ≤ b → FaultsRose c d → FaultsRose (both a c) (both b d)
 rose_sink a b c d later rose = omega (arith, rose, later)
 
 pub both_later : (a b c d : ℕ) → a ≤ b → c ≤ d → both a c ≤ both b d
@@ -66,20 +66,20 @@ uncalled most p q x y old new IsRequest answers request reading.Bad is h = (requ
 uncalled most p q x y old new IsRequest answers request reading.NoMemory is h = tt
 
 -- why no reply was read, as a cause
-pub no_reply : (T : Type 0) (before now : ℕ) (why : ReplyFault) (answer : PeerFault) → answer ≡ peer_fault why → (why ≡ reading.Failed → Rose before now)
+pub no_reply : (T : Type 0) (before now : ℕ) (why : ReplyFault) (answer : PeerFault) → answer ≡ peer_fault why → (why ≡ reading.Failed → FaultsRose before now)
     → ListCause {T = T} None before now (Err answer)
 no_reply T before now why answer is rose = subst (λ (f : PeerFault). ListCause {T = T} None before now (Err f)) (sym is) (by why rose)
   where
-    by : (why : ReplyFault) → (why ≡ reading.Failed → Rose before now) → ListCause {T = T} None before now (Err (peer_fault why))
+    by : (why : ReplyFault) → (why ≡ reading.Failed → FaultsRose before now) → ListCause {T = T} None before now (Err (peer_fault why))
     by reading.Failed rose = rose refl
     by reading.Bad rose = refl
     by reading.NoMemory rose = tt
 
-pub no_blob : (T : Type 0) (before now : ℕ) (r : List ℕ) (why : ReplyFault) (answer : PeerFault) → answer ≡ peer_fault why → (why ≡ reading.Failed → Rose before now)
+pub no_blob : (T : Type 0) (before now : ℕ) (r : List ℕ) (why : ReplyFault) (answer : PeerFault) → answer ≡ peer_fault why → (why ≡ reading.Failed → FaultsRose before now)
     → FetchCause {T = T} None before now r (Err answer)
 no_blob T before now r why answer is rose = subst (λ (f : PeerFault). FetchCause {T = T} None before now r (Err f)) (sym is) (by why rose)
   where
-    by : (why : ReplyFault) → (why ≡ reading.Failed → Rose before now) → FetchCause {T = T} None before now r (Err (peer_fault why))
+    by : (why : ReplyFault) → (why ≡ reading.Failed → FaultsRose before now) → FetchCause {T = T} None before now r (Err (peer_fault why))
     by reading.Failed rose = rose refl
     by reading.Bad rose = refl
     by reading.NoMemory rose = tt

@@ -2,7 +2,7 @@
 use Rattle.std.proofs.Common.{◌≡◌, ◌≢◌, ℕ, ◌≤◌, ◌<◌, ◌-◌, ◌⊎◌, inl, inr, List, [], ◌∷◌, ◌++◌, length, length-append, take, Option, Some, None}
 use Rattle.std.proofs.Common.{Result, Err, refl, sym, ap, subst, ◌∙◌, arith}
 use Rattle.std.proofs.lemmas.List.{append-nil, length-take-le}
-use Rattle.edge_base.specs.Edge.{Gave}
+use Rattle.edge_base.specs.Edge.{SourceGave}
 use Rattle.http_wire.specs.declared.body.Body.{Body}
 use Rattle.http_wire.specs.declared.body.Body.TheVariants as body
 use Rattle.http_wire.specs.declared.ends.WireEnd.{WireEnd}
@@ -52,7 +52,7 @@ too_long all buf n most fits long = omega (arith, long, length-append all (take 
 pub still_few : (all buf : List ℕ) (n most : ℕ) → n ≤ length buf → length all ≤ most → n ≤ most - length all → length (all ++ take n buf) ≤ most
 still_few all buf n most fits few short = omega (arith, few, short, length-append all (take n buf), length-take-le n buf fits)
 
-at_end_stays : (x y : Option (List ℕ)) (text : List ℕ) → AtEnd x → Gave x y text → AtEnd y
+at_end_stays : (x y : Option (List ℕ)) (text : List ℕ) → AtEnd x → SourceGave x y text → AtEnd y
 at_end_stays None y text e g = subst AtEnd (sym g) tt
 at_end_stays (Some left) y text e g = subst AtEnd (sym g.1) (none_right text g.0 (sym e ∙ g.2))
 

@@ -1,6 +1,6 @@
 -- The calls of a peer over HTTP.
 use Rattle.std.specs.Prelude.{◌≡◌, ℕ, List, Option, None, Some, Result, Err}
-use Rattle.edge_base.specs.Edge.{Took, TookFront}
+use Rattle.edge_base.specs.Edge.{SinkTook, SinkTookFront}
 use Rattle.http_wire.specs.Wires.{WireView}
 use Rattle.peer_base.specs.declared.peer.PeerFault.{PeerFault}
 use Rattle.peer_base.specs.declared.peer.PeerFault.TheVariants as fault
@@ -29,8 +29,8 @@ peer_fault reading.NoMemory = fault.NoMemory
 -- when a front of the request was written, nor where there was no memory
 abbrev pub IsCall : {T : Type 0} → ℕ → (left left_now written written_now : Option (List ℕ)) → (old new : WireView) → (IsRequest : List ℕ → Type 0) → (Reply → Result T PeerFault)
     → Result T PeerFault → Type 0
-IsCall most left left_now written written_now old new IsRequest answers (Err fault.Failed) = (request : List ℕ) × IsRequest request × TookFront written written_now request
+IsCall most left left_now written written_now old new IsRequest answers (Err fault.Failed) = (request : List ℕ) × IsRequest request × SinkTookFront written written_now request
 IsCall most left left_now written written_now old new IsRequest answers (Err fault.NoMemory) = Unit {0}
 IsCall most left left_now written written_now old new IsRequest answers answer =
-    (request : List ℕ) × IsRequest request × Took written written_now request
+    (request : List ℕ) × IsRequest request × SinkTook written written_now request
     × ((reply : Option Reply) × ReadsReply most left left_now old new reply × (answer ≡ answer_to answers reply))

@@ -1,6 +1,6 @@
 -- A connection to a peer.
 use Rattle.std.specs.Prelude.{ℕ, ◌+◌, ◌-◌, ◌^◌, min, List, Option, Result, Ok, Err}
-use Rattle.edge_base.specs.Edge.{Took, TookFront}
+use Rattle.edge_base.specs.Edge.{SinkTook, SinkTookFront}
 use Rattle.http_wire.specs.Wires.{WireView}
 use Rattle.peer_http.specs.declared.replies.Reply.{Reply}
 use Rattle.peer_http.specs.declared.gathering.ReplyFault.{ReplyFault}
@@ -20,7 +20,7 @@ both first second = min (first + second) (2 ^ 64 - 1)
 -- what a request leaves, by the bytes left in the source, those that the sink holds, and the reader: it was written, and then a reply was
 -- read, or what came was none; or the way failed, or there was no memory
 abbrev pub Asks : ℕ → (left left_now written written_now : Option (List ℕ)) → (old new : WireView) → List ℕ → Result Reply ReplyFault → Type 0
-Asks most left left_now written written_now old new request (Ok reply) = Took written written_now request × IsReply most left left_now old new reply
-Asks most left left_now written written_now old new request (Err Bad) = Took written written_now request × HasNoReply most left left_now old new
-Asks most left left_now written written_now old new request (Err Failed) = TookFront written written_now request
-Asks most left left_now written written_now old new request (Err NoMemory) = Took written written_now request
+Asks most left left_now written written_now old new request (Ok reply) = SinkTook written written_now request × IsReply most left left_now old new reply
+Asks most left left_now written written_now old new request (Err Bad) = SinkTook written written_now request × HasNoReply most left left_now old new
+Asks most left left_now written written_now old new request (Err Failed) = SinkTookFront written written_now request
+Asks most left left_now written written_now old new request (Err NoMemory) = SinkTook written written_now request

@@ -12,7 +12,7 @@ ghost use Rattle.peer_http.specs.Links.{both};
 use crate::answers::{fetch_answer, list_answer, put_answer};
 use crate::gathering::ReplyFault;
 use crate::link::Link;
-use blobref::{Listing, NoMemory, Octets, Ref};
+use blobref::{Listing, Octets, Ref};
 use edge_base::{Sink, Source};
 use peer_base::PeerFault;
 use peer_requests::{fetch_request, list_request, upload_request};
@@ -40,10 +40,7 @@ pub(crate) fn list<S: Source, K: Sink>(
     ensures later { both (S.faults link.old.source) (K.faults link.old.sink)
         ≤ both (S.faults link.new.source) (K.faults link.new.sink) }
 {
-    match list_request(request, after, limit) {
-        Ok(()) => {}
-        Err(NoMemory) => return Err(PeerFault::NoMemory),
-    }
+    list_request(request, after, limit)?;
     let reply = match link.ask(request.as_slice(), MOST_TEXT) {
         Ok(reply) => reply,
         Err(fault) => return Err(peer_fault(fault)),
@@ -67,10 +64,7 @@ pub(crate) fn fetch<S: Source, K: Sink>(
     ensures later { both (S.faults link.old.source) (K.faults link.old.sink)
         ≤ both (S.faults link.new.source) (K.faults link.new.sink) }
 {
-    match fetch_request(request, r) {
-        Ok(()) => {}
-        Err(NoMemory) => return Err(PeerFault::NoMemory),
-    }
+    fetch_request(request, r)?;
     let reply = match link.ask(request.as_slice(), MOST_BLOB) {
         Ok(reply) => reply,
         Err(fault) => return Err(peer_fault(fault)),
@@ -94,10 +88,7 @@ pub(crate) fn put<S: Source, K: Sink>(
     ensures later { both (S.faults link.old.source) (K.faults link.old.sink)
         ≤ both (S.faults link.new.source) (K.faults link.new.sink) }
 {
-    match upload_request(link.alloc(), request, r, bytes) {
-        Ok(()) => {}
-        Err(NoMemory) => return Err(PeerFault::NoMemory),
-    }
+    upload_request(link.alloc(), request, r, bytes)?;
     let reply = match link.ask(request.as_slice(), MOST_TEXT) {
         Ok(reply) => reply,
         Err(fault) => return Err(peer_fault(fault)),

@@ -1,6 +1,6 @@
 //! The body of a reply, read as a whole.
 ghost use Rattle.std.specs.Prelude.{◌≡◌, ◌<◌, ◌≤◌, length, IsErrOf};
-ghost use Rattle.edge_base.specs.Edge.{Rose};
+ghost use Rattle.edge_base.specs.Edge.{FaultsRose};
 ghost use Rattle.peer_http.specs.Replies.{Gathers, fault_of};
 
 use blobref::Octets;
@@ -30,7 +30,7 @@ pub(crate) fn gather<S: Source>(
 ) -> Result<Octets, ReplyFault>
     requires { 0 < length buf.old }
     ensures gathers { Gathers most (S.left source.old) (S.left source.new) wire.old wire.new result }
-    ensures fault { IsErrOf result ReplyFault.Failed → Rose (S.faults source.old) (S.faults source.new) }
+    ensures fault { IsErrOf result ReplyFault.Failed → FaultsRose (S.faults source.old) (S.faults source.new) }
     ensures later { S.faults source.old ≤ S.faults source.new }
 {
     let mut bytes = Vec::new(alloc);

@@ -1,6 +1,6 @@
 //! A connection to a peer.
 ghost use Rattle.std.specs.Prelude.{◌≡◌, ◌<◌, ◌≤◌, [], length, IfOk, IsErrOf};
-ghost use Rattle.edge_base.specs.Edge.{Rose};
+ghost use Rattle.edge_base.specs.Edge.{FaultsRose};
 ghost use Rattle.peer_http.specs.Links.{Asks, both};
 ghost use Rattle.http_wire.specs.declared.body.Body.TheVariants as body;
 
@@ -69,7 +69,7 @@ impl<S: Source, K: Sink> Link<S, K> {
         ensures asks { Asks most (S.left self.old.source) (S.left self.new.source) (K.written self.old.sink)
             (K.written self.new.sink) self.old.wire self.new.wire request.now result }
         ensures fault { IsErrOf result ReplyFault.Failed
-            → Rose (both (S.faults self.old.source) (K.faults self.old.sink))
+            → FaultsRose (both (S.faults self.old.source) (K.faults self.old.sink))
             (both (S.faults self.new.source) (K.faults self.new.sink)) }
         ensures later { both (S.faults self.old.source) (K.faults self.old.sink)
             ≤ both (S.faults self.new.source) (K.faults self.new.sink) }
@@ -112,7 +112,7 @@ fn exchange<S: Source, K: Sink>(
     requires { 0 < length buf.old }
     ensures asks { Asks most (S.left source.old) (S.left source.new) (K.written sink.old) (K.written sink.new)
         wire.old wire.new request.now result }
-    ensures fault { IsErrOf result ReplyFault.Failed → Rose (both (S.faults source.old) (K.faults sink.old))
+    ensures fault { IsErrOf result ReplyFault.Failed → FaultsRose (both (S.faults source.old) (K.faults sink.old))
         (both (S.faults source.new) (K.faults sink.new)) }
     ensures later { both (S.faults source.old) (K.faults sink.old) ≤ both (S.faults source.new) (K.faults sink.new) }
 {

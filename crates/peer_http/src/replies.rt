@@ -1,6 +1,6 @@
 //! Replies as they are read.
 ghost use Rattle.std.specs.Prelude.{◌≡◌, ◌<◌, ◌≤◌, length, IsErrOf};
-ghost use Rattle.edge_base.specs.Edge.{Rose};
+ghost use Rattle.edge_base.specs.Edge.{FaultsRose};
 ghost use Rattle.peer_http.specs.Replies.{Reads};
 
 use crate::gathering::{ReplyFault, fault_of, gather};
@@ -26,7 +26,7 @@ pub(crate) fn read_reply<S: Source>(
 ) -> Result<Reply, ReplyFault>
     requires { 0 < length buf.old }
     ensures reads { Reads most (S.left source.old) (S.left source.new) wire.old wire.new result }
-    ensures fault { IsErrOf result ReplyFault.Failed → Rose (S.faults source.old) (S.faults source.new) }
+    ensures fault { IsErrOf result ReplyFault.Failed → FaultsRose (S.faults source.old) (S.faults source.new) }
     ensures later { S.faults source.old ≤ S.faults source.new }
 {
     let head = match wire.next_reply(source) {

@@ -108,10 +108,7 @@ fn address_named(words: &[Text]) -> &str {
 // The words of the command line. Where one isn't UTF-8 they are bad words.
 fn words(rt: &HostRuntime) -> Result<Vec<Text>, Status> {
     match env::args(rt) {
-        Ok(args) => match texts(rt.alloc(), args) {
-            Ok(words) => Ok(words),
-            Err(NoMemory) => Err(Status::NoMemory),
-        },
+        Ok(args) => Ok(texts(rt.alloc(), args)?),
         Err(error) => match error.kind() {
             ErrorKind::OutOfMemory => Err(Status::NoMemory),
             _ => Err(Status::BadWords),

@@ -4,8 +4,8 @@ use Rattle.std.proofs.lemmas.List.{append-nil, map-append, length-take-le}
 use Rattle.std.specs.BTreeSet.{BTreeSet}
 use Rattle.std.specs.Prelude.{IfSome}
 use Rattle.claim_model.specs.Facts.{Entry}
-use Rattle.edge_base.specs.Edge.{Gave, GaveFront}
-use Rattle.edge_base.proofs.Moves.{Gave-chain, Gave-end, GaveFront-more}
+use Rattle.edge_base.specs.Edge.{SourceGave, SourceGaveFront}
+use Rattle.edge_base.proofs.Moves.{SourceGave-chain, SourceGave-end, SourceGaveFront-more}
 use Rattle.salvage_scan.specs.declared.found.Found.{Found}
 use Rattle.salvage_scan.specs.Salvage.{Finding, salvage}
 use Rattle.salvage_scan.specs.Scan.{place_of}
@@ -46,32 +46,32 @@ taken_more front scan seen facts piece told scan_now seen_now facts_now taken te
 
 -- ---- what a source gave
 
-too_long : (a b c : Option (List ℕ)) (xs buf : List ℕ) (n limit : ℕ) → Gave a b xs → Gave b c (take n buf) → n ≤ length buf → limit < length xs + n → IfSome a (λ left. limit < length left)
-too_long a b c xs buf n limit first then bound more = go a (Gave-chain a b c xs (take n buf) first then)
+too_long : (a b c : Option (List ℕ)) (xs buf : List ℕ) (n limit : ℕ) → SourceGave a b xs → SourceGave b c (take n buf) → n ≤ length buf → limit < length xs + n → IfSome a (λ left. limit < length left)
+too_long a b c xs buf n limit first then bound more = go a (SourceGave-chain a b c xs (take n buf) first then)
   where
-    go : (a : Option (List ℕ)) → Gave a c (xs ++ take n buf) → IfSome a (λ left. limit < length left)
+    go : (a : Option (List ℕ)) → SourceGave a c (xs ++ take n buf) → IfSome a (λ left. limit < length left)
     go None gave = tt
     go (Some left) gave =
         omega (arith, ap length gave.2, length-append (xs ++ take n buf) gave.0, length-append xs (take n buf), length-take-le n buf bound, more)
 
 pub came_too_much : (a b c : Option (List ℕ)) (at limit n : ℕ) (buf : List ℕ) (scan : Scanning) (seen : BTreeSet (List ℕ)) (facts : List Entry) → Came a b at scan seen facts
-    → Gave b c (take n buf) → n ≤ length buf → limit < at + n → IfSome a (λ left. limit < length left)
+    → SourceGave b c (take n buf) → n ≤ length buf → limit < at + n → IfSome a (λ left. limit < length left)
 came_too_much a b c at limit n buf scan seen facts came gave bound more = too_long a b c came.front buf n limit came.gave gave bound (omega (arith, more, came.long))
 
 pub came_one_past : (a b c : Option (List ℕ)) (at limit n : ℕ) (buf : List ℕ) (scan : Scanning) (seen : BTreeSet (List ℕ)) (facts : List Entry) → Came a b at scan seen facts
-    → Gave b c (take n buf) → n ≤ length buf → at + n ≡ limit + 1 → GaveFront a c (limit + 1)
+    → SourceGave b c (take n buf) → n ≤ length buf → at + n ≡ limit + 1 → SourceGaveFront a c (limit + 1)
 came_one_past a b c at limit n buf scan seen facts came gave bound counted =
     let all : length came.front + n ≡ limit + 1 = omega (arith, counted, came.long) in
-    subst (GaveFront a c) all (GaveFront-more a b c came.front buf n came.gave gave bound)
+    subst (SourceGaveFront a c) all (SourceGaveFront-more a b c came.front buf n came.gave gave bound)
 
 pub came_more : (a b c : Option (List ℕ)) (at n : ℕ) (buf : List ℕ) (scan scan_now : Scanning) (seen seen_now : BTreeSet (List ℕ)) (facts facts_now : List Entry) → Came a b at scan seen facts
-    → Gave b c (take n buf) → n ≤ length buf
+    → SourceGave b c (take n buf) → n ≤ length buf
     → ((front : List ℕ) → IsTaken front scan seen facts → IsTaken (front ++ take n buf) scan_now seen_now facts_now)
     → Came a c (at + n) scan_now seen_now facts_now
 came_more a b c at n buf scan scan_now seen seen_now facts facts_now came gave bound more = record {
   front = came.front ++ take n buf;
   long = omega (arith, length-append came.front (take n buf), length-take-le n buf bound, came.long);
-  gave = Gave-chain a b c came.front (take n buf) came.gave gave;
+  gave = SourceGave-chain a b c came.front (take n buf) came.gave gave;
   taken = more came.front came.taken;
 }
 
@@ -93,10 +93,10 @@ taken_all front scan scan_now seen facts told facts_now taken told_is keeps fact
 -- ---- what the facts of all are, once a source gave all that it had left
 
 pub gave_facts : (most : ℕ) (a b c : Option (List ℕ)) (at : ℕ) (scan : Scanning) (seen : BTreeSet (List ℕ)) (facts facts_now : List Entry) → Came a b at scan seen facts → at ≤ most
-    → Gave b c [] → IfSome b (λ left. left ≡ []) → ((front : List ℕ) → IsTaken front scan seen facts → IsAllOf front facts_now) → GaveFacts most a c facts_now
+    → SourceGave b c [] → IfSome b (λ left. left ≡ []) → ((front : List ℕ) → IsTaken front scan seen facts → IsAllOf front facts_now) → GaveFacts most a c facts_now
 gave_facts most a b c at scan seen facts facts_now came short gave none all = record {
   input = came.front;
   short = omega (arith, came.long, short);
-  gave = Gave-end a b c came.front came.gave gave none;
+  gave = SourceGave-end a b c came.front came.gave gave none;
   says = gathered_facts came.front facts_now (all came.front came.taken);
 }

@@ -3,7 +3,7 @@ use Rattle.std.specs.Prelude.{◌≡◌, ◌≤◌, ℕ, List, [], ◌++◌, len
 use Rattle.std.specs.BTreeSet.{BTreeSet}
 use Rattle.std.specs.FinMap.{from_entries}
 use Rattle.claim_model.specs.Facts.{Entry}
-use Rattle.edge_base.specs.Edge.{Gave, GaveAll}
+use Rattle.edge_base.specs.Edge.{SourceGave, SourceGaveAll}
 use Rattle.salvage_scan.specs.declared.found.Found.{Found}
 use Rattle.salvage_scan.specs.Salvage.{salvage}
 use Rattle.salvage_scan.specs.Arrivals.{blob_of}
@@ -25,7 +25,7 @@ pub record IsTaken (front : List ℕ) (scan : Scanning) (seen : BTreeSet (List �
 pub record Came (left left_now : Option (List ℕ)) (count : ℕ) (scan : Scanning) (seen : BTreeSet (List ℕ)) (facts : List Entry) : Type 0 where
   pub front : List ℕ
   pub long : length front ≡ count
-  pub gave : Gave left left_now front
+  pub gave : SourceGave left left_now front
   pub taken : IsTaken front scan seen facts
 
 -- the facts of all blobs of a pack, gathered in their order
@@ -36,5 +36,5 @@ IsAllOf pack facts = facts ≡ with_blobs [] (map blob_of (salvage pack))
 pub record GaveFacts (most : ℕ) (left left_now : Option (List ℕ)) (facts : List Entry) : Type 0 where
   pub input : List ℕ
   pub short : length input ≤ most
-  pub gave : GaveAll left left_now input
+  pub gave : SourceGaveAll left left_now input
   pub says : from_entries facts ≡ pack_facts input

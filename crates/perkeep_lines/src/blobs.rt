@@ -2,7 +2,7 @@
 ghost use Rattle.std.specs.Prelude.{◌≡◌, ◌≤◌, ◌^◌, [], ◌∷◌, ◌++◌, map, IfOk, IfErr, OnOk};
 ghost use Rattle.std.specs.Option.{ForSome};
 ghost use Rattle.claim_model.specs.Facts.{AreDistinct, AreValid};
-ghost use Rattle.edge_base.specs.Edge.{Rose};
+ghost use Rattle.edge_base.specs.Edge.{FaultsRose};
 ghost use Rattle.pack_disk.specs.Disk.{last_number};
 ghost use Rattle.pack_disk.specs.Runs.{Stays};
 ghost use Rattle.pack_store.specs.Opening.{IsOpened};
@@ -50,7 +50,7 @@ pub fn store_facts<D: Disk>(
     ensures opened { IfOk result (λ o. IsOpened D.Disk disk limits o.0) }
     ensures stays { IfOk result (λ o. Stays D.Disk disk o.0.disk) }
     ensures stays_err { IfErr result (λ e. Stays D.Disk disk e.0) }
-    ensures failed { IfErr result (λ e. e.1 ≡ OpenFault.Disk → Rose (D.faults disk) (D.faults e.0)) }
+    ensures failed { IfErr result (λ e. e.1 ≡ OpenFault.Disk → FaultsRose (D.faults disk) (D.faults e.0)) }
     ensures later { IfOk result (λ o. D.faults disk ≤ D.faults o.0.disk) }
     ensures later_err { IfErr result (λ e. D.faults disk ≤ D.faults e.0) }
 {

@@ -2,7 +2,7 @@
 ghost use Rattle.std.specs.Prelude.{◌≡◌, ◌+◌, ◌<◌, ◌≤◌, ◌^◌, ◌++◌, ℕ, List, [], length, map, All};
 ghost use Rattle.std.specs.Prelude.{IfOk, IfSome, OnOk, OnErr, IsErrOf, Err};
 ghost use Rattle.claim_model.specs.Facts.{AreDistinct, AreValid};
-ghost use Rattle.edge_base.specs.Edge.{Rose, GaveFront};
+ghost use Rattle.edge_base.specs.Edge.{FaultsRose, SourceGaveFront};
 ghost use Rattle.salvage_scan.specs.Pieces.{fed, IsKept};
 ghost use Rattle.perkeep_lines.specs.Blobs.{with_blobs, HasRefsOf};
 ghost use Rattle.perkeep_lines.specs.Incoming.{kept_blob, IsTaken, IsAllOf, Came, GaveFacts};
@@ -34,9 +34,9 @@ pub fn source_facts<S: Source>(
     ensures distinct { IfOk result (λ facts. AreDistinct facts) }
     ensures valid { IfOk result (λ facts. AreValid facts) }
     ensures long { IsErrOf result ReadAllError.TooLong → IfSome (S.left source.old) (λ left. limit < length left) }
-    ensures one_past { IsErrOf result ReadAllError.TooLong → GaveFront (S.left source.old) (S.left source.new)
+    ensures one_past { IsErrOf result ReadAllError.TooLong → SourceGaveFront (S.left source.old) (S.left source.new)
         (limit + 1) }
-    ensures fault { IsErrOf result ReadAllError.ReadFault → Rose (S.faults source.old) (S.faults source.new) }
+    ensures fault { IsErrOf result ReadAllError.ReadFault → FaultsRose (S.faults source.old) (S.faults source.new) }
     ensures later { S.faults source.old ≤ S.faults source.new }
 {
     let mut incoming = nothing(alloc)?;

@@ -4,7 +4,7 @@ use Rattle.std.proofs.lemmas.Bool.{lt-ltb, le-ltb}
 use Rattle.std.proofs.lemmas.List.{append-nil, map-append}
 use Rattle.std.specs.Option.{ForSome}
 use Rattle.blobref.specs.Blobref.{ref_of}
-use Rattle.edge_base.specs.Edge.{Gave, GaveAll, Rose}
+use Rattle.edge_base.specs.Edge.{SourceGave, SourceGaveAll, FaultsRose}
 use Rattle.edge_base.specs.Shelf.{Blob, named}
 use Rattle.edge_base.specs.declared.answers.PutFault.{PutFault}
 use Rattle.edge_base.specs.declared.answers.PutFault.TheVariants as put
@@ -48,7 +48,7 @@ abbrev left_of : Option (List ℕ) → List ℕ
 left_of None = []
 left_of (Some all) = all
 
-gave_nothing : (left : Option (List ℕ)) → Gave left left []
+gave_nothing : (left : Option (List ℕ)) → SourceGave left left []
 gave_nothing None = refl
 gave_nothing (Some all) = (all, refl, refl)
 
@@ -60,7 +60,7 @@ more_left None most input is more = tt
 more_left (Some all) most input is more = subst (λ (l : List ℕ). most < length l) (is all refl) more
 
 -- all that it had
-all_given : (left now : Option (List ℕ)) (input : List ℕ) → GaveAll left now input → GaveSome left now input
+all_given : (left now : Option (List ℕ)) (input : List ℕ) → SourceGaveAll left now input → GaveSome left now input
 all_given None now input e = (input, e, λ all is. absurd (cc is))
 all_given (Some all) now input e = (all, ([], e.0, sym (append-nil all)), λ other is. cc (e.1, is))
 
@@ -144,7 +144,7 @@ module _ {D P S K C R : Type 0} (o : Outside D P S K C R)
         let far = far_of (named u.why.0.0) puts.run puts.later in
         record {
           always = far.at.always;
-          ends = stops run here (named u.why.0.0) [] far (given_input u.input) (named u.why.0.1) (has_of t u.input u.read) (named_in (file_blobs name u.input) u.why.0.0 u.why.0.1 u.why.0.2) refl (λ given bytes gone rest. Rose (o.source.faults b.source) (o.source.faults t)) u.why.1;
+          ends = stops run here (named u.why.0.0) [] far (given_input u.input) (named u.why.0.1) (has_of t u.input u.read) (named_in (file_blobs name u.input) u.why.0.0 u.why.0.1 u.why.0.2) refl (λ given bytes gone rest. FaultsRose (o.source.faults b.source) (o.source.faults t)) u.why.1;
         }
     not_filed cut.TooLong w =
         let u = w.1 in

@@ -7,7 +7,7 @@ use Rattle.schema_write.specs.Laws.{longest_schema, signature_length}
 use Rattle.schema_write.specs.Drafts.{IsFault}
 use Rattle.schema_write.specs.declared.draft.DraftFault.{DraftFault}
 use Rattle.schema_write.specs.declared.draft.DraftFault.TheVariants as draft
-use Rattle.edge_base.specs.Edge.{Rose}
+use Rattle.edge_base.specs.Edge.{FaultsRose}
 use Rattle.edge_base.specs.Shelf.{Blob}
 use Rattle.edge_base.specs.declared.answers.PutFault.{PutFault}
 use Rattle.pack_disk.specs.Packs.{Packs}
@@ -47,7 +47,7 @@ module _ {D P S K C R : Type 0} (o : Outside D P S K C R)
   drawn_far = far_drawn run b.source watch cup (far_start run) untimed undiced clock_later dice_later
 
   -- the clock or the dice failed
-  pub hand_failed : ((time ≡ true) × Rose (o.clock.faults b.clock) (o.clock.faults watch)) ⊎ ((random ≡ true) × Rose (o.dice.faults b.dice) (o.dice.faults cup)) → EndsAt b.disk b.sink status.HandFault
+  pub hand_failed : ((time ≡ true) × FaultsRose (o.clock.faults b.clock) (o.clock.faults watch)) ⊎ ((random ≡ true) × FaultsRose (o.dice.faults b.dice) (o.dice.faults cup)) → EndsAt b.disk b.sink status.HandFault
   hand_failed rose = not_drawn run b.source watch cup drawn_far [] (refl, refl) refl rose
 
   module _ (given : Given) (empty : given.input ≡ []) (drawn : IsDrawn m (o.clock.time b.clock) (o.dice.random b.dice) given) where

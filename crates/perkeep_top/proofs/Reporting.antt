@@ -4,7 +4,7 @@ use Rattle.std.proofs.lemmas.Grind.{flat_map-append}
 use Rattle.std.proofs.lemmas.List.{append-nil}
 use Rattle.std.specs.FinMap.{get}
 use Rattle.std.specs.Option.{ForSome}
-use Rattle.edge_base.proofs.Moves.{Took-chain}
+use Rattle.edge_base.proofs.Moves.{SinkTook-chain}
 use Rattle.pack_disk.specs.Packs.{Packs, least_from}
 use Rattle.pack_store.specs.Walk.{below, from_on}
 use Rattle.pack_store.specs.declared.whole.PackScan.{PackScan}
@@ -66,7 +66,7 @@ cut_more told next n least cut = λ held is.
     cut held is ∙ ap (λ l. below next held ++ l) step.left ∙ sym (append_assoc (below next held) ((n, step.bytes) ∷ []) (from_on (n + 1) held)) ∙ ap (λ l. l ++ from_on (n + 1) held) (sym step.so_far)
 
 pub writes_more : (told : Told) (next n : ℕ) (a b c : Option (List ℕ)) → ForSome told (λ held. least_from next held ≡ Some n) → Writes (IsReportBelow next told) a b → Writes (IsPackReport n told) b c → Writes (IsReportBelow (n + 1) told) a c
-writes_more told next n a b c least wrote here = (wrote.0 ++ here.0, below_more told next n wrote.0 here.0 least wrote.1 here.1, Took-chain a b c wrote.0 here.0 wrote.2 here.2)
+writes_more told next n a b c least wrote here = (wrote.0 ++ here.0, below_more told next n wrote.0 here.0 least wrote.1 here.1, SinkTook-chain a b c wrote.0 here.0 wrote.2 here.2)
 
 pub writes_all : (told : Told) (next : ℕ) (a b : Option (List ℕ)) → ForSome told (λ held. least_from next held ≡ None) → Writes (IsReportBelow next told) a b → Writes (IsReport told) a b
 writes_all told next a b none wrote = (wrote.0, (λ held is. wrote.1 held is ∙ ap report (walk_ends next held (none held is)).so_far), wrote.2)
@@ -97,6 +97,6 @@ front_with told next n a b c least wrote part cut =
         wrote.0 ++ some.0,
         some.1 ++ rest.0,
         ap (λ l. (wrote.0 ++ l) ++ rest.0) some.2 ∙ ap (λ l. l ++ rest.0) (sym (append_assoc wrote.0 some.0 some.1)) ∙ append_assoc (wrote.0 ++ some.0) some.1 rest.0,
-        Took-chain a b c wrote.0 some.0 wrote.2 some.3,
+        SinkTook-chain a b c wrote.0 some.0 wrote.2 some.3,
       ),
     )

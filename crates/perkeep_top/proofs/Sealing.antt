@@ -1,6 +1,6 @@
 -- How a run ends that signs what it has read: as one that signs the payload that the text gives.
 use Rattle.std.proofs.Common.{◌≡◌, ◌⊎◌, inl, inr, ℕ, ◌≤◌, Bool, true, Option, None, List, [], ◌∷◌, sym, ap, subst, ◌∙◌, arith}
-use Rattle.edge_base.specs.Edge.{Rose, Took, TookFront}
+use Rattle.edge_base.specs.Edge.{FaultsRose, SinkTook, SinkTookFront}
 use Rattle.edge_base.specs.Shelf.{Blob}
 use Rattle.pack_disk.specs.Disk.{Tells}
 use Rattle.pack_store.specs.Puts.{PutsAll, HoldAll}
@@ -135,7 +135,7 @@ module _ {D P S K C R : Type 0} (o : Outside D P S K C R) (keys : Keys) (name : 
   no_memory (inr w) = inr (anywhere w)
 
   abbrev Told : List ℕ → Type 0
-  Told bytes = TookFront (o.sink.written b.sink) (o.sink.written new.sink) bytes
+  Told bytes = SinkTookFront (o.sink.written b.sink) (o.sink.written new.sink) bytes
 
   unwritten : Finishes o n between new Told ⊎ ((n.streams ≡ true) × Stops o n between new (λ given bytes gone rest. Unit {0}))
       → Finishes o m b new Told ⊎ ((m.streams ≡ true) × Stops o m b new (λ given bytes gone rest. Unit {0}))
@@ -143,7 +143,7 @@ module _ {D P S K C R : Type 0} (o : Outside D P S K C R) (keys : Keys) (name : 
   unwritten (inr w) = inr (w.0, anywhere w.1)
 
   by : (end : Status) → EndsBy o n between new end → EndsBy o m b new end
-  by status.Done w = finishes (Took (o.sink.written b.sink) (o.sink.written new.sink)) w
+  by status.Done w = finishes (SinkTook (o.sink.written b.sink) (o.sink.written new.sink)) w
   by status.WriteFault w = (w.0, unwritten w.1)
   by status.NoMemory w = no_memory w
   by status.ReadFault w = absurd w
@@ -154,7 +154,7 @@ module _ {D P S K C R : Type 0} (o : Outside D P S K C R) (keys : Keys) (name : 
     unsent = w.unsent;
     why = record { input = text; fit = fit; read = reads w.why.read.0; right = right; rose = w.why.rose };
   }
-  by status.Disk w = late (λ given bytes. Rose (o.disk.faults b.disk) (o.disk.faults new.disk)) (λ given bytes. Rose (o.disk.faults b.disk) (o.disk.faults new.disk)) (λ given bytes h. h) w
+  by status.Disk w = late (λ given bytes. FaultsRose (o.disk.faults b.disk) (o.disk.faults new.disk)) (λ given bytes. FaultsRose (o.disk.faults b.disk) (o.disk.faults new.disk)) (λ given bytes h. h) w
   by status.Peer w = absurd w
   by (status.BadReply why) w = absurd w
   by (status.Full blobs pack) (inl w) = inl (stops (λ given bytes gone rest. StopsFull o n between new blobs pack rest) (λ given bytes gone rest. StopsFull o m b new blobs pack rest) (λ given bytes gone rest h. full blobs pack rest h) w)

@@ -1,6 +1,6 @@
 -- How `salvage` ends, from what was written by then.
 use Rattle.std.proofs.Common.{◌≡◌, inr, ℕ, ◌≤◌, List, [], refl, subst}
-use Rattle.edge_base.specs.Edge.{Rose, Took}
+use Rattle.edge_base.specs.Edge.{FaultsRose, SinkTook}
 use Rattle.pack_disk.specs.Packs.{Packs}
 use Rattle.pack_disk.specs.Runs.{Stays}
 use Rattle.top_frame.specs.declared.status.Status.{Status}
@@ -20,7 +20,7 @@ module _ {D P S K C R : Type 0} (o : Outside D P S K C R)
   abbrev here : World D P S K C R
   here = world e b.peer b.source k b.clock b.dice
 
-  far : (bytes : List ℕ) → Took (o.sink.written b.sink) (o.sink.written k) bytes → Far run here [] bytes
+  far : (bytes : List ℕ) → SinkTook (o.sink.written b.sink) (o.sink.written k) bytes → Far run here [] bytes
   far bytes took = far_told run b.disk e b.source b.sink k [] [] bytes (inr (refl, still)) (far_start run) stays later sink_later took
 
   has : Has run b.source nothing_given
@@ -36,7 +36,7 @@ module _ {D P S K C R : Type 0} (o : Outside D P S K C R)
     part : IsReportFront (o.disk.packs b.disk) front
     part = (w.2.1, subst (IsReport (o.disk.packs b.disk)) w.2.2 w.1)
 
-    pub stopped : (end : Status) → ComesWhileTelling (Rose (o.sink.faults b.sink) (o.sink.faults k)) (Rose (o.disk.faults b.disk) (o.disk.faults e)) end → Ends o salvage_meaning b here end
+    pub stopped : (end : Status) → ComesWhileTelling (FaultsRose (o.sink.faults b.sink) (o.sink.faults k)) (FaultsRose (o.disk.faults b.disk) (o.disk.faults e)) end → Ends o salvage_meaning b here end
     stopped status.NoMemory why = no_memory run here [] front (far front w.2.3) nothing_given [] has refl part
     stopped status.WriteFault why = not_written run here [] front (far front w.2.3) nothing_given [] has refl part refl why
     stopped status.Disk why = failed run here front (far front w.2.3).at nothing_given has part why

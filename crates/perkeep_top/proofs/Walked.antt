@@ -2,7 +2,7 @@
 use Rattle.std.proofs.Common.{◌≡◌, ℕ, ◌≤◌, List, [], ◌++◌, Option, None, Some, Result, Ok, Err, option_map, refl, sym, ap, subst, ◌∙◌, arith}
 use Rattle.std.proofs.lemmas.List.{append-nil}
 use Rattle.std.specs.Option.{ForSome}
-use Rattle.edge_base.specs.Edge.{Took}
+use Rattle.edge_base.specs.Edge.{SinkTook}
 use Rattle.edge_base.specs.declared.answers.GetFault.TheVariants as getting
 use Rattle.edge_base.specs.Shelf.{Blobs}
 use Rattle.file_tree.specs.declared.fault.FileFault.{FileFault}
@@ -40,7 +40,7 @@ module _ {D P S K C R : Type 0} (o : Outside D P S K C R)
   told = o.disk.packs b.disk
 
   -- it has come to the end of these bytes
-  far : (bytes : List ℕ) → Took (o.sink.written b.sink) (o.sink.written k) bytes → Far run here [] bytes
+  far : (bytes : List ℕ) → SinkTook (o.sink.written b.sink) (o.sink.written k) bytes → Far run here [] bytes
   far bytes took = far_puts run refl old new b.source b.source b.sink k [] [] [] bytes (far_asked run refl b.disk old.disk b.source (far_start run) opened opened_later) stands
       (subst (λ l. PutsBlobs o.disk l old [] new) stands.limited nothing) (λ _. refl) later (omega arith) sink_later (λ _. refl) took
 

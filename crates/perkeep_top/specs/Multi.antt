@@ -1,7 +1,7 @@
 -- What `multi` means: a key signs a claim of the changes that the input lists (docs/commands.md).
 use Rattle.std.specs.Prelude.{◌≡◌, ℕ, true, false, List, [], Option, Some, None, unwrap_or}
 use Rattle.blobref.specs.Blobref.{ref_of}
-use Rattle.edge_base.specs.Edge.{Rose}
+use Rattle.edge_base.specs.Edge.{FaultsRose}
 use Rattle.edge_base.specs.declared.edge.Source.{Ghosts as SourceGhosts}
 use Rattle.schema_fact.specs.declared.changes.Change.{Change}
 use Rattle.schema_fact.specs.declared.kinds.What.TheVariants.{Multi}
@@ -56,7 +56,7 @@ RefusesListFault g old new _ = ⊥
 
 -- why no changes were read
 abbrev pub RefusesChanges : {S : Type 0} → SourceGhosts S → S → S → Status → Type 0
-RefusesChanges g old new status.ReadFault = Rose (g.faults old) (g.faults new)
+RefusesChanges g old new status.ReadFault = FaultsRose (g.faults old) (g.faults new)
 RefusesChanges g old new (status.BadInput fault) = RefusesListFault g old new fault
 RefusesChanges g old new status.NoMemory = Unit {0}
 RefusesChanges g old new _ = ⊥

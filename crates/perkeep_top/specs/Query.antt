@@ -2,7 +2,7 @@
 use Rattle.std.specs.Prelude.{◌≡◌, ℕ, false, List, [], Option, Some, None, option_map}
 use Rattle.std.specs.Option.{ForSome}
 use Rattle.claim_verify.specs.Verifier.{Accepts}
-use Rattle.edge_base.specs.Edge.{Rose}
+use Rattle.edge_base.specs.Edge.{FaultsRose}
 use Rattle.edge_base.specs.declared.edge.Source.{Ghosts as SourceGhosts}
 use Rattle.query_read.specs.Reading.{asks_for, first_fault}
 use Rattle.search_query.specs.View.{question}
@@ -76,7 +76,7 @@ RefusesInputFault g old new _ = ⊥
 
 -- why no query was read
 abbrev pub RefusesQuery : {S : Type 0} → SourceGhosts S → S → S → Status → Type 0
-RefusesQuery g old new status.ReadFault = Rose (g.faults old) (g.faults new)
+RefusesQuery g old new status.ReadFault = FaultsRose (g.faults old) (g.faults new)
 RefusesQuery g old new (status.BadInput fault) = RefusesInputFault g old new fault
 RefusesQuery g old new status.NoMemory = Unit {0}
 RefusesQuery g old new _ = ⊥

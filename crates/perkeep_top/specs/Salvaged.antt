@@ -2,7 +2,7 @@
 use Rattle.std.specs.Prelude.{◌≡◌, ℕ, true, false, List, [], ◌++◌, Option, None, Some}
 use Rattle.std.specs.Option.{ForSome}
 use Rattle.std.specs.FinMap.{entries, get}
-use Rattle.edge_base.specs.Edge.{Took, TookFront}
+use Rattle.edge_base.specs.Edge.{SinkTook, SinkTookFront}
 use Rattle.pack_disk.specs.Packs.{Packs}
 use Rattle.pack_store.specs.Walk.{below, from_on}
 use Rattle.perkeep_lines.specs.Outputs.{pack_report, report}
@@ -45,11 +45,11 @@ IsPackReport n told text = ForSome told (λ held. (pack : List ℕ) → get held
 
 -- the sink took such a text, and nothing else
 abbrev pub Writes : (List ℕ → Type 0) → Option (List ℕ) → Option (List ℕ) → Type 0
-Writes IsText written written_now = (text : List ℕ) × IsText text × Took written written_now text
+Writes IsText written written_now = (text : List ℕ) × IsText text × SinkTook written written_now text
 
 -- the sink took a front of such a text
 abbrev pub WritesFront : (List ℕ → Type 0) → Option (List ℕ) → Option (List ℕ) → Type 0
-WritesFront IsText written written_now = (text : List ℕ) × IsText text × TookFront written written_now text
+WritesFront IsText written written_now = (text : List ℕ) × IsText text × SinkTookFront written written_now text
 
 -- when it stops: the last two say that the count of faults of the sink or the disk rose
 abbrev pub ComesWhileTelling : Type 0 → Type 0 → Status → Type 0

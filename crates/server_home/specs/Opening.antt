@@ -3,7 +3,7 @@ use Rattle.std.specs.Prelude.{◌≡◌, ℕ, List, [], ◌∷◌, ◌++◌, All
 use Rattle.std.specs.Option.{ForSome, is_some}
 use Rattle.std.specs.FinMap.{entries}
 use Rattle.claim_verify.specs.Verifier.{Accepts}
-use Rattle.edge_base.specs.Edge.{Rose}
+use Rattle.edge_base.specs.Edge.{FaultsRose}
 use Rattle.pack_disk.specs.declared.disk.Disk.{Ghosts}
 use Rattle.salvage_scan.specs.Arrivals.{arrivals}
 use Rattle.pack_store.specs.declared.limits.Limits.{Limits}
@@ -66,5 +66,5 @@ pub record IsOpenHome {D V : Type 0} {b c : _} (g : Ghosts D) (accepts : V → A
 
 -- where the disk failed it counted that
 abbrev pub HasCause : {D : Type 0} → (D → ℕ) → D → HomeFault D → Type 0
-HasCause faults before (Disk now) = Rose (faults before) (faults now)
+HasCause faults before (Disk now) = FaultsRose (faults before) (faults now)
 HasCause faults before NoMemory = Unit {0}

@@ -4,7 +4,7 @@ use Rattle.std.proofs.lemmas.List.{map-append}
 use Rattle.std.specs.List.{All}
 use Rattle.std.specs.Option.{ForSome, is_some}
 use Rattle.std.specs.FinMap.{get, contains_key}
-use Rattle.edge_base.specs.Edge.{Rose}
+use Rattle.edge_base.specs.Edge.{FaultsRose}
 use Rattle.edge_base.specs.Shelf.{Blob, Blobs, Keeps}
 use Rattle.edge_base.specs.ShelfLaws.{Keeps-then}
 use Rattle.peer_base.specs.Causes.{ListCause, FetchCause, PutLeaves, MayKeep}
@@ -21,7 +21,7 @@ use Rattle.sync_core.proofs.Runs.{Laws, source_answered_on, target_answered_on, 
 
 -- ---- causes
 
-rose_on : (a b c : ℕ) → a ≤ b → Rose b c → Rose a c
+rose_on : (a b c : ℕ) → a ≤ b → FaultsRose b c → FaultsRose a c
 rose_on a b c le rose = omega (arith, le, rose)
 
 pub list_fault : (told : Option Blobs) (before now : ℕ) (T : Type 0) (e : PeerFault) → ListCause {T = T} told before now (Err e) → ListFault told before now e

@@ -9,7 +9,7 @@ ghost use Rattle.sync_core.specs.Causes.{ListFault};
 ghost use Rattle.sync_core.specs.Copying.{IsPartOf};
 
 use crate::pages::{PAGE, last_ref, others, reaches, refs_of};
-use blobref::{Listing, NoMemory, Ref};
+use blobref::{Listing, Ref};
 use peer_base::{Peer, PeerFault};
 use std::alloc::Global;
 
@@ -47,10 +47,7 @@ pub(crate) fn lacking_of<B: Peer>(
             Some(r) => r,
             None => return Ok(refs),
         };
-        refs = match others(alloc, refs.as_slice(), held.as_slice()) {
-            Ok(refs) => refs,
-            Err(NoMemory) => return Err(PeerFault::NoMemory),
-        };
+        refs = others(alloc, refs.as_slice(), held.as_slice())?;
         if reaches(&r, last) {
             return Ok(refs);
         }

@@ -8,7 +8,7 @@ use Rattle.std.proofs.lemmas.Bool.{or_left, or_right}
 use Rattle.std.proofs.lemmas.Cmp.{nat_list_eq_equiv}
 use Rattle.std.proofs.lemmas.Option.{slice_get_past}
 use Rattle.blobref.specs.Blobref.{IsOwnRef}
-use Rattle.edge_base.specs.Edge.{Rose}
+use Rattle.edge_base.specs.Edge.{FaultsRose}
 use Rattle.edge_base.specs.declared.answers.GetFault.{GetFault}
 use Rattle.edge_base.specs.declared.answers.GetFault.TheVariants as unread
 use Rattle.pack_disk.specs.declared.disk.Disk.{Ghosts}
@@ -53,7 +53,7 @@ pub find_adds : {D : Type 0} (g : Ghosts D) (made : ℕ) (old new : Archive D) (
     → ((result ≡ Ok None) ↔ (stood.number_of r old.rows ≡ None)) → IfOk result (λ found. IfSome found (IsFound (read.entry_of r old.rows)))
     → IfOk result (λ found. ForSome (g.packs old.disk) (λ held. bytes_found found ≡ read.bytes_of r held old.rows))
     → IfOk result (λ found. IfSome found (λ b. ForSome (g.packs old.disk) (λ held. IsOwnRef b.r b.bytes)))
-    → read.IsDamage None (g.packs old.disk) result → read.StaysStill g old new → (result ≡ Err unread.Disk → Rose (g.faults old.disk) (g.faults new.disk)) → g.faults old.disk ≤ g.faults new.disk
+    → read.IsDamage None (g.packs old.disk) result → read.StaysStill g old new → (result ≡ Err unread.Disk → FaultsRose (g.faults old.disk) (g.faults new.disk)) → g.faults old.disk ≤ g.faults new.disk
     → AddsEntry g made old new (find_entry result (g.faults old.disk) (g.faults new.disk)) (λ before entry. GetSays (is_told g old) r before (checked_get result) entry)
 find_adds g made old new r result none placed bytes own damage still rose later h turn tells before =
     let blobs = arrivals h in
@@ -79,7 +79,7 @@ pub find_number_adds : {D : Type 0} (g : Ghosts D) (made : ℕ) (old new : Archi
     → ((result ≡ Ok None) ↔ (count old ≤ n)) → IfOk result (λ found. IfSome found (IsFound (read.entry_at n old.rows)))
     → IfOk result (λ found. ForSome (g.packs old.disk) (λ held. arrival_found found ≡ slice_get (stood.arrivals_in held old.rows) n))
     → IfOk result (λ found. IfSome found (λ b. ForSome (g.packs old.disk) (λ held. IsOwnRef b.r b.bytes)))
-    → read.IsDamage None (g.packs old.disk) result → read.StaysStill g old new → (result ≡ Err unread.Disk → Rose (g.faults old.disk) (g.faults new.disk)) → g.faults old.disk ≤ g.faults new.disk
+    → read.IsDamage None (g.packs old.disk) result → read.StaysStill g old new → (result ≡ Err unread.Disk → FaultsRose (g.faults old.disk) (g.faults new.disk)) → g.faults old.disk ≤ g.faults new.disk
     → AddsEntry g made old new (find_entry result (g.faults old.disk) (g.faults new.disk)) (λ before entry. ArrivalSays (is_told g old) n before (checked_arrival result) entry)
 find_number_adds g made old new n result none placed bytes own damage still rose later h turn tells before =
     let blobs = arrivals h in

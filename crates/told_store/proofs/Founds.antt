@@ -5,7 +5,7 @@ use Rattle.std.specs.Cmp.Lexicographic.{same_text}
 use Rattle.std.proofs.lemmas.List.{append-nil}
 use Rattle.std.proofs.lemmas.Bool.{and_from, le-leb, ltb-true, false≢true}
 use Rattle.blobref.specs.Blobref.{IsOwnRef, is_own_ref, ref_like}
-use Rattle.edge_base.specs.Edge.{Rose}
+use Rattle.edge_base.specs.Edge.{FaultsRose}
 use Rattle.edge_base.specs.declared.answers.GetFault.{GetFault}
 use Rattle.edge_base.specs.declared.answers.GetFault.TheVariants as unread
 use Rattle.pack_disk.specs.Packs.{Packs}
@@ -69,7 +69,7 @@ module _ {D : Type 0} (g : Ghosts D) (made : ℕ) (old new : Archive D) (still :
   none_put : (e : StoreEvent) → puts (e ∷ []) ≡ [] → arrivals h ≡ arrivals h ++ puts (e ∷ [])
   none_put e none = sym (ap (λ bs. arrivals h ++ bs) none ∙ append-nil (arrivals h))
 
-  failed : Rose (g.faults old.disk) (g.faults new.disk) → Grown (Some (store.Fault (g.faults new.disk)))
+  failed : FaultsRose (g.faults old.disk) (g.faults new.disk) → Grown (Some (store.Fault (g.faults new.disk)))
   failed rose = tells_more g made old new h turn tells onward (store.Fault (g.faults new.disk))
       (le-leb _ _ (rose_above (last_faults 0 (events h)) (g.faults old.disk) (g.faults new.disk) tells.faults rose))
       (rows_are ∙ tells.rows ∙ ap sizes (none_put (store.Fault (g.faults new.disk)) refl))
@@ -121,7 +121,7 @@ module _ {D : Type 0} (g : Ghosts D) (made : ℕ) (old new : Archive D) (still :
     pub found_adds : (result : Result (Option Found) GetFault) → (result ≡ Ok None → blob ≡ None) → IfOk result (λ found. IfSome found (IsFound asked))
         → ((b : Found) → result ≡ Ok (Some b) → (held : Packs) → g.packs old.disk ≡ Some held → blob ≡ Some (b.r, b.bytes))
         → IfOk result (λ found. IfSome found (λ b. ForSome (g.packs old.disk) (λ held. IsOwnRef b.r b.bytes)))
-        → read.IsDamage None (g.packs old.disk) result → (result ≡ Err unread.Disk → Rose (g.faults old.disk) (g.faults new.disk)) → Adds result
+        → read.IsDamage None (g.packs old.disk) result → (result ≡ Err unread.Disk → FaultsRose (g.faults old.disk) (g.faults new.disk)) → Adds result
     found_adds (Ok None) none placed bytes named damage rose = (counted, (none refl, quiet))
     found_adds (Ok (Some b)) none placed bytes named damage rose =
         let own = asked_blob blob b.r placed.size (sym same ∙ placed.asked_for) in

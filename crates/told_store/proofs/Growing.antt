@@ -8,7 +8,7 @@ use Rattle.std.proofs.lemmas.Bool.{and_parts, and_from, le-leb, leb-true, lt-leb
 use Rattle.pack_disk.specs.Packs.{Packs}
 use Rattle.pack_disk.specs.Disk.{Tells}
 use Rattle.pack_disk.specs.declared.disk.Disk.{Ghosts}
-use Rattle.edge_base.specs.Edge.{one_more, Rose}
+use Rattle.edge_base.specs.Edge.{one_more, FaultsRose}
 use Rattle.pack_store.specs.Archive.{Archive, greatest}
 use Rattle.pack_store.specs.Rows.{arrivals_in, sizes_in}
 use Rattle.histories.specs.declared.stamped.Stamped.{Stamped}
@@ -33,11 +33,11 @@ capped : (most a b : ℕ) → a ≤ b → min (a + 1) most ≤ min (b + 1) most
 capped most a b le = omega arith
 
 -- a count of faults that rose above a count is above what was at most that count
-pub rose_above : (last before now : ℕ) → last ≤ before → Rose before now → one_more last ≤ now
+pub rose_above : (last before now : ℕ) → last ≤ before → FaultsRose before now → one_more last ≤ now
 rose_above last before now le rose = let step = capped (2 ^ 64 - 1) last before le in omega (arith, step, rose)
 
 -- a count that is greater has risen
-pub more_rose : (before now : ℕ) → before < now → Rose before now
+pub more_rose : (before now : ℕ) → before < now → FaultsRose before now
 more_rose before now more = omega (arith, more)
 
 -- a count that isn't adds no fault

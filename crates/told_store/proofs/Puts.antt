@@ -6,7 +6,7 @@ use Rattle.std.specs.Cmp.Lexicographic.{pointwise}
 use Rattle.std.proofs.lemmas.Bool.{and_from, eq-eqb, le-leb, leb-false, ltb-false, ltb-true}
 use Rattle.std.proofs.lemmas.Cmp.{nat_list_eq_equiv}
 use Rattle.blobref.specs.Blobref.{IsOwnRef, is_own_ref, ref_like}
-use Rattle.edge_base.specs.Edge.{Rose}
+use Rattle.edge_base.specs.Edge.{FaultsRose}
 use Rattle.edge_base.specs.declared.answers.Put.{Put}
 use Rattle.edge_base.specs.declared.answers.Put.TheVariants.{Stored, Already}
 use Rattle.edge_base.specs.declared.answers.PutFault.{PutFault}
@@ -95,7 +95,7 @@ module _ {D : Type 0} (g : Ghosts D) (made : ℕ) (old new : Archive D) (r bytes
   }
 
   -- the disk failed
-  failed : Fails g old new → Rose (g.faults old.disk) (g.faults new.disk) → Grown (Some (store.Fault (g.faults new.disk)))
+  failed : Fails g old new → FaultsRose (g.faults old.disk) (g.faults new.disk) → Grown (Some (store.Fault (g.faults new.disk)))
   failed fails rose = tells_more g made old new h turn tells (asked fails.value (told_same (g.packs old.disk) (g.packs new.disk) _ fails.arrived)) (store.Fault (g.faults new.disk))
       (le-leb _ _ (rose_above (last_faults 0 (events h)) (g.faults old.disk) (g.faults new.disk) tells.faults rose))
       (ap (λ (s : Archive D). stood.sizes_in s.rows) fails.value ∙ tells.rows ∙ ap sizes (sym (append-nil (arrivals h))))
@@ -122,7 +122,7 @@ module _ {D : Type 0} (g : Ghosts D) (made : ℕ) (old new : Archive D) (r bytes
   answered answer settled result is f leaves = subst (Adds settled) (sym is) (f (subst (Leaves g old new r bytes) is leaves))
 
   tried : nat_lt max_size (length bytes) ≡ false → stood.number_of r old.rows ≡ None → is_full old ≡ false → (result : Result Put PutFault) → Answers None (count old) result → Leaves g old new r bytes result
-      → (result ≡ Err fault.Disk → Rose (g.faults old.disk) (g.faults new.disk)) → Adds None result
+      → (result ≡ Err fault.Disk → FaultsRose (g.faults old.disk) (g.faults new.disk)) → Adds None result
   tried small absent room (Ok (Stored n)) is leaves rose = (
     subst (λ m. Grown (Some (store.Put m r bytes))) (sym is) (stored leaves small absent),
     (has_room room, is ∙ same_count old.rows (arrivals h) tells.rows, refl),
@@ -136,7 +136,7 @@ module _ {D : Type 0} (g : Ghosts D) (made : ℕ) (old new : Archive D) (r bytes
 
   by_number : nat_lt max_size (length bytes) ≡ false → (o : Option ℕ) → stood.number_of r old.rows ≡ o → (full : Bool) → is_full old ≡ full → (result : Result Put PutFault)
       → Answers (option_or (option_map (λ (n : ℕ). Ok (Already n)) o) (cond full (Some (Err (fault.Full (count old) (greatest old)))) None)) (count old) result
-      → Leaves g old new r bytes result → (result ≡ Err fault.Disk → Rose (g.faults old.disk) (g.faults new.disk))
+      → Leaves g old new r bytes result → (result ≡ Err fault.Disk → FaultsRose (g.faults old.disk) (g.faults new.disk))
       → Adds (option_map (λ (n : ℕ). Ok (Already n)) o) result
   by_number small (Some n) at full is_full_so result is leaves rose = answered (Ok (Already n)) (Some (Ok (Already n))) result is (λ same. (still same, (refl, none_rose same))) leaves
   by_number small None at true is_full_so result is leaves rose = answered (Err (fault.Full (count old) (greatest old))) None result is (λ same. (filled same is_full_so, (at_full is_full_so, refl))) leaves
@@ -144,7 +144,7 @@ module _ {D : Type 0} (g : Ghosts D) (made : ℕ) (old new : Archive D) (r bytes
 
   by_size : (big : Bool) → nat_lt max_size (length bytes) ≡ big → (result : Result Put PutFault)
       → Answers (cond big (Some (Err (fault.TooBig (length bytes)))) (option_or (option_map (λ (n : ℕ). Ok (Already n)) (stood.number_of r old.rows)) (cond (is_full old) (Some (Err (fault.Full (count old) (greatest old)))) None))) (count old) result
-      → Leaves g old new r bytes result → (result ≡ Err fault.Disk → Rose (g.faults old.disk) (g.faults new.disk))
+      → Leaves g old new r bytes result → (result ≡ Err fault.Disk → FaultsRose (g.faults old.disk) (g.faults new.disk))
       → Adds (cond big (Some (Err (fault.TooBig (length bytes)))) (option_map (λ (n : ℕ). Ok (Already n)) (stood.number_of r old.rows))) result
   by_size true size result is leaves rose = answered (Err (fault.TooBig (length bytes))) (Some (Err (fault.TooBig (length bytes)))) result is (λ same. (still same, (refl, none_rose same))) leaves
   by_size false size result is leaves rose = by_number size (stood.number_of r old.rows) refl (is_full old) refl result is leaves rose
@@ -157,11 +157,11 @@ module _ {D : Type 0} (g : Ghosts D) (made : ℕ) (old new : Archive D) (r bytes
       ∙ ap (λ o. cond (nat_lt max_size (length bytes)) (Some (Err (fault.TooBig (length bytes)))) (option_map (λ (n : ℕ). Ok (Already n)) o)) (sym (same_number old.rows (arrivals h) tells.rows r))
 
   put_adds_here : (result : Result Put PutFault) → Answers (early_answer_own old r (length bytes)) (count old) result → Leaves g old new r bytes result
-      → (result ≡ Err fault.Disk → Rose (g.faults old.disk) (g.faults new.disk)) → Adds (put_settled r bytes (arrivals h)) result
+      → (result ≡ Err fault.Disk → FaultsRose (g.faults old.disk) (g.faults new.disk)) → Adds (put_settled r bytes (arrivals h)) result
   put_adds_here result is leaves rose = subst (λ settled. Adds settled result) (sym settled_is) (by_size (nat_lt max_size (length bytes)) refl result is leaves rose)
 
 pub put_adds : {D : Type 0} (g : Ghosts D) (made : ℕ) (old new : Archive D) (r bytes : List ℕ) (result : Result Put PutFault) → IsOwnRef r bytes
     → Answers (early_answer_own old r (length bytes)) (count old) result → Leaves g old new r bytes result
-    → (result ≡ Err fault.Disk → Rose (g.faults old.disk) (g.faults new.disk)) → g.faults old.disk ≤ g.faults new.disk
+    → (result ≡ Err fault.Disk → FaultsRose (g.faults old.disk) (g.faults new.disk)) → g.faults old.disk ≤ g.faults new.disk
     → AddsEntry g made old new (put_entry r bytes result (g.faults old.disk) (g.faults new.disk)) (λ before entry. PutSays (limits_of old) r bytes before result entry)
 put_adds g made old new r bytes result own is leaves rose later h turn tells before = put_adds_here g made old new r bytes own later h turn tells result is leaves rose

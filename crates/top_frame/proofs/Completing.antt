@@ -2,7 +2,7 @@
 use Rattle.std.proofs.Common.{◌≡◌, ◌≢◌, ◌⊎◌, ◌||◌, ◌&&◌, inl, inr, ℕ, ◌≤◌, ◌<◌, Bool, true, false, nat_le, nat_lt, Option, None, Some, IfSome, List, [], ◌∷◌, ◌++◌, length, refl, ap, subst, arith}
 use Rattle.std.proofs.lemmas.Bool.{ltb-true, leb-true}
 use Rattle.std.specs.FinMap.{entries}
-use Rattle.edge_base.specs.Edge.{Rose, GaveAll}
+use Rattle.edge_base.specs.Edge.{FaultsRose, SourceGaveAll}
 use Rattle.edge_base.specs.Shelf.{Blob}
 use Rattle.pack_disk.specs.Packs.{Packs}
 use Rattle.pack_disk.specs.Disk.{Tells}
@@ -36,7 +36,7 @@ too_long : (told : Option (List ℕ)) (left : List ℕ) (most : ℕ) → told �
 too_long None left most e le more = absurd (cc e)
 too_long (Some x) left most e le more = absurd (omega (arith, le, subst (λ (l : List ℕ). most < length l) (some_same x left e) more))
 
-all_read : (told now : Option (List ℕ)) (left input : List ℕ) → told ≡ Some left → GaveAll told now input → input ≡ left
+all_read : (told now : Option (List ℕ)) (left input : List ℕ) → told ≡ Some left → SourceGaveAll told now input → input ≡ left
 all_read None now left input e gave = absurd (cc e)
 all_read (Some x) now left input e gave = cc (e, gave.1)
 
@@ -55,7 +55,7 @@ module _ {D P S K C R : Type 0} (o : Outside D P S K C R) (m : Meaning) (old new
   not_refused : (answer : Status) → Stops o m old new (λ given bytes gone rest. m.Refuses given (o.disk.packs old.disk) bytes gone answer) → ⊥
   not_refused answer w = v.stands w.given w.bytes w.why.blobs answer w.drawn (subst (λ told. m.Refuses w.given told w.bytes w.why.blobs answer) v.tells w.why.why)
 
-  no_read : (i : Input) → WhileReading o m old new i (λ most. Rose (o.source.faults old.source) (o.source.faults new.source)) → ⊥
+  no_read : (i : Input) → WhileReading o m old new i (λ most. FaultsRose (o.source.faults old.source) (o.source.faults new.source)) → ⊥
   no_read reads_nothing w = w
   no_read (reads_first most) w = calm.source w.why.1
   no_read (reads_later most) w = calm.source w.why.why
@@ -78,7 +78,7 @@ module _ {D P S K C R : Type 0} (o : Outside D P S K C R) (m : Meaning) (old new
   usable fault (read_wrongly w) = not_wrong m.input fault v.input w
   usable fault (found_unfit w) = not_refused (status.BadInput fault) w
 
-  drawn : ((m.draws_time ≡ true) × Rose (o.clock.faults old.clock) (o.clock.faults new.clock)) ⊎ ((m.draws_random ≡ true) × Rose (o.dice.faults old.dice) (o.dice.faults new.dice)) → ⊥
+  drawn : ((m.draws_time ≡ true) × FaultsRose (o.clock.faults old.clock) (o.clock.faults new.clock)) ⊎ ((m.draws_random ≡ true) × FaultsRose (o.dice.faults old.dice) (o.dice.faults new.dice)) → ⊥
   drawn (inl r) = calm.clock r.1
   drawn (inr r) = calm.dice r.1
 
@@ -117,7 +117,7 @@ module _ {D P S K C R : Type 0} (o : Outside D P S K C R) (m : Meaning) (old new
   ends_well status.HandFault e = absurd (drawn e.ends.why.rose)
   ends_well (status.BadInput fault) e = absurd (usable fault e.ends)
   ends_well (status.Absent r) e = absurd (not_refused (status.Absent r) e.ends)
-  ends_well status.Peer e = absurd (while m.exchange (Rose (o.peer.faults old.peer) (o.peer.faults new.peer)) (λ tells rose. calm.peer rose) v.peer e.ends)
+  ends_well status.Peer e = absurd (while m.exchange (FaultsRose (o.peer.faults old.peer) (o.peer.faults new.peer)) (λ tells rose. calm.peer rose) v.peer e.ends)
   ends_well (status.BadReply why) e = absurd (while m.exchange (WhereUntold o m old new (PeerReplied o m old new why)) (both_tell (PeerReplied o m old new why)) v.peer e.ends)
   ends_well (status.Full blobs pack) e = absurd (full e.ends)
     where

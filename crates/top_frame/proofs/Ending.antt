@@ -2,7 +2,7 @@
 use Rattle.std.proofs.Common.{◌≡◌, ◌⊎◌, inl, inr, ℕ, pos, ◌≤◌, Bool, true, false, Option, None, Some, Err, List, [], ◌∷◌, ◌++◌, length, refl, sym, ap, subst, ◌∙◌, arith}
 use Rattle.std.proofs.lemmas.List.{append-nil}
 use Rattle.blobref.specs.Blobref.{ref_of}
-use Rattle.edge_base.specs.Edge.{Rose, Took, TookFront}
+use Rattle.edge_base.specs.Edge.{FaultsRose, SinkTook, SinkTookFront}
 use Rattle.edge_base.specs.Shelf.{Blob}
 use Rattle.edge_base.specs.declared.answers.PutFault.{PutFault}
 use Rattle.edge_base.specs.declared.answers.PutFault.TheVariants as put
@@ -32,11 +32,11 @@ use Rattle.top_frame.specs.Outside.{Outside, World, world}
 use Rattle.top_frame.specs.Steps.{RefusesInput, Finds, Writes}
 
 -- nothing was written
-pub took_nothing : (held : Option (List ℕ)) → Took held held []
+pub took_nothing : (held : Option (List ℕ)) → SinkTook held held []
 took_nothing None = refl
 took_nothing (Some h) = ap Some (sym (append-nil h))
 
-pub later_rose : (before between now : ℕ) → before ≤ between → Rose between now → Rose before now
+pub later_rose : (before between now : ℕ) → before ≤ between → FaultsRose between now → FaultsRose before now
 later_rose before between now le rose = omega (arith, le, rose)
 
 -- bytes under the ref that the program gives them
@@ -227,7 +227,7 @@ module _ {D P S K C R : Type 0} (run : Begun D P S K C R) where
 
   -- one of them failed, before the disk was asked
   pub not_drawn : (s : S) (watch : C) (cup : R) → Far (world b.disk b.peer s b.sink watch cup) [] [] → (input : List ℕ) → ReadsSome source m.input b.source s input → m.wrong input ≡ None
-      → ((m.draws_time ≡ true) × Rose (clock.faults b.clock) (clock.faults watch)) ⊎ ((m.draws_random ≡ true) × Rose (dice.faults b.dice) (dice.faults cup)) → EndsAs (world b.disk b.peer s b.sink watch cup) status.HandFault
+      → ((m.draws_time ≡ true) × FaultsRose (clock.faults b.clock) (clock.faults watch)) ⊎ ((m.draws_random ≡ true) × FaultsRose (dice.faults b.dice) (dice.faults cup)) → EndsAs (world b.disk b.peer s b.sink watch cup) status.HandFault
   not_drawn s watch cup far input read right rose = record {
     always = far.at.always;
     ends = record { unasked = refl; unwritten = refl; unsent = refl; why = record { input = input; fit = run.fit; read = read; right = right; rose = rose } };
@@ -318,7 +318,7 @@ module _ {D P S K C R : Type 0} (run : Begun D P S K C R) where
 
   module _ (now : World D P S K C R) (bytes : List ℕ) (at : At now bytes) (given : Given) (has : Has now.source given) (part : m.IsPart given (disk.packs b.disk) bytes) where
     -- the disk failed by now
-    pub failed : Rose (disk.faults b.disk) (disk.faults now.disk) → EndsAs now status.Disk
+    pub failed : FaultsRose (disk.faults b.disk) (disk.faults now.disk) → EndsAs now status.Disk
     failed rose = record {
       always = at.always;
       ends = record { given = given; bytes = bytes; fit = run.fit; drawn = has.drawn; read = has.read; right = has.right; exchanged = copied_none now given; written = at.wrote; part = part; why = rose };
@@ -347,7 +347,7 @@ module _ {D P S K C R : Type 0} (run : Begun D P S K C R) where
     full count pack why = record { always = far.at.always; ends = inl (stops (λ given bytes gone rest. StopsFull run.o m b now count pack rest) why) }
 
     -- a write failed as it went
-    pub not_written : m.streams ≡ true → Rose (sink.faults b.sink) (sink.faults now.sink) → EndsAs now status.WriteFault
+    pub not_written : m.streams ≡ true → FaultsRose (sink.faults b.sink) (sink.faults now.sink) → EndsAs now status.WriteFault
     not_written streams rose = record { always = far.at.always; ends = (rose, inr (streams, stops (λ given bytes gone rest. Unit {0}) tt)) }
 
     pub absent : (r : List ℕ) → m.Refuses given (disk.packs b.disk) bytes blobs (status.Absent r) → EndsAs now (status.Absent r)
@@ -385,8 +385,8 @@ module _ {D P S K C R : Type 0} (run : Begun D P S K C R) where
       }
 
       by : (end : Status) → Writes sink b.sink now.sink bytes end → EndsBy run.o m b now end
-      by status.Done w = finishes (Took (sink.written b.sink) (sink.written now.sink)) w
-      by status.WriteFault w = (w.0, inl (finishes (TookFront (sink.written b.sink) (sink.written now.sink)) w.1))
+      by status.Done w = finishes (SinkTook (sink.written b.sink) (sink.written now.sink)) w
+      by status.WriteFault w = (w.0, inl (finishes (SinkTookFront (sink.written b.sink) (sink.written now.sink)) w.1))
       by status.NoMemory w = absurd w
       by status.BadWords w = absurd w
       by status.HandFault w = absurd w
@@ -479,7 +479,7 @@ module _ {D P S K C R : Type 0} (run : Begun D P S K C R) where
       while_reading Why why = subst (λ i. WhileReading run.o m b here i Why) (sym reads) (early ((m.bad ≡ None) × Why most) (run.fit, why))
 
       by : (end : Status) → RefusesInput source most b.source s end → EndsBy run.o m b here end
-      by status.ReadFault w = while_reading (λ most. Rose (source.faults b.source) (source.faults s)) w
+      by status.ReadFault w = while_reading (λ most. FaultsRose (source.faults b.source) (source.faults s)) w
       by (status.BadInput (TooBig size)) w = read_too_much (subst (λ i. ReadsTooMuch run.o m b here i (TooBig size)) (sym reads)
           (early ((m.bad ≡ None) × IsTooLong run.o m b here (TooBig size) most) (run.fit, (size, sym (told size), w))))
       by status.NoMemory w = inl (early (Unit {0}) tt)

@@ -1,7 +1,7 @@
 -- When a command ends with all done, or for want of memory, and with nothing else (docs/commands.md).
 use Rattle.std.specs.Prelude.{◌≡◌, ◌⊎◌, ◌≤◌, ◌<◌, ℕ, false, List, ◌∷◌, ◌++◌, length, Option, None, Some}
 use Rattle.std.specs.FinMap.{entries}
-use Rattle.edge_base.specs.Edge.{Rose}
+use Rattle.edge_base.specs.Edge.{FaultsRose}
 use Rattle.edge_base.specs.Shelf.{Blob}
 use Rattle.pack_disk.specs.Packs.{Packs}
 use Rattle.pack_store.specs.Puts.{PutsAll, has_blob, target_on}
@@ -34,12 +34,12 @@ IsFitInput m (reads_later most) told = IsFit m most told
 module _ {D P S K C R : Type 0} (o : Outside D P S K C R) (old new : World D P S K C R) where
   -- no count of faults rose
   pub record IsCalm : Type 0 where
-    pub disk : Rose (o.disk.faults old.disk) (o.disk.faults new.disk) → ⊥
-    pub peer : Rose (o.peer.faults old.peer) (o.peer.faults new.peer) → ⊥
-    pub source : Rose (o.source.faults old.source) (o.source.faults new.source) → ⊥
-    pub sink : Rose (o.sink.faults old.sink) (o.sink.faults new.sink) → ⊥
-    pub clock : Rose (o.clock.faults old.clock) (o.clock.faults new.clock) → ⊥
-    pub dice : Rose (o.dice.faults old.dice) (o.dice.faults new.dice) → ⊥
+    pub disk : FaultsRose (o.disk.faults old.disk) (o.disk.faults new.disk) → ⊥
+    pub peer : FaultsRose (o.peer.faults old.peer) (o.peer.faults new.peer) → ⊥
+    pub source : FaultsRose (o.source.faults old.source) (o.source.faults new.source) → ⊥
+    pub sink : FaultsRose (o.sink.faults old.sink) (o.sink.faults new.sink) → ⊥
+    pub clock : FaultsRose (o.clock.faults old.clock) (o.clock.faults new.clock) → ⊥
+    pub dice : FaultsRose (o.dice.faults old.dice) (o.dice.faults new.dice) → ⊥
 
   -- the peer tells what it holds, and is never full
   pub record IsTold : Type 0 where

@@ -5,7 +5,7 @@ use Rattle.std.specs.FinMap.{entries}
 use Rattle.schema_date.specs.Dates.{IsInRange}
 use Rattle.schema_write.specs.Laws.{AreBytes}
 use Rattle.schema_date.specs.DateTexts.{IsDateText}
-use Rattle.edge_base.specs.Edge.{Rose, Gave, GaveAll, GaveFront, Took, TookFront}
+use Rattle.edge_base.specs.Edge.{FaultsRose, SourceGave, SourceGaveAll, SourceGaveFront, SinkTook, SinkTookFront}
 use Rattle.edge_base.specs.Shelf.{Blob, Blobs, Keeps}
 use Rattle.edge_base.specs.declared.edge.Source.{Ghosts as SourceGhosts}
 use Rattle.pack_disk.specs.Packs.{Packs}
@@ -105,11 +105,11 @@ IsQuiet m = (given : Given) → m.blobs given ≡ []
 
 -- all that the source had left, at most so many bytes
 abbrev pub GaveWhole : ℕ → Option (List ℕ) → Option (List ℕ) → List ℕ → Type 0
-GaveWhole most left left_now input = (length input ≤ most) × GaveAll left left_now input
+GaveWhole most left left_now input = (length input ≤ most) × SourceGaveAll left left_now input
 
 -- what the source had left, of which it gave a front
 abbrev pub GaveSome : Option (List ℕ) → Option (List ℕ) → List ℕ → Type 0
-GaveSome left left_now input = (front : List ℕ) × Gave left left_now front × ForSome left (λ all. input ≡ all)
+GaveSome left left_now input = (front : List ℕ) × SourceGave left left_now front × ForSome left (λ all. input ≡ all)
 
 -- the whole input
 abbrev pub ReadsAll : {S : Type 0} → SourceGhosts S → Input → S → S → List ℕ → Type 0
@@ -127,7 +127,7 @@ ReadsSome g (reads_later most) old new input = GaveSome (g.left old) (g.left new
 pub record IsTooBig (size most : ℕ) (left left_now : Option (List ℕ)) : Type 0 where
   pub told : size ≡ most + 1
   pub more : IfSome left (λ input. most < length input)
-  pub gave : GaveFront left left_now (most + 1)
+  pub gave : SourceGaveFront left left_now (most + 1)
 
 -- ---- the ends
 
@@ -195,7 +195,7 @@ module _ {D P S K C R : Type 0} (o : Outside D P S K C R) (m : Meaning) (old new
   pub record PushesSome : Type 0 where
     pub sent : List Blob
     pub stand : StandIn (option_map blobs_of told) sent
-    pub put : o.peer.puts old.peer sent new.peer ⊎ Rose (o.peer.faults old.peer) (o.peer.faults new.peer)
+    pub put : o.peer.puts old.peer sent new.peer ⊎ FaultsRose (o.peer.faults old.peer) (o.peer.faults new.peer)
     pub kept : Keeps (o.peer.content old.peer) (o.peer.content new.peer) sent
     pub front : WhereBothTell (λ here there. (rest : List Blob) × (lacking here there ≡ sent ++ rest))
 
@@ -250,7 +250,7 @@ module _ {D P S K C R : Type 0} (o : Outside D P S K C R) (m : Meaning) (old new
   -- what was written by the time of a refusal: exactly these bytes, and the sink is left alone where nothing is written before the end
   abbrev pub WritesSome : Bool → List ℕ → Type 0
   WritesSome false bytes = new.sink ≡ old.sink
-  WritesSome true bytes = Took (o.sink.written old.sink) (o.sink.written new.sink) bytes
+  WritesSome true bytes = SinkTook (o.sink.written old.sink) (o.sink.written new.sink) bytes
 
   -- it was refused later: what it reads first was read and isn't wrong
   pub record RefusedLate (Why : Given → List ℕ → Type 0) : Type 0 where
@@ -332,20 +332,20 @@ module _ {D P S K C R : Type 0} (o : Outside D P S K C R) (m : Meaning) (old new
     pub fit : m.bad ≡ None
     pub read : ReadsSome o.source m.input old.source new.source input
     pub right : m.wrong input ≡ None
-    pub rose : ((m.draws_time ≡ true) × Rose (o.clock.faults old.clock) (o.clock.faults new.clock))
-        ⊎ ((m.draws_random ≡ true) × Rose (o.dice.faults old.dice) (o.dice.faults new.dice))
+    pub rose : ((m.draws_time ≡ true) × FaultsRose (o.clock.faults old.clock) (o.clock.faults new.clock))
+        ⊎ ((m.draws_random ≡ true) × FaultsRose (o.dice.faults old.dice) (o.dice.faults new.dice))
 
   -- How it ends, by its status.
   abbrev pub EndsBy : Status → Type 0
-  EndsBy status.Done = Finishes (Took (o.sink.written old.sink) (o.sink.written new.sink))
-  EndsBy status.WriteFault = Rose (o.sink.faults old.sink) (o.sink.faults new.sink)
-      × (Finishes (TookFront (o.sink.written old.sink) (o.sink.written new.sink)) ⊎ ((m.streams ≡ true) × Stops (λ given bytes gone rest. Unit {0})))
+  EndsBy status.Done = Finishes (SinkTook (o.sink.written old.sink) (o.sink.written new.sink))
+  EndsBy status.WriteFault = FaultsRose (o.sink.faults old.sink) (o.sink.faults new.sink)
+      × (Finishes (SinkTookFront (o.sink.written old.sink) (o.sink.written new.sink)) ⊎ ((m.streams ≡ true) × Stops (λ given bytes gone rest. Unit {0})))
   EndsBy status.NoMemory = RefusedEarly (Unit {0}) ⊎ Stops (λ given bytes gone rest. Unit {0})
-  EndsBy status.ReadFault = WhileReading m.input (λ most. Rose (o.source.faults old.source) (o.source.faults new.source))
+  EndsBy status.ReadFault = WhileReading m.input (λ most. FaultsRose (o.source.faults old.source) (o.source.faults new.source))
   EndsBy (status.BadInput fault) = Unusable fault
   EndsBy status.HandFault = RefusedEarly WhileDrawing
-  EndsBy status.Disk = RefusedLate (λ given bytes. Rose (o.disk.faults old.disk) (o.disk.faults new.disk))
-  EndsBy status.Peer = WhileExchanging m.exchange (Rose (o.peer.faults old.peer) (o.peer.faults new.peer))
+  EndsBy status.Disk = RefusedLate (λ given bytes. FaultsRose (o.disk.faults old.disk) (o.disk.faults new.disk))
+  EndsBy status.Peer = WhileExchanging m.exchange (FaultsRose (o.peer.faults old.peer) (o.peer.faults new.peer))
   EndsBy (status.BadReply why) = WhileExchanging m.exchange (WhereUntold (PeerReplied why))
   EndsBy (status.Full blobs pack) = Stops (λ given bytes gone rest. StopsFull blobs pack rest) ⊎ WhilePushing m.exchange blobs pack
   EndsBy (status.Absent r) = Stops (λ given bytes gone rest. m.Refuses given told bytes gone (status.Absent r))

@@ -3,7 +3,7 @@ use Rattle.std.proofs.Common.{◌≡◌, inl, inr, ℕ, pos, ◌≤◌, Option, 
 use Rattle.std.proofs.lemmas.List.{get_or_append_left, length-append}
 use Rattle.std.specs.Option.{option_map}
 use Rattle.std.specs.FinMap.{get}
-use Rattle.edge_base.specs.Edge.{Rose, Took, TookFront}
+use Rattle.edge_base.specs.Edge.{FaultsRose, SinkTook, SinkTookFront}
 use Rattle.edge_base.specs.Shelf.{Blob, Blobs, Keeps}
 use Rattle.pack_disk.specs.Packs.{Packs}
 use Rattle.pack_disk.specs.Disk.{Tells}
@@ -43,7 +43,7 @@ pub holds : {D : Type 0} (g : DiskGhosts D) (old : D) (s : Archive D) → Stays 
 holds g old s opened stands tells =
     tells s (subst (λ l. Stands g l s) (sym stands.limited) stands) ∙ ap (option_map blobs_of) opened.told
 
-pub later_rose : (before between now : ℕ) → before ≤ between → Rose between now → Rose before now
+pub later_rose : (before between now : ℕ) → before ≤ between → FaultsRose between now → FaultsRose before now
 later_rose before between now le rose = omega (arith, le, rose)
 
 -- a disk whose store tells nothing tells nothing
@@ -139,8 +139,8 @@ module _ {D P S K C R : Type 0} (o : Outside D P S K C R) (old : World D P S K C
         }
 
         by : (end : Status) → Writes o.sink old.sink k (copied_line given.lacked given.had) end → EndsBy o m old (now_at d p k) end
-        by status.Done w = finishes (Took (o.sink.written old.sink) (o.sink.written k)) w
-        by status.WriteFault w = (w.0, inl (finishes (TookFront (o.sink.written old.sink) (o.sink.written k)) w.1))
+        by status.Done w = finishes (SinkTook (o.sink.written old.sink) (o.sink.written k)) w
+        by status.WriteFault w = (w.0, inl (finishes (SinkTookFront (o.sink.written old.sink) (o.sink.written k)) w.1))
         by status.NoMemory w = absurd w
         by status.BadWords w = absurd w
         by status.HandFault w = absurd w

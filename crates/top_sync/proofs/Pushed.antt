@@ -2,7 +2,7 @@
 use Rattle.std.proofs.Common.{◌≡◌, ◌⊎◌, inl, inr, ℕ, ◌≤◌, Option, Some, List, [], ◌∷◌, ◌++◌, refl, sym, ap, subst, ◌∙◌, arith, append_assoc}
 use Rattle.std.proofs.lemmas.List.{append-nil}
 use Rattle.std.specs.Option.{option_map}
-use Rattle.edge_base.specs.Edge.{Rose}
+use Rattle.edge_base.specs.Edge.{FaultsRose}
 use Rattle.edge_base.specs.Shelf.{Blob}
 use Rattle.pack_disk.specs.Packs.{Packs}
 use Rattle.pack_disk.specs.Runs.{Stays}
@@ -91,7 +91,7 @@ module _ {D P S K C R : Type 0} (o : Outside D P S K C R)
     -- ---- the sync stopped
 
     -- what was put is known but where the peer failed
-    known : (f : SyncFault) (w : IsStopped (peer_of o.disk) o.peer s0 s1 old.peer p1 f) → o.peer.puts old.peer w.gone p1 ⊎ Rose (o.peer.faults old.peer) (o.peer.faults p1)
+    known : (f : SyncFault) (w : IsStopped (peer_of o.disk) o.peer s0 s1 old.peer p1 f) → o.peer.puts old.peer w.gone p1 ⊎ FaultsRose (o.peer.faults old.peer) (o.peer.faults p1)
     known (sync.Target peer_fault.Failed) w = inr w.stopped.why.0
     known (sync.Target peer_fault.BadReply) w = inl w.stopped.put
     known (sync.Target (peer_fault.Refused number)) w = inl w.stopped.put

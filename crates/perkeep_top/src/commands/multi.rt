@@ -6,7 +6,6 @@ ghost use Rattle.perkeep_top.specs.Multi.{multi_meaning, ReadsChanges, RefusesCh
 ghost use Rattle.perkeep_top.specs.Notes.{keys_of};
 
 use crate::commands::claim::claim;
-use blobref::NoMemory;
 use claim_verify::{KeyName, Signer};
 use edge_base::{Clock, Dice, Sink, Source};
 use pack_disk::Disk;
@@ -56,8 +55,6 @@ fn read_changes<S: Source>(alloc: Global, source: &mut S) -> Result<ChangeList, 
         Ok(text) => text,
         Err(status) => return Err(told_too_long(status)),
     };
-    match change_list(alloc, &text) {
-        Ok(changes) => changes.ok_or(Status::BadInput(InputFault::BadChanges)),
-        Err(NoMemory) => Err(Status::NoMemory),
-    }
+    let changes = change_list(alloc, &text)?;
+    changes.ok_or(Status::BadInput(InputFault::BadChanges))
 }

@@ -2,7 +2,7 @@
 ghost use Rattle.std.specs.Prelude.{◌≡◌, ◌≤◌, IsSome, IfErr, OnOk, OnErr};
 ghost use Rattle.std.specs.Option.{ForSome};
 ghost use Rattle.std.specs.FinMap.{get};
-ghost use Rattle.edge_base.specs.Edge.{Rose};
+ghost use Rattle.edge_base.specs.Edge.{FaultsRose};
 ghost use Rattle.pack_disk.specs.Runs.{Stays};
 ghost use Rattle.top_frame.specs.Outside.{outside, world_before, world_after};
 ghost use Rattle.top_frame.specs.Frame.{Ends};
@@ -37,8 +37,8 @@ pub(crate) fn salvage<D: Disk, P: Peer, S: Source, K: Sink, C: Clock, R: Dice, V
 fn tell_packs<D: Disk, K: Sink>(alloc: Global, disk: &mut D, sink: &mut K) -> Result<(), Status>
     ensures done { OnOk result (Writes (IsReport (D.packs disk.old)) (K.written sink.old) (K.written sink.new)) }
     ensures part { OnErr result (WritesFront (IsReport (D.packs disk.old)) (K.written sink.old) (K.written sink.new)) }
-    ensures comes { IfErr result (ComesWhileTelling (Rose (K.faults sink.old) (K.faults sink.new))
-        (Rose (D.faults disk.old) (D.faults disk.new))) }
+    ensures comes { IfErr result (ComesWhileTelling (FaultsRose (K.faults sink.old) (K.faults sink.new))
+        (FaultsRose (D.faults disk.old) (D.faults disk.new))) }
     ensures stays { Stays D.Disk disk.old disk.new }
     ensures still { D.moment disk.new ≡ D.moment disk.old }
     ensures disk_later { D.faults disk.old ≤ D.faults disk.new }
@@ -72,8 +72,8 @@ fn tell_pack<D: Disk, K: Sink>(
         (K.written sink.new)) }
     ensures part { OnErr result (WritesFront (IsPackReport pack (D.packs disk.old)) (K.written sink.old)
         (K.written sink.new)) }
-    ensures comes { IfErr result (ComesWhileTelling (Rose (K.faults sink.old) (K.faults sink.new))
-        (Rose (D.faults disk.old) (D.faults disk.new))) }
+    ensures comes { IfErr result (ComesWhileTelling (FaultsRose (K.faults sink.old) (K.faults sink.new))
+        (FaultsRose (D.faults disk.old) (D.faults disk.new))) }
     ensures stays { Stays D.Disk disk.old disk.new }
     ensures still { D.moment disk.new ≡ D.moment disk.old }
     ensures disk_later { D.faults disk.old ≤ D.faults disk.new }

@@ -1,5 +1,5 @@
 use Rattle.std.proofs.Common.{arith, refl, sym, subst, ap}
-use Rattle.edge_base.specs.Edge.{Took}
+use Rattle.edge_base.specs.Edge.{SinkTook}
 use Rattle.http_wire.specs.Stream.{Flow}
 use Rattle.http_wire.specs.Wires.{WireView}
 use Rattle.blob_http.specs.Serving.{Serves, HasNone}
@@ -31,9 +31,9 @@ requests-init g c =
       tt,
       c.requires,
       ap (λ (u : WireView). u.body) is,
-      subst (λ (f : Flow). Serves tells v v notes (Open x x fresh_flow f) (Took w w) HasNone)
+      subst (λ (f : Flow). Serves tells v v notes (Open x x fresh_flow f) (SinkTook w w) HasNone)
           (sym (ap (λ (u : WireView). u.flow) is))
-          (serves_none tells v notes (Open x x fresh_flow fresh_flow) (Took w w)
+          (serves_none tells v notes (Open x x fresh_flow fresh_flow) (SinkTook w w)
           (notes_none g.L.AnswerLog.tells c.args.log.now) (open_none x) (took_none w)),
       omega arith,
       omega arith,

@@ -1,5 +1,5 @@
 use Rattle.std.proofs.Common.{◌≡◌, ◌≤◌}
-use Rattle.edge_base.specs.Edge.{Took}
+use Rattle.edge_base.specs.Edge.{SinkTook}
 use Rattle.http_wire.specs.declared.body.Body.TheVariants.{Done}
 use Rattle.blob_http.specs.Serving.{Serves, HasNone}
 use Rattle.http_exchange.specs.Notes.{Notes}
@@ -14,6 +14,6 @@ invariant-requests g l =
     × Serves (g.H.Home.tells l.home) (g.H.Home.sight l.fn.pass) (g.H.Home.sight l.pass)
     (Notes g.L.AnswerLog.tells l.fn.log l.log)
     (Open (g.S.Source.left l.fn.source) (g.S.Source.left l.source) fresh_flow l.wire.flow)
-    (Took (g.K.Sink.written l.fn.sink) (g.K.Sink.written l.sink)) HasNone
+    (SinkTook (g.K.Sink.written l.fn.sink) (g.K.Sink.written l.sink)) HasNone
     × (g.S.Source.faults l.fn.source ≤ g.S.Source.faults l.source)
     × (g.K.Sink.faults l.fn.sink ≤ g.K.Sink.faults l.sink)

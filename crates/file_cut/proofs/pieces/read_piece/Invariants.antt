@@ -1,5 +1,5 @@
 use Rattle.std.proofs.Common.{◌≤◌, ◌-◌, take, length}
-use Rattle.edge_base.specs.Edge.{Gave}
+use Rattle.edge_base.specs.Edge.{SourceGave}
 use Rattle.file_cut.proofs.pieces.read_piece.Given as goal
 
 -- what was taken from the source stands in front
@@ -7,7 +7,7 @@ abbrev pub invariant-pieces : goal.invariant-pieces
 invariant-pieces g l =
     let source = g.S.Source in
     record {
-      gave : Gave (source.left l.fn.source) (source.left l.source) (take l.at l.buf);
+      gave : SourceGave (source.left l.fn.source) (source.left l.source) (take l.at l.buf);
       within : l.at ≤ length l.buf;
       later : source.faults l.fn.source ≤ source.faults l.source;
     }

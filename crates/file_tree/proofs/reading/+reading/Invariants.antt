@@ -1,6 +1,6 @@
 use Rattle.std.proofs.Common.{◌≡◌, ◌≤◌, ◌+◌, ◌*◌, ℕ, List, drop}
 use Rattle.std.specs.Option.{ForSome}
-use Rattle.edge_base.specs.Edge.{Took}
+use Rattle.edge_base.specs.Edge.{SinkTook}
 use Rattle.file_tree.specs.Walk.{all_of, and_then, walk_parts, part_read}
 use Rattle.file_tree.specs.Reading.{TookSome, Rests}
 use Rattle.file_tree.proofs.reading.+reading.Given as goal
@@ -23,7 +23,7 @@ invariant-read_parts-loop-part g l =
     record {
       gave : ForSome (shelf.content l.fn.shelf) (λ held. (so_far : List ℕ)
           × (walk_parts (part_read held l.depth) l.parts l.from l.count ≡ and_then (all_of so_far) (walk_parts (part_read held l.depth) (drop l.part-index l.parts) l.at l.left))
-          × Took (sink.written l.fn.sink) (sink.written l.sink) so_far);
+          × SinkTook (sink.written l.fn.sink) (sink.written l.sink) so_far);
       some : TookSome (sink.written l.fn.sink) (sink.written l.sink);
       rests : Rests shelf l.fn.shelf l.shelf;
       later : sink.faults l.fn.sink ≤ sink.faults l.sink;

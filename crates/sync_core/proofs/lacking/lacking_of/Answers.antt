@@ -36,8 +36,8 @@ pub returns-then-reaches-clause-lacking : goal.returns-then-reaches-clause-lacki
 returns-then-reaches-clause-lacking g c = λ held told.
     let left = c.pages.invariant.left held told in
     let r = c.in-Some.r in
-    let now = c.in-Ok-others.refs.items in
-    let step = c.in-Ok-others.ensures ∙ (λ i. filter (lack (refs_of (c.as_slice-in-pages-2.ensures i))) (c.as_slice-in-pages.ensures.value i)) in
+    let now = c.in_ok-refs.refs.items in
+    let step = c.in_ok-refs.ensures ∙ (λ i. filter (lack (refs_of (c.as_slice-in-pages-2.ensures i))) (c.as_slice-in-pages.ensures.value i)) in
     let more = lacks_more left.0 1000 held c.pages.held r (refs_of c.args.page.now) c.pages.refs.items now left.1 (sym c.pages.invariant.ends ∙ c.in-Some.is) left.2 step in
     lacks_reached r c.args.last.now (option_copied c.args.after) 1000 held c.args.page.now now c.requires.page c.requires.last
     (not_true (is_lt (ref_cmp r c.args.last.now)) c.reaches.result c.if-reaches.true c.reaches.ensures) more
@@ -47,7 +47,7 @@ returns-then-reaches-clause-some g c =
     let some = c.pages.invariant.some in
     let page = c.as_slice-in-pages-2.result.now in (
       (λ (q : List ℕ). some.0 q && lack (refs_of page) q),
-      c.in-Ok-others.ensures ∙ ap (filter (lack (refs_of page))) (c.as_slice-in-pages.ensures.value ∙ some.1) ∙ filter_twice some.0 (lack (refs_of page)) (refs_of c.args.page.now),
+      c.in_ok-refs.ensures ∙ ap (filter (lack (refs_of page))) (c.as_slice-in-pages.ensures.value ∙ some.1) ∙ filter_twice some.0 (lack (refs_of page)) (refs_of c.args.page.now),
     )
 
 pub returns-in-Err-list-clause-answered : goal.returns-in-Err-list-clause-answered
@@ -65,17 +65,17 @@ pub pages-preserved : goal.pages-preserved
 pages-preserved g c =
     let some = c.pages.invariant.some in
     let page = c.as_slice-in-pages-2.result.now in
-    let now = c.in-Ok-others.refs.items in
+    let now = c.in_ok-refs.refs.items in
     record {
       ends = c.last_ref-end-in-pages.ensures.last ∙ ap last_ref c.as_slice-in-pages-3.ensures;
       sorted = c.in-Ok-list-2.ensures.page.rising;
       some = (
         (λ (q : List ℕ). some.0 q && lack (refs_of page) q),
-        c.in-Ok-others.ensures ∙ ap (filter (lack (refs_of page))) (c.as_slice-in-pages.ensures.value ∙ some.1) ∙ filter_twice some.0 (lack (refs_of page)) (refs_of c.args.page.now),
+        c.in_ok-refs.ensures ∙ ap (filter (lack (refs_of page))) (c.as_slice-in-pages.ensures.value ∙ some.1) ∙ filter_twice some.0 (lack (refs_of page)) (refs_of c.args.page.now),
       );
       left = λ held told.
           let left = c.pages.invariant.left held told in
-          let step = c.in-Ok-others.ensures ∙ (λ i. filter (lack (refs_of (c.as_slice-in-pages-2.ensures i))) (c.as_slice-in-pages.ensures.value i)) in (
+          let step = c.in_ok-refs.ensures ∙ (λ i. filter (lack (refs_of (c.as_slice-in-pages-2.ensures i))) (c.as_slice-in-pages.ensures.value i)) in (
             Some c.in-Some.r,
             c.in-Ok-list-2.ensures.found held (c.pages.invariant.told ∙ told),
             lacks_more left.0 1000 held c.pages.held c.in-Some.r (refs_of c.args.page.now) c.pages.refs.items now left.1 (sym c.pages.invariant.ends ∙ c.in-Some.is) left.2 step,

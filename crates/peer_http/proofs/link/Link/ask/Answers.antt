@@ -1,5 +1,5 @@
 use Rattle.std.proofs.Common.{◌≤◌, subst}
-use Rattle.edge_base.specs.Edge.{Rose}
+use Rattle.edge_base.specs.Edge.{FaultsRose}
 use Rattle.peer_http.specs.Links.{LinkView, Asks, both}
 use Rattle.peer_http.proofs.link.Link.ask.Goals as goal
 
@@ -9,7 +9,7 @@ returns-clause-asks g c =
 
 pub returns-clause-fault : goal.returns-clause-fault
 returns-clause-fault g c is =
-    subst (λ (l : LinkView g.row.S.Denot g.row.K.Denot). Rose (both (g.S.Source.faults l.source) (g.K.Sink.faults l.sink)) (both (g.S.Source.faults c.exchange.new.source) (g.K.Sink.faults c.exchange.new.sink))) c.self.view_is (c.exchange.ensures.fault is)
+    subst (λ (l : LinkView g.row.S.Denot g.row.K.Denot). FaultsRose (both (g.S.Source.faults l.source) (g.K.Sink.faults l.sink)) (both (g.S.Source.faults c.exchange.new.source) (g.K.Sink.faults c.exchange.new.sink))) c.self.view_is (c.exchange.ensures.fault is)
 
 pub returns-clause-later : goal.returns-clause-later
 returns-clause-later g c =

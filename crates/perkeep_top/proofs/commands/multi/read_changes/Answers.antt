@@ -3,10 +3,10 @@ use Rattle.schema_json.specs.Facts.{change_list_in}
 use Rattle.perkeep_top.proofs.Multi.{listed_in, unlisted_in}
 use Rattle.perkeep_top.proofs.commands.multi.read_changes.Goals as goal
 
-pub returns-in-Ok-change_list-clause-read : goal.returns-in-Ok-change_list-clause-read
-returns-in-Ok-change_list-clause-read g c =
-    rw c.ok_or.ensures.value (listed_in g.S.Source c.args.source.now c.read_input.new.source c.in-Ok.text.items c.in-Ok.ensures.read c.in-Ok-change_list.changes (c.in-Ok-change_list.ensures.value ∙ ap change_list_in c.deref.ensures.value))
+pub returns-clause-read : goal.returns-clause-read
+returns-clause-read g c =
+    rw c.ok_or.ensures.value (listed_in g.S.Source c.args.source.now c.read_input.new.source c.in-Ok.text.items c.in-Ok.ensures.read c.in_ok-changes.changes (c.in_ok-changes.ensures.value ∙ ap change_list_in c.deref.ensures.value))
 
-pub returns-in-Ok-change_list-clause-refused : goal.returns-in-Ok-change_list-clause-refused
-returns-in-Ok-change_list-clause-refused g c =
-    rw c.ok_or.ensures.value (unlisted_in g.S.Source c.args.source.now c.read_input.new.source c.in-Ok.text.items c.in-Ok.ensures.read c.in-Ok-change_list.changes (c.in-Ok-change_list.ensures.value ∙ ap change_list_in c.deref.ensures.value))
+pub returns-clause-refused : goal.returns-clause-refused
+returns-clause-refused g c =
+    rw c.ok_or.ensures.value (unlisted_in g.S.Source c.args.source.now c.read_input.new.source c.in-Ok.text.items c.in-Ok.ensures.read c.in_ok-changes.changes (c.in_ok-changes.ensures.value ∙ ap change_list_in c.deref.ensures.value))
