@@ -52,6 +52,16 @@ impl Patience {
         Patience::Message(Progress::none())
     }
 
+    /// Whether the next call is to be timed by a clock. Where nothing has come so far its wait counts in whole pauses, so
+    /// that a client that never waits costs no look at the clock.
+    pub(crate) fn needs_clock(&self) -> bool {
+        match self {
+            Patience::FirstHead { .. } => true,
+            Patience::Idle { .. } => false,
+            Patience::Message(progress) => progress.needs_clock(),
+        }
+    }
+
     /// After a call that waited so long and in which so many bytes came; None where it is over.
     pub(crate) fn after(self, took: Duration, came: usize) -> Option<Patience> {
         match self {
@@ -83,6 +93,12 @@ impl Progress {
             waited: Duration::from_secs(0),
             bytes: 0,
         }
+    }
+
+    /// Whether the next call is to be timed by a clock: where bytes have gone by since it began anew. Before that its wait
+    /// counts in whole pauses.
+    pub(crate) fn needs_clock(&self) -> bool {
+        self.bytes > 0
     }
 
     /// After a call that waited so long and in which so many bytes went by; None where it is over. It begins anew with

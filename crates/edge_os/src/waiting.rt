@@ -31,16 +31,15 @@ pub(crate) fn hear(
 {
     let mut socket = stream;
     for _ in 0..TRIES {
-        let begun = Instant::now(rt)?;
+        let begun = clock(rt, patience.needs_clock())?;
         let done = socket.read(buf);
-        let took = begun.elapsed(rt)?;
         let came = match &done {
             Ok(0) => return done,
             Ok(n) => *n,
             Err(error) if error.kind() == ErrorKind::WouldBlock => 0,
             Err(_) => return done,
         };
-        let Some(next) = patience.after(took, came) else {
+        let Some(next) = patience.after(took(rt, begun, done.is_err())?, came) else {
             return Err(io::Error::from(ErrorKind::TimedOut));
         };
         *patience = next;
@@ -62,15 +61,14 @@ pub(crate) fn tell(
 {
     let mut socket = stream;
     for _ in 0..TRIES {
-        let begun = Instant::now(rt)?;
+        let begun = clock(rt, progress.needs_clock())?;
         let done = socket.write(bytes);
-        let took = begun.elapsed(rt)?;
         let went = match &done {
             Ok(n) => *n,
             Err(error) if error.kind() == ErrorKind::WouldBlock => 0,
             Err(_) => return done,
         };
-        let Some(next) = progress.after(took, went) else {
+        let Some(next) = progress.after(took(rt, begun, done.is_err())?, went) else {
             return Err(io::Error::from(ErrorKind::TimedOut));
         };
         *progress = next;
@@ -79,4 +77,22 @@ pub(crate) fn tell(
         }
     }
     Err(io::Error::from(ErrorKind::TimedOut))
+}
+
+// When a call begins, where that has to be known.
+fn clock(rt: &HostRuntime, is_needed: bool) -> io::Result<Option<Instant>> {
+    if is_needed {
+        Ok(Some(Instant::now(rt)?))
+    } else {
+        Ok(None)
+    }
+}
+
+// For how long a call waited. Where the clock wasn't read before it, that is a pause where the call gave up, and else none.
+fn took(rt: &HostRuntime, begun: Option<Instant>, gave_up: bool) -> io::Result<Duration> {
+    match begun {
+        Some(begun) => begun.elapsed(rt),
+        None if gave_up => Ok(Duration::from_secs(PAUSE)),
+        None => Ok(Duration::from_secs(0)),
+    }
 }
