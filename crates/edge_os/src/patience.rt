@@ -52,12 +52,12 @@ impl Patience {
         Patience::Message(Progress::none())
     }
 
-    /// Whether the next call is to be timed by a clock. Where nothing has come so far its wait counts in whole pauses, so
-    /// that a client that never waits costs no look at the clock.
+    /// Whether the next call is to be timed by a clock. Where nothing was waited for so far it counts as a whole pause, or
+    /// as no wait, so that a client that is never waited for costs no look at the clock.
     pub(crate) fn needs_clock(&self) -> bool {
         match self {
             Patience::FirstHead { .. } => true,
-            Patience::Idle { .. } => false,
+            Patience::Idle { waited, .. } => !waited.is_zero(),
             Patience::Message(progress) => progress.needs_clock(),
         }
     }
@@ -95,10 +95,9 @@ impl Progress {
         }
     }
 
-    /// Whether the next call is to be timed by a clock: where bytes have gone by since it began anew. Before that its wait
-    /// counts in whole pauses.
+    /// Whether the next call is to be timed by a clock: all but the first since it began anew.
     pub(crate) fn needs_clock(&self) -> bool {
-        self.bytes > 0
+        self.bytes > 0 || !self.waited.is_zero()
     }
 
     /// After a call that waited so long and in which so many bytes went by; None where it is over. It begins anew with
