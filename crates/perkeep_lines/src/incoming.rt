@@ -15,12 +15,10 @@ use salvage_scan::{Found, Scanner};
 use std::alloc::Global;
 use std::collections::BTreeSet;
 
-// The most bytes that one read asks for.
-const PIECE: usize = 65_536;
-
 /// The facts of the blobs that are salvaged from the bytes that a source has left, at most so many, each ref once: the
 /// first finding of a ref counts, and later ones are passed over (`docs/formats/packs.md`, `docs/formats/schema.md`).
-/// The bytes are read in pieces. Beside the facts it takes memory for one record and one piece.
+/// The bytes are read in pieces, of up to 4 MiB where records of some length follow one another, so that several are hashed
+/// together. Beside the facts it takes memory for one record and two pieces.
 ///
 /// `TooLong` comes only where more than `limit` bytes were left, and where that is so `Ok` never comes; the source
 /// has then given `limit + 1` bytes, and is read no further. `ReadFault` comes only where the source's count of
@@ -40,13 +38,12 @@ pub fn source_facts<S: Source>(
     ensures later { S.faults source.old ≤ S.faults source.new }
 {
     let mut incoming = nothing(alloc)?;
-    let mut space = zeros(alloc, PIECE)?;
-    let buf = space.as_mut_slice();
+    let mut space = Vec::new(alloc);
     let mut at = 0;
     'reads: loop {
-        // One byte more than may still come, so that a longer source is seen.
-        let room = (limit - at).min(PIECE - 1) + 1;
-        let piece = &mut buf[..room];
+        let room = next_room(&incoming.scanner, limit - at);
+        widen(&mut space, room)?;
+        let piece = &mut space.as_mut_slice()[..room];
         let n = source.read(piece)?;
         if n == 0 {
             return finish(alloc, incoming);
@@ -59,12 +56,22 @@ pub fn source_facts<S: Source>(
     }
 }
 
-// So many zero bytes.
-fn zeros(alloc: Global, len: usize) -> Result<Vec<u8>, NoMemory>
-    ensures { IfOk result (λ bytes. length bytes.items ≡ len) }
+// How many bytes the next read asks for: at most one byte more than may still come, so that a longer source is seen.
+fn next_room(scanner: &Scanner, left: usize) -> usize
+    ensures some { 0 < result }
+    ensures within { result ≤ left + 1 }
 {
-    let bytes = vec![in alloc; 0; len]?;
-    Ok(bytes)
+    left.min(scanner.room() - 1) + 1
+}
+
+// Makes space for so many bytes, where it has fewer.
+fn widen(space: &mut Vec<u8>, len: usize) -> Result<(), NoMemory>
+    ensures { OnOk result (len ≤ length space.new.items) }
+{
+    if space.len() < len {
+        space.resize(len, 0)?;
+    }
+    Ok(())
 }
 
 // What was taken up of the bytes so far.

@@ -9,7 +9,7 @@ pub returns-then-n-eq0-clause-facts : goal.returns-then-n-eq0-clause-facts
 returns-then-n-eq0-clause-facts g c =
     IfOk-weaker c.finish.result _ _
     (λ facts all. gave_facts c.args.limit _ _ _ c.reads.at _ _ _ facts c.reads.invariant.came c.reads.invariant.short (rw c.if-n-eq0.true at c.in_ok-n.ensures.bytes)
-    (c.in_ok-n.ensures.end c.if-n-eq0.true (rw length-take (omega arith))) all)
+    (c.in_ok-n.ensures.end c.if-n-eq0.true (rw length-take (omega (arith, c.in_ok-widen.ensures, c.next_room-room.ensures.some)))) all)
     c.finish.ensures.facts
 
 pub returns-then-n-eq0-clause-distinct : goal.returns-then-n-eq0-clause-distinct
@@ -27,7 +27,7 @@ returns-then-n-limit-clause-long g c = λ _.
 pub returns-then-n-limit-clause-one_past : goal.returns-then-n-limit-clause-one_past
 returns-then-n-limit-clause-one_past g c = λ _.
     came_one_past _ _ _ _ c.args.limit c.in_ok-n.n c.read.new.buf _ _ _ c.reads.invariant.came c.in_ok-n.ensures.bytes (omega (arith, c.in_ok-n.ensures.bound, c.read.auto.buf))
-    (omega (arith, c.in_ok-n.ensures.bound, length-take (c.min-room.result + 1) c.reads.buf, c.if-n-limit.true, c.reads.invariant.short, c.min-room.ensures))
+    (omega (arith, c.in_ok-n.ensures.bound, length-take c.next_room-room.result c.as_mut_slice.result.now, c.if-n-limit.true, c.reads.invariant.short, c.next_room-room.ensures.within))
 
 pub reads-preserved : goal.reads-preserved
 reads-preserved g c = record {
