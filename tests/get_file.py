@@ -6,6 +6,7 @@ random files it is the reference's alone. Each command must leave the folder as 
 
 import hashlib
 import subprocess
+from typing import Callable, NamedTuple
 
 import harness
 import inputs
@@ -16,6 +17,7 @@ from reference import older_ref_of, ref_of
 from refused_alike import bad_folders, bad_keyrings, bad_packs, ends_first, leaves, locked, refused_lines
 from stores import ABC, EMPTY, NOWHERE, Store, look
 from store_refusals import BAD_REFS
+from tracing import READS, WRITES, need_strace, places, trace
 from writing import Names, bytes_blob, directory, file_blob, pack, part, permanode, static_set
 
 DIGITS = b"0123456789"
@@ -419,6 +421,58 @@ def reads_front(store, what, top, front):
     compare(what, "the folder", before, look(store.path))
 
 
+# Blobs that are read ahead
+
+class Asked(NamedTuple):
+    """A file whose blobs have one length, how many of them are read before the first byte is written, how often they are
+    read in all, and the exit status."""
+
+    what: str
+    blobs: list
+    parts: list
+    ahead: int
+    reads: int
+    status: int = 0
+    name_of: Callable = ref_of
+
+    def check(self, program):
+        top, length = file_blob("n", self.parts), f", {len(self.blobs[0])}, "
+        store = Store(program, {0: pack(*self.blobs, top, name_of=self.name_of)})
+        out, status = reference.read_file(store.blobs(), self.name_of(top))
+        ended, written, _, calls = trace(program, store.words("get-file", self.name_of(top)))
+        compare(self.what, "status and bytes", (self.status, status, True), (status, ended, out == written))
+        reads = [place for place in places(calls, READS) if length in calls[place].words]
+        first = places(calls, WRITES, file=1)[0]
+        compare(self.what, "blobs that are read ahead", self.ahead, sum(place < first for place in reads))
+        compare(self.what, "blobs that are read", self.reads, len(reads))
+
+
+def reading_ahead(program):
+    """No blob is read more often than it is asked, and up to 64 of 4 MiB together before the first is written."""
+    need_strace(program)
+    random = chance("reading ahead")
+    small, (large, *more), (huge, *others) = (
+        [random.randbytes(length) for _ in range(count)] for length, count in ((3_000, 100), (1 << 20, 6), (3 << 20, 2))
+    )
+    a, b, c, d, *_ = whole = [part(3_000, ref_of(blob)) for blob in small]
+    tree, row = bytes_blob([b, c]), bytes_blob(whole[:10])
+    asked = [
+        Asked("ten blobs", small, whole[:10], 10, 10),
+        Asked("a hundred blobs", small, whole, 64, 100),
+        Asked("a blob ten times", small, [a] * 10, 10, 10),
+        Asked("zeros between", small, [a, part(5), b, c], 1, 3),
+        Asked("a part of no bytes between", small, [a, part(0, ref_of(small[1])), c, d], 1, 3),
+        Asked("a tree between", [*small, tree], [a, tree_part(tree, 6_000), d], 1, 4),
+        Asked("a window of a tree", [*small, row], [tree_part(row, 7_500, 4_500), d], 3, 4),
+        Asked("an absent blob", small, [a, b, part(1, NOWHERE), d], 2, 2, 3),
+        Asked("older names", small, [part(3_000, older_ref_of(blob)) for blob in small[:4]], 1, 4, name_of=older_ref_of),
+    ]
+    for what, blobs, ahead in [("of 1 MiB", [large, *more], 4), ("of 3 MiB", [huge, *others], 1)]:
+        parts = [part(len(blob), ref_of(blob)) for blob in blobs]
+        asked.append(Asked(f"blobs {what}", blobs, parts, ahead, len(blobs)))
+    return [lambda one=one: one.check(program) for one in asked]
+
+
 # Refusals
 
 def words(program):
@@ -516,7 +570,7 @@ def reads_no_source(program):
 
 
 GROUPS = [parts, forms, trees, older, depth, absent, unasked, short, no_files, random_files, words, texts, keyrings]
-GROUPS += [folders]
+GROUPS += [folders, reading_ahead]
 
 if __name__ == "__main__":
     harness.main("get_file.sh", GROUPS, [long_files, streams])

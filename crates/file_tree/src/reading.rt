@@ -9,6 +9,7 @@ ghost use Rattle.file_tree.specs.Reading.{GivesSome, TookSome, Gives, IsCaused, 
 
 use crate::fault::FileFault;
 use crate::opening::{open_blob, open_file, open_tree, total_size};
+use crate::part_shelf::PartShelf;
 use crate::zeros::{write_zeros, zeros};
 use blobref::Ref;
 use edge_base::{Failed, Shelf, Sink, write_all};
@@ -29,7 +30,7 @@ const DEEPEST: u32 = 63;
 ///
 /// It holds one blob at a time, the part lists of the trees in which it is, at most 64 of them, and for a run of zeros
 /// 65,536 bytes.
-pub fn read_file<B: Shelf, K: Sink>(
+pub fn read_file<B: PartShelf, K: Sink>(
     alloc: Global,
     r: &Ref,
     shelf: &mut B,
@@ -50,7 +51,7 @@ pub fn read_file<B: Shelf, K: Sink>(
 
 // So many bytes of the parts from a place on.
 #[cycle(reading)]
-fn read_parts<B: Shelf, K: Sink>(
+fn read_parts<B: PartShelf, K: Sink>(
     alloc: Global,
     shelf: &mut B,
     sink: &mut K,
@@ -70,7 +71,8 @@ fn read_parts<B: Shelf, K: Sink>(
 {
     let mut at = from;
     let mut left = count;
-    for part in parts {
+    for (i, part) in parts.iter().enumerate() {
+        shelf.look_ahead(&parts[i..], at, left);
         let here = left.min(part.size.saturating_sub(at));
         read_asked(alloc, shelf, sink, part, at, here, depth)?;
         at = at.saturating_sub(part.size);
@@ -81,7 +83,7 @@ fn read_parts<B: Shelf, K: Sink>(
 
 // So many bytes of a part from a place on, which is not looked at where they are none.
 #[cycle(reading)]
-fn read_asked<B: Shelf, K: Sink>(
+fn read_asked<B: PartShelf, K: Sink>(
     alloc: Global,
     shelf: &mut B,
     sink: &mut K,
@@ -107,7 +109,7 @@ fn read_asked<B: Shelf, K: Sink>(
 }
 
 #[cycle(reading)]
-fn read_part<B: Shelf, K: Sink>(
+fn read_part<B: PartShelf, K: Sink>(
     alloc: Global,
     shelf: &mut B,
     sink: &mut K,

@@ -27,9 +27,18 @@ use Rattle.perkeep_top.proofs.Sizes.{none_within}
 module _ {D P S K C R : Type 0} (o : Outside D P S K C R)
     (counts_now : (d : D) (t : ℕ) (c : Packs) → t ≤ o.disk.moment d → o.disk.images d c → o.disk.images_since d t c)
     (only_now : (d : D) (c : Packs) → o.disk.images_since d (o.disk.moment d) c → o.disk.images d c)
-    (r : List ℕ) (b : World D P S K C R) (old new : Archive D) (k : K)
-    (opened : Stays o.disk b.disk old.disk) (opened_later : o.disk.faults b.disk ≤ o.disk.faults old.disk) (stands : Stands o.disk limits old) (tells : ContentStands o.disk)
+    (r : List ℕ) (b : World D P S K C R) (store old new : Archive D) (k : K) (same : old ≡ store)
+    (store_opened : Stays o.disk b.disk store.disk) (store_later : o.disk.faults b.disk ≤ o.disk.faults store.disk) (store_stands : Stands o.disk limits store) (tells : ContentStands o.disk)
     (nothing : PutsBlobs o.disk old.limits old [] new) (later : o.disk.faults old.disk ≤ o.disk.faults new.disk) (sink_later : o.sink.faults b.sink ≤ o.sink.faults k) where
+  opened : Stays o.disk b.disk old.disk
+  opened = subst (λ (s : Archive D). Stays o.disk b.disk s.disk) (sym same) store_opened
+
+  opened_later : o.disk.faults b.disk ≤ o.disk.faults old.disk
+  opened_later = subst (λ (s : Archive D). o.disk.faults b.disk ≤ o.disk.faults s.disk) (sym same) store_later
+
+  stands : Stands o.disk limits old
+  stands = subst (Stands o.disk limits) (sym same) store_stands
+
   abbrev run : Begun D P S K C R
   run = record { o = o; counts_now = counts_now; only_now = only_now; m = get_file_meaning r; fit = refl; alone = refl; b = b }
 

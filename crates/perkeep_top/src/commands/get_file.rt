@@ -9,6 +9,7 @@ use file_tree::read_file;
 use pack_disk::Disk;
 use pack_store::content_stands;
 use peer_base::Peer;
+use read_ahead::ReadAhead;
 use std::alloc::Global;
 use top_frame::{Environment, Status, opened};
 
@@ -24,13 +25,14 @@ pub(crate) fn get_file<D: Disk, P: Peer, S: Source, K: Sink, C: Clock, R: Dice, 
         (world_before disk environment.entry)
         (world_after result.0 environment.exit) result.1 }
 {
-    let mut store = match opened(alloc, disk) {
+    let store = match opened(alloc, disk) {
         Ok(store) => store,
         Err(end) => return end,
     };
     content_stands::<D>();
-    match read_file(alloc, r, &mut store, environment.sink) {
-        Ok(_) => (store.give_back(), Status::Done),
-        Err(fault) => (store.give_back(), Status::from(fault)),
+    let mut shelf = ReadAhead::over(alloc, store);
+    match read_file(alloc, r, &mut shelf, environment.sink) {
+        Ok(_) => (shelf.back().give_back(), Status::Done),
+        Err(fault) => (shelf.back().give_back(), Status::from(fault)),
     }
 }

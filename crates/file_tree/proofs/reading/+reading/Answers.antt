@@ -63,39 +63,39 @@ read_parts-returns-in_err-read_asked-clause-gives g t c = λ held told.
     let p = err_from_is_err_and c.from_residual.result c.from_residual.ensures.1 in
     let f = part_read held c.args.depth in
     let parts = c.args.parts.now in
-    let i = c.loop-part.part-index in
-    let part = c.part-item.result in
+    let i = c.loop-i.i in
+    let part = c.index-parts-i.result in
     let a = g.K.Sink.written c.args.sink.now in
-    let b = g.K.Sink.written c.loop-part.sink in
+    let b = g.K.Sink.written c.loop-i.sink in
     let d = g.K.Sink.written c.read_asked.new.sink in
-    let gave = c.loop-part.invariant.gave held told in
-    let left_parts : drop i parts ≡ part ∷ drop (i + 1) parts = drop_more parts i part c.loop-part-test.true ∙ ap (λ (x : Part). x ∷ drop (i + 1) parts) (sym c.part-item.is) in
-    let here : c.min-here.result ≡ min c.loop-part.left (part.size - c.loop-part.at) = grind (arith, c.min-here.ensures, c.saturating_sub.ensures) in
-    let next = walk-next f (drop i parts) (drop (i + 1) parts) part c.loop-part.at c.loop-part.left c.min-here.result left_parts here in
-    rw (p.1, p.2) (gives_after gave.0 _ _ _ a b d (gave.1 ∙ ap (and_then (all_of gave.0)) next) gave.2 (gives_first _ _ _ b d (c.in_err-read_asked.ensures.gives held (c.loop-part.invariant.rests.told ∙ told))))
+    let gave = c.loop-i.invariant.gave held told in
+    let left_parts : drop i parts ≡ part ∷ drop (i + 1) parts = drop_more parts i part c.loop-i-test.true ∙ ap (λ (x : Part). x ∷ drop (i + 1) parts) (sym c.index-parts-i.is) in
+    let here : c.min-here.result ≡ min c.loop-i.left (part.size - c.loop-i.at) = grind (arith, c.min-here.ensures, c.saturating_sub.ensures) in
+    let next = walk-next f (drop i parts) (drop (i + 1) parts) part c.loop-i.at c.loop-i.left c.min-here.result left_parts here in
+    rw (p.1, p.2) (gives_after gave.0 _ _ _ a b d (gave.1 ∙ ap (and_then (all_of gave.0)) next) gave.2 (gives_first _ _ _ b d (c.in_err-read_asked.ensures.gives held (c.look_ahead.ensures.told ∙ c.loop-i.invariant.rests.told ∙ told))))
 
-pub read_parts-loop-part-preserved : goal.read_parts-loop-part-preserved
-read_parts-loop-part-preserved g t c =
+pub read_parts-loop-i-preserved : goal.read_parts-loop-i-preserved
+read_parts-loop-i-preserved g t c =
     let shelf = g.B.Shelf in
     let sink = g.K.Sink in
     record {
       gave = λ held told.
           let f = part_read held c.args.depth in
           let parts = c.args.parts.now in
-          let i = c.loop-part.part-index in
-          let part = c.part-item.result in
-          let gave = c.loop-part.invariant.gave held told in
-          let left_parts : drop i parts ≡ part ∷ drop (i + 1) parts = drop_more parts i part c.loop-part-test.true ∙ ap (λ (x : Part). x ∷ drop (i + 1) parts) (sym c.part-item.is) in
-          let here : c.min-here.result ≡ min c.loop-part.left (part.size - c.loop-part.at) = grind (arith, c.min-here.ensures, c.saturating_sub.ensures) in
-          let at_is : c.loop-part.at - part.size ≡ c.saturating_sub-at.result = grind (arith, c.saturating_sub-at.ensures) in
-          let next = walk-next f (drop i parts) (drop (i + 1) parts) part c.loop-part.at c.loop-part.left c.min-here.result left_parts here in
-          let x = if_asked c.min-here.result (f part c.loop-part.at) in
-          let more : ℕ → Read = λ (at : ℕ). walk_parts f (drop (i + 1) parts) at (c.loop-part.left - c.min-here.result) in
-          let on = gives_on gave.0 x (more (c.loop-part.at - part.size)) _ _ (sink.written c.args.sink.now) (sink.written c.loop-part.sink) (sink.written c.read_asked.new.sink)
-          (gave.1 ∙ ap (and_then (all_of gave.0)) next) gave.2 (c.in_ok-read_asked.ensures.gives held (c.loop-part.invariant.rests.told ∙ told)) in
+          let i = c.loop-i.i in
+          let part = c.index-parts-i.result in
+          let gave = c.loop-i.invariant.gave held told in
+          let left_parts : drop i parts ≡ part ∷ drop (i + 1) parts = drop_more parts i part c.loop-i-test.true ∙ ap (λ (x : Part). x ∷ drop (i + 1) parts) (sym c.index-parts-i.is) in
+          let here : c.min-here.result ≡ min c.loop-i.left (part.size - c.loop-i.at) = grind (arith, c.min-here.ensures, c.saturating_sub.ensures) in
+          let at_is : c.loop-i.at - part.size ≡ c.saturating_sub-at.result = grind (arith, c.saturating_sub-at.ensures) in
+          let next = walk-next f (drop i parts) (drop (i + 1) parts) part c.loop-i.at c.loop-i.left c.min-here.result left_parts here in
+          let x = if_asked c.min-here.result (f part c.loop-i.at) in
+          let more : ℕ → Read = λ (at : ℕ). walk_parts f (drop (i + 1) parts) at (c.loop-i.left - c.min-here.result) in
+          let on = gives_on gave.0 x (more (c.loop-i.at - part.size)) _ _ (sink.written c.args.sink.now) (sink.written c.loop-i.sink) (sink.written c.read_asked.new.sink)
+          (gave.1 ∙ ap (and_then (all_of gave.0)) next) gave.2 (c.in_ok-read_asked.ensures.gives held (c.look_ahead.ensures.told ∙ c.loop-i.invariant.rests.told ∙ told)) in
           (gave.0 ++ x.bytes, on.0 ∙ ap (λ (at : ℕ). and_then (all_of (gave.0 ++ x.bytes)) (more at)) at_is, on.1);
-      some = took_then (sink.written c.args.sink.now) (sink.written c.loop-part.sink) (sink.written c.read_asked.new.sink) c.loop-part.invariant.some c.in_ok-read_asked.ensures.some;
-      rests = rests_then shelf g.met.B.Shelf.puts_then _ _ _ c.loop-part.invariant.rests c.in_ok-read_asked.ensures.rests;
+      some = took_then (sink.written c.args.sink.now) (sink.written c.loop-i.sink) (sink.written c.read_asked.new.sink) c.loop-i.invariant.some c.in_ok-read_asked.ensures.some;
+      rests = rests_then shelf g.met.B.Shelf.puts_then _ _ _ (rests_then shelf g.met.B.Shelf.puts_then _ _ _ c.loop-i.invariant.rests c.look_ahead.ensures) c.in_ok-read_asked.ensures.rests;
       later = omega (arith, c.in_ok-read_asked.ensures.later);
     }
 
@@ -113,8 +113,8 @@ read_part-returns-in-Zeros-clause-some g t c =
 
 pub read_parts-returns-in_err-read_asked-clause-some : goal.read_parts-returns-in_err-read_asked-clause-some
 read_parts-returns-in_err-read_asked-clause-some g t c =
-    took_then (g.K.Sink.written c.args.sink.now) (g.K.Sink.written c.loop-part.sink) (g.K.Sink.written c.read_asked.new.sink)
-    c.loop-part.invariant.some c.in_err-read_asked.ensures.some
+    took_then (g.K.Sink.written c.args.sink.now) (g.K.Sink.written c.loop-i.sink) (g.K.Sink.written c.read_asked.new.sink)
+    c.loop-i.invariant.some c.in_err-read_asked.ensures.some
 
 -- ---- what is left of the shelf
 
@@ -122,3 +122,8 @@ pub read_part-returns-in_ok-parts-in-Tree-clause-rests : goal.read_part-returns-
 read_part-returns-in_ok-parts-in-Tree-clause-rests g t c =
     let shelf = g.B.Shelf in
     rests_then shelf g.met.B.Shelf.puts_then _ _ _ c.in_ok-parts-in-Tree.ensures.rests c.read_parts.ensures.rests
+
+pub read_parts-returns-in_err-read_asked-clause-rests : goal.read_parts-returns-in_err-read_asked-clause-rests
+read_parts-returns-in_err-read_asked-clause-rests g t c =
+    let shelf = g.B.Shelf in
+    rests_then shelf g.met.B.Shelf.puts_then _ _ _ (rests_then shelf g.met.B.Shelf.puts_then _ _ _ c.loop-i.invariant.rests c.look_ahead.ensures) c.in_err-read_asked.ensures.rests

@@ -16,13 +16,13 @@ abbrev pub decreases-read_part : goal.decreases-read_part
 decreases-read_part g l = 3 * l.depth
 
 -- what was written, and what is left to read, are the whole
-abbrev pub invariant-read_parts-loop-part : goal.invariant-read_parts-loop-part
-invariant-read_parts-loop-part g l =
+abbrev pub invariant-read_parts-loop-i : goal.invariant-read_parts-loop-i
+invariant-read_parts-loop-i g l =
     let shelf = g.B.Shelf in
     let sink = g.K.Sink in
     record {
       gave : ForSome (shelf.content l.fn.shelf) (λ held. (so_far : List ℕ)
-          × (walk_parts (part_read held l.depth) l.parts l.from l.count ≡ and_then (all_of so_far) (walk_parts (part_read held l.depth) (drop l.part-index l.parts) l.at l.left))
+          × (walk_parts (part_read held l.depth) l.parts l.from l.count ≡ and_then (all_of so_far) (walk_parts (part_read held l.depth) (drop l.i l.parts) l.at l.left))
           × SinkTook (sink.written l.fn.sink) (sink.written l.sink) so_far);
       some : TookSome (sink.written l.fn.sink) (sink.written l.sink);
       rests : Rests shelf l.fn.shelf l.shelf;

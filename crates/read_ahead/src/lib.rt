@@ -1,0 +1,8 @@
+//! A store whose blobs are read and checked several at a time.
+#![tactic(auto)]
+
+mod checking;
+mod next;
+mod read_ahead;
+
+pub use read_ahead::ReadAhead;
