@@ -49,7 +49,9 @@ class Copies:
             shutil.rmtree(folder)
 
     def copy(self, command, folder, server):
-        line = [self.bench.program.path, command, str(folder), f"{HOST}:{server.port}"]
+        # A child of this one would be told to have had this one's memory, which holds all blobs.
+        peak = self.bench.program.new_path()
+        line = ["/usr/bin/time", "-f", "%M", "-o", str(peak), self.bench.program.path, command, str(folder), f"{HOST}:{server.port}"]
         start = time.monotonic()
         process = subprocess.Popen(line, stdin=subprocess.DEVNULL, stdout=subprocess.PIPE)
         out = process.stdout.read()
@@ -58,7 +60,7 @@ class Copies:
         process.returncode = os.waitstatus_to_exitcode(status)
         if process.returncode != 0 or out != b"copied %d already 0\n" % len(self.blobs):
             sys.exit(f"{command}: status {process.returncode}, {out}")
-        self.peaks[command] = max(self.peaks[command], usage.ru_maxrss * 1_024)
+        self.peaks[command] = max(self.peaks[command], int(peak.read_text().split()[-1]) * 1_024)
         return Seconds(usage.ru_utime + usage.ru_stime, seconds)
 
 
