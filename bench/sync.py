@@ -95,6 +95,41 @@ class Files:
         return Seconds(0, seconds)
 
 
+class Snapshot:
+    """The same files in a repository of restic, and copies of it to new ones."""
+
+    PASSWORD = {"RESTIC_PASSWORD": "bench", "RESTIC_FROM_PASSWORD": "bench"}
+
+    def __init__(self, bench, files):
+        self.bench, self.repository = bench, bench.program.new_path()
+        self.run(self.repository, "init")
+        self.run(self.repository, "backup", files.folder)
+
+    def copy(self):
+        copy = self.bench.program.new_path()
+        source = ["--from-repo", self.repository]
+        self.run(copy, "init", *source, "--copy-chunker-params")
+        start = time.monotonic()
+        self.run(copy, "copy", *source)
+        seconds = time.monotonic() - start
+        shutil.rmtree(copy)
+        return Seconds(0, seconds)
+
+    def run(self, repository, *words):
+        line = ["restic", "--no-cache", "--quiet", "--repo", repository, *words]
+        subprocess.run(line, check=True, env={**os.environ, **self.PASSWORD})
+
+
+def copiers(bench, blobs):
+    """Programs of others that copy as many files, those that are there."""
+    files, found = Files(bench, blobs), {}
+    if knows_fsync():
+        found["of rsync --fsync"] = files.copy
+    if shutil.which("restic"):
+        found["of restic copy"] = Snapshot(bench, files).copy
+    return found
+
+
 # Tables
 
 def small(bench):
@@ -106,22 +141,21 @@ def small(bench):
         lambda: bench.fresh(requests)[0],
         lambda: plainly(bench, blobs, requests),
     ]
-    if knows_fsync():
-        others.append(Files(bench, blobs).copy)
-    heading("small blobs", "a second", "of append, sync", "of uploads", "of a plain server", "of rsync --fsync", "peak MiB")
-    push, pull, *its = best(copies.push, copies.pull, *others)
+    found = copiers(bench, blobs)
+    heading("small blobs", "a second", "of append, sync", "of uploads", "of a plain server", *found, "peak MiB")
+    push, pull, *its = best(copies.push, copies.pull, *others, *found.values())
     for command, own in (("push", push), ("pull", pull)):
-        beside = [ratio(one.wall, own.wall) for one in its] + [""] * (4 - len(its))
+        beside = [ratio(one.wall, own.wall) for one in its]
         row(f"{command} of {BLOBS:,}", f"{BLOBS / own.wall:,.0f}", *beside, f"{copies.peaks[command] / MIB:.1f}")
-    if len(its) < 4:
-        print("rsync is left out, as it isn't there, or doesn't know --fsync")
+    if len(found) < 2:
+        print("rsync, unless it knows --fsync, and restic are left out where they aren't there")
 
 
 def large(bench):
     """MiB a second, and those of the others."""
     blobs = large_blobs()
     copies, requests = Copies(bench, blobs), [upload([blob]) for blob in blobs]
-    heading(f"{LARGE_BLOBS} blobs of 1 MiB", "MiB a second", "of append, sync", "of uploads", "of a plain server", "", "peak MiB")
+    heading(f"{LARGE_BLOBS} blobs of 1 MiB", "MiB a second", "of append, sync", "of uploads", "of a plain server", "peak MiB")
     push, pull, *its = best(
         copies.push,
         copies.pull,
@@ -131,7 +165,7 @@ def large(bench):
     )
     for command, own in (("push", push), ("pull", pull)):
         beside = [ratio(one.wall, own.wall) for one in its]
-        row(command, f"{LARGE_BLOBS / own.wall:,.0f}", *beside, "", f"{copies.peaks[command] / MIB:.1f}")
+        row(command, f"{LARGE_BLOBS / own.wall:,.0f}", *beside, f"{copies.peaks[command] / MIB:.1f}")
 
 
 def main(program, http_load, append_sync, plain_put, folder):

@@ -2,8 +2,8 @@
 # Times `push` and `pull` of 10,000 small blobs and of 64 blobs of 1 MiB between a folder and a server on the same machine:
 # beside a C loop that appends and syncs as much, beside uploads of the same blobs by a client that has made its requests
 # before, to the same server and to a C server that only digests, appends and syncs; and small ones beside `rsync --fsync`
-# of as many files, which is left out where rsync isn't there, or doesn't know that option. Needs g++, and openssl with
-# its headers.
+# and `restic copy` of as many files, which are left out where they aren't there, or rsync doesn't know that option. Needs
+# g++, openssl with its headers, and /usr/bin/time.
 #
 # Prints paces, ratios within this run and peak memory. Ends with status 1 where not all was copied. BENCH_BLOBS is another
 # number of small blobs, to try the script.
