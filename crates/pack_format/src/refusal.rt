@@ -4,6 +4,7 @@ ghost use Rattle.blobref.specs.Blobref.{IsOwnRef};
 ghost use Rattle.pack_format.specs.Refusing.{put_refused};
 
 use crate::sizes::MAX_SIZE;
+use blob_checks::ref_like;
 use blobref::Ref;
 use edge_base::PutFault;
 
@@ -18,7 +19,7 @@ pub fn put_refusal(said: &Ref, bytes: &[u8]) -> Option<PutFault>
     if size > MAX_SIZE {
         return Some(PutFault::TooBig { size });
     }
-    let is = said.like(bytes);
+    let is = ref_like(said, bytes);
     if is != *said {
         return Some(PutFault::BadDigest { said: *said, is });
     }

@@ -11,6 +11,7 @@ ghost use Rattle.pack_store.specs.Finding.{IsFound, checked, bytes_found, arriva
 
 use crate::rows::Row;
 use crate::store::Store;
+use blob_checks::ref_like;
 use blobref::{Octets, Ref};
 use edge_base::GetFault;
 use pack_disk::Disk;
@@ -30,7 +31,7 @@ impl Found {
     pub fn checked(self) -> Result<(Ref, Octets), GetFault>
         ensures { result ≡ checked self }
     {
-        let is = self.r.like(self.bytes.as_slice());
+        let is = ref_like(&self.r, self.bytes.as_slice());
         if is == self.r {
             Ok((self.r, self.bytes))
         } else {

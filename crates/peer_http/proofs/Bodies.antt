@@ -12,7 +12,7 @@ use Rattle.http_wire.specs.Bodies.{BodyRun, Moves}
 use Rattle.http_wire.specs.Wires.{WireView, to_come, BodyEnds}
 use Rattle.http_wire.proofs.Leading.{Moves-chain}
 use Rattle.peer_http.specs.declared.gathering.ReplyFault.{ReplyFault}
-use Rattle.peer_http.specs.Replies.{fault_of, GatherSays, Gathers, GoesToEnd}
+use Rattle.peer_http.specs.Replies.{fault_of, GatherSpec, Gathers, GoesToEnd}
 
 none_left : (xs ys : List ℕ) → [] ≡ xs ++ ys → xs ≡ []
 none_left [] ys e = refl
@@ -25,19 +25,19 @@ none_right (x ∷ xs) ys e = absurd (cc e)
 -- what was given before, and then
 pub gathered : (most : ℕ) (p q r : Option (List ℕ)) (u v w : WireView) (all given : List ℕ) (result : Result (List ℕ) ReplyFault)
     → Moves p q u.flow v.flow u.body v.body all → v.begun ≡ u.begun → Moves q r v.flow w.flow v.body w.body given
-    → GatherSays most (to_come w r) u.body w.body v.begun (all ++ given) result → Gathers most p r u w result
+    → GatherSpec most (to_come w r) u.body w.body v.begun (all ++ given) result → Gathers most p r u w result
 gathered most p q r u v w all given result before begun then says = record {
   given = all ++ given;
   moved = Moves-chain p q r u.flow v.flow w.flow u.body v.body w.body all given before then;
-  says = subst (λ (n : ℕ). GatherSays most (to_come w r) u.body w.body n (all ++ given) result) begun says;
+  says = subst (λ (n : ℕ). GatherSpec most (to_come w r) u.body w.body n (all ++ given) result) begun says;
 }
 
 -- why no more of it was given
 pub cut_short : (most : ℕ) (x : Option (List ℕ)) (from at : Body) (place : ℕ) (given : List ℕ) (end : WireEnd) (why : ReplyFault) → why ≡ fault_of end
-    → BodyEnds x at place end → GatherSays most x from at place given (Err why)
-cut_short most x from at place given end why is h = subst (λ (f : ReplyFault). GatherSays most x from at place given (Err f)) (sym is) (by end h)
+    → BodyEnds x at place end → GatherSpec most x from at place given (Err why)
+cut_short most x from at place given end why is h = subst (λ (f : ReplyFault). GatherSpec most x from at place given (Err f)) (sym is) (by end h)
   where
-    by : (end : WireEnd) → BodyEnds x at place end → GatherSays most x from at place given (Err (fault_of end))
+    by : (end : WireEnd) → BodyEnds x at place end → GatherSpec most x from at place given (Err (fault_of end))
     by ends.Closed h = absurd h
     by (ends.Cut n) h = inr (ends.Cut n, (λ same. absurd (cc same)), h)
     by (ends.BadHead n) h = absurd h

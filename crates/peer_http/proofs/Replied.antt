@@ -8,7 +8,7 @@ use Rattle.http_wire.specs.declared.ends.WireEnd.TheVariants as ends
 use Rattle.http_wire.specs.declared.head.ReplyHead.{ReplyHead}
 use Rattle.http_wire.specs.Stream.{Passed}
 use Rattle.http_wire.specs.Heads.{IsHeadText}
-use Rattle.http_wire.specs.ReplyHeads.{ReplySays}
+use Rattle.http_wire.specs.ReplyHeads.{ReplySpec}
 use Rattle.http_wire.specs.Bodies.{RestOf, BodyRun}
 use Rattle.http_wire.specs.Wires.{WireView, to_come, body_of, ReplyEnds}
 use Rattle.http_wire.proofs.Passing.{Passed-chain}
@@ -31,7 +31,7 @@ no_head most before now old new end why is h passed = subst (λ (f : ReplyFault)
 
 -- a head, and then the whole body
 pub replied : (most : ℕ) (before mid now : Option (List ℕ)) (old v w : WireView) (says : ReplyHead) (bytes : List ℕ)
-    → Passed before mid old.flow v.flow v.head → IsHeadText v.head → ReplySays v.head (Ok says) → v.body ≡ body_of says.framing
+    → Passed before mid old.flow v.flow v.head → IsHeadText v.head → ReplySpec v.head (Ok says) → v.body ≡ body_of says.framing
     → Gathers most mid now v w (Ok bytes) → Reads most before now old w (Ok (record { status = says.status; body = bytes }))
 replied most before mid now old v w says bytes passed is_head reads framing g =
     let text = g.moved.0 in
@@ -52,7 +52,7 @@ replied most before mid now old v w says bytes passed is_head reads framing g =
 
 -- a head, and then no whole body
 pub no_body : (most : ℕ) (before mid now : Option (List ℕ)) (old v w : WireView) (says : ReplyHead) (why : ReplyFault)
-    → Passed before mid old.flow v.flow v.head → IsHeadText v.head → ReplySays v.head (Ok says) → v.body ≡ body_of says.framing → v.begun ≡ old.flow.taken
+    → Passed before mid old.flow v.flow v.head → IsHeadText v.head → ReplySpec v.head (Ok says) → v.body ≡ body_of says.framing → v.begun ≡ old.flow.taken
     → Gathers most mid now v w (Err why) → Reads most before now old w (Err why)
 no_body most before mid now old v w says Failed passed is_head reads framing begun g = tt
 no_body most before mid now old v w says NoMemory passed is_head reads framing begun g = tt

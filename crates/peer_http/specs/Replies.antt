@@ -7,7 +7,7 @@ use Rattle.http_wire.specs.declared.ends.WireEnd.TheVariants as ends
 use Rattle.http_wire.specs.declared.head.ReplyHead.{ReplyHead}
 use Rattle.http_wire.specs.Stream.{Passed, AtEnd}
 use Rattle.http_wire.specs.Heads.{IsHeadText}
-use Rattle.http_wire.specs.ReplyHeads.{ReplySays}
+use Rattle.http_wire.specs.ReplyHeads.{ReplySpec}
 use Rattle.http_wire.specs.Bodies.{RestOf, BodyRun, Moves}
 use Rattle.http_wire.specs.Wires.{WireView, to_come, body_of, ReplyEnds, BodyEnds}
 use Rattle.peer_http.specs.declared.replies.Reply.{Reply}
@@ -26,7 +26,7 @@ pub record IsReply (most : ℕ) (before now : Option (List ℕ)) (old new : Wire
   pub text : List ℕ
   pub passed : Passed before now old.flow new.flow (head ++ text)
   pub is_head : IsHeadText head
-  pub reads : ReplySays head (Ok says)
+  pub reads : ReplySpec head (Ok says)
   pub status : reply.status ≡ says.status
   pub framed : RestOf (body_of says.framing) text reply.body
   pub few : length reply.body ≤ most
@@ -51,7 +51,7 @@ pub record HasNoBody (most : ℕ) (before now : Option (List ℕ)) (old new : Wi
   pub given : List ℕ
   pub passed : Passed before now old.flow new.flow (head ++ text)
   pub is_head : IsHeadText head
-  pub reads : ReplySays head (Ok says)
+  pub reads : ReplySpec head (Ok says)
   pub leads : BodyRun (body_of says.framing) new.body text given
   pub why : IsCutShort most (to_come new now) new.body old.flow.taken given
 
@@ -69,16 +69,16 @@ Reads most before now old new (Err NoMemory) = Unit {0}
 -- ---- as a body is read
 
 -- what was given of a body: all of it, or why not; of one that goes to the end nothing is left then
-abbrev pub GatherSays : ℕ → Option (List ℕ) → (from at : Body) → ℕ → List ℕ → Result (List ℕ) ReplyFault → Type 0
-GatherSays most left from at place given (Ok bytes) = (given ≡ bytes) × (length bytes ≤ most) × (at ≡ body.Done) × (from ≡ body.ToEnd → AtEnd left)
-GatherSays most left from at place given (Err Bad) = IsCutShort most left at place given
-GatherSays most left from at place given (Err Failed) = Unit {0}
-GatherSays most left from at place given (Err NoMemory) = Unit {0}
+abbrev pub GatherSpec : ℕ → Option (List ℕ) → (from at : Body) → ℕ → List ℕ → Result (List ℕ) ReplyFault → Type 0
+GatherSpec most left from at place given (Ok bytes) = (given ≡ bytes) × (length bytes ≤ most) × (at ≡ body.Done) × (from ≡ body.ToEnd → AtEnd left)
+GatherSpec most left from at place given (Err Bad) = IsCutShort most left at place given
+GatherSpec most left from at place given (Err Failed) = Unit {0}
+GatherSpec most left from at place given (Err NoMemory) = Unit {0}
 
 pub record Gathers (most : ℕ) (before now : Option (List ℕ)) (old new : WireView) (result : Result (List ℕ) ReplyFault) : Type 0 where
   pub given : List ℕ
   pub moved : Moves before now old.flow new.flow old.body new.body given
-  pub says : GatherSays most (to_come new now) old.body new.body old.begun given result
+  pub says : GatherSpec most (to_come new now) old.body new.body old.begun given result
 
 -- a body that goes to the end still does, or has ended there
 abbrev pub GoesToEnd : Option (List ℕ) → (from at : Body) → Type 0

@@ -9,6 +9,7 @@ ghost use Rattle.peer_http.specs.Answers.{IsAnswer, is_page, page_answer, list_a
 
 use crate::replies::Reply;
 use answer_text::{AnswerFault, read_page, read_received};
+use blob_checks::ref_like;
 use blobref::{Listing, Octets, Ref};
 use peer_base::PeerFault;
 use std::alloc::Global;
@@ -98,7 +99,7 @@ fn blob_answer(r: &Ref, bytes: Octets) -> Result<Option<Octets>, PeerFault>
     ensures named { IfOk result (λ found. IfSome found (λ bytes. IsOwnRef r.now bytes)) }
     ensures bytes { IfOk result (λ found. IfSome found (λ same. same ≡ bytes)) }
 {
-    let is = r.like(bytes.as_slice());
+    let is = ref_like(r, bytes.as_slice());
     if is != *r {
         return Err(PeerFault::Damaged { want: *r, is });
     }

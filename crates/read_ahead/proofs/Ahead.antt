@@ -6,7 +6,8 @@ use Rattle.std.specs.List.{All}
 use Rattle.std.specs.List.Sorted.{IsPermutation}
 use Rattle.blobref.proofs.Digests.{IsOwnRef-named}
 use Rattle.edge_base.specs.Shelf.{Blob, Blobs}
-use Rattle.read_ahead.specs.Ahead.{StandsUnder, IsHeld, IsNamed}
+use Rattle.blob_checks.specs.Checks.{IsNamed}
+use Rattle.read_ahead.specs.Ahead.{StandsUnder, IsHeld}
 
 -- those whose refs were found to be their own, in another order
 pub kept_ahead : (told now : Option Blobs) (blobs seen cut slice kept : List Blob) (n : ℕ) → now ≡ told → seen ≡ blobs → cut ≡ take n blobs → slice ≡ cut

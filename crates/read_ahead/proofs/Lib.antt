@@ -1,2 +1,1 @@
-pub mod Hashed
 pub mod Ahead

@@ -1,8 +1,8 @@
 -- Blobs that are read ahead of what asks for them (docs/files.md).
-use Rattle.std.specs.Prelude.{◌≡◌, ℕ, List, [], map, Option, Some, slice_index_or}
+use Rattle.std.specs.Prelude.{◌≡◌, Option, Some}
 use Rattle.std.specs.Option.{ForSome}
 use Rattle.std.specs.FinMap.{get}
-use Rattle.blobref.specs.Blobref.{IsOwnRef, ref_of}
+use Rattle.blobref.specs.Blobref.{IsOwnRef}
 use Rattle.edge_base.specs.Shelf.{Blob, Blobs}
 
 -- where it is told what is held, these bytes stand under the ref
@@ -13,13 +13,3 @@ StandsUnder told blob = ForSome told (λ held. Some blob.1 ≡ get held blob.0)
 pub record IsHeld (told : Option Blobs) (blob : Blob) : Type 0 where
   pub own : IsOwnRef blob.0 blob.1
   pub stands : StandsUnder told blob
-
--- ---- blobs that are checked together
-
--- the bytes of the blob at a place, and none past the last
-abbrev pub bytes_at : List Blob → ℕ → List ℕ
-bytes_at blobs i = slice_index_or (map (λ (b : Blob). b.1) blobs) i []
-
--- the ref is the one that a new blob of these bytes has
-abbrev pub IsNamed : Blob → Type 0
-IsNamed blob = blob.0 ≡ ref_of blob.1

@@ -1,7 +1,6 @@
 //! A store whose blobs are read and checked several at a time.
 #![tactic(auto)]
 
-mod checking;
 mod next;
 mod read_ahead;
 

@@ -4,18 +4,12 @@ ghost use Rattle.pack_store.specs.Reading.{StaysStill};
 ghost use Rattle.pack_store.specs.StoreShelf.{content_of};
 ghost use Rattle.read_ahead.specs.Ahead.{StandsUnder};
 
-use crate::checking::TOGETHER;
+use blob_checks::{BYTES, COUNT, has_lanes};
 use blobref::{NoMemory, Octets, Ref, RefList};
 use pack_disk::Disk;
 use pack_store::Store;
 use schema_fact::{Origin, Part};
 use std::alloc::Global;
-
-// The most bytes that are read ahead.
-const BYTES: u64 = 4_194_304;
-
-// What the refs begin with whose blobs are checked together. The others' are checked one by one.
-const NAME: &[u8] = b"sha224-";
 
 /// The blobs that are asked next where so many bytes of these parts are, from a place on: those of the first parts, up
 /// to one that is none, or of which nothing is asked.
@@ -28,7 +22,7 @@ pub(crate) fn next_refs(
     let mut refs = RefList::empty(alloc);
     let mut at = from;
     let mut left = count;
-    for part in &parts[..parts.len().min(TOGETHER)] {
+    for part in &parts[..parts.len().min(COUNT)] {
         let here = left.min(part.size.saturating_sub(at));
         let Some(r) = asked_blob(part, here) else {
             break;
@@ -90,7 +84,7 @@ fn read_blob<D: Disk>(store: &mut Store<D>, r: &Ref, room: u64) -> Option<Octets
 
 fn fits<D: Disk>(store: &Store<D>, r: &Ref, room: u64) -> bool {
     match store.stat(r) {
-        Some(size) => size <= room && r.spell().as_slice().starts_with(NAME),
+        Some(size) => size <= room && has_lanes(r),
         None => false,
     }
 }

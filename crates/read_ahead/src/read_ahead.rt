@@ -6,8 +6,8 @@ ghost use Rattle.pack_store.specs.StoreShelf.{content_of, PutsStore};
 ghost use Rattle.pack_store.specs.RunLaws.{store_puts_nothing, store_puts_then, store_follows_then};
 ghost use Rattle.read_ahead.specs.Ahead.{IsHeld};
 
-use crate::checking::own_count;
 use crate::next::{next_refs, read_blobs};
+use blob_checks::own_count;
 use blobref::{Octets, Ref};
 use edge_base::{GetFault, Put, PutFault, Shelf};
 use file_tree::PartShelf;

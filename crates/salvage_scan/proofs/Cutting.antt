@@ -9,7 +9,7 @@ use Rattle.salvage_scan.specs.declared.found.Clean.TheVariants as clean
 use Rattle.salvage_scan.specs.declared.found.Found.{Found}
 use Rattle.salvage_scan.specs.Salvage.{Finding, salvage_past, broken_past}
 use Rattle.salvage_scan.specs.Scan.{place_of, joined}
-use Rattle.salvage_scan.specs.Pieces.{is_open, Leads, Waits, Scanning, fresh, fed, still_found, still_clean, Holds, Tells, Ends, LiesNear, Keeps, IsKept, kept_finding, Cuttings}
+use Rattle.salvage_scan.specs.Pieces.{is_open, ScanRun, Waits, Scanning, fresh, fed, still_found, still_clean, Holds, Tells, Ends, LiesNear, Keeps, IsKept, kept_finding, Cuttings}
 use Rattle.salvage_scan.proofs.Open.{open-short}
 use Rattle.salvage_scan.proofs.Telling.{told_whole}
 use Rattle.salvage_scan.proofs.Slices.{LiesAt, lie_past}
@@ -26,7 +26,7 @@ holds_more old new piece used within at_is held_is front holds =
       last = held_is ∙ ap (drop used) all ∙ drop-drop used old.at (front ++ piece) ∙ ap (λ n. drop n (front ++ piece)) (sym at_is);
     }
 
-pub tells : (old new : Scanning) (piece : List ℕ) (told : List Found) → Leads false old.at old.clean (old.held ++ piece) told new.at new.clean new.held → Keeps old piece new → Tells old piece told new
+pub tells : (old new : Scanning) (piece : List ℕ) (told : List Found) → ScanRun false old.at old.clean (old.held ++ piece) told new.at new.clean new.held → Keeps old piece new → Tells old piece told new
 tells old new piece told leads keeps = record {
   found = leads.found;
   shown = leads.shown;
@@ -35,7 +35,7 @@ tells old new piece told leads keeps = record {
   holds = holds_more old new piece keeps.used (omega (arith, keeps.within, ap length keeps.kept_is)) (omega (arith, keeps.at_is, keeps.from_is)) (keeps.held_is ∙ ap (drop keeps.used) keeps.kept_is);
 }
 
-pub tells_end : (s : Scanning) (told : List Found) (now : Clean) (onward : ℕ) (rest : List ℕ) → Leads true s.at s.clean (s.held ++ []) told onward now rest → Waits true rest → Ends s (told, now)
+pub tells_end : (s : Scanning) (told : List Found) (now : Clean) (onward : ℕ) (rest : List ℕ) → ScanRun true s.at s.clean (s.held ++ []) told onward now rest → Waits true rest → Ends s (told, now)
 tells_end s told now onward rest leads none = told_whole s.at s.clean now (s.held ++ []) told onward rest leads none
 
 -- what two clauses say of an answer makes a third

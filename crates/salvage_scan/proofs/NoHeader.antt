@@ -15,7 +15,7 @@ use Rattle.salvage_scan.specs.declared.found.Found.{Found}
 use Rattle.salvage_scan.specs.declared.scanning.FrontAt.TheVariants as shows
 use Rattle.salvage_scan.specs.Salvage.{front, front_by}
 use Rattle.salvage_scan.specs.Scan.{joined, shown}
-use Rattle.salvage_scan.specs.Pieces.{is_open, seen, wanted, Leads}
+use Rattle.salvage_scan.specs.Pieces.{is_open, seen, wanted, ScanRun}
 use Rattle.salvage_scan.specs.JunkRuns.{IsJunkTo, may_begin}
 use Rattle.salvage_scan.proofs.Telling.{junk_step, tells_nothing}
 
@@ -92,22 +92,22 @@ stays_broken (clean.No p) at q = refl
 
 -- a run of junk tells nothing, where a place was broken before it
 junks : (n : ℕ) (last : Bool) (place : ℕ) (c d : Clean) (x : List ℕ) (at : ℕ) (told : List Found) → ((q : ℕ) → joined d (Some q) ≡ d) → at + n ≤ length x
-    → ((k : ℕ) → at ≤ k → k < at + n → shows.Junk ≡ seen last (drop k x)) → Leads last place c x told (place + at) d (drop at x)
-    → Leads last place c x told (place + (at + n)) d (drop (at + n) x)
+    → ((k : ℕ) → at ≤ k → k < at + n → shows.Junk ≡ seen last (drop k x)) → ScanRun last place c x told (place + at) d (drop at x)
+    → ScanRun last place c x told (place + (at + n)) d (drop (at + n) x)
 junks zero last place c d x at told broken within each leads =
     let e : at ≡ at + 0 = omega arith in
-    subst (λ k. Leads last place c x told (place + k) d (drop k x)) e leads
+    subst (λ k. ScanRun last place c x told (place + k) d (drop k x)) e leads
 junks (suc n) last place c d x at told broken within each leads =
     let step = junk_step last place x at (omega (arith, within)) (each at (omega arith) (omega arith)) in
-    let one : Leads last place c x told (place + (at + 1)) d (drop (at + 1) x) =
-    subst (λ e. Leads last place c x told (place + (at + 1)) e (drop (at + 1) x)) (broken (place + at)) (tells_nothing last place x at 1 _ c d told step leads) in
+    let one : ScanRun last place c x told (place + (at + 1)) d (drop (at + 1) x) =
+    subst (λ e. ScanRun last place c x told (place + (at + 1)) e (drop (at + 1) x)) (broken (place + at)) (tells_nothing last place x at 1 _ c d told step leads) in
     let e : at + 1 + n ≡ at + suc n = omega arith in
-    subst (λ k. Leads last place c x told (place + k) d (drop k x)) e
+    subst (λ k. ScanRun last place c x told (place + k) d (drop k x)) e
     (junks n last place c d x (at + 1) told broken (omega (arith, within)) (λ k from before. each k (omega (arith, from)) (omega (arith, before))) one)
 
 pub run_told : (last : Bool) (place : ℕ) (c d : Clean) (x : List ℕ) (at onward : ℕ) (told : List Found) → ((q : ℕ) → joined d (Some q) ≡ d) → IsJunkTo x at onward
-    → Leads last place c x told (place + at) d (drop at x) → Leads last place c x told (place + onward) d (drop onward x)
+    → ScanRun last place c x told (place + at) d (drop at x) → ScanRun last place c x told (place + onward) d (drop onward x)
 run_told last place c d x at onward told broken run leads =
     let e : at + (onward - at) ≡ onward = omega (arith, run.after) in
-    subst (λ k. Leads last place c x told (place + k) d (drop k x)) e
+    subst (λ k. ScanRun last place c x told (place + k) d (drop k x)) e
     (junks (onward - at) last place c d x at told broken (omega (arith, run.after, run.within)) (λ k from before. run.junk last k from (omega (arith, before, run.after))) leads)

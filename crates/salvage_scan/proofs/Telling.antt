@@ -9,7 +9,7 @@ use Rattle.salvage_scan.specs.declared.found.Found.{Found}
 use Rattle.salvage_scan.specs.declared.scanning.FrontAt.{FrontAt}
 use Rattle.salvage_scan.specs.declared.scanning.FrontAt.TheVariants as shows
 use Rattle.salvage_scan.specs.Scan.{place_of, joined, shown}
-use Rattle.salvage_scan.specs.Pieces.{is_open, wanted, seen, MayFollow, Waits, Leads}
+use Rattle.salvage_scan.specs.Pieces.{is_open, wanted, seen, MayFollow, Waits, ScanRun}
 use Rattle.salvage_scan.proofs.Fronts.{width-front}
 use Rattle.salvage_scan.proofs.Cuts.{salvage_past-front, broken_past-front, nothing-found, nothing-broken}
 use Rattle.salvage_scan.proofs.Open.{IsSettled, front_settles, nothing-open}
@@ -75,8 +75,8 @@ joined-any : (c : Clean) (later o : Option ℕ) (at : ℕ) → o ≡ Some at →
 joined-any clean.Yes later o at e = ap (joined clean.Yes) (sym e)
 joined-any (clean.No p) later o at e = refl
 
-pub Leads-start : (last : Bool) (place : ℕ) (c : Clean) (x : List ℕ) → Leads last place c x [] (place + 0) c (drop 0 x)
-Leads-start last place c x =
+pub ScanRun-start : (last : Bool) (place : ℕ) (c : Clean) (x : List ℕ) → ScanRun last place c x [] (place + 0) c (drop 0 x)
+ScanRun-start last place c x =
     let e : place ≡ place + 0 = omega arith in
     record {
       found = [];
@@ -86,9 +86,9 @@ Leads-start last place c x =
     }
 
 -- the clean fronts
-passes : (last : Bool) (place : ℕ) (c d : Clean) (x : List ℕ) (at : ℕ) (told now : List Found) (f : Front) → Leads last place c x told (place + at) d (drop at x)
+passes : (last : Bool) (place : ℕ) (c d : Clean) (x : List ℕ) (at : ℕ) (told now : List Found) (f : Front) → ScanRun last place c x told (place + at) d (drop at x)
     → Turn last place x at f → is_junk f ≡ false → now ≡ told ++ map place_of (found (place + at) f)
-    → Leads last place c x now (place + (at + width f)) d (drop (at + width f) x)
+    → ScanRun last place c x now (place + (at + width f)) d (drop (at + width f) x)
 passes last place c d x at told now f leads t kept now_is = record {
   found = leads.found ++ found (place + at) f;
   shown = now_is ∙ ap (λ l. l ++ map place_of (found (place + at) f)) leads.shown ∙ sym (map-append place_of leads.found (found (place + at) f));
@@ -96,9 +96,9 @@ passes last place c d x at told now f leads t kept now_is = record {
   breaks = λ more may. leads.breaks more may ∙ ap (joined d) (t.clean more may kept);
 }
 
-junks : (last : Bool) (place : ℕ) (c d e : Clean) (x : List ℕ) (at : ℕ) (told : List Found) (f : Front) → Leads last place c x told (place + at) d (drop at x)
+junks : (last : Bool) (place : ℕ) (c d e : Clean) (x : List ℕ) (at : ℕ) (told : List Found) (f : Front) → ScanRun last place c x told (place + at) d (drop at x)
     → Turn last place x at f → is_junk f ≡ true → found (place + at) f ≡ [] → e ≡ joined d (Some (place + at))
-    → Leads last place c x told (place + (at + width f)) e (drop (at + width f) x)
+    → ScanRun last place c x told (place + (at + width f)) e (drop (at + width f) x)
 junks last place c d e x at told f leads t junk none e_is = record {
   found = leads.found;
   shown = leads.shown;
@@ -136,14 +136,14 @@ is_seen false x s is = seen_by (is_open x) x s refl is
 pub record Step (last : Bool) (place : ℕ) (x : List ℕ) (at n : ℕ) (here : List Found) (goes : Clean → Clean) : Type 0 where
   pub moves : 0 < n
   pub within : at + n ≤ length x
-  pub leads : (c d : Clean) (told : List Found) → Leads last place c x told (place + at) d (drop at x)
-      → Leads last place c x (told ++ here) (place + (at + n)) (goes d) (drop (at + n) x)
+  pub leads : (c d : Clean) (told : List Found) → ScanRun last place c x told (place + at) d (drop at x)
+      → ScanRun last place c x (told ++ here) (place + (at + n)) (goes d) (drop (at + n) x)
 
 -- where it tells nothing
 pub tells_nothing : (last : Bool) (place : ℕ) (x : List ℕ) (at n : ℕ) (goes : Clean → Clean) (c d : Clean) (told : List Found) → Step last place x at n [] goes
-    → Leads last place c x told (place + at) d (drop at x) → Leads last place c x told (place + (at + n)) (goes d) (drop (at + n) x)
+    → ScanRun last place c x told (place + at) d (drop at x) → ScanRun last place c x told (place + (at + n)) (goes d) (drop (at + n) x)
 tells_nothing last place x at n goes c d told step leads =
-    subst (λ l. Leads last place c x l (place + (at + n)) (goes d) (drop (at + n) x)) (append-nil told) (step.leads c d told leads)
+    subst (λ l. ScanRun last place c x l (place + (at + n)) (goes d) (drop (at + n) x)) (append-nil told) (step.leads c d told leads)
 
 kept_by : (last : Bool) (place : ℕ) (x : List ℕ) (at : ℕ) (r : List ℕ) (start size : ℕ) (f : Front) → shows.Kept r start size ≡ shown f → Turn last place x at f
     → Step last place x at (start + size) ((let p : Found = record { r = r; at = place + (at + start); size = size } in p) ∷ []) (λ d. d)
@@ -173,7 +173,7 @@ junk_by last place x at (Passed n) is t = absurd (cc is)
 junk_by last place x at Junk is t = record {
   moves = t.moves;
   within = t.within;
-  leads = λ c d told leads. subst (λ l. Leads last place c x l (place + (at + 1)) (joined d (Some (place + at))) (drop (at + 1) x)) (sym (append-nil told)) (junks last place c d _ x at told Junk leads t refl refl refl);
+  leads = λ c d told leads. subst (λ l. ScanRun last place c x l (place + (at + 1)) (joined d (Some (place + at))) (drop (at + 1) x)) (sym (append-nil told)) (junks last place c d _ x at told Junk leads t refl refl refl);
 }
 
 -- what the code sees of the bytes from a place on
@@ -212,7 +212,7 @@ waits_open false rest waits = waits
 
 -- ---- the end of a pack
 
-pub told_whole : (place : ℕ) (c d : Clean) (x : List ℕ) (told : List Found) (onward : ℕ) (rest : List ℕ) → Leads true place c x told onward d rest → Waits true rest
+pub told_whole : (place : ℕ) (c d : Clean) (x : List ℕ) (told : List Found) (onward : ℕ) (rest : List ℕ) → ScanRun true place c x told onward d rest → Waits true rest
     → (told ≡ map place_of (salvage_past place 0 x)) × (d ≡ joined c (broken_past place 0 x))
 told_whole place c d x told onward rest leads none =
     let gone : rest ++ [] ≡ [] = append-nil rest ∙ none in

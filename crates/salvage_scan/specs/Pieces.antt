@@ -49,7 +49,7 @@ Waits false rest = is_open rest ≡ true
 
 -- Of a text at a place these findings were told, and what is left of it stands at that place: whatever may follow, what is
 -- found from there on is what is left to find from here on, and so it is with the first place that is broken.
-pub record Leads (last : Bool) (place : ℕ) (broken : Clean) (text : List ℕ) (told : List Found) (onward : ℕ) (now : Clean) (rest : List ℕ) : Type 0 where
+pub record ScanRun (last : Bool) (place : ℕ) (broken : Clean) (text : List ℕ) (told : List Found) (onward : ℕ) (now : Clean) (rest : List ℕ) : Type 0 where
   pub found : List Finding
   pub shown : told ≡ map place_of found
   pub finds : (more : List ℕ) → MayFollow last more → salvage_past place 0 (text ++ more) ≡ found ++ salvage_past onward 0 (rest ++ more)

@@ -1,6 +1,6 @@
 //! Goes through a pack that comes in pieces.
 ghost use Rattle.std.specs.Prelude.{◌≡◌, ◌+◌, ◌≤◌, ◌<◌, ◌^◌, ◌++◌, [], length, drop, true, false, All, IfOk, OnOk, OnErr};
-ghost use Rattle.salvage_scan.specs.Pieces.{fresh, fed, is_open, Leads, Waits, Tells, Ends, LiesNear, Keeps, IsKept, LiesKept, kept_at};
+ghost use Rattle.salvage_scan.specs.Pieces.{fresh, fed, is_open, ScanRun, Waits, Tells, Ends, LiesNear, Keeps, IsKept, LiesKept, kept_at};
 
 use crate::ahead::BYTES;
 use crate::found::{Clean, Found, FoundList};
@@ -126,7 +126,7 @@ impl Scanner {
     // Lets go what was told, and takes a piece behind what waits; behind the last one nothing follows.
     fn step(&mut self, piece: &[u8], last: bool) -> Result<FoundList, NoMemory>
         requires { fed self.old + length piece.now < 2 ^ 64 }
-        ensures leads { IfOk result (λ told. Leads last self.old.at self.old.clean (self.old.held ++ piece.now) told
+        ensures leads { IfOk result (λ told. ScanRun last self.old.at self.old.clean (self.old.held ++ piece.now) told
             self.new.at self.new.clean self.new.held) }
         ensures keeps { OnOk result (Keeps self.old piece.now self.new) }
         ensures waits { OnOk result (Waits last self.new.held) }
@@ -189,7 +189,7 @@ fn advance(
     requires { at + (length kept.old.items + length piece.now) < 2 ^ 64 }
     ensures kept { OnOk result (kept.new.items ≡ kept.old.items ++ piece.now) }
     ensures used { IfOk result (λ told. told.used ≤ length kept.new.items) }
-    ensures leads { IfOk result (λ told. Leads last at clean kept.new.items told.found
+    ensures leads { IfOk result (λ told. ScanRun last at clean kept.new.items told.found
         (at + told.used) told.clean (drop told.used kept.new.items)) }
     ensures waits { IfOk result (λ told. Waits last (drop told.used kept.new.items)) }
 {

@@ -2,12 +2,13 @@
 ghost use Rattle.std.specs.Prelude.{◌≡◌, ◌+◌, ◌≤◌, ◌<◌, ◌^◌, [], length, drop, map, nat_le, slice_index, slice_index_or, All, IfOk, Some};
 ghost use Rattle.salvage_scan.specs.Salvage.{salvage, broken};
 ghost use Rattle.salvage_scan.specs.Scan.{place_of, clean_of, joined, LiesIn};
-ghost use Rattle.salvage_scan.specs.Pieces.{seen, undecided, Leads, Waits};
+ghost use Rattle.salvage_scan.specs.Pieces.{seen, undecided, ScanRun, Waits};
 ghost use Rattle.salvage_scan.specs.Ahead.{AreKnown, front_known};
 
 use crate::ahead::{Ahead, Lookout};
 use crate::found::{Clean, Found, FoundList};
 use crate::heads::{next_header, past_junk};
+use blob_checks::ref_like;
 use blobref::{NoMemory, Ref};
 use pack_format::{HEADER_MAX, HeaderAt};
 use std::alloc::Global;
@@ -44,7 +45,7 @@ pub(crate) fn tell(
 ) -> Result<Told, NoMemory>
     requires { place + length bytes.now < 2 ^ 64 }
     ensures used { IfOk result (λ told. told.used ≤ length bytes.now) }
-    ensures leads { IfOk result (λ told. Leads last place clean bytes.now told.found
+    ensures leads { IfOk result (λ told. ScanRun last place clean bytes.now told.found
         (place + told.used) told.clean (drop told.used bytes.now)) }
     ensures waits { IfOk result (λ told. Waits last (drop told.used bytes.now)) }
 {
@@ -140,7 +141,7 @@ fn front_at(bytes: &[u8], last: bool) -> FrontAt
         HeaderAt::Blob { r, size, len } => {
             let size = size as usize;
             if holds(bytes, len, size) {
-                if r.like(&bytes[len..len + size]) == r {
+                if ref_like(&r, &bytes[len..len + size]) == r {
                     FrontAt::Kept {
                         r,
                         start: len,

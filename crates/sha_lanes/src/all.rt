@@ -9,8 +9,8 @@ use std::simd::u32x4;
 /// Writes the SHA-224 of each message into its place. It takes no memory, and some 2 kB of stack.
 ///
 /// Four messages are hashed side by side, and the next one takes the lane of one that has ended, so four or more of
-/// them take about half the time of one after the other. The last message, once it is alone, takes at most the time that
-/// it takes by itself: where one is much longer than the others, it had better not be the last.
+/// them take about half the time of one after the other. The last message, once it is alone, goes on as one by itself
+/// does, as `sha224`: where one is much longer than the others, it had better not be the last.
 pub fn sha224_all(messages: &[&[u8]], digests: &mut [[u8; 28]])
     requires { length digests.old ≡ length messages.now }
     ensures { digests.new ≡ map sha224 (texts messages.now) }

@@ -50,22 +50,6 @@ pub(crate) fn hash_in(state: &[u32x4; 8], lane: usize) -> [u32; 8]
     ]
 }
 
-/// A hash value in each lane.
-pub(crate) fn alone(hash: &[u32; 8]) -> [u32x4; 8]
-    ensures { (j : ℕ) → j < 4 → state_lane j result ≡ hash.now }
-{
-    [
-        u32x4::splat(hash[0]),
-        u32x4::splat(hash[1]),
-        u32x4::splat(hash[2]),
-        u32x4::splat(hash[3]),
-        u32x4::splat(hash[4]),
-        u32x4::splat(hash[5]),
-        u32x4::splat(hash[6]),
-        u32x4::splat(hash[7]),
-    ]
-}
-
 /// The first seven words of a hash value, high byte first.
 pub(crate) fn digest_of(hash: &[u32; 8]) -> [u8; 28]
     ensures { result ≡ take 28 (digest_bytes hash.now 8) }

@@ -4,10 +4,10 @@ ghost use Rattle.sha2.specs.Sha256.{sha224};
 ghost use Rattle.sha_lanes.specs.Message.{block_count, message_at, texts};
 ghost use Rattle.sha_lanes.specs.Working.{AreLanes, AreWithin, IsPut};
 
+use crate::alone::hash_alone;
 use crate::four::hash_four;
-use crate::lanes::{alone, digest_of, hash_in, start_lane};
+use crate::lanes::{digest_of, hash_in, start_lane};
 use crate::message::block_count;
-use sha2::{Digest, Sha224};
 use std::simd::u32x4;
 
 // The bytes of a message, and none past the last one.
@@ -126,8 +126,7 @@ impl Work {
         lane
     }
 
-    // The digest of a lane's message, of which the blocks that are left are hashed here. A lane alone takes nearly twice
-    // as long as the hasher, so where more than half of them are left, that begins anew.
+    // The digest of a lane's message, of which the blocks that are left are hashed by themselves.
     fn finish(&self, state: &[u32x4; 8], messages: &[&[u8]], lane: usize) -> [u8; 28]
         requires lane { lane < 4 }
         requires within { AreWithin self.now }
@@ -136,22 +135,10 @@ impl Work {
             → result ≡ sha224 (message_at (texts messages.now) (slice_index self.now.which lane)) }
     {
         let message = message_at(messages, self.which[lane]);
+        let mut state = hash_in(state, lane);
         let left = self.count[lane] - self.at[lane];
-        if left > self.at[lane] {
-            Sha224::digest(message)
-        } else {
-            let mut state = alone(&hash_in(state, lane));
-            hash_four(
-                &mut state,
-                message,
-                &[],
-                &[],
-                &[],
-                [self.at[lane], 0, 0, 0],
-                left,
-            );
-            digest_of(&hash_in(&state, 0))
-        }
+        hash_alone(&mut state, message, self.at[lane], left);
+        digest_of(&state)
     }
 
     /// Puts the digest of a lane's message into its place.

@@ -1,7 +1,7 @@
 use Rattle.std.proofs.Common.{◌≡◌, ◌+◌, ℕ, List, Some, drop, arith}
 use Rattle.salvage_scan.specs.declared.found.Clean.{Clean}
 use Rattle.salvage_scan.specs.Scan.{joined}
-use Rattle.salvage_scan.specs.Pieces.{Leads}
+use Rattle.salvage_scan.specs.Pieces.{ScanRun}
 use Rattle.salvage_scan.proofs.Telling.{tells_nothing, kept_step, passed_step, junk_step, nothing_waits}
 use Rattle.salvage_scan.proofs.NoHeader.{run_told, stays_broken}
 use Rattle.salvage_scan.proofs.scanning.tell.Goals as goal
@@ -78,7 +78,7 @@ places-preserved c =
     let at : ℕ = c.places.at in
     let now : Clean = c.broken_at-clean.result in
     let t = junk_step c.args.last c.args.place x at c.places-test.true c.in-Junk.ensures.front in
-    let one : Leads c.args.last c.args.place c.args.clean x c.places.found (c.args.place + (at + 1)) now (drop (at + 1) x) =
+    let one : ScanRun c.args.last c.args.place c.args.clean x c.places.found (c.args.place + (at + 1)) now (drop (at + 1) x) =
     rw c.broken_at-clean.ensures (tells_nothing c.args.last c.args.place x at _ _ c.args.clean c.places.clean c.places.found t c.places.invariant.leads) in
     let broken : (q : ℕ) → joined now (Some q) ≡ now = rw c.broken_at-clean.ensures (stays_broken c.places.clean (c.args.place + at)) in
     record {

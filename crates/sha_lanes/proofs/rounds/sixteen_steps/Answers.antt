@@ -1,0 +1,11 @@
+use Rattle.std.proofs.Common.{ap, ◌∙◌, arith}
+use Rattle.sha2.specs.Sha256.{rounds, schedule}
+use Rattle.sha_lanes.proofs.rounds.sixteen_steps.Goals as goal
+
+pub returns : goal.returns
+returns c = λ b h words held.
+    let after = rounds h (schedule b 48) in
+    let s1 = c.four_steps-v.ensures b h words held in
+    let s2 = c.four_steps-v-2.ensures b h words s1 in
+    let s3 = c.four_steps-v-3.ensures b h words (s2 ∙ ap after (omega arith)) in
+    c.four_steps.ensures b h words (s3 ∙ ap after (omega arith)) ∙ ap after (omega arith)
