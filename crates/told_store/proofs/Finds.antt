@@ -19,7 +19,7 @@ use Rattle.pack_store.specs.Reading as read
 use Rattle.pack_store.specs.Finding.{IsFound, bytes_found, arrival_found}
 use Rattle.pack_store.proofs.Held.{some_same}
 use Rattle.histories.specs.Stores.{Blob, arrivals, bytes_of, has_ref, number_of, is_ref}
-use Rattle.histories.specs.StoreCalls.{GetSays, ArrivalSays}
+use Rattle.histories.specs.StoreCalls.{GetSpec, ArrivalSpec}
 use Rattle.told_store.specs.Telling.{is_told, AddsEntry}
 use Rattle.told_store.specs.Finding.{find_entry, checked_get, checked_arrival}
 use Rattle.told_store.proofs.Rows.{same_count, same_number, same_entry, same_entry_at, blob_under, has_some}
@@ -54,7 +54,7 @@ pub find_adds : {D : Type 0} (g : Ghosts D) (made : ℕ) (old new : Archive D) (
     → IfOk result (λ found. ForSome (g.packs old.disk) (λ held. bytes_found found ≡ read.bytes_of r held old.rows))
     → IfOk result (λ found. IfSome found (λ b. ForSome (g.packs old.disk) (λ held. IsOwnRef b.r b.bytes)))
     → read.IsDamage None (g.packs old.disk) result → read.StaysStill g old new → (result ≡ Err unread.Disk → FaultsRose (g.faults old.disk) (g.faults new.disk)) → g.faults old.disk ≤ g.faults new.disk
-    → AddsEntry g made old new (find_entry result (g.faults old.disk) (g.faults new.disk)) (λ before entry. GetSays (is_told g old) r before (checked_get result) entry)
+    → AddsEntry g made old new (find_entry result (g.faults old.disk) (g.faults new.disk)) (λ before entry. GetSpec (is_told g old) r before (checked_get result) entry)
 find_adds g made old new r result none placed bytes own damage still rose later h turn tells before =
     let blobs = arrivals h in
     let both = found_adds g made old new still later h turn tells (blob_under r blobs) (read.entry_of r old.rows) (same_entry old.rows blobs tells.rows r) (under_arrived r blobs) result
@@ -76,16 +76,16 @@ at_arrived (b ∷ blobs) zero q own at =
 at_arrived (b ∷ blobs) (suc n) q own at = or_right (is_ref q b.0) _ (at_arrived blobs n q own at)
 
 pub find_number_adds : {D : Type 0} (g : Ghosts D) (made : ℕ) (old new : Archive D) (n : ℕ) (result : Result (Option Found) GetFault)
-    → ((result ≡ Ok None) ↔ (count old ≤ n)) → IfOk result (λ found. IfSome found (IsFound (read.entry_at n old.rows)))
+    → (result ≡ Ok None → count old ≤ n) → IfOk result (λ found. IfSome found (IsFound (read.entry_at n old.rows)))
     → IfOk result (λ found. ForSome (g.packs old.disk) (λ held. arrival_found found ≡ slice_get (stood.arrivals_in held old.rows) n))
     → IfOk result (λ found. IfSome found (λ b. ForSome (g.packs old.disk) (λ held. IsOwnRef b.r b.bytes)))
     → read.IsDamage None (g.packs old.disk) result → read.StaysStill g old new → (result ≡ Err unread.Disk → FaultsRose (g.faults old.disk) (g.faults new.disk)) → g.faults old.disk ≤ g.faults new.disk
-    → AddsEntry g made old new (find_entry result (g.faults old.disk) (g.faults new.disk)) (λ before entry. ArrivalSays (is_told g old) n before (checked_arrival result) entry)
+    → AddsEntry g made old new (find_entry result (g.faults old.disk) (g.faults new.disk)) (λ before entry. ArrivalSpec (is_told g old) n before (checked_arrival result) entry)
 find_number_adds g made old new n result none placed bytes own damage still rose later h turn tells before =
     let blobs = arrivals h in
     let counted = same_count old.rows blobs tells.rows in
     let both = found_adds g made old new still later h turn tells (slice_get blobs n) (read.entry_at n old.rows) (same_entry_at old.rows blobs tells.rows n) (at_arrived blobs n) result
-    (λ is. slice_get_past blobs n (let le : count old ≤ n = none.0 is in omega (arith, le, counted))) placed
+    (λ is. slice_get_past blobs n (let le : count old ≤ n = none is in omega (arith, le, counted))) placed
     (λ b is held told.
     let there : Some (b.r, b.bytes) ≡ slice_get (stood.arrivals_in held old.rows) n
     = subst (λ o. IfOk o (λ found. ForSome (g.packs old.disk) (λ held. arrival_found found ≡ slice_get (stood.arrivals_in held old.rows) n))) is bytes held told in

@@ -20,7 +20,7 @@ use Rattle.histories.specs.declared.events.StoreEvent.{StoreEvent}
 use Rattle.histories.specs.declared.events.StoreEvent.TheVariants as store
 use Rattle.histories.specs.History.{events, stamped}
 use Rattle.histories.specs.Stores.{Blob, puts, arrivals, last_faults, bytes_of, has_ref}
-use Rattle.histories.specs.StoreCalls.{sizes, IsQuiet, IsRead, GetFails, GetSays, ArrivalSays}
+use Rattle.histories.specs.StoreCalls.{sizes, IsQuiet, IsRead, GetFails, GetSpec, ArrivalSpec}
 use Rattle.told_store.specs.Telling.{limits_of, is_told, fault_entry, StoreTells}
 use Rattle.told_store.specs.Finding.{find_entry, bytes_in, blob_in, checked_get, checked_arrival}
 use Rattle.told_store.proofs.Rows.{blob_under}
@@ -29,10 +29,10 @@ use Rattle.pack_store.proofs.Held.{some_same}
 use Rattle.told_store.proofs.Puts.{own_true}
 
 -- what is answered of a blob that is asked for: the cases of `get` and of `arrival` in one
-abbrev pub FoundSays : Bool → Option Blob → Result (Option (List ℕ × List ℕ)) GetFault → Option StoreEvent → Type 0
-FoundSays told blob (Ok None) e = (blob ≡ None) × IsQuiet e
-FoundSays told blob (Ok (Some found)) e = ((own : List ℕ) × (blob ≡ Some (found.0, own)) × IsRead told found.0 own found.1) × IsQuiet e
-FoundSays told blob (Err f) e = GetFails told (option_map (λ (b : Blob). b.0) blob) f e
+abbrev pub FoundSpec : Bool → Option Blob → Result (Option (List ℕ × List ℕ)) GetFault → Option StoreEvent → Type 0
+FoundSpec told blob (Ok None) e = (blob ≡ None) × IsQuiet e
+FoundSpec told blob (Ok (Some found)) e = ((own : List ℕ) × (blob ≡ Some (found.0, own)) × IsRead told found.0 own found.1) × IsQuiet e
+FoundSpec told blob (Err f) e = GetFails told (option_map (λ (b : Blob). b.0) blob) f e
 
 -- a blob that is found is the one that is asked for
 asked_blob : (blob : Option Blob) (r : List ℕ) (size : ℕ) → option_map {U = List ℕ × ℕ} (λ (b : Blob). (b.0, length b.1)) blob ≡ Some (r, size) → (own : List ℕ) × (blob ≡ Some (r, own))
@@ -97,7 +97,7 @@ module _ {D : Type 0} (g : Ghosts D) (made : ℕ) (old new : Archive D) (still :
   module _ (blob : Option Blob) (asked : Option (List ℕ × ℕ)) (same : asked ≡ option_map (λ (b : Blob). (b.0, length b.1)) blob)
       (arrived : (r own : List ℕ) → blob ≡ Some (r, own) → has_ref r (arrivals h) ≡ true) where
     abbrev Adds : Result (Option Found) GetFault → Type 0
-    Adds result = Grown (find_entry result (g.faults old.disk) (g.faults new.disk)) × FoundSays (is_told g old) blob (checked_arrival result) (find_entry result (g.faults old.disk) (g.faults new.disk))
+    Adds result = Grown (find_entry result (g.faults old.disk) (g.faults new.disk)) × FoundSpec (is_told g old) blob (checked_arrival result) (find_entry result (g.faults old.disk) (g.faults new.disk))
 
     is_read : (told : Option Packs) (b : Found) (own : List ℕ) → blob ≡ Some (b.r, own) → ((held : Packs) → told ≡ Some held → blob ≡ Some (b.r, b.bytes)) → is_own_ref b.r b.bytes ≡ true
         → IsRead (is_some told) b.r own b.bytes
@@ -111,7 +111,7 @@ module _ {D : Type 0} (g : Ghosts D) (made : ℕ) (old new : Archive D) (still :
     by_digest : (b : Found) (own : List ℕ) → blob ≡ Some (b.r, own) → ((held : Packs) → g.packs old.disk ≡ Some held → blob ≡ Some (b.r, b.bytes))
         → ForSome (g.packs old.disk) (λ held. IsOwnRef b.r b.bytes) → (right : Bool) → is_own_ref b.r b.bytes ≡ right
         → Grown (cond right (fault_entry (g.faults old.disk) (g.faults new.disk)) (Some (store.Damage b.r (ref_like b.r b.bytes))))
-        × FoundSays (is_told g old) blob (blob_in (cond right (Ok (b.r, b.bytes)) (Err (unread.Damaged b.r (ref_like b.r b.bytes))))) (cond right (fault_entry (g.faults old.disk) (g.faults new.disk)) (Some (store.Damage b.r (ref_like b.r b.bytes))))
+        × FoundSpec (is_told g old) blob (blob_in (cond right (Ok (b.r, b.bytes)) (Err (unread.Damaged b.r (ref_like b.r b.bytes))))) (cond right (fault_entry (g.faults old.disk) (g.faults new.disk)) (Some (store.Damage b.r (ref_like b.r b.bytes))))
     by_digest b own at bytes named true right = (counted, ((own, at, is_read (g.packs old.disk) b own at bytes right), quiet))
     by_digest b own at bytes named false right = (
       damaged b.r b.bytes (untold (g.packs old.disk) b named right) (arrived b.r own at) right,
@@ -133,7 +133,7 @@ module _ {D : Type 0} (g : Ghosts D) (made : ℕ) (old new : Archive D) (still :
 -- ---- under a ref
 
 get_checked : (told : Bool) (r : List ℕ) (before : List Blob) (c : Result (List ℕ × List ℕ) GetFault) (e : Option StoreEvent)
-    → FoundSays told (blob_under r before) (blob_in c) e → GetSays told r before (bytes_in c) e
+    → FoundSpec told (blob_under r before) (blob_in c) e → GetSpec told r before (bytes_in c) e
 get_checked told r before (Ok b) e says = (go (bytes_of r before) says.0.1, says.1)
   where
     go : (o : Option (List ℕ)) → option_map {U = Blob} (λ (bytes : List ℕ). (r, bytes)) o ≡ Some (b.0, says.0.0) → (own : List ℕ) × (o ≡ Some own) × IsRead told r own b.1
@@ -150,7 +150,7 @@ get_checked told r before (Err f) e says = subst (λ asked. GetFails told asked 
     go (Some own) = refl
 
 pub get_says : (told : Bool) (r : List ℕ) (before : List Blob) (result : Result (Option Found) GetFault) (e : Option StoreEvent)
-    → FoundSays told (blob_under r before) (checked_arrival result) e → GetSays told r before (checked_get result) e
+    → FoundSpec told (blob_under r before) (checked_arrival result) e → GetSpec told r before (checked_get result) e
 get_says told r before (Ok None) e says = (go (bytes_of r before) says.0, says.1)
   where
     go : (o : Option (List ℕ)) → option_map {U = Blob} (λ (bytes : List ℕ). (r, bytes)) o ≡ None → o ≡ None
@@ -162,7 +162,7 @@ get_says told r before (Err f) e says = get_checked told r before (Err f) e says
 -- ---- under a number
 
 arrival_checked : (told : Bool) (n : ℕ) (before : List Blob) (c : Result (List ℕ × List ℕ) GetFault) (e : Option StoreEvent)
-    → FoundSays told (slice_get before n) (blob_in c) e → ArrivalSays told n before (blob_in c) e
+    → FoundSpec told (slice_get before n) (blob_in c) e → ArrivalSpec told n before (blob_in c) e
 arrival_checked told n before (Ok b) e says = says
 arrival_checked told n before (Err f) e says = says
 
@@ -172,7 +172,7 @@ none_at (x ∷ xs) zero is = absurd (cc is)
 none_at (x ∷ xs) (suc n) is = let rest = none_at xs n is in omega (arith, rest)
 
 pub arrival_says : (told : Bool) (n : ℕ) (before : List Blob) (result : Result (Option Found) GetFault) (e : Option StoreEvent)
-    → FoundSays told (slice_get before n) (checked_arrival result) e → ArrivalSays told n before (checked_arrival result) e
+    → FoundSpec told (slice_get before n) (checked_arrival result) e → ArrivalSpec told n before (checked_arrival result) e
 arrival_says told n before (Ok None) e says = (none_at before n says.0, says.1)
 arrival_says told n before (Ok (Some b)) e says = arrival_checked told n before (checked b) e says
 arrival_says told n before (Err f) e says = says

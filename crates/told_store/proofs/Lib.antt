@@ -6,3 +6,4 @@ pub mod Finds
 pub mod Refs
 pub mod Searches
 pub mod Starts
+pub mod Several

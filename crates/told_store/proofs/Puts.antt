@@ -23,7 +23,7 @@ use Rattle.histories.specs.declared.events.StoreEvent.{StoreEvent}
 use Rattle.histories.specs.declared.events.StoreEvent.TheVariants as store
 use Rattle.histories.specs.History.{events, stamped}
 use Rattle.histories.specs.Stores.{Blob, puts, arrivals, last_faults, number_of, is_full_at}
-use Rattle.histories.specs.StoreCalls.{sizes, put_settled, HasRoom, PutAnswers, PutSays}
+use Rattle.histories.specs.StoreCalls.{sizes, put_settled, HasRoom, PutAnswers, PutSpec}
 use Rattle.told_store.specs.Telling.{limits_of, is_told, StoreTells, AddsEntry, fault_entry, put_entry}
 use Rattle.told_store.proofs.Rows.{same_count, same_number, has_none}
 use Rattle.told_store.proofs.Growing.{Onward, next_later, no_fault, tells_same, tells_more, told_after, told_same, rose_above}
@@ -163,5 +163,5 @@ module _ {D : Type 0} (g : Ghosts D) (made : ℕ) (old new : Archive D) (r bytes
 pub put_adds : {D : Type 0} (g : Ghosts D) (made : ℕ) (old new : Archive D) (r bytes : List ℕ) (result : Result Put PutFault) → IsOwnRef r bytes
     → Answers (early_answer_own old r (length bytes)) (count old) result → Leaves g old new r bytes result
     → (result ≡ Err fault.Disk → FaultsRose (g.faults old.disk) (g.faults new.disk)) → g.faults old.disk ≤ g.faults new.disk
-    → AddsEntry g made old new (put_entry r bytes result (g.faults old.disk) (g.faults new.disk)) (λ before entry. PutSays (limits_of old) r bytes before result entry)
+    → AddsEntry g made old new (put_entry r bytes result (g.faults old.disk) (g.faults new.disk)) (λ before entry. PutSpec (limits_of old) r bytes before result entry)
 put_adds g made old new r bytes result own is leaves rose later h turn tells before = put_adds_here g made old new r bytes own later h turn tells result is leaves rose

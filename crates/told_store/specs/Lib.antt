@@ -2,3 +2,4 @@ pub mod Telling
 pub mod Beginning
 pub mod Finding
 pub mod Once
+pub mod Together

@@ -2,7 +2,7 @@
 ghost use Rattle.std.specs.Prelude.{◌≡◌, [], ◌∷◌, ◌++◌, List, ℕ, option_copied, IfOk, OnOk};
 ghost use Rattle.std.specs.List.{filter_map};
 ghost use Rattle.pack_store.specs.Reading.{entry_of};
-ghost use Rattle.histories.specs.StoreCalls.{CountSays, ListSays, StatSays, each_once};
+ghost use Rattle.histories.specs.StoreCalls.{CountSpec, ListSpec, StatSpec, each_once};
 ghost use Rattle.told_store.specs.Telling.{AddsNone};
 ghost use Rattle.told_store.specs.Once.{HasSame};
 
@@ -14,7 +14,7 @@ use std::collections::BTreeSet;
 
 /// How many blobs arrived.
 pub fn count<D: Disk>(store: &Store<D>) -> u64
-    ensures tells { (made : ℕ) → AddsNone D.Disk made store.now (λ before entry. CountSays before result entry) }
+    ensures tells { (made : ℕ) → AddsNone D.Disk made store.now (λ before entry. CountSpec before result entry) }
 {
     store.count()
 }
@@ -27,7 +27,7 @@ pub fn list<D: Disk>(
     limit: usize,
 ) -> Result<Listing, NoMemory>
     ensures tells { (made : ℕ) → AddsNone D.Disk made store.now
-        (λ before entry. ListSays (option_copied after.entry) limit before result entry) }
+        (λ before entry. ListSpec (option_copied after.entry) limit before result entry) }
 {
     store.list(after, limit)
 }
@@ -36,7 +36,7 @@ pub fn list<D: Disk>(
 /// are refs without their repeats, as `once` gives them, that is the answer for the refs.
 pub fn stat<D: Disk>(alloc: Global, store: &Store<D>, refs: &RefList) -> Result<Listing, NoMemory>
     ensures tells { (made : ℕ) (asked : List (List ℕ)) → refs.now ≡ each_once [] asked
-        → AddsNone D.Disk made store.now (λ before entry. StatSays asked before result entry) }
+        → AddsNone D.Disk made store.now (λ before entry. StatSpec asked before result entry) }
 {
     let mut found = Listing::empty(alloc);
     for r in refs.as_slice() {

@@ -1,6 +1,6 @@
 //! Blobs are read in a turn. Their digests are taken after it, so that no other turn waits for that.
 ghost use Rattle.std.specs.Prelude.{◌≡◌, ℕ};
-ghost use Rattle.histories.specs.StoreCalls.{GetSays, ArrivalSays};
+ghost use Rattle.histories.specs.StoreCalls.{GetSpec, ArrivalSpec};
 ghost use Rattle.told_store.specs.Telling.{limits_of, is_told, AddsEntry};
 ghost use Rattle.told_store.specs.Finding.{find_entry, checked_get, checked_arrival};
 
@@ -17,7 +17,7 @@ pub fn find<D: Disk>(store: &mut Store<D>, r: &Ref) -> Result<Option<Found>, Get
     ensures told { is_told D.Disk store.new ≡ is_told D.Disk store.old }
     ensures tells { (made : ℕ) → AddsEntry D.Disk made store.old store.new
         (find_entry result (D.faults store.old.disk) (D.faults store.new.disk))
-        (λ before entry. GetSays (is_told D.Disk store.old) r.now before (checked_get result) entry) }
+        (λ before entry. GetSpec (is_told D.Disk store.old) r.now before (checked_get result) entry) }
 {
     store.find(r)
 }
@@ -29,7 +29,7 @@ pub fn find_number<D: Disk>(store: &mut Store<D>, number: u64) -> Result<Option<
     ensures told { is_told D.Disk store.new ≡ is_told D.Disk store.old }
     ensures tells { (made : ℕ) → AddsEntry D.Disk made store.old store.new
         (find_entry result (D.faults store.old.disk) (D.faults store.new.disk))
-        (λ before entry. ArrivalSays (is_told D.Disk store.old) number before (checked_arrival result) entry) }
+        (λ before entry. ArrivalSpec (is_told D.Disk store.old) number before (checked_arrival result) entry) }
 {
     store.find_number(number)
 }

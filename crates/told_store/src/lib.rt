@@ -6,8 +6,10 @@ mod asking;
 mod beginning;
 mod finding;
 mod putting;
+mod together;
 
 pub use asking::{count, list, once, stat};
 pub use beginning::begins_tell;
 pub use finding::{check, check_arrival, find, find_number};
 pub use putting::put;
+pub use together::{check_all, find_numbers};

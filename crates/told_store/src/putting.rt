@@ -3,7 +3,7 @@ ghost use Rattle.std.specs.Prelude.{◌≡◌, ℕ, length};
 ghost use Rattle.blobref.specs.Blobref.{IsOwnRef};
 ghost use Rattle.pack_store.specs.Archive.{count};
 ghost use Rattle.pack_store.specs.Putting.{early_answer_own, Answers};
-ghost use Rattle.histories.specs.StoreCalls.{PutSays};
+ghost use Rattle.histories.specs.StoreCalls.{PutSpec};
 ghost use Rattle.told_store.specs.Telling.{limits_of, is_told, put_entry, AddsEntry};
 
 use blobref::Ref;
@@ -22,7 +22,7 @@ pub fn put<D: Disk>(store: &mut Store<D>, r: &Ref, bytes: &[u8]) -> Result<Put, 
     ensures told { is_told D.Disk store.new ≡ is_told D.Disk store.old }
     ensures tells { (made : ℕ) → AddsEntry D.Disk made store.old store.new
         (put_entry r.now bytes.now result (D.faults store.old.disk) (D.faults store.new.disk))
-        (λ before entry. PutSays (limits_of store.old) r.now bytes.now before result entry) }
+        (λ before entry. PutSpec (limits_of store.old) r.now bytes.now before result entry) }
 {
     store.put_own(r, bytes)
 }

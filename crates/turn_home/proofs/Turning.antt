@@ -8,14 +8,14 @@ use Rattle.search_query.specs.declared.query.Query.{Query}
 use Rattle.histories.specs.declared.stamped.Stamped.{Stamped}
 use Rattle.histories.specs.declared.events.IndexEvent.{IndexEvent}
 use Rattle.histories.specs.History.{events, stamped, own, AheadOf, IsLonger, Ran}
+use Rattle.histories.specs.declared.events.Insertion.{Insertion}
 use Rattle.histories.specs.Indexes.{inserts}
 use Rattle.histories.proofs.Prefixes.{prefix_self, prefix_trans}
-use Rattle.histories.proofs.Growing.{ran_grew}
 use Rattle.histories.proofs.Standing.{inserts_prefix}
 use Rattle.home_places.specs.Seats.{IndexTurn, IndexJoin}
-use Rattle.home_places.specs.Searches.{SearchSays, IndexSearch}
+use Rattle.home_places.specs.Searches.{SearchSpec}
 use Rattle.home_places.specs.Showing.{shown_alone}
-use Rattle.turn_home.specs.IndexSeats.{IndexRan}
+use Rattle.turn_home.specs.IndexSeats.{IndexRan, SearchTurn}
 
 module _ (h k : List (Stamped IndexEvent)) (s t : List ℕ) (a b : Accepts) where
   -- what was seen begins what is seen after a turn
@@ -32,15 +32,38 @@ module _ (h k : List (Stamped IndexEvent)) (s t : List ℕ) (a b : Accepts) wher
     accepts = r.accepts;
   }
 
+  -- a turn of which more is said
+  said_less : (says less : List (Stamped IndexEvent) → ℕ → Option IndexEvent → Type 0)
+      → ((before : List (Stamped IndexEvent)) (n : ℕ) (entry : Option IndexEvent) → says before n entry → less before n entry)
+      → Ran says h s k t → Ran less h s k t
+  said_less says less means r = record {
+    before = r.before;
+    ticket = r.ticket;
+    entry = r.entry;
+    longer = r.longer;
+    said = means r.before (r.ticket + 1) r.entry r.said;
+    added = r.added;
+    drawn = r.drawn;
+    within = r.within;
+    others = r.others;
+    owned = r.owned;
+    later = r.later;
+    rising = r.rising;
+  }
+
   pub searched : (query : Query) (result : Result (List (List ℕ)) NoMemory)
-      → IndexRan (λ accepts before entry. SearchSays accepts query (inserts before) result × (entry ≡ None)) (shown_alone h s a) (shown_alone k t b)
-      → IndexSearch query result (shown_alone h s a) (shown_alone k t b)
+      → IndexRan (λ accepts before entry. SearchSpec accepts query (inserts before) result × (entry ≡ None)) (shown_alone h s a) (shown_alone k t b)
+      → SearchTurn query result (shown_alone h s a) (shown_alone k t b)
+  unfolding turned said_less
   searched query result r =
-      let same : k ≡ r.ran.before = r.ran.added ∙ (ap (λ e. r.ran.before ++ stamped (r.ran.ticket + 1) e) r.ran.said.1 ∙ append-nil r.ran.before) in record {
-        grew = ran_grew (λ before turn entry. SearchSays a query (inserts before) result × (entry ≡ None)) (λ e. ⊥) h k s t (λ before n e said. absurd cc said.1) r.ran;
-        shown = inserts_prefix h k (grown (λ before turn entry. SearchSays a query (inserts before) result × (entry ≡ None)) r.ran);
-        answer = subst (λ (accepts : Accepts). SearchSays accepts query (inserts k) result) (sym r.accepts) (subst (λ (before : List (Stamped IndexEvent)). SearchSays a query (inserts before) result) (sym same) r.ran.said.0);
-        accepts = r.accepts;
+      let same : inserts k ≡ inserts r.ran.before = ap inserts (r.ran.added ∙ ap (λ e. r.ran.before ++ stamped (r.ran.ticket + 1) e) r.ran.said.1 ∙ append-nil r.ran.before) in record {
+        turn = turned (λ before entry. entry ≡ None) (record {
+          ran = said_less (λ before n entry. SearchSpec a query (inserts before) result × (entry ≡ None)) (λ before n entry. entry ≡ None) (λ before n entry said. said.1) r.ran;
+          accepts = r.accepts;
+        });
+        shown = same;
+        answer = subst (λ (shown : List Insertion). SearchSpec b query shown result) (sym same)
+            (subst (λ (accepts : Accepts). SearchSpec accepts query (inserts r.ran.before) result) (sym r.accepts) r.ran.said.0);
       }
 
 own_none : (h : List (Stamped IndexEvent)) → own [] h ≡ []

@@ -2,4 +2,4 @@ pub mod StoreAbout
 pub mod StoreSeats
 pub mod IndexSeats
 pub mod Legal
-pub mod FactIsValid
+pub mod Ahead

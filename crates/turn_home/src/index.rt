@@ -10,8 +10,11 @@ use turn_cell::{Told, Turn, TurnSeat};
 
 mod calls;
 mod jobs;
+mod laws;
 mod making;
 mod turns;
+
+pub use laws::index_seat_is_legal;
 
 /// The index, as it lies behind the lock.
 #[derive(Drop)]
@@ -28,7 +31,7 @@ impl<V: Verifier> Told for KeptIndex<V> {
 
     type About = V;
 
-    ghost about = { λ k. k.index.keys };
+    ghost about = { λ k. k.index.index.keys };
 
     ghost tells = { λ k h. IndexTells k.index h };
 
@@ -36,11 +39,12 @@ impl<V: Verifier> Told for KeptIndex<V> {
 
     ghost legal = { λ keys h. is_legal_index h };
 
-    ghost is_legal = { λ k h t. t.legal };
+    ghost is_legal = { λ k h t. t.numbers.legal };
 }
 
-/// An index that several seats share (`docs/core.md`). A seat is shown the Inserts of its history, and no others; each
-/// search takes a turn.
+/// An index that several seats share, with the calls of a place (`docs/core.md`), of which each search takes a turn and
+/// a join none. So it is no `IndexPlace`: the searches of such a place take no turn (`snap_index`). A seat is shown the
+/// Inserts of its history, and no others.
 #[derive(Drop)]
 pub struct TurnIndex<V: Verifier> {
     turn: Turn<KeptIndex<V>>,

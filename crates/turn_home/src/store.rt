@@ -1,15 +1,20 @@
 //! The store behind its lock, and the seats of it.
-ghost use Rattle.std.specs.Prelude.{◌≡◌, true, length};
+ghost use Rattle.std.specs.Prelude.{◌≡◌, ◌+◌, true, length};
 ghost use Rattle.histories.specs.Stores.{arrivals};
+ghost use Rattle.told_store.specs.Together.{AllFrom};
 ghost use Rattle.turn_cell.specs.Seats.{about, seen};
+ghost use Rattle.turn_home.specs.Ahead.{IsArrival};
 ghost use Rattle.turn_home.specs.StoreAbout.{about_seen, is_legal_within};
 
+use ahead::Ahead;
 use histories::StoreEvent;
 use pack_disk::Disk;
 use pack_store::Store;
 use std::alloc::Global;
 use turn_cell::{Told, Turn, TurnSeat};
 
+mod ahead;
+mod arrivals;
 mod calls;
 mod jobs;
 mod making;
@@ -67,11 +72,16 @@ pub struct TurnStore<D: Disk> {
 
 /// What one actor knows of a `TurnStore`: the history of the store that it has seen, the turns that it drew, and how
 /// many blobs arrived in that history. The faults that it has seen were counted since the store came behind the lock,
-/// and where the disk tells, it has seen no damage. It has eight bytes.
+/// and where the disk tells, it has seen no damage. It holds what it read ahead, fewer than 64 blobs of at most 4 MiB
+/// together, for as long as they may be asked for next.
 #[derive(Drop)]
 pub struct StoreSeat<D: Disk> {
     seat: TurnSeat<KeptStore<D>, StoreEvent, StoreAbout>,
     count: u64,
+    ahead: Ahead,
     pub ghost legal: { is_legal_within (about_seen (about seat)) (seen seat) ≡ true },
     ghost counted: { count ≡ length (arrivals (seen seat)) },
+    // Each blob that was read ahead arrived in the history that the seat has seen.
+    ghost arrived: { AllFrom (IsArrival (about_seen (about seat)).tells (arrivals (seen seat))) (ahead.last + 1)
+        ahead.blobs.items },
 }

@@ -1,7 +1,4 @@
 //! What is done to the index in one turn.
-ghost use Rattle.schema_fact.specs.Validity.{IsValid};
-ghost use Rattle.turn_home.specs.FactIsValid.{fact_prop};
-
 use super::turns::IndexJob;
 use blobref::{NoMemory, Ref, RefList};
 use claim_verify::Verifier;
@@ -18,12 +15,12 @@ pub struct Take {
 
 impl<V: Verifier> IndexJob<V> for Take {
     ghost use Rattle.histories.specs.History.{events};
-    ghost use Rattle.histories.specs.IndexCalls.{TakeSays};
-    ghost use Rattle.told_index.specs.Telling.{take_entry};
+    ghost use Rattle.histories.specs.IndexCalls.{TakeSpec};
+    ghost use Rattle.work_numbers.specs.Telling.{take_entry};
 
     type Out = Result<Option<u64>, NoMemory>;
 
-    ghost says = { λ j accepts before result entry. TakeSays j.arrivals (events before) result entry };
+    ghost says = { λ j accepts before result entry. TakeSpec j.arrivals (events before) result entry };
 
     ghost adds = { λ j result. take_entry result };
 
@@ -32,23 +29,25 @@ impl<V: Verifier> IndexJob<V> for Take {
     }
 }
 
-/// A number is inserted, with a fact under a ref.
+/// A number is inserted, with a valid fact under a ref.
 #[derive(Drop)]
 pub struct Insert<'a> {
     pub number: u64,
     pub r: &'a Ref,
     pub fact: Fact,
-    pub ghost valid: { IsValid fact } by { fact_prop fact },
 }
 
 impl<'a, V: Verifier> IndexJob<V> for Insert<'a> {
+    ghost use Rattle.schema_fact.specs.Validity.{IsValid};
     ghost use Rattle.histories.specs.History.{events};
-    ghost use Rattle.histories.specs.IndexCalls.{InsertSays};
-    ghost use Rattle.told_index.specs.Telling.{insert_entry};
+    ghost use Rattle.histories.specs.IndexCalls.{InsertSpec};
+    ghost use Rattle.work_numbers.specs.Telling.{insert_entry};
 
     type Out = Result<Inserted, NoMemory>;
 
-    ghost says = { λ j accepts before result entry. InsertSays j.number j.r.now j.fact (events before) result entry };
+    ghost may = { λ j. IsValid j.fact };
+
+    ghost says = { λ j accepts before result entry. InsertSpec j.number j.r.now j.fact (events before) result entry };
 
     ghost adds = { λ j result. insert_entry j.number j.r.now j.fact result };
 
@@ -65,12 +64,12 @@ pub struct GiveBack {
 
 impl<V: Verifier> IndexJob<V> for GiveBack {
     ghost use Rattle.histories.specs.History.{events};
-    ghost use Rattle.histories.specs.IndexCalls.{ReturnSays};
-    ghost use Rattle.told_index.specs.Telling.{return_entry};
+    ghost use Rattle.histories.specs.IndexCalls.{ReturnSpec};
+    ghost use Rattle.work_numbers.specs.Telling.{return_entry};
 
     type Out = bool;
 
-    ghost says = { λ j accepts before result entry. ReturnSays j.number (events before) entry };
+    ghost says = { λ j accepts before result entry. ReturnSpec j.number (events before) entry };
 
     ghost adds = { λ j result. return_entry result j.number };
 
@@ -88,11 +87,11 @@ pub struct Lacking {
 impl<V: Verifier> IndexJob<V> for Lacking {
     ghost use Rattle.std.specs.Prelude.{None};
     ghost use Rattle.histories.specs.History.{events};
-    ghost use Rattle.histories.specs.IndexCalls.{LackingSays};
+    ghost use Rattle.histories.specs.IndexCalls.{LackingSpec};
 
     type Out = Option<u64>;
 
-    ghost says = { λ j accepts before result entry. LackingSays j.below (events before) result entry };
+    ghost says = { λ j accepts before result entry. LackingSpec j.below (events before) result entry };
 
     ghost adds = { λ j result. None };
 
@@ -110,11 +109,11 @@ pub struct Search<'a> {
 impl<'a, V: Verifier> IndexJob<V> for Search<'a> {
     ghost use Rattle.std.specs.Prelude.{◌≡◌, None};
     ghost use Rattle.histories.specs.Indexes.{inserts};
-    ghost use Rattle.home_places.specs.Searches.{SearchSays};
+    ghost use Rattle.home_places.specs.Searches.{SearchSpec};
 
     type Out = Result<RefList, NoMemory>;
 
-    ghost says = { λ j accepts before result entry. SearchSays accepts j.query.now (inserts before) result
+    ghost says = { λ j accepts before result entry. SearchSpec accepts j.query.now (inserts before) result
         × (entry ≡ None) };
 
     ghost adds = { λ j result. None };

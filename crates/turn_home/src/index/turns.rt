@@ -27,13 +27,17 @@ pub trait IndexJob<V: Verifier> {
     /// The entry that the turn adds, if any: of the job and the answer.
     ghost adds: { Self → Self.Out → Option IndexEvent };
 
+    /// What it asks of the job.
+    ghost may: { Self → Type 0 } = { λ _. Unit {0} };
+
     /// Does the job.
     fn go(self, index: &mut WorkIndex<V>) -> Self::Out
-        ensures keys { index.new.keys ≡ index.old.keys }
+        requires { may self }
+        ensures keys { index.new.index.keys ≡ index.old.index.keys }
         ensures kept { (h : List (Stamped IndexEvent)) (turn : ℕ) → IndexTells index.old h
             → IndexTells index.new (h ++ stamped turn (adds self result)) }
         ensures says { (h : List (Stamped IndexEvent)) → IndexTells index.old h
-            → says self (V.accepts index.old.keys) h result (adds self result) };
+            → says self (V.accepts index.old.index.keys) h result (adds self result) };
 }
 
 impl<V: Verifier, O, J: IndexJob<V, Out = O> + Drop> Job<KeptIndex<V>> for Counted<J> {
@@ -48,7 +52,7 @@ impl<V: Verifier, O, J: IndexJob<V, Out = O> + Drop> Job<KeptIndex<V>> for Count
 
     ghost adds = { λ j result kept. J.adds j.was.value result };
 
-    ghost may = { λ j keys. j.job ≡ Some j.was.value };
+    ghost may = { λ j keys. (j.job ≡ Some j.was.value) × J.may j.was.value };
 
     fn go(&mut self, _turn: u64, value: &mut KeptIndex<V>) -> O {
         let job = self.job.take().unwrap();
@@ -66,7 +70,8 @@ impl<V: Verifier> TurnIndex<V> {
         seat: &mut IndexSeat<V>,
         job: J,
     ) -> O
-        requires { IsOfIndex self.now seat.old }
+        requires own { IsOfIndex self.now seat.old }
+        requires may { J.may job }
         ensures own { IsOfIndex self.now seat.new }
         ensures ran { IndexRan (λ accepts before entry. J.says job accepts before result entry)
             (index_sight V.accepts seat.old) (index_sight V.accepts seat.new) }

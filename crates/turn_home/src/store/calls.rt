@@ -3,7 +3,7 @@ ghost use Rattle.std.specs.Prelude.{◌≡◌, Err, IfSome, None};
 ghost use Rattle.blobref.specs.Blobref.{IsOwnRef};
 ghost use Rattle.histories.specs.StoreCalls.{put_settled};
 
-use super::jobs::{Count, Find, FindNumber, Page, PutOwn, Sizes};
+use super::jobs::{Count, Find, Page, PutOwn, Sizes};
 use super::{StoreSeat, TurnStore};
 use blobref::{Listing, NoMemory, Octets, Ref, RefList};
 use edge_base::{GetFault, Put, PutFault};
@@ -11,7 +11,7 @@ use home_places::StorePlace;
 use pack_disk::Disk;
 use pack_format::put_refusal;
 use std::sync::Wait;
-use told_store::{check, check_arrival, once};
+use told_store::{check, once};
 
 impl<D: Disk> StorePlace for TurnStore<D> {
     ghost use Rattle.turn_home.specs.StoreSeats.{IsOfStore, store_sight, place_tells};
@@ -55,15 +55,22 @@ impl<D: Disk> StorePlace for TurnStore<D> {
         check(found)
     }
 
-    /// The digest is taken after the turn.
+    /// The digest is taken after the turn. A seat that is asked for numbers one after the other reads some of the next
+    /// blobs ahead, in the same turn, and takes the digests of all together. It tells these when they are asked for, each
+    /// in a turn in which nothing is read.
     fn arrival<R: Wait>(
         &self,
         rt: &R,
         seat: &mut StoreSeat<D>,
         number: u64,
     ) -> Result<Option<(Ref, Octets)>, GetFault> {
-        let found = self.take_turn(rt, seat, FindNumber { number });
-        check_arrival(found)
+        match seat.ahead.take(number) {
+            Some(blob) => self.tell_arrival(rt, seat, number, blob),
+            None if seat.ahead.width > 1 => {
+                self.read_arrivals(rt, seat, number, seat.ahead.width)
+            }
+            None => self.read_arrival(rt, seat, number),
+        }
     }
 
     fn list<R: Wait>(
@@ -106,7 +113,11 @@ impl<D: Disk> StorePlace for TurnStore<D> {
     }
 
     fn join(&self, into: &mut StoreSeat<D>, other: StoreSeat<D>) {
-        let StoreSeat { seat, count } = other;
+        let StoreSeat {
+            seat,
+            count,
+            ahead: _,
+        } = other;
         self.turn.join(&mut into.seat, seat);
         into.count = into.count.max(count);
     }

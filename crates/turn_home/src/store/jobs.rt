@@ -2,7 +2,7 @@
 ghost use Rattle.blobref.specs.Blobref.{IsOwnRef};
 
 use super::turns::StoreJob;
-use blobref::{Listing, NoMemory, Ref, RefList};
+use blobref::{BlobList, Listing, NoMemory, Ref, RefList};
 use edge_base::{GetFault, Put, PutFault};
 use pack_disk::Disk;
 use pack_store::{Found, Store};
@@ -17,13 +17,13 @@ pub struct PutOwn<'a> {
 }
 
 impl<'a, D: Disk> StoreJob<D> for PutOwn<'a> {
-    ghost use Rattle.histories.specs.StoreCalls.{PutSays};
+    ghost use Rattle.histories.specs.StoreCalls.{PutSpec};
     ghost use Rattle.told_store.specs.Telling.{put_entry};
     ghost use Rattle.turn_home.specs.StoreAbout.{limits_in};
 
     type Out = Result<Put, PutFault>;
 
-    ghost says = { λ j about before result entry. PutSays (limits_in about) j.r.now j.bytes.now before result entry };
+    ghost says = { λ j about before result entry. PutSpec (limits_in about) j.r.now j.bytes.now before result entry };
 
     ghost adds = { λ j result before now. put_entry j.r.now j.bytes.now result before now };
 
@@ -39,12 +39,12 @@ pub struct Find<'a> {
 }
 
 impl<'a, D: Disk> StoreJob<D> for Find<'a> {
-    ghost use Rattle.histories.specs.StoreCalls.{GetSays};
+    ghost use Rattle.histories.specs.StoreCalls.{GetSpec};
     ghost use Rattle.told_store.specs.Finding.{find_entry, checked_get};
 
     type Out = Result<Option<Found>, GetFault>;
 
-    ghost says = { λ j about before result entry. GetSays about.tells j.r.now before (checked_get result) entry };
+    ghost says = { λ j about before result entry. GetSpec about.tells j.r.now before (checked_get result) entry };
 
     ghost adds = { λ j result before now. find_entry result before now };
 
@@ -60,18 +60,45 @@ pub struct FindNumber {
 }
 
 impl<D: Disk> StoreJob<D> for FindNumber {
-    ghost use Rattle.histories.specs.StoreCalls.{ArrivalSays};
+    ghost use Rattle.histories.specs.StoreCalls.{ArrivalSpec};
     ghost use Rattle.told_store.specs.Finding.{find_entry, checked_arrival};
 
     type Out = Result<Option<Found>, GetFault>;
 
     ghost says = { λ j about before result entry.
-        ArrivalSays about.tells j.number before (checked_arrival result) entry };
+        ArrivalSpec about.tells j.number before (checked_arrival result) entry };
 
     ghost adds = { λ j result before now. find_entry result before now };
 
     fn go(self, store: &mut Store<D>) -> Result<Option<Found>, GetFault> {
         told_store::find_number(store, self.number)
+    }
+}
+
+/// Blobs of several numbers are read, from one on, so many at most. Their digests are looked at after the turn.
+#[derive(Drop)]
+pub struct FindNumbers {
+    pub alloc: Global,
+    pub number: u64,
+    pub most: u64,
+}
+
+impl<D: Disk> StoreJob<D> for FindNumbers {
+    ghost use Rattle.std.specs.Prelude.{IfOk};
+    ghost use Rattle.histories.specs.StoreCalls.{ArrivalSpec};
+    ghost use Rattle.told_store.specs.Finding.{find_entry, checked_arrival};
+    ghost use Rattle.told_store.specs.Together.{AllFrom, IsReadAt, first_in};
+
+    type Out = Result<BlobList, GetFault>;
+
+    ghost says = { λ j about before result entry.
+        ArrivalSpec about.tells j.number before (checked_arrival (first_in result)) entry
+        × IfOk result (AllFrom (IsReadAt about.tells before) j.number) };
+
+    ghost adds = { λ j result before now. find_entry (first_in result) before now };
+
+    fn go(self, store: &mut Store<D>) -> Result<BlobList, GetFault> {
+        told_store::find_numbers(self.alloc, store, self.number, self.most)
     }
 }
 
@@ -84,11 +111,11 @@ pub struct Page<'a> {
 
 impl<'a, D: Disk> StoreJob<D> for Page<'a> {
     ghost use Rattle.std.specs.Prelude.{None, option_copied};
-    ghost use Rattle.histories.specs.StoreCalls.{ListSays};
+    ghost use Rattle.histories.specs.StoreCalls.{ListSpec};
 
     type Out = Result<Listing, NoMemory>;
 
-    ghost says = { λ j about before result entry. ListSays (option_copied j.after) j.limit before result entry };
+    ghost says = { λ j about before result entry. ListSpec (option_copied j.after) j.limit before result entry };
 
     ghost adds = { λ j result before now. None };
 
@@ -106,12 +133,12 @@ pub struct Sizes<'a> {
 
 impl<'a, D: Disk> StoreJob<D> for Sizes<'a> {
     ghost use Rattle.std.specs.Prelude.{None, ◌≡◌, ℕ, List, []};
-    ghost use Rattle.histories.specs.StoreCalls.{StatSays, each_once};
+    ghost use Rattle.histories.specs.StoreCalls.{StatSpec, each_once};
 
     type Out = Result<Listing, NoMemory>;
 
     ghost says = { λ j about before result entry. (asked : List (List ℕ)) → j.once.now ≡ each_once [] asked
-        → StatSays asked before result entry };
+        → StatSpec asked before result entry };
 
     ghost adds = { λ j result before now. None };
 

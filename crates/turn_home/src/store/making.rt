@@ -6,6 +6,7 @@ ghost use Rattle.told_store.specs.Beginning.{begins};
 ghost use Rattle.turn_home.specs.StoreAbout.{about_of};
 ghost use Rattle.turn_home.specs.StoreSeats.{IsOfStore, store_sight, place_about, place_limits, place_tells};
 
+use super::ahead::Ahead;
 use super::{KeptStore, StoreSeat, TurnStore};
 use blobref::NoMemory;
 use pack_disk::Disk;
@@ -42,12 +43,15 @@ impl<D: Disk> TurnStore<D> {
             before: made,
         };
         match Turn::make(alloc, kept) {
-            Ok((turn, seat)) => Ok((TurnStore { alloc, turn }, StoreSeat { seat, count })),
+            Ok((turn, seat)) => {
+                let ahead = Ahead::nothing(alloc);
+                Ok((TurnStore { alloc, turn }, StoreSeat { seat, count, ahead }))
+            }
             Err((kept, NoMemory)) => Err((kept.store, NoMemory)),
         }
     }
 
-    /// A second seat, which has seen the same and drew no turn. It takes no turn and no memory.
+    /// A second seat, which has seen the same, drew no turn and read nothing ahead. It takes no turn and no memory.
     pub fn split(&self, seat: &mut StoreSeat<D>) -> StoreSeat<D>
         requires { IsOfStore D.Disk self.now seat.old }
         ensures own { IsOfStore D.Disk self.now seat.new }
@@ -58,6 +62,7 @@ impl<D: Disk> TurnStore<D> {
         StoreSeat {
             seat: self.turn.split(&mut seat.seat).unwrap(),
             count: seat.count,
+            ahead: Ahead::nothing(self.alloc),
         }
     }
 }

@@ -1,0 +1,62 @@
+//! What a seat reads ahead.
+ghost use Rattle.std.specs.Prelude.{◌≡◌, ◌+◌, [], ◌∷◌, IfSome, IfNone};
+
+use blob_checks::COUNT;
+use blobref::{Octets, Ref};
+use std::alloc::Global;
+use std::collections::VecDeque;
+
+/// The blobs that a seat read ahead of the numbers that it was asked for: fewer than 64, of at most 4 MiB together.
+#[derive(Drop)]
+pub struct Ahead {
+    // The number that was asked for last.
+    pub(super) last: u64,
+    // Blobs of the numbers behind it, in their order, each under its own ref.
+    pub(super) blobs: VecDeque<(Ref, Octets)>,
+    // How many blobs are read in the next turn, with the one that is asked for.
+    pub(super) width: u64,
+}
+
+impl Ahead {
+    /// Nothing was read ahead.
+    pub(super) fn nothing(alloc: Global) -> Ahead
+        ensures { result.blobs.items ≡ [] }
+    {
+        Ahead {
+            last: 0,
+            blobs: VecDeque::new(alloc),
+            width: 1,
+        }
+    }
+
+    /// The blob of a number that is asked for, where it was read ahead. Where it wasn't, none is left, and the next turn
+    /// reads one blob; or twice as many as the last one, up to 64, where the number is the one behind the last.
+    pub(super) fn take(&mut self, number: u64) -> Option<(Ref, Octets)>
+        ensures last { self.new.last ≡ number }
+        ensures taken { IfSome result
+            (λ b. (number ≡ self.old.last + 1) × (self.old.blobs.items ≡ b ∷ self.new.blobs.items)) }
+        ensures none { IfNone result (self.new.blobs.items ≡ []) }
+    {
+        let follows = number > self.last && number - self.last == 1;
+        self.last = number;
+        if !follows {
+            self.blobs.clear();
+            self.width = 1;
+            return None;
+        }
+        let Some(blob) = self.blobs.pop_front() else {
+            self.width = self.width.saturating_mul(2).min(COUNT as u64);
+            return None;
+        };
+        Some(blob)
+    }
+
+    /// Keeps the blobs that were read behind a number.
+    pub(super) fn keep(&mut self, number: u64, blobs: VecDeque<(Ref, Octets)>)
+        ensures last { self.new.last ≡ number }
+        ensures blobs { self.new.blobs.items ≡ blobs.items }
+    {
+        self.last = number;
+        self.blobs = blobs;
+    }
+}
