@@ -1,5 +1,2 @@
-pub mod Numbers
-pub mod Firsts
-pub mod Entries
+pub mod Adding
 pub mod Tells
-pub mod Fronts

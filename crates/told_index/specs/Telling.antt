@@ -1,37 +1,16 @@
--- Which histories an index stands for, and which entry each call adds.
-use Rattle.std.specs.Prelude.{◌≡◌, ℕ, List, length, Bool, true, Option, Some, None, Result, Ok, Err, if◌then◌else◌}
-use Rattle.blobref.specs.declared.memory.NoMemory.{NoMemory}
-use Rattle.edge_base.specs.declared.answers.Inserted.{Inserted}
-use Rattle.edge_base.specs.declared.answers.Inserted.TheVariants as inserted
-use Rattle.schema_fact.specs.declared.kinds.Fact.{Fact}
+-- Which histories an index with its numbers stands for.
+use Rattle.std.specs.Prelude.{◌≡◌, ℕ, List, true}
+use Rattle.std.specs.FinMap.{contains_key}
 use Rattle.histories.specs.declared.stamped.Stamped.{Stamped}
 use Rattle.histories.specs.declared.events.IndexEvent.{IndexEvent}
-use Rattle.histories.specs.declared.events.IndexEvent.TheVariants.{Take, Insert, Return}
 use Rattle.histories.specs.History.{events}
-use Rattle.histories.specs.Indexes.{inserts, indexed, in_hand, is_inserted, is_legal_index}
-use Rattle.told_index.specs.Working.{Working, has_inserted, has_in_hand}
+use Rattle.histories.specs.Indexes.{inserts, indexed, is_inserted}
+use Rattle.work_numbers.specs.Telling.{NumbersTell}
+use Rattle.told_index.specs.declared.work_index.WorkIndex.{WorkIndex}
 
--- The index stands for this history: its facts are those of the Inserts, each ref with its first, and its numbers are
--- inserted, as many as there are Inserts, and in hand as they are after the history's entries.
-pub record IndexTells {V : Type 0} (w : Working V) (h : List (Stamped IndexEvent)) : Type 0 where
-  pub legal : is_legal_index h ≡ true
-  pub facts : w.facts ≡ indexed (inserts h)
-  pub inserted : (n : ℕ) → has_inserted w n ≡ is_inserted n (events h)
-  pub count : w.count ≡ length (inserts h)
-  pub hand : (n : ℕ) → has_in_hand w n ≡ in_hand n (events h)
-
--- the entry of a take, by its answer
-abbrev pub take_entry : Result (Option ℕ) NoMemory → Option IndexEvent
-take_entry (Ok None) = None
-take_entry (Ok (Some n)) = Some (Take n)
-take_entry (Err f) = None
-
--- the entry of an insert, by its answer
-abbrev pub insert_entry : ℕ → List ℕ → Fact → Result Inserted NoMemory → Option IndexEvent
-insert_entry n r fact (Ok inserted.New) = Some (Insert n r fact)
-insert_entry n r fact (Ok inserted.Already) = None
-insert_entry n r fact (Err f) = None
-
--- the entry of a number that is given back, by whether it was in hand
-abbrev pub return_entry : Bool → ℕ → Option IndexEvent
-return_entry held n = if held then Some (Return n) else None
+-- The index stands for this history: its numbers do, its facts are those of the Inserts, each ref with its first, and
+-- the numbers under which these stand were inserted.
+pub record IndexTells {V : Type 0} (w : WorkIndex V) (h : List (Stamped IndexEvent)) : Type 0 where
+  pub numbers : NumbersTell w.work h
+  pub facts : w.index.facts ≡ indexed (inserts h)
+  pub within : (n : ℕ) → contains_key w.index.numbers n ≡ true → is_inserted n (events h) ≡ true

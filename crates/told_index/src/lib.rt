@@ -1,7 +1,6 @@
-//! An index that stands for a history, with the numbers that workers have in hand (`docs/core.md`).
+//! What is done to an index in one turn, with the numbers that workers have in hand (`docs/core.md`, `docs/turns.md`).
 #![tactic(auto)]
 
-mod number_rows;
 mod uncounted;
 mod work_index;
 

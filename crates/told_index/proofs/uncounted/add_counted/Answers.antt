@@ -1,11 +1,17 @@
-use Rattle.told_index.proofs.Numbers.{noted, put_new}
+use Rattle.std.proofs.Common.{sym, ap, ◌∙◌}
+use Rattle.std.specs.FinMap.{contains_key}
+use Rattle.told_index.proofs.Adding.{placed_facts, placed_numbers}
 use Rattle.told_index.proofs.uncounted.add_counted.Goals as goal
 
-pub returns-then-stands-clause-numbers : goal.returns-then-stands-clause-numbers
-returns-then-stands-clause-numbers g c =
-    noted c.args.index.now.numbers c.args.again.now c.put.new.self c.args.number c.put.result c.put.ensures.ok
+pub place-requires : goal.place-requires
+place-requires g c =
+    let absent = ap (contains_key c.args.index.now.facts) (sym c.r.ensures) ∙ sym c.stands.ensures.value ∙ c.if-stands.false in
+    record { valid = c.requires.valid; alone = λ fresh. absent; room = λ fresh. c.requires.room }
+
+pub returns-clause-facts : goal.returns-clause-facts
+returns-clause-facts g c =
+    let absent = ap (contains_key c.args.index.now.facts) (sym c.r.ensures) ∙ sym c.stands.ensures.value ∙ c.if-stands.false in
+    placed_facts c.args.index.now c.place.new.self c.args.made c.place.ensures.put absent
 
 pub returns-clause-numbers : goal.returns-clause-numbers
-returns-clause-numbers g c =
-    put_new c.args.index.now c.insert.new.self c.args.again.now c.args.number c.args.r.now c.args.fact c.in_ok-insert.field-0
-    c.in_ok-insert.ensures.inserted c.requires.fresh
+returns-clause-numbers g c = placed_numbers c.args.index.now c.place.new.self c.args.made c.place.ensures.put c.place.ensures.stood

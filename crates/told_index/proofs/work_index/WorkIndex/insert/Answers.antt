@@ -1,25 +1,29 @@
-use Rattle.std.proofs.Common.{◌+◌, ◌||◌, nat_eq, sym, ap, subst, ◌∙◌}
-use Rattle.std.specs.FinMap.{remove}
-use Rattle.told_index.specs.Working.{Working, IsFront, TakenNumbers, has_inserted, with_first}
-use Rattle.told_index.proofs.Fronts.{front_inserted}
-use Rattle.told_index.proofs.Tells.{tells_insert}
+use Rattle.std.proofs.Common.{◌++◌, refl, sym, ap, subst, ◌∙◌}
+use Rattle.std.specs.FinMap.{contains_key}
+use Rattle.index_rows.specs.Loose.{LooseRow}
+use Rattle.histories.specs.History.{events, stamped}
+use Rattle.histories.specs.IndexCalls.{InsertSpec}
+use Rattle.work_numbers.specs.Telling.{insert_entry}
+use Rattle.told_index.specs.Telling.{IndexTells}
+use Rattle.told_index.proofs.Tells.{undone}
 use Rattle.told_index.proofs.work_index.WorkIndex.insert.Goals as goal
 
-pub invariant_of-self-2 : goal.invariant_of-self-2
-invariant_of-self-2 g c =
-    let i = c.self.inside in
-    subst (λ (t : TakenNumbers). IsFront c.add.new.index.numbers c.add.new.again t i.front) (sym c.drop_row.ensures)
-    (front_inserted i.index.numbers i.again i.taken i.front c.self.invariant c.add.new.index.numbers c.add.new.again
-    c.args.number c.in_ok-add.ensures.numbers)
+pub returns-then-has-clause-kept : goal.returns-then-has-clause-kept
+returns-then-has-clause-kept g c = λ h turn t. undone c.args.self.now c.args.self.now h turn t refl refl
+
+pub returns-then-has-clause-says : goal.returns-then-has-clause-says
+returns-then-has-clause-says g c = λ h t. (sym (t.numbers.inserted c.args.number) ∙ (sym c.has.ensures ∙ c.if-has.true), refl)
+
+pub insert_made-requires-clause-fresh : goal.insert_made-requires-clause-fresh
+insert_made-requires-clause-fresh g c =
+    ap (λ (m : LooseRow). contains_key c.args.self.now.work.numbers m.0) c.in_ok-made.ensures ∙ (sym c.has.ensures ∙ c.if-has.false)
 
 pub returns-clause-kept : goal.returns-clause-kept
 returns-clause-kept g c = λ h turn t.
-    let i = c.self.inside in
-    tells_insert c.args.self.now _ h turn t c.args.number c.args.r.now c.args.fact
-    (ap (λ (w : Working _). has_inserted w c.args.number) (sym c.self.view_is) ∙ sym c.was_inserted.ensures
-    ∙ c.if-was_inserted.false)
-    (c.in_ok-add.ensures.facts ∙ ap (λ (w : Working _). with_first w.facts c.args.r.now c.args.fact) c.self.view_is)
-    (λ m. c.in_ok-add.ensures.numbers m
-    ∙ ap (λ (w : Working _). nat_eq c.args.number m || has_inserted w m) c.self.view_is)
-    (c.in-Some.ensures.1 ∙ ap (λ (w : Working _). w.count + 1) c.self.view_is)
-    (c.drop_row.ensures ∙ ap (λ (w : Working _). remove w.taken c.args.number) c.self.view_is)
+    subst (λ (m : LooseRow). IndexTells c.insert_made.new.self (h ++ stamped turn (insert_entry m.0 m.1 m.2 c.insert_made.result)))
+    c.in_ok-made.ensures (c.insert_made.ensures.kept h turn t)
+
+pub returns-clause-says : goal.returns-clause-says
+returns-clause-says g c = λ h t.
+    subst (λ (m : LooseRow). InsertSpec m.0 m.1 m.2 (events h) c.insert_made.result (insert_entry m.0 m.1 m.2 c.insert_made.result))
+    c.in_ok-made.ensures (c.insert_made.ensures.says h t)

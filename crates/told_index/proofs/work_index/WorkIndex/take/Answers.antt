@@ -1,18 +1,11 @@
-use Rattle.told_index.proofs.Tells.{takes_kept, takes_says}
+use Rattle.std.proofs.Common.{refl}
+use Rattle.work_numbers.specs.Telling.{take_entry}
+use Rattle.told_index.proofs.Tells.{no_insert_take, rests}
 use Rattle.told_index.proofs.work_index.WorkIndex.take.Goals as goal
 
-pub returns-in-Some-clause-kept : goal.returns-in-Some-clause-kept
-returns-in-Some-clause-kept g c = λ h turn t.
-    takes_kept c.args.self.now c.take_back.new.self c.args.arrivals h t c.take_back.result c.take_back.ensures.takes turn
+pub returns-clause-kept : goal.returns-clause-kept
+returns-clause-kept g c = λ h turn t.
+    rests c.args.self.now _ h turn t (take_entry c.take.result) refl (no_insert_take turn c.take.result) (c.take.ensures.kept h turn t.numbers)
 
-pub returns-in-Some-clause-says : goal.returns-in-Some-clause-says
-returns-in-Some-clause-says g c = λ h t.
-    takes_says c.args.self.now c.take_back.new.self c.args.arrivals h t c.take_back.result c.take_back.ensures.takes
-
-pub returns-in-None-clause-kept : goal.returns-in-None-clause-kept
-returns-in-None-clause-kept g c = λ h turn t.
-    takes_kept c.args.self.now c.take_new.new.self c.args.arrivals h t c.take_new.result c.take_new.ensures.takes turn
-
-pub returns-in-None-clause-says : goal.returns-in-None-clause-says
-returns-in-None-clause-says g c = λ h t.
-    takes_says c.args.self.now c.take_new.new.self c.args.arrivals h t c.take_new.result c.take_new.ensures.takes
+pub returns-clause-says : goal.returns-clause-says
+returns-clause-says g c = λ h t. c.take.ensures.says h t.numbers

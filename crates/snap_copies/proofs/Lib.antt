@@ -1,0 +1,7 @@
+pub mod Adding
+pub mod Facts
+pub mod Readings
+pub mod Linking
+pub mod Filling
+pub mod Placing
+pub mod Equality

@@ -1,0 +1,5 @@
+pub mod Telling
+pub mod Beginnings
+pub mod SnapSeats
+pub mod Legal
+pub mod Making

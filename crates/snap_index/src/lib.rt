@@ -1,0 +1,12 @@
+//! An index that several seats share, whose searches wait for no lock (`docs/core.md`, `docs/turns.md`). It stands in
+//! two copies (`snap_copies`). What changes the index takes turns, changes the copy that no reader is in, and publishes
+//! it; a search reads the copy that was published last.
+#![tactic(auto)]
+
+mod held;
+mod seat;
+mod threads;
+
+pub use held::{About, Held, SnapHeld};
+pub use seat::{SharedIndex, SharedSeat, SnapIndex, SnapSeat};
+pub use threads::threads_share_an_index;
