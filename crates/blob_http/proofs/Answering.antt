@@ -21,8 +21,9 @@ use Rattle.histories.specs.declared.events.StoreEvent.{StoreEvent}
 use Rattle.histories.specs.declared.events.StoreEvent.TheVariants as store
 use Rattle.histories.specs.History.{stamp, stamped, has, own, Before, Ahead, AheadOf}
 use Rattle.histories.specs.Stores.{Blob, arrivals, bytes_of}
-use Rattle.histories.specs.Indexes.{Insertion, HasAllBelow, inserts}
-use Rattle.histories.specs.StoreCalls.{IsQuiet, GetSays, GetFails, StatSays, ListSays, page, sized, each_once}
+use Rattle.histories.specs.declared.events.Insertion.{Insertion}
+use Rattle.histories.specs.Indexes.{HasAllBelow, inserts}
+use Rattle.histories.specs.StoreCalls.{IsQuiet, GetSpec, GetFails, StatSpec, ListSpec, page, sized, each_once}
 use Rattle.histories.proofs.Prefixes.{prefix_trans, prefix_length}
 use Rattle.histories.proofs.Growing.{has_rest, each_stamped, placed_stamped}
 use Rattle.histories.proofs.Rising.{before_within, later_stamped, ahead_none, ahead_less}
@@ -30,7 +31,7 @@ use Rattle.histories.proofs.Standing.{arrivals_append, arrivals_prefix, has_all_
 use Rattle.home_places.specs.Passes.{Sight, IsSight, StoreCall, StoreTurned, Spends, Settles, Searches, Counts, Caused}
 use Rattle.home_places.specs.Passes.{IsTrouble}
 use Rattle.home_places.specs.Seats.{StoreSight}
-use Rattle.home_places.specs.Searches.{SearchSays}
+use Rattle.home_places.specs.Searches.{SearchSpec}
 use Rattle.blob_routes.specs.declared.routes.Allowed.{Allowed}
 use Rattle.blob_routes.specs.declared.pages.Page.{Page}
 use Rattle.blob_http.specs.declared.entries.Outcome.{Outcome}
@@ -95,13 +96,13 @@ fails_trouble tells asked (unread.Damaged a b) e c =
 fails_trouble tells asked unread.NoMemory e c = quiet_trouble e c
 
 get_troubles : (tells : Bool) (r : List ℕ) (result : Result (Option (List ℕ)) GetFault) (before : List Blob)
-    (e : StoreEvent) → GetSays tells r before result (Some e) → IsTrouble e
+    (e : StoreEvent) → GetSpec tells r before result (Some e) → IsTrouble e
 get_troubles tells r (Ok None) before e said = quiet_trouble e said.1
 get_troubles tells r (Ok (Some bytes)) before e said = quiet_trouble e said.1
 get_troubles tells r (Err f) before e said = fails_trouble tells _ f e said
 
 pub stat_none : (refs : List (List ℕ)) (result : Result (List (List ℕ × ℕ)) NoMemory) (before : List Blob)
-    (e : Option StoreEvent) → StatSays refs before result e → e ≡ None
+    (e : Option StoreEvent) → StatSpec refs before result e → e ≡ None
 stat_none refs (Ok found) before e said = said.1
 stat_none refs (Err f) before e said = said
 
@@ -146,7 +147,7 @@ not_err (Ok other) entries is none = cc none
 not_err (Err e) entries is none = absurd (cc is)
 
 list_none : (after : Option (List ℕ)) (limit : ℕ) (result : Result (List (List ℕ × ℕ)) NoMemory)
-    (before : List Blob) (e : Option StoreEvent) → ListSays after limit before result e → e ≡ None
+    (before : List Blob) (e : Option StoreEvent) → ListSpec after limit before result e → e ≡ None
 list_none after limit (Ok found) before e said = said.1
 list_none after limit (Err f) before e said = said
 
@@ -419,7 +420,7 @@ module _ (tells closes : Bool) (r : List ℕ) where
   blob_made : (result : Result (Option (List ℕ)) GetFault) (m : ReplyText) → BlobMade closes r result m
       → (accepts : Accepts) (before blobs : List Blob) (g : List Insertion) (e : Option StoreEvent)
       → (IsQuiet e → blobs ≡ before)
-      → GetSays tells r before result e → IsMade tells accepts blobs g closes (question.Blob r) m
+      → GetSpec tells r before result e → IsMade tells accepts blobs g closes (question.Blob r) m
   blob_made (Ok None) m is accepts before blobs g e same says =
       let here : bytes_of r blobs ≡ None = ap (bytes_of r) (same says.1) ∙ says.0 in
       defined_made tells accepts blobs g closes (question.Blob r) (refused_reply closes [] (Absent r)) m is
@@ -435,7 +436,7 @@ module _ (tells closes : Bool) (r : List ℕ) where
 
   blob_cause : (result : Result (Option (List ℕ)) GetFault) (m : ReplyText) → BlobMade closes r result m
       → (before : List Blob) (h : List (Stamped StoreEvent)) (t : ℕ) (e : Option StoreEvent)
-      → GetSays tells r before result e → HasCauseIn (t ∷ []) (h ++ stamped t e) (outcome_of m)
+      → GetSpec tells r before result e → HasCauseIn (t ∷ []) (h ++ stamped t e) (outcome_of m)
   blob_cause (Ok None) m is before h t e says = defined_cause (t ∷ []) (h ++ stamped t e) _ m is
   blob_cause (Ok (Some bytes)) m is before h t e says = defined_cause (t ∷ []) (h ++ stamped t e) _ m is
   blob_cause (Err f) m is before h t e says = told_cause (t ∷ []) (h ++ stamped t e) closes f m is
@@ -447,10 +448,10 @@ module _ (tells closes : Bool) (r : List ℕ) where
 
   pub blob_answers : (result : Result (Option (List ℕ)) GetFault) (m : ReplyText) (v w : Sight) (counts : ℕ × ℕ)
       → BlobMade closes r result m
-      → StoreCall (result ≡ Err unread.NoMemory) (λ before e. GetSays tells r before result e) v w → Counts w counts
+      → StoreCall (result ≡ Err unread.NoMemory) (λ before e. GetSpec tells r before result e) v w → Counts w counts
       → Answers tells closes (question.Blob r) v w (entry_of counts.0 counts.1 0 m) m
   blob_answers result m v w counts is call count =
-      call_answers tells closes (question.Blob r) m (λ before e. GetSays tells r before result e)
+      call_answers tells closes (question.Blob r) m (λ before e. GetSpec tells r before result e)
       (blob_made result m is) (blob_cause result m is) (get_troubles tells r result)
       (result ≡ Err unread.NoMemory) v w counts (blob_memory result m is) call count
 
@@ -472,7 +473,7 @@ module _ (tells closes : Bool) where
       → TextMade closes stat_text result m
       → (accepts : Accepts) (before blobs : List Blob) (g : List Insertion) (e : Option StoreEvent)
       → (IsQuiet e → blobs ≡ before)
-      → StatSays refs before result e → IsMade tells accepts blobs g closes (question.Stat refs) m
+      → StatSpec refs before result e → IsMade tells accepts blobs g closes (question.Stat refs) m
   stat_made refs (Ok found) m is accepts before blobs g e same says =
       defined_made tells accepts blobs g closes (question.Stat refs) _ m is
       (ap (λ (z : List (List ℕ × ℕ)). json_reply closes (stat_text z))
@@ -482,11 +483,11 @@ module _ (tells closes : Bool) where
 
   pub stat_answers : (refs : List (List ℕ)) (result : Result (List (List ℕ × ℕ)) NoMemory) (m : ReplyText) (v w : Sight)
       (counts : ℕ × ℕ)
-      → TextMade closes stat_text result m → StoreCall (IsErr result) (λ before e. StatSays refs before result e) v w
+      → TextMade closes stat_text result m → StoreCall (IsErr result) (λ before e. StatSpec refs before result e) v w
       → Counts w counts
       → Answers tells closes (question.Stat refs) v w (entry_of counts.0 counts.1 0 m) m
   stat_answers refs result m v w counts is call count =
-      call_answers tells closes (question.Stat refs) m (λ before e. StatSays refs before result e)
+      call_answers tells closes (question.Stat refs) m (λ before e. StatSpec refs before result e)
       (stat_made refs result m is)
       (λ before h t e says. text_cause closes stat_text result m (t ∷ []) (h ++ stamped t e) is)
       (λ before e says. none_trouble e (stat_none refs result before (Some e) says))
@@ -503,7 +504,7 @@ module _ (tells closes : Bool) where
       → TextMade closes (cut_page p.limit) result m
       → (accepts : Accepts) (before blobs : List Blob) (g : List Insertion) (e : Option StoreEvent)
       → (IsQuiet e → blobs ≡ before)
-      → ListSays p.after (p.limit + 1) before result e → IsMade tells accepts blobs g closes (question.Refs p) m
+      → ListSpec p.after (p.limit + 1) before result e → IsMade tells accepts blobs g closes (question.Refs p) m
   page_made p (Ok found) m is accepts before blobs g e same says =
       defined_made tells accepts blobs g closes (question.Refs p) _ m is
       (ap (json_reply closes)
@@ -514,10 +515,10 @@ module _ (tells closes : Bool) where
 
   pub page_answers : (p : Page) (result : Result (List (List ℕ × ℕ)) NoMemory) (m : ReplyText) (v w : Sight) (counts : ℕ × ℕ)
       → TextMade closes (cut_page p.limit) result m
-      → StoreCall (IsErr result) (λ before e. ListSays p.after (p.limit + 1) before result e) v w → Counts w counts
+      → StoreCall (IsErr result) (λ before e. ListSpec p.after (p.limit + 1) before result e) v w → Counts w counts
       → Answers tells closes (question.Refs p) v w (entry_of counts.0 counts.1 0 m) m
   page_answers p result m v w counts is call count =
-      call_answers tells closes (question.Refs p) m (λ before e. ListSays p.after (p.limit + 1) before result e)
+      call_answers tells closes (question.Refs p) m (λ before e. ListSpec p.after (p.limit + 1) before result e)
       (page_made p result m is)
       (λ before h t e says. text_cause closes (cut_page p.limit) result m (t ∷ []) (h ++ stamped t e) is)
       (λ before e says. none_trouble e (list_none p.after (p.limit + 1) result before (Some e) says))
@@ -636,7 +637,7 @@ module _ (tells closes : Bool) where
 
   search_made : (query : Query) (found : Result (List (List ℕ)) NoMemory) (m : ReplyText)
       → TextMade closes search_text found m
-      → (accepts : Accepts) (blobs : List Blob) (g : List Insertion) → SearchSays accepts query g found
+      → (accepts : Accepts) (blobs : List Blob) (g : List Insertion) → SearchSpec accepts query g found
       → HasAllBelow (length blobs) g
       → IsMade tells accepts blobs g closes (question.Search query) m
   search_made query (Ok refs) m is accepts blobs g says all =
@@ -685,7 +686,7 @@ module _ (tells closes : Bool) where
         index_within = let p = last.inserts in omega arith;
         made = search_made query found m is w.index.accepts (take before.0 (arrivals w.store.history))
             (take after.1 w.index.shown)
-            (subst (λ (z : List Insertion). SearchSays w.index.accepts query z found) (sym all) a.search.answer)
+            (subst (λ (z : List Insertion). SearchSpec w.index.accepts query z found) (sym all) a.search.answer)
             (subst (λ (n : ℕ). HasAllBelow n (take after.1 w.index.shown)) (sym count)
             (subst (HasAllBelow (length (arrivals v.store.history))) (sym all) below));
         outcome = refl;
@@ -697,7 +698,7 @@ module _ (tells closes : Bool) where
           store = grown;
           turns = (s.store.further, sym (ap (λ y. y.turns) a.store ∙ s.store.drawn));
           later = later;
-          index = prefix_trans v.index.history x.index.history w.index.history s.index.longer a.search.grew.longer;
+          index = subst (IsPrefix v.index.history) (sym a.search.history) s.index.longer;
           shown = shown;
           limits = ap (λ y. y.limits) a.store ∙ s.limits;
           accepts = a.search.accepts ∙ s.accepts;

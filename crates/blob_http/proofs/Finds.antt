@@ -13,7 +13,8 @@ use Rattle.histories.specs.declared.events.StoreEvent.{StoreEvent}
 use Rattle.histories.specs.declared.events.StoreEvent.TheVariants as store
 use Rattle.histories.specs.History.{events, stamp, Later}
 use Rattle.histories.specs.Stores.{Blob, puts, arrivals}
-use Rattle.histories.specs.Indexes.{Insertion, HasAllBelow}
+use Rattle.histories.specs.declared.events.Insertion.{Insertion}
+use Rattle.histories.specs.Indexes.{HasAllBelow}
 use Rattle.histories.proofs.Prefixes.{prefix_get}
 use Rattle.histories.proofs.Standing.{arrivals_prefix}
 use Rattle.http_wire.specs.declared.head.Framing.{Framing}

@@ -10,14 +10,14 @@ use Rattle.answer_text.specs.declared.refusal.Refusal.TheVariants as refusal
 use Rattle.histories.specs.declared.stamped.Stamped.{Stamped}
 use Rattle.histories.specs.declared.events.StoreEvent.{StoreEvent}
 use Rattle.histories.specs.Stores.{Blob, arrivals}
-use Rattle.histories.specs.Indexes.{Insertion}
+use Rattle.histories.specs.declared.events.Insertion.{Insertion}
 use Rattle.home_places.specs.Passes.{Sight}
 use Rattle.http_wire.specs.declared.body.Body.{Body}
 use Rattle.http_wire.specs.declared.body.Body.TheVariants as body
 use Rattle.http_wire.specs.declared.head.Head.{Head}
 use Rattle.http_wire.specs.declared.ends.WireEnd.{WireEnd}
 use Rattle.http_wire.specs.Stream.{Flow, Passed, stream}
-use Rattle.http_wire.specs.Heads.{HeadSays}
+use Rattle.http_wire.specs.Heads.{HeadSpec}
 use Rattle.http_wire.specs.Bodies.{Moves, BodyRun}
 use Rattle.http_wire.specs.Wires.{WireView, body_of, HeadEnds, to_come}
 use Rattle.http_wire.specs.Speaking.{Request, Begun}
@@ -47,7 +47,7 @@ use Rattle.blob_http.specs.Answers.{allow_text, outcome_of, text_of}
 use Rattle.blob_http.specs.Serving.{HasCauseIn, IsRest, Passes, IsReply, IsFrontDefined, IsBodyRefusal, Handles}
 use Rattle.http_exchange.specs.Hearing.{StopEnds}
 use Rattle.blob_http.specs.Serving.{HadNoRefusal, PutsNothing}
-use Rattle.blob_http.specs.Handling.{IsMade, Looked, is_memory, Answers, Replies, AlongSays, StopReplies}
+use Rattle.blob_http.specs.Handling.{IsMade, Looked, is_memory, Answers, Replies, AlongSpec, StopReplies}
 use Rattle.blob_http.specs.Serving.{NoneComes, IsFair}
 use Rattle.blob_http.proofs.Staying.{longer_none, owns_none}
 use Rattle.http_exchange.proofs.Bodies.{moves_none}
@@ -56,7 +56,7 @@ use Rattle.http_exchange.proofs.Reading.{stop_none as none_stops, has_pieces as 
 use Rattle.blob_http.proofs.Firsts.{first_refused}
 
 -- the places of a head lie in its text
-pub has_pieces : (text : List ℕ) (says : Head) → HeadSays text (Ok says) → HasPieces text says
+pub has_pieces : (text : List ℕ) (says : Head) → HeadSpec text (Ok says) → HasPieces text says
 has_pieces text says h = pieces_of text says h
 
 -- ---- from an answer to what is handled
@@ -277,7 +277,7 @@ pub along_replies : (x0 x1 x2 : Option (List ℕ)) (flow : Flow) (mid new : Wire
     → (tells : Bool) (v w : Sight) (entry : Answered) (m : ReplyText) (closes : Bool) (r : Route)
     (asked : Result Operation NoMemory)
     → first_of mid.head says ≡ Ok r → IfOk asked (IsAskedAt r (piece mid.head says.query) bytes)
-    → AlongSays tells says.closes asked v w entry m
+    → AlongSpec tells says.closes asked v w entry m
     → closes ≡ (says.closes || is_memory m) → Replies x0 x2 flow new tells v w entry m closes
 along_replies x0 x1 x2 flow mid new says head bytes gathered tells v w entry m closes r (Ok q) first at a closing =
     let moved : Moves x1 x2 mid.flow new.flow mid.body new.body bytes =

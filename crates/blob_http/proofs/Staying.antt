@@ -11,7 +11,7 @@ use Rattle.histories.specs.declared.stamped.Stamped.{Stamped}
 use Rattle.histories.specs.declared.events.StoreEvent.{StoreEvent}
 use Rattle.histories.specs.History.{has, own, AheadOf}
 use Rattle.histories.specs.Stores.{Blob, arrivals}
-use Rattle.histories.specs.Indexes.{Insertion}
+use Rattle.histories.specs.declared.events.Insertion.{Insertion}
 use Rattle.histories.proofs.Prefixes.{prefix_self, prefix_trans, prefix_length}
 use Rattle.histories.proofs.Growing.{has_front, has_rest}
 use Rattle.histories.proofs.Rising.{ahead_none, ahead_chain, ahead_less}

@@ -12,7 +12,7 @@ use Rattle.histories.specs.declared.events.StoreEvent.{StoreEvent}
 use Rattle.histories.specs.declared.events.StoreEvent.TheVariants as store
 use Rattle.histories.specs.Stores.{Blob, arrivals}
 use Rattle.histories.specs.StoreCalls.{sizes}
-use Rattle.histories.specs.Indexes.{Insertion}
+use Rattle.histories.specs.declared.events.Insertion.{Insertion}
 use Rattle.histories.proofs.Prefixes.{prefix_length}
 use Rattle.histories.proofs.Standing.{arrivals_prefix}
 use Rattle.home_places.specs.Passes.{Sight}

@@ -12,7 +12,8 @@ use Rattle.answer_text.specs.declared.refusal.Refusal.TheVariants as refusal
 use Rattle.answer_text.specs.Search.{search_text}
 use Rattle.answer_text.specs.Listings.{stat_text, page_text}
 use Rattle.histories.specs.Stores.{Blob, bytes_of}
-use Rattle.histories.specs.Indexes.{Insertion, HasAllBelow, indexed}
+use Rattle.histories.specs.declared.events.Insertion.{Insertion}
+use Rattle.histories.specs.Indexes.{HasAllBelow, indexed}
 use Rattle.histories.specs.StoreCalls.{IsRead, page, sized, each_once}
 use Rattle.blob_routes.specs.declared.routes.Allowed.{Allowed}
 use Rattle.blob_routes.specs.Routes.{allowed_text}

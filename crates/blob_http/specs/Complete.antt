@@ -9,7 +9,7 @@ use Rattle.histories.specs.declared.events.StoreEvent.{StoreEvent}
 use Rattle.histories.specs.declared.events.StoreEvent.TheVariants as store
 use Rattle.histories.specs.History.{stamp, has}
 use Rattle.histories.specs.Stores.{Blob, arrivals}
-use Rattle.histories.specs.Indexes.{Insertion}
+use Rattle.histories.specs.declared.events.Insertion.{Insertion}
 use Rattle.histories.specs.StoreCalls.{sizes}
 use Rattle.http_wire.specs.Speaking.{Request, IsRequest, IsBegun}
 use Rattle.multipart_read.specs.PartLists.{Part, IsMultipart}

@@ -7,7 +7,8 @@ use Rattle.histories.specs.declared.events.StoreEvent.{StoreEvent}
 use Rattle.histories.specs.declared.events.StoreEvent.TheVariants.{Put}
 use Rattle.histories.specs.History.{stamp}
 use Rattle.histories.specs.Stores.{Blob, arrivals}
-use Rattle.histories.specs.Indexes.{Insertion, has_number}
+use Rattle.histories.specs.declared.events.Insertion.{Insertion}
+use Rattle.histories.specs.Indexes.{has_number}
 use Rattle.http_wire.specs.Speaking.{Request}
 use Rattle.blob_http.specs.declared.entries.Outcome.TheVariants.{Defined}
 use Rattle.blob_http.specs.declared.operations.Operation.TheVariants.{Search}

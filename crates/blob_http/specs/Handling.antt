@@ -6,7 +6,7 @@ use Rattle.histories.specs.declared.stamped.Stamped.{Stamped}
 use Rattle.histories.specs.declared.events.StoreEvent.{StoreEvent}
 use Rattle.histories.specs.History.{has, Before}
 use Rattle.histories.specs.Stores.{Blob, arrivals}
-use Rattle.histories.specs.Indexes.{Insertion}
+use Rattle.histories.specs.declared.events.Insertion.{Insertion}
 use Rattle.home_places.specs.Passes.{Sight}
 use Rattle.http_wire.specs.declared.body.Body.TheVariants as body
 use Rattle.http_wire.specs.Stream.{Flow}
@@ -88,9 +88,9 @@ pub record Replies (before now : Option (List ℕ)) (old : Flow) (new : WireView
   pub ready : closes ≡ false → new.body ≡ body.Done
 
 -- the answer to what was asked, where that was found out
-abbrev pub AlongSays : Bool → Bool → Result Operation NoMemory → Sight → Sight → Answered → ReplyText → Type 0
-AlongSays tells closes (Ok q) v w entry m = Answers tells closes q v w entry m
-AlongSays tells closes (Err e) v w entry m = (m ≡ made.Memory) × ((q : Operation) → Answers tells closes q v w entry m)
+abbrev pub AlongSpec : Bool → Bool → Result Operation NoMemory → Sight → Sight → Answered → ReplyText → Type 0
+AlongSpec tells closes (Ok q) v w entry m = Answers tells closes q v w entry m
+AlongSpec tells closes (Err e) v w entry m = (m ≡ made.Memory) × ((q : Operation) → Answers tells closes q v w entry m)
 
 -- the answer where a body wasn't read to its end
 abbrev pub StopReplies : Bool → BodyFault → Sight → Sight → Answered → ReplyText → Type 0

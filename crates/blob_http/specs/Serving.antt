@@ -12,7 +12,7 @@ use Rattle.histories.specs.declared.events.StoreEvent.{StoreEvent}
 use Rattle.histories.specs.declared.events.StoreEvent.TheVariants as store
 use Rattle.histories.specs.History.{stamp, has, own, Before, Ahead, AheadOf}
 use Rattle.histories.specs.Stores.{Blob, arrivals}
-use Rattle.histories.specs.Indexes.{Insertion}
+use Rattle.histories.specs.declared.events.Insertion.{Insertion}
 use Rattle.home_places.specs.Passes.{Sight, Caused, IsTrouble}
 use Rattle.http_wire.specs.declared.body.Body.TheVariants.{Done}
 use Rattle.http_wire.specs.declared.ends.WireEnd.{WireEnd}

@@ -184,7 +184,7 @@ fn answer_settled<H: Home, R: Wait>(
             (entry(before.0, after.1, 0, &made), made)
         }
         Ok(()) => {
-            let found = home.search(rt, pass, query);
+            let found = home.search(pass, query);
             let after = home.seen(pass);
             let made = search_reply(alloc, closes, found);
             (entry(before.0, after.1, 0, &made), made)

@@ -1,7 +1,7 @@
 //! One request, from its head to its reply.
 ghost use Rattle.std.specs.Prelude.{◌≡◌, ◌≤◌, ◌||◌, ℕ, List, Option, Bool, true, false, Ok, Err, IfOk, IfErr, IsErrOf};
 ghost use Rattle.edge_base.specs.Edge.{FaultsRose};
-ghost use Rattle.http_wire.specs.Heads.{HeadSays};
+ghost use Rattle.http_wire.specs.Heads.{HeadSpec};
 ghost use Rattle.http_wire.specs.Stream.{Flow, stream};
 ghost use Rattle.http_wire.specs.Wires.{WireView, body_of};
 ghost use Rattle.http_wire.specs.declared.body.Body.{Body};
@@ -10,7 +10,7 @@ ghost use Rattle.http_exchange.specs.Hearing.{StopEnds};
 ghost use Rattle.blob_http.specs.declared.operations.Operation.{Operation};
 ghost use Rattle.blob_http.specs.Questions.{IsFew, first_of, routed_of, is_upload};
 ghost use Rattle.blob_http.specs.Serving.{Passes, NoneComes};
-ghost use Rattle.blob_http.specs.Handling.{Answers, Replies, AlongSays, StopReplies, is_memory};
+ghost use Rattle.blob_http.specs.Handling.{Answers, Replies, AlongSpec, StopReplies, is_memory};
 
 use crate::entries::{Answered, Outcome};
 use crate::handling::answer;
@@ -77,7 +77,7 @@ fn reply_to<H: Home, S: Source, R: Wait>(
     head: &Head,
 ) -> Result<Response, Ended>
     requires belongs { H.belongs home.now pass.old }
-    requires read { HeadSays wire.old.head (Ok head.now) }
+    requires read { HeadSpec wire.old.head (Ok head.now) }
     requires ready { wire.old.body ≡ body_of head.now.framing }
     ensures own { H.belongs home.now pass.new }
     ensures replies { (x0 : Option (List ℕ)) (flow : Flow) → ReadsHead x0 (S.left source.old) flow wire.old head.now
@@ -113,7 +113,7 @@ fn reply_to_question<H: Home, S: Source, R: Wait>(
     found: &Route,
 ) -> Result<Response, Ended>
     requires belongs { H.belongs home.now pass.old }
-    requires read { HeadSays wire.old.head (Ok head.now) }
+    requires read { HeadSpec wire.old.head (Ok head.now) }
     requires ready { wire.old.body ≡ body_of head.now.framing }
     requires routed { routed_of wire.old.head head.now ≡ Ok found.now }
     requires other { is_upload found.now ≡ false }
@@ -200,7 +200,7 @@ fn reply_along<H: Home, R: Wait>(
     requires belongs { H.belongs home.now pass.old }
     requires few { IfOk asked IsFew }
     ensures own { H.belongs home.now pass.new }
-    ensures answers { AlongSays (H.tells home.now) closes asked (H.sight pass.old) (H.sight pass.new)
+    ensures answers { AlongSpec (H.tells home.now) closes asked (H.sight pass.old) (H.sight pass.new)
         result.entry result.made }
     ensures closes { result.closes ≡ (closes || is_memory result.made) }
 {

@@ -3,7 +3,7 @@ ghost use Rattle.std.specs.Prelude.{◌≡◌, ◌≤◌, ◌||◌, not, ℕ, Li
 ghost use Rattle.std.specs.Prelude.{IsErrOf, length};
 ghost use Rattle.edge_base.specs.Edge.{FaultsRose};
 ghost use Rattle.answer_text.specs.Listings.{upload_text};
-ghost use Rattle.http_wire.specs.Heads.{HeadSays};
+ghost use Rattle.http_wire.specs.Heads.{HeadSpec};
 ghost use Rattle.http_wire.specs.Stream.{Flow, stream};
 ghost use Rattle.http_exchange.specs.HeadPlaces.{ReadsHead};
 ghost use Rattle.http_exchange.specs.Replies.{json_reply};
@@ -41,7 +41,7 @@ pub(crate) fn reply_to_upload<H: Home, S: Source, R: Wait>(
     head: &Head,
 ) -> Result<Response, Ended>
     requires belongs { H.belongs home.now pass.old }
-    requires read { HeadSays wire.old.head (Ok head.now) }
+    requires read { HeadSpec wire.old.head (Ok head.now) }
     requires upload { routed_of wire.old.head head.now ≡ Ok Route.Upload }
     ensures own { H.belongs home.now pass.new }
     ensures replies { (x0 : Option (List ℕ)) (flow : Flow) → ReadsHead x0 (S.left source.old) flow wire.old head.now

@@ -19,7 +19,7 @@ use Rattle.histories.specs.declared.events.StoreEvent.{StoreEvent}
 use Rattle.histories.specs.declared.events.StoreEvent.TheVariants as store
 use Rattle.histories.specs.History.{stamp, stamped, has}
 use Rattle.histories.specs.Stores.{Blob, StoreLimits, arrivals, number_of}
-use Rattle.histories.specs.StoreCalls.{PutSays, PutAnswers, put_settled}
+use Rattle.histories.specs.StoreCalls.{PutSpec, PutAnswers, put_settled}
 use Rattle.histories.proofs.Prefixes.{prefix_trans}
 use Rattle.histories.proofs.Growing.{grew_chain, ran_grew, has_rest}
 use Rattle.multipart_read.specs.declared.events.PartFault.{PartFault}
@@ -134,7 +134,7 @@ big_by limits part before false false None size entry said = absurd said
 big_by limits part before false false (Some n) size entry said = absurd (cc (said.0))
 
 pub never_big : (limits : StoreLimits) (part : Part) (before : List Blob) (size : ℕ) (entry : Option StoreEvent)
-    → length part.1 ≤ max_size → PutSays limits part.0 part.1 before (Err (put.TooBig size)) entry → ⊥
+    → length part.1 ≤ max_size → PutSpec limits part.0 part.1 before (Err (put.TooBig size)) entry → ⊥
 never_big limits part before size entry few said =
     let long : nat_lt max_size (length part.1) ≡ true =
     big_by limits part before (nat_lt max_size (length part.1)) (not (is_own_ref part.0 part.1))
@@ -144,14 +144,14 @@ never_big limits part before size entry few said =
 
 turned : (limits : StoreLimits) (part : Part) (before : List Blob) (answer : Result Put PutFault)
     (entry : Option StoreEvent) (came : UploadEnd) (n : ℕ)
-    → length part.1 ≤ max_size → PutSays limits part.0 part.1 before answer entry → EndsBy answer came
+    → length part.1 ≤ max_size → PutSpec limits part.0 part.1 before answer entry → EndsBy answer came
     → Turns came n (n + 1)
 turned limits part before answer entry came n few said ends = by answer ends said
   where
     at : (is : UploadEnd) → Turns is n (n + 1) → came ≡ is → Turns came n (n + 1)
     at is turns same = subst (λ c. Turns c n (n + 1)) (sym same) turns
 
-    by : (answer : Result Put PutFault) → EndsBy answer came → PutSays limits part.0 part.1 before answer entry
+    by : (answer : Result Put PutFault) → EndsBy answer came → PutSpec limits part.0 part.1 before answer entry
         → Turns came n (n + 1)
     by (Ok stored) ends said = at Memory (inr refl) ends
     by (Err (put.TooBig size)) ends said = absurd (never_big limits part before size entry few said)
@@ -180,14 +180,14 @@ disk_by limits part before false false (Some n) entry said = absurd (cc (said.0)
 
 shows_why : (limits : StoreLimits) (part : Part) (answer : Result Put PutFault) (came : UploadEnd)
     (h : List (Stamped StoreEvent)) (turns : List ℕ) (t : ℕ) (entry : Option StoreEvent) → EndsBy answer came
-    → PutSays limits part.0 part.1 (arrivals h) answer entry → ShowsWhy came (turns ++ t ∷ []) (h ++ stamped t entry)
+    → PutSpec limits part.0 part.1 (arrivals h) answer entry → ShowsWhy came (turns ++ t ∷ []) (h ++ stamped t entry)
 shows_why limits part answer came h turns t entry ends said = by answer ends said
   where
     at : (is : UploadEnd) → ShowsWhy is (turns ++ t ∷ []) (h ++ stamped t entry) → came ≡ is
         → ShowsWhy came (turns ++ t ∷ []) (h ++ stamped t entry)
     at is shows same = subst (λ c. ShowsWhy c (turns ++ t ∷ []) (h ++ stamped t entry)) (sym same) shows
 
-    by : (answer : Result Put PutFault) → EndsBy answer came → PutSays limits part.0 part.1 (arrivals h) answer entry
+    by : (answer : Result Put PutFault) → EndsBy answer came → PutSpec limits part.0 part.1 (arrivals h) answer entry
         → ShowsWhy came (turns ++ t ∷ []) (h ++ stamped t entry)
     by (Ok stored) ends said = at Memory tt ends
     by (Err (put.TooBig size)) ends said = at (came_of_put (put.TooBig size)) tt ends
@@ -207,7 +207,7 @@ shows_why limits part answer came h turns t entry ends said = by answer ends sai
 module _ (parts : List Part) (next : Part → Type 0) (part : Part) (came : UploadEnd) (v m w : Sight) (puts : Puts parts v m)
     (told : next part) (few : length part.1 ≤ max_size) where
   adds_turned : (answer : Result Put PutFault) → EndsBy answer came
-      → StoreTurned (λ before entry. PutSays m.store.limits part.0 part.1 before answer entry) m w
+      → StoreTurned (λ before entry. PutSpec m.store.limits part.0 part.1 before answer entry) m w
       → Adds parts next came v w
   adds_turned answer ends t =
       let r = t.turn.ran in
@@ -219,7 +219,7 @@ module _ (parts : List Part) (next : Part → Type 0) (part : Part) (came : Uplo
         grew = grew_chain (IsAddedBy parts next came) v.store.history m.store.history w.store.history v.store.turns
             m.store.turns
             w.store.turns (wider parts next came v m puts.grew)
-            (ran_grew (λ before turn entry. PutSays m.store.limits part.0 part.1 (arrivals before) answer entry)
+            (ran_grew (λ before turn entry. PutSpec m.store.limits part.0 part.1 (arrivals before) answer entry)
             (IsAddedBy parts next came)
             m.store.history w.store.history m.store.turns w.store.turns
             (λ h n e said.
@@ -256,7 +256,7 @@ module _ (parts : List Part) (next : Part → Type 0) (part : Part) (came : Uplo
       memory : (answer : Result Put PutFault) → answer ≡ Err put.NoMemory → EndsBy answer came → came ≡ Memory
       memory answer is ends = subst (λ a. EndsBy a came) is ends
 
-      by : StoreTurned (λ before entry. PutSays m.store.limits part.0 part.1 before last.answer entry) m w
+      by : StoreTurned (λ before entry. PutSpec m.store.limits part.0 part.1 before last.answer entry) m w
           ⊎ ((last.answer ≡ Err put.NoMemory) × Spends m w) → Adds parts next came v w
       by (inl turn) = adds_turned last.answer last.ends turn
       by (inr spent) = adds_spent (memory last.answer (spent.0) last.ends) (spent.1)

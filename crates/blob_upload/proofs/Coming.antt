@@ -11,7 +11,7 @@ use Rattle.http_wire.specs.declared.ends.WireEnd.TheVariants as ends
 use Rattle.http_wire.specs.Wires.{WireView, to_come, BodyEnds}
 use Rattle.histories.specs.declared.events.StoreEvent.{StoreEvent}
 use Rattle.histories.specs.Stores.{Blob, StoreLimits, arrivals, number_of}
-use Rattle.histories.specs.StoreCalls.{PutSays, PutAnswers}
+use Rattle.histories.specs.StoreCalls.{PutSpec, PutAnswers}
 use Rattle.multipart_read.specs.declared.events.PartFault.{PartFault}
 use Rattle.multipart_read.specs.declared.events.PartFault.TheVariants as part_faults
 use Rattle.multipart_read.specs.Tokens.{Token}
@@ -70,18 +70,18 @@ module _ (limits : StoreLimits) (part : Part) (before : List Blob) (named : is_b
   other = not (is_own_ref part.0 part.1)
 
   digest_fault : (said is : List ℕ) (entry : Option StoreEvent)
-      → PutSays limits part.0 part.1 before (Err (put.BadDigest said is)) entry
+      → PutSpec limits part.0 part.1 before (Err (put.BadDigest said is)) entry
       → (said ≡ part.0) × (part_fault part ≡ Some (BadDigest part.0 is))
   digest_fault said is entry says =
       let found = digest_by long other (number_of part.0 before) said is entry says in
       (found.1, judged true (found.0) ∙ ap (λ r. Some (BadDigest part.0 r)) (sym (found.2)))
 
   full_sound : (blobs pack : ℕ) (entry : Option StoreEvent)
-      → PutSays limits part.0 part.1 before (Err (put.Full blobs pack)) entry
+      → PutSpec limits part.0 part.1 before (Err (put.Full blobs pack)) entry
       → part_fault part ≡ None
   full_sound blobs pack entry says = judged false (full_by long other (number_of part.0 before) blobs pack entry says)
 
-  disk_sound : (entry : Option StoreEvent) → PutSays limits part.0 part.1 before (Err put.Disk) entry
+  disk_sound : (entry : Option StoreEvent) → PutSpec limits part.0 part.1 before (Err put.Disk) entry
       → part_fault part ≡ None
   disk_sound entry says = judged false (disk_by long other (number_of part.0 before) entry says)
 
@@ -126,7 +126,7 @@ module _ (boundary given : List ℕ) (parts : List Part) (wire : WireView) (x : 
         subst (λ name. comes (Refused (BadDigest name is))) (sym (found.0)) (part.1, (later, told), found.1)
 
     at_put : (limits : StoreLimits) (answer : Result Put PutFault) (before : List Blob) (entry : Option StoreEvent)
-        (came : UploadEnd) → EndsBy answer came → PutSays limits part.0 part.1 before answer entry → comes came
+        (came : UploadEnd) → EndsBy answer came → PutSpec limits part.0 part.1 before answer entry → comes came
     at_put limits (Ok stored) before entry came by says = as_told came Memory (part_tokens part ++ later, told) by
     at_put limits (Err (put.TooBig size)) before entry came by says =
         absurd (never_big limits part before size entry (contents_fit boundary given parts part later told) says)
@@ -141,7 +141,7 @@ module _ (boundary given : List ℕ) (parts : List Part) (wire : WireView) (x : 
     at_put limits (Err put.NoMemory) before entry came by says = as_told came Memory (part_tokens part ++ later, told) by
 
     at_part : (came : UploadEnd) (v w : Sight) (answer : Result Put PutFault) → EndsBy answer came
-        → StoreTurned (λ before entry. PutSays v.store.limits part.0 part.1 before answer entry) v w
+        → StoreTurned (λ before entry. PutSpec v.store.limits part.0 part.1 before answer entry) v w
         ⊎ ((answer ≡ Err put.NoMemory) × Spends v w) → comes came
     at_part came v w answer by (inl t) =
         at_put v.store.limits answer (arrivals t.turn.ran.before) t.turn.ran.entry came by t.turn.ran.said

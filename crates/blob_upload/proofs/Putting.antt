@@ -19,7 +19,7 @@ use Rattle.histories.specs.declared.events.StoreEvent.{StoreEvent}
 use Rattle.histories.specs.declared.events.StoreEvent.TheVariants as store
 use Rattle.histories.specs.History.{stamped}
 use Rattle.histories.specs.Stores.{Blob, StoreLimits, arrivals, is_ref, has_ref, number_of}
-use Rattle.histories.specs.StoreCalls.{PutSays, PutAnswers, put_settled, sizes}
+use Rattle.histories.specs.StoreCalls.{PutSpec, PutAnswers, put_settled, sizes}
 use Rattle.histories.proofs.Growing.{grew_none, grew_chain, ran_grew}
 use Rattle.histories.proofs.Prefixes.{prefix_trans}
 use Rattle.histories.proofs.Standing.{arrivals_append, arrivals_prefix}
@@ -93,7 +93,7 @@ module _ (limits : StoreLimits) (part : Part) (before : List Blob) where
   sound_by false false place put entry said = refl
 
   -- a part that was put has no fault
-  pub put_sound : (put : Put) (entry : Option StoreEvent) → PutSays limits part.0 part.1 before (Ok put) entry
+  pub put_sound : (put : Put) (entry : Option StoreEvent) → PutSpec limits part.0 part.1 before (Ok put) entry
       → is_blobref part.0 ≡ true → part_fault part ≡ None
   put_sound put entry said named =
       ap (λ b. fault_by part before (not b) (not (is_own_ref part.0 part.1))) named
@@ -127,7 +127,7 @@ module _ (limits : StoreLimits) (part : Part) (before : List Blob) where
 
   -- behind the put its blob stands
   put_has : (put : Put) (entry : Option StoreEvent) (h : List (Stamped StoreEvent)) (t : ℕ) → arrivals h ≡ before
-      → PutSays limits part.0 part.1 before (Ok put) entry → has_ref part.0 (arrivals (h ++ stamped t entry)) ≡ true
+      → PutSpec limits part.0 part.1 before (Ok put) entry → has_ref part.0 (arrivals (h ++ stamped t entry)) ≡ true
   put_has (Stored n) entry h t is said =
       let added : entry ≡ Some (store.Put n part.0 part.1) =
       stored_by (nat_lt max_size (length part.1)) (not (is_own_ref part.0 part.1))
@@ -181,7 +181,7 @@ puts_none v = record {
 }
 
 puts_more : (parts : List Part) (part : Part) (put : Put) (u v w : Sight) → Puts parts u v
-    → StoreTurned (λ before entry. PutSays v.store.limits part.0 part.1 before (Ok put) entry) v w
+    → StoreTurned (λ before entry. PutSpec v.store.limits part.0 part.1 before (Ok put) entry) v w
     → Puts (parts ++ part ∷ []) u w
 puts_more parts part put u v w p t =
     let r = t.turn.ran in
@@ -193,7 +193,7 @@ puts_more parts part put u v w p t =
     record {
       grew = grew_chain (IsArrivalOf (parts ++ part ∷ [])) u.store.history v.store.history w.store.history u.store.turns
           v.store.turns w.store.turns (of_more parts part u v p.grew)
-          (ran_grew (λ before turn entry. PutSays v.store.limits part.0 part.1 (arrivals before) (Ok put) entry)
+          (ran_grew (λ before turn entry. PutSpec v.store.limits part.0 part.1 (arrivals before) (Ok put) entry)
           (IsArrivalOf (parts ++ part ∷ [])) v.store.history w.store.history v.store.turns w.store.turns
           (λ h n e said. put_adds v.store.limits part (arrivals h) (put_settled part.0 part.1 (arrivals h)) put parts e
           said) r);
@@ -217,7 +217,7 @@ keeps_none kept v = record {
 -- a part more was put and listed
 pub keeps_more : (parts : List Part) (part : Part) (put : Put) (first kept kept' : List (List ℕ × ℕ)) (u v w : Sight)
     → Keeps parts first kept u v → is_blobref part.0 ≡ true → kept' ≡ kept ++ (part.0, length part.1) ∷ []
-    → StoreTurned (λ before entry. PutSays v.store.limits part.0 part.1 before (Ok put) entry) v w
+    → StoreTurned (λ before entry. PutSpec v.store.limits part.0 part.1 before (Ok put) entry) v w
     → Keeps (parts ++ part ∷ []) first kept' u w
 keeps_more parts part put first kept kept' u v w k named listed t =
     let r = t.turn.ran in

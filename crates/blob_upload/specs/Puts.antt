@@ -6,7 +6,7 @@ use Rattle.edge_base.specs.declared.answers.PutFault.TheVariants.{NoMemory}
 use Rattle.histories.specs.declared.events.StoreEvent.{StoreEvent}
 use Rattle.histories.specs.declared.events.StoreEvent.TheVariants as store
 use Rattle.histories.specs.Stores.{arrivals, has_ref}
-use Rattle.histories.specs.StoreCalls.{PutSays, sizes}
+use Rattle.histories.specs.StoreCalls.{PutSpec, sizes}
 use Rattle.multipart_read.specs.PartLists.{Part}
 use Rattle.home_places.specs.Seats.{StoreGrew}
 use Rattle.home_places.specs.Passes.{Sight, StoreCall}
@@ -48,4 +48,4 @@ pub record LastPut (part : Part) (came : UploadEnd) (v w : Sight) : Type 0 where
   pub answer : Result Put PutFault
   pub ends : EndsBy answer came
   pub call : StoreCall (answer ≡ Err NoMemory)
-      (λ before entry. PutSays v.store.limits part.0 part.1 before answer entry) v w
+      (λ before entry. PutSpec v.store.limits part.0 part.1 before answer entry) v w

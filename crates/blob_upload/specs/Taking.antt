@@ -2,7 +2,7 @@
 use Rattle.std.specs.Prelude.{◌≡◌, ◌≤◌, ℕ, List, [], ◌∷◌, ◌++◌, length, Bool, false, Option, Some, None, Result, Ok}
 use Rattle.std.specs.Prelude.{Err, flat_map}
 use Rattle.edge_base.specs.declared.answers.Put.{Put}
-use Rattle.histories.specs.StoreCalls.{PutSays}
+use Rattle.histories.specs.StoreCalls.{PutSpec}
 use Rattle.multipart_read.specs.Tokens.{Token}
 use Rattle.multipart_read.specs.Body.{End}
 use Rattle.multipart_read.specs.Reader.{Reader, fresh, Tells, IsBody}
@@ -32,7 +32,7 @@ with_bytes bytes (inside name front) = inside name (front ++ bytes)
 abbrev pub PutsPart : List ℕ → List ℕ → List (List ℕ × ℕ) → List (List ℕ × ℕ) → Sight → Sight
     → Result (Unit {0}) UploadEnd → Type 0
 PutsPart name content kept kept' v w (Ok done) = (put : Put) × (kept' ≡ kept ++ (name, length content) ∷ [])
-    × StoreTurned (λ before entry. PutSays v.store.limits name content before (Ok put) entry) v w
+    × StoreTurned (λ before entry. PutSpec v.store.limits name content before (Ok put) entry) v w
 PutsPart name content kept kept' v w (Err came) = (kept' ≡ kept) × LastPut (name, content) came v w
 
 -- the same of what is open; nothing is, where none is

@@ -9,14 +9,14 @@ use Rattle.claim_model.specs.Facts.{Facts}
 use Rattle.histories.specs.declared.stamped.Stamped.{Stamped}
 use Rattle.histories.specs.declared.events.IndexEvent.{IndexEvent}
 use Rattle.histories.specs.Stores.{Blob}
-use Rattle.histories.specs.Indexes.{Insertion, inserts, indexed}
+use Rattle.histories.specs.declared.events.Insertion.{Insertion}
+use Rattle.histories.specs.Indexes.{inserts, indexed}
 use Rattle.histories.proofs.Prefixes.{prefix_self}
-use Rattle.histories.proofs.Growing.{grew_none}
 use Rattle.home_core.specs.State.{CoreState, IsSound}
 use Rattle.home_core.specs.Steps.{indexed_facts}
 use Rattle.home_places.specs.Passes.{Searches, Counts}
 use Rattle.core_home.specs.declared.turns.Turns.{Turns}
-use Rattle.core_home.specs.Keeping.{IsKept, upto, store_of, index_of}
+use Rattle.core_home.specs.Keeping.{IsKept, store_of, index_of}
 use Rattle.core_home.specs.Sights.{alone}
 use Rattle.core_home.proofs.Counting.{indexed_below}
 use Rattle.core_home.proofs.Blobs.{arrivals_of}
@@ -35,7 +35,8 @@ module _ (s : CoreState) (ts : List ℕ) (us : List Turns) (stores indexes : ℕ
       → Searches query result (alone a (store_of ts s.store) stores rows indexes spent) (alone a (store_of ts s.store) stores rows indexes spent)
   searches query result sound says = record {
     search = record {
-      grew = grew_none (λ e. ⊥) rows (upto indexes);
+      history = refl;
+      turns = refl;
       shown = prefix_self (inserts rows);
       answer = subst (λ (facts : Facts). IfOk result (λ refs. refs ≡ answer facts a query)) (sym (shown_facts sound)) says;
       accepts = refl;

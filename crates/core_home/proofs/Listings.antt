@@ -14,7 +14,7 @@ use Rattle.blobref.specs.declared.memory.NoMemory.{NoMemory}
 use Rattle.pack_format.specs.Header.{max_size}
 use Rattle.histories.specs.History.{is_legal_after}
 use Rattle.histories.specs.Stores.{Blob, is_ref, has_ref, may_arrive, are_arrivals}
-use Rattle.histories.specs.StoreCalls.{sizes, sized, each_once, page, StatSays, ListSays}
+use Rattle.histories.specs.StoreCalls.{sizes, sized, each_once, page, StatSpec, ListSpec}
 
 -- ---- refs that are asked
 
@@ -121,11 +121,11 @@ module _ (p : List ℕ × ℕ → Bool) (limit : ℕ) where
 -- ---- what is told
 
 pub stat_says : (refs : List (List ℕ)) (blobs : List Blob) (result : Result (List (List ℕ × ℕ)) NoMemory)
-    → IfOk result (λ found. found ≡ filter_map (sized blobs) (each_once [] refs)) → StatSays refs blobs result None
+    → IfOk result (λ found. found ≡ filter_map (sized blobs) (each_once [] refs)) → StatSpec refs blobs result None
 stat_says refs blobs (Ok found) is = (is, refl)
 stat_says refs blobs (Err e) is = refl
 
 pub list_says : (after : Option (List ℕ)) (limit : ℕ) (blobs : List Blob) (result : Result (List (List ℕ × ℕ)) NoMemory)
-    → IfOk result (λ found. found ≡ page after limit blobs) → ListSays after limit blobs result None
+    → IfOk result (λ found. found ≡ page after limit blobs) → ListSpec after limit blobs result None
 list_says after limit blobs (Ok found) is = (is, refl)
 list_says after limit blobs (Err e) is = refl

@@ -13,7 +13,8 @@ use Rattle.histories.specs.declared.events.IndexEvent.{IndexEvent}
 use Rattle.histories.specs.declared.events.IndexEvent.TheVariants.{Take, Insert, Return}
 use Rattle.histories.specs.History.{events, stamp, is_legal_after}
 use Rattle.histories.specs.Stores.{Blob}
-use Rattle.histories.specs.Indexes.{Insertion, insertion_of, inserts, has_number, is_inserted, in_hand, in_hand_after, waits_in, may_join_index, is_legal_index}
+use Rattle.histories.specs.declared.events.Insertion.{Insertion}
+use Rattle.histories.specs.Indexes.{insertion_of, inserts, has_number, is_inserted, in_hand, in_hand_after, waits_in, may_join_index, is_legal_index}
 use Rattle.histories.proofs.Standing.{inserted_is}
 use Rattle.home_core.specs.State.{has, times}
 use Rattle.home_core.specs.Steps.{blobs_at, entry_of}

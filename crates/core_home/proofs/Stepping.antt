@@ -14,9 +14,9 @@ use Rattle.histories.specs.declared.events.IndexEvent.{IndexEvent}
 use Rattle.histories.specs.declared.events.IndexEvent.TheVariants.{Take, Insert, Return}
 use Rattle.histories.specs.History.{events, stamp, stamped, rises}
 use Rattle.histories.specs.Stores.{Blob, arrivals, are_arrivals, is_legal_store}
-use Rattle.histories.specs.StoreCalls.{CountSays, ArrivalSays}
+use Rattle.histories.specs.StoreCalls.{CountSpec, ArrivalSpec}
 use Rattle.histories.specs.Indexes.{is_inserted, waits_in}
-use Rattle.histories.specs.IndexCalls.{TakeSays, InsertSays, IsLeast, NonePasses}
+use Rattle.histories.specs.IndexCalls.{TakeSpec, InsertSpec, IsLeast, NonePasses}
 use Rattle.histories.proofs.Rising.{events_more}
 use Rattle.home_places.specs.declared.home.Indexed.{Indexed}
 use Rattle.home_places.specs.declared.home.Indexed.TheVariants.{New, Idle}
@@ -94,28 +94,28 @@ and_true false = refl
 
 module _ (a : Accepts) (bs : List Blob) (h : List (Stamped StoreEvent)) (are : arrivals h ≡ bs) where
   count_turn : (n : ℕ) (g : List (Stamped IndexEvent)) (i : ℕ) (spent : Bool) → is_within n h ≡ true → rises 0 h ≡ true
-      → StoreTurned (λ before entry. CountSays before (length bs) entry) (alone a h n g i spent) (alone a h (n + 1) g i spent)
-  count_turn n g i spent w r = store_turn a (λ before entry. CountSays before (length bs) entry) h h n (n + 1) None g g i spent spent w r
+      → StoreTurned (λ before entry. CountSpec before (length bs) entry) (alone a h n g i spent) (alone a h (n + 1) g i spent)
+  count_turn n g i spent w r = store_turn a (λ before entry. CountSpec before (length bs) entry) h h n (n + 1) None g g i spent spent w r
       (sym (append-nil h)) refl refl refl (ap length (sym are), refl)
 
   arrival_turn : (k n : ℕ) (g : List (Stamped IndexEvent)) (i : ℕ) (spent : Bool) → k < length bs → is_within n h ≡ true → rises 0 h ≡ true
-      → StoreTurned (λ before entry. ArrivalSays true k before (Ok (Some (blob_at bs k))) entry) (alone a h n g i spent) (alone a h (n + 1) g i spent)
+      → StoreTurned (λ before entry. ArrivalSpec true k before (Ok (Some (blob_at bs k))) entry) (alone a h n g i spent) (alone a h (n + 1) g i spent)
   arrival_turn k n g i spent lt w r =
       let found : Blob = blob_at bs k in
-      store_turn a (λ before entry. ArrivalSays true k before (Ok (Some found)) entry) h h n (n + 1) None g g i spent spent w r
+      store_turn a (λ before entry. ArrivalSpec true k before (Ok (Some found)) entry) h h n (n + 1) None g g i spent spent w r
       (sym (append-nil h)) refl refl refl
-      (subst (λ (b : List Blob). ArrivalSays true k b (Ok (Some found)) None) (sym are) ((found.1, blob_there bs k lt, refl), tt))
+      (subst (λ (b : List Blob). ArrivalSpec true k b (Ok (Some found)) None) (sym are) ((found.1, blob_there bs k lt, refl), tt))
 
   -- a turn of the index that adds nothing
   quiet_turn : (taken : Result (Option ℕ) NoMemory) (n : ℕ) (g : List (Stamped IndexEvent)) (i : ℕ) (spent : Bool) → is_within i g ≡ true → rises 0 g ≡ true
-      → TakeSays (length bs) (events g) taken None
-      → IndexTurned (λ before entry. TakeSays (length bs) before taken entry) (alone a h n g i spent) (alone a h n g (i + 1) spent)
+      → TakeSpec (length bs) (events g) taken None
+      → IndexTurned (λ before entry. TakeSpec (length bs) before taken entry) (alone a h n g i spent) (alone a h n g (i + 1) spent)
   quiet_turn taken n g i spent w r says =
-      subst (λ (k : List (Stamped IndexEvent)). IndexTurned (λ before entry. TakeSays (length bs) before taken entry) (alone a h n g i spent) (alone a h n k (i + 1) spent))
-      (append-nil g) (index_turn a (λ before entry. TakeSays (length bs) before taken entry) h n g i None spent w r says)
+      subst (λ (k : List (Stamped IndexEvent)). IndexTurned (λ before entry. TakeSpec (length bs) before taken entry) (alone a h n g i spent) (alone a h n k (i + 1) spent))
+      (append-nil g) (index_turn a (λ before entry. TakeSpec (length bs) before taken entry) h n g i None spent w r says)
 
   takes_quiet : (taken : Result (Option ℕ) NoMemory) (n : ℕ) (g : List (Stamped IndexEvent)) (i : ℕ) (spent : Bool) → is_within n h ≡ true → rises 0 h ≡ true
-      → is_within i g ≡ true → rises 0 g ≡ true → TakeSays (length bs) (events g) taken None
+      → is_within i g ≡ true → rises 0 g ≡ true → TakeSpec (length bs) (events g) taken None
       → Takes (length bs) taken (alone a h n g i spent) (alone a h (n + 1) g (i + 1) spent)
   takes_quiet taken n g i spent w r wi ri says = record {
     middle = alone a h (n + 1) g i spent;
@@ -146,7 +146,7 @@ module _ (a : Accepts) (bs : List Blob) (h : List (Stamped StoreEvent)) (are : a
       takes = record {
         middle = alone a h (n + 1) g i spent;
         count = count_turn n g i spent w r;
-        take = index_turn a (λ before entry. TakeSays (length bs) before (Ok (Some k)) entry) h (n + 1) g i (Some (Take k)) spent wi ri (least, refl);
+        take = index_turn a (λ before entry. TakeSpec (length bs) before (Ok (Some k)) entry) h (n + 1) g i (Some (Take k)) spent wi ri (least, refl);
       };
       rest = record {
         middle = alone a h (n + 1 + 1) taking (i + 1) spent;
@@ -154,7 +154,7 @@ module _ (a : Accepts) (bs : List Blob) (h : List (Stamped StoreEvent)) (are : a
         fact = fact_of (blob_at bs k).1;
         arrival = arrival_turn k (n + 1) taking (i + 1) spent least.low (within_later n (n + 1) h (omega arith) w) r;
         agrees = subst (λ (b : List Blob). Agrees b (insert_of bs k)) (sym are) (insert_agrees bs k least.low own);
-        insert = index_turn a (λ before entry. InsertSays k (blob_at bs k).0 (fact_of (blob_at bs k).1) before (Ok inserted.New) entry)
+        insert = index_turn a (λ before entry. InsertSpec k (blob_at bs k).0 (fact_of (blob_at bs k).1) before (Ok inserted.New) entry)
             h (n + 1 + 1) taking (i + 1) (Some (insert_of bs k)) spent (turn_within i g (Some (Take k)) wi) (turn_rises i g (Some (Take k)) wi ri) (still_new, refl);
       };
     }

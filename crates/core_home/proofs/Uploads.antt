@@ -15,7 +15,7 @@ use Rattle.histories.specs.declared.events.StoreEvent.TheVariants as store
 use Rattle.histories.specs.declared.events.IndexEvent.{IndexEvent}
 use Rattle.histories.specs.History.{stamped, rises}
 use Rattle.histories.specs.Stores.{Blob, arrivals, number_of}
-use Rattle.histories.specs.StoreCalls.{put_settled, PutAnswers, PutSays}
+use Rattle.histories.specs.StoreCalls.{put_settled, PutAnswers, PutSpec}
 use Rattle.histories.specs.Indexes.{is_legal_index}
 use Rattle.home_core.specs.declared.events.Event.TheVariants as event
 use Rattle.home_core.specs.State.{CoreState, IsSound}
@@ -38,18 +38,18 @@ module _ (said bytes : List ℕ) where
   was_fresh blobs n None is says = (is, says.1)
 
   module _ (t : ℕ) (ts : List ℕ) (us : List Turns) (s : CoreState) where
-    put_stands : (n : ℕ) → PutSays no_limits said bytes s.store (Ok (Stored n)) (Some (store.Put n said bytes)) → put_blob (said, bytes) s.store ≡ s.store ++ (said, bytes) ∷ []
+    put_stands : (n : ℕ) → PutSpec no_limits said bytes s.store (Ok (Stored n)) (Some (store.Put n said bytes)) → put_blob (said, bytes) s.store ≡ s.store ++ (said, bytes) ∷ []
     put_stands n says = ap (λ (o : Option (Result Put PutFault)). cond (is_none o) (s.store ++ (said, bytes) ∷ []) s.store)
         (was_fresh s.store n (put_settled said bytes s.store) refl says).0
 
-    pub upload_adds : (r : Result Put PutFault) → length ts ≡ length s.store → PutSays no_limits said bytes s.store r (put_entry said bytes r)
+    pub upload_adds : (r : Result Put PutFault) → length ts ≡ length s.store → PutSpec no_limits said bytes s.store r (put_entry said bytes r)
         → store_of (after_put t r ts) (after_upload said bytes r s).store ≡ store_of ts s.store ++ stamped t (put_entry said bytes r)
     upload_adds (Ok (Stored n)) e says = ap (store_of (ts ++ t ∷ [])) (put_stands n says)
         ∙ store_push ts s.store t (said, bytes) n e (was_fresh s.store n (put_settled said bytes s.store) refl says).1
     upload_adds (Ok (Already n)) e says = sym (append-nil (store_of ts s.store))
     upload_adds (Err f) e says = sym (append-nil (store_of ts s.store))
 
-    upload_lengths : (r : Result Put PutFault) → length ts ≡ length s.store → PutSays no_limits said bytes s.store r (put_entry said bytes r)
+    upload_lengths : (r : Result Put PutFault) → length ts ≡ length s.store → PutSpec no_limits said bytes s.store r (put_entry said bytes r)
         → length (after_put t r ts) ≡ length (after_upload said bytes r s).store
     upload_lengths (Ok (Stored n)) e says =
         let one = length-append ts (t ∷ []) in
@@ -76,7 +76,7 @@ module _ (said bytes : List ℕ) where
     same_numbers (Err f) = refl
 
     module _ (stores indexes : ℕ) (r : Result Put PutFault) (kept : IsKept ts us s stores indexes) (sound : IsSound s)
-        (says : PutSays no_limits said bytes s.store r (put_entry said bytes r)) (ts' : List ℕ) (s' : CoreState)
+        (says : PutSpec no_limits said bytes s.store r (put_entry said bytes r)) (ts' : List ℕ) (s' : CoreState)
         (put : ts' ≡ after_put t r ts) (step : s' ≡ after_upload said bytes r s) (next : t ≡ stores + 1) where
       adds : store_of ts' s'.store ≡ store_of ts s.store ++ stamped (stores + 1) (put_entry said bytes r)
       adds = (λ i. store_of (put i) (step i).store) ∙ (upload_adds r kept.each_put says
@@ -102,13 +102,13 @@ module _ (said bytes : List ℕ) where
 
       -- and it was one turn of the store
       pub upload_turn : (a a' : Accepts) (spent spent' : Bool) → a' ≡ a → spent' ≡ spent
-          → StoreTurned (λ before entry. PutSays no_limits said bytes before r entry)
+          → StoreTurned (λ before entry. PutSpec no_limits said bytes before r entry)
           (alone a (store_of ts s.store) stores (index_of s.store us s.indexed) indexes spent)
           (alone a' (store_of ts' s'.store) t (index_of s'.store us s'.indexed) indexes spent')
       upload_turn a a' spent spent' keys stays =
-          subst (λ (x : Accepts). StoreTurned (λ before entry. PutSays no_limits said bytes before r entry)
+          subst (λ (x : Accepts). StoreTurned (λ before entry. PutSpec no_limits said bytes before r entry)
           (alone a (store_of ts s.store) stores (index_of s.store us s.indexed) indexes spent)
           (alone x (store_of ts' s'.store) t (index_of s'.store us s'.indexed) indexes spent')) (sym keys)
-          (store_turn a (λ before entry. PutSays no_limits said bytes before r entry) (store_of ts s.store) (store_of ts' s'.store) stores t (put_entry said bytes r)
+          (store_turn a (λ before entry. PutSpec no_limits said bytes before r entry) (store_of ts s.store) (store_of ts' s'.store) stores t (put_entry said bytes r)
           (index_of s.store us s.indexed) (index_of s'.store us s'.indexed) indexes spent spent' kept.store_within kept.store_rises adds next index stays
-          (subst (λ (b : List Blob). PutSays no_limits said bytes b r (put_entry said bytes r)) (sym (arrivals_of ts s.store kept.each_put)) says))
+          (subst (λ (b : List Blob). PutSpec no_limits said bytes b r (put_entry said bytes r)) (sym (arrivals_of ts s.store kept.each_put)) says))

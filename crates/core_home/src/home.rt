@@ -80,12 +80,7 @@ impl<V: Verifier> Home for CoreHome<V> {
         pass.settle()
     }
 
-    fn search<R: Wait>(
-        &self,
-        _rt: &R,
-        pass: &mut CorePass<V>,
-        query: &Query,
-    ) -> Result<RefList, NoMemory> {
+    fn search(&self, pass: &mut CorePass<V>, query: &Query) -> Result<RefList, NoMemory> {
         pass.search(query)
     }
 

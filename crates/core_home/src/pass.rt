@@ -41,7 +41,7 @@ pub struct CorePass<V> {
 impl<V: Verifier> CorePass<V> {
     ghost use Rattle.home_places.specs.Passes.{StoreCall, Settles, Searches, Counts};
     ghost use Rattle.home_places.specs.Working.{IndexesNext};
-    ghost use Rattle.histories.specs.StoreCalls.{PutSays, GetSays, ListSays, StatSays};
+    ghost use Rattle.histories.specs.StoreCalls.{PutSpec, GetSpec, ListSpec, StatSpec};
     ghost use Rattle.core_home.specs.Sights.{sight_of};
     ghost use Rattle.core_home.specs.Keeping.{no_limits};
     ghost use Rattle.core_home.specs.Starts.{first_sight};
@@ -84,7 +84,7 @@ impl<V: Verifier> CorePass<V> {
     /// core is as it was. Of the errors `TooBig`, `BadDigest` and `NoMemory` come. It looks through the refs.
     pub fn upload(&mut self, said: &Ref, bytes: &[u8]) -> Result<Put, PutFault>
         ensures turn { StoreCall (result ≡ Err PutFault.NoMemory)
-            (λ before entry. PutSays no_limits said.now bytes.now before result entry)
+            (λ before entry. PutSpec no_limits said.now bytes.now before result entry)
             (sight_of V.accepts self.old) (sight_of V.accepts self.new) }
         ensures core { self.new.core.state ≡ after_upload said.now bytes.now result self.old.core.state }
         ensures keys { self.new.core.keys ≡ self.old.core.keys }
@@ -111,7 +111,7 @@ impl<V: Verifier> CorePass<V> {
     /// blobs.
     pub fn fetch(&mut self, r: &Ref) -> Result<Option<Octets>, GetFault>
         ensures turn { StoreCall (result ≡ Err GetFault.NoMemory)
-            (λ before entry. GetSays true r.now before result entry)
+            (λ before entry. GetSpec true r.now before result entry)
             (sight_of V.accepts self.old) (sight_of V.accepts self.new) }
         ensures core { self.new.core ≡ self.old.core }
         ensures fault { IfErr result (λ fault. fault ≡ GetFault.NoMemory) }
@@ -128,7 +128,7 @@ impl<V: Verifier> CorePass<V> {
     /// Those of the refs that arrived, with their sizes, in one turn of the store. It looks through the blobs for each
     /// ref.
     pub fn stat(&mut self, refs: &RefList) -> Result<Listing, NoMemory>
-        ensures turn { StoreCall (IsErr result) (λ before entry. StatSays refs.now before result entry)
+        ensures turn { StoreCall (IsErr result) (λ before entry. StatSpec refs.now before result entry)
             (sight_of V.accepts self.old) (sight_of V.accepts self.new) }
         ensures core { self.new.core ≡ self.old.core }
         ensures spent { self.new.spent ≡ (self.old.spent || not (are_left 1 self.old.stores)) }
@@ -144,7 +144,7 @@ impl<V: Verifier> CorePass<V> {
     /// A page of the refs with their sizes, in one turn of the store. It sorts all refs.
     pub fn list(&mut self, after: Option<&Ref>, limit: usize) -> Result<Listing, NoMemory>
         ensures turn { StoreCall (IsErr result)
-            (λ before entry. ListSays (option_copied after.entry) limit before result entry)
+            (λ before entry. ListSpec (option_copied after.entry) limit before result entry)
             (sight_of V.accepts self.old) (sight_of V.accepts self.new) }
         ensures core { self.new.core ≡ self.old.core }
         ensures spent { self.new.spent ≡ (self.old.spent || not (are_left 1 self.old.stores)) }

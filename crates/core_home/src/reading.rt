@@ -4,7 +4,7 @@ ghost use Rattle.std.specs.List.{filter_map, list_any};
 ghost use Rattle.std.specs.FinMap.{entries, from_entries};
 ghost use Rattle.blobref.specs.Blobref.{is_after, ref_cmp};
 ghost use Rattle.histories.specs.Stores.{are_arrivals, bytes_of, is_ref};
-ghost use Rattle.histories.specs.StoreCalls.{GetSays, each_once, page, sized, sizes};
+ghost use Rattle.histories.specs.StoreCalls.{GetSpec, each_once, page, sized, sizes};
 
 use blobref::{Listing, NoMemory, Octets, Ref, RefList};
 use edge_base::GetFault;
@@ -16,7 +16,7 @@ pub(crate) fn fetch(
     blobs: &[(Ref, Octets)],
     r: &Ref,
 ) -> Result<Option<Octets>, GetFault>
-    ensures says { GetSays true r.now blobs.now result None }
+    ensures says { GetSpec true r.now blobs.now result None }
     ensures fault { IfErr result (λ fault. fault ≡ GetFault.NoMemory) }
 {
     'blobs: for blob in blobs {

@@ -1,6 +1,6 @@
 //! A blob is put.
 ghost use Rattle.std.specs.Prelude.{◌≡◌, ◌++◌, ◌∷◌, [], None, IfOk, IfErr, OnOk, OnErr, length};
-ghost use Rattle.histories.specs.StoreCalls.{HasRoom, PutSays, put_settled};
+ghost use Rattle.histories.specs.StoreCalls.{HasRoom, PutSpec, put_settled};
 ghost use Rattle.home_core.specs.State.{IsSound};
 ghost use Rattle.home_core.specs.Steps.{core_step};
 ghost use Rattle.home_core.specs.declared.events.Event.TheVariants as event;
@@ -22,7 +22,7 @@ pub(crate) fn put<V: Verifier>(
     said: &Ref,
     bytes: &[u8],
 ) -> Result<Put, PutFault>
-    ensures says { PutSays no_limits said.now bytes.now core.old.state.store result
+    ensures says { PutSpec no_limits said.now bytes.now core.old.state.store result
         (put_entry said.now bytes.now result) }
     ensures core { core.new.state ≡ after_upload said.now bytes.now result core.old.state }
     ensures puts { puts.new.items ≡ after_put turn result puts.old.items }

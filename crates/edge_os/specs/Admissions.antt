@@ -90,8 +90,8 @@ most_headers = 64
 
 -- what becomes of a connection that begins with these bytes: nothing is said as long as they may become a head; that
 -- there is none is said where they are too many, or where no bytes that follow make them one
-abbrev pub AdmissionSays : List ℕ → Option Admission → Type 0
-AdmissionSays x None = HasNoRequest x × MayBecomeRequest x × (length x < most_head)
-AdmissionSays x (Some NoHead) = (HasNoRequest x × (most_head ≤ length x)) ⊎ RequestOverflows most_headers x
-AdmissionSays x (Some found) =
+abbrev pub AdmissionSpec : List ℕ → Option Admission → Type 0
+AdmissionSpec x None = HasNoRequest x × MayBecomeRequest x × (length x < most_head)
+AdmissionSpec x (Some NoHead) = (HasNoRequest x × (most_head ≤ length x)) ⊎ RequestOverflows most_headers x
+AdmissionSpec x (Some found) =
     (h : RequestHead) × (rest : List ℕ) × ReadsRequest x h rest × (found ≡ admitted (headers_of h) (length x - length rest))

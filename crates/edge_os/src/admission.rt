@@ -3,7 +3,7 @@ ghost use Rattle.std.specs.Prelude.{◌≡◌, ◌≤◌, ◌+◌, ◌-◌, ◌^
 ghost use Rattle.std.specs.List.{list_all, list_any};
 ghost use Rattle.std.specs.Char.{is_ascii_digit};
 ghost use Rattle.httparse.specs.Spans.{IsHeaderWithin, header_bytes};
-ghost use Rattle.edge_os.specs.Admissions.{AdmissionSays, admitted, is_foreign, says_foreign, is_own, is_own_site, is_host, is_port, gives_origin, is_http_of, is_browsers, says_browser, begins, said_length, number_in, same_text};
+ghost use Rattle.edge_os.specs.Admissions.{AdmissionSpec, admitted, is_foreign, says_foreign, is_own, is_own_site, is_host, is_port, gives_origin, is_http_of, is_browsers, says_browser, begins, said_length, number_in, same_text};
 
 use httparse::Status;
 use httparse::spans::{EMPTY_HEADER_SPAN, HeaderSpan, parse_request};
@@ -26,7 +26,7 @@ pub enum Admission {
 
 /// What becomes of a connection that begins with these bytes; None as long as bytes that follow decide.
 pub fn admission_of(bytes: &[u8]) -> Option<Admission>
-    ensures { AdmissionSays bytes.now result }
+    ensures { AdmissionSpec bytes.now result }
 {
     let mut headers = [EMPTY_HEADER_SPAN; 64];
     match parse_request(bytes, &mut headers) {

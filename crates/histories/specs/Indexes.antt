@@ -7,14 +7,8 @@ use Rattle.schema_fact.specs.declared.kinds.Fact.{Fact}
 use Rattle.histories.specs.declared.stamped.Stamped.{Stamped}
 use Rattle.histories.specs.declared.events.IndexEvent.{IndexEvent}
 use Rattle.histories.specs.declared.events.IndexEvent.TheVariants.{Take, Insert, Return}
+use Rattle.histories.specs.declared.events.Insertion.{Insertion}
 use Rattle.histories.specs.History.{events, is_legal_after}
-
--- an Insert, with the turn that added it
-pub record Insertion : Type 0 where
-  pub turn : ℕ
-  pub number : ℕ
-  pub r : List ℕ
-  pub fact : Fact
 
 abbrev pub insertion_of : ℕ → IndexEvent → List Insertion
 insertion_of t (Take n) = []

@@ -36,3 +36,11 @@ pub enum IndexEvent {
     /// A worker gave the number back.
     Return { number: u64 },
 }
+
+/// An Insert, with the turn that added it.
+pub struct Insertion {
+    pub turn: u64,
+    pub number: u64,
+    pub r: Ref,
+    pub fact: Fact,
+}

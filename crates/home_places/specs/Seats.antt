@@ -8,7 +8,8 @@ use Rattle.histories.specs.declared.events.IndexEvent.{IndexEvent}
 use Rattle.histories.specs.declared.events.IndexEvent.TheVariants.{Insert}
 use Rattle.histories.specs.History.{events, stamp, rises, own, AheadOf, IsLonger, Ran, Grew}
 use Rattle.histories.specs.Stores.{Blob, StoreLimits, arrivals, is_legal_store}
-use Rattle.histories.specs.Indexes.{Insertion, inserts, is_legal_index}
+use Rattle.histories.specs.declared.events.Insertion.{Insertion}
+use Rattle.histories.specs.Indexes.{inserts, is_legal_index}
 
 -- ---- a store
 

@@ -7,7 +7,8 @@ use Rattle.histories.specs.declared.stamped.Stamped.{Stamped}
 use Rattle.histories.specs.declared.events.IndexEvent.{IndexEvent}
 use Rattle.histories.specs.declared.events.IndexEvent.TheVariants.{Take, Insert, Return}
 use Rattle.histories.specs.History.{events, rises, is_legal_after}
-use Rattle.histories.specs.Indexes.{Insertion, insertion_of, inserts, is_inserted, may_join_index, is_legal_index}
+use Rattle.histories.specs.declared.events.Insertion.{Insertion}
+use Rattle.histories.specs.Indexes.{insertion_of, inserts, is_inserted, may_join_index, is_legal_index}
 use Rattle.home_places.specs.Seats.{IndexSight, IsIndexSight, as_history}
 
 -- such a seat

@@ -10,8 +10,8 @@ use Rattle.edge_base.specs.declared.answers.GetFault.TheVariants as unread
 use Rattle.schema_fact.specs.declared.kinds.Fact.{Fact}
 use Rattle.histories.specs.declared.events.IndexEvent.TheVariants.{Insert}
 use Rattle.histories.specs.Stores.{arrivals}
-use Rattle.histories.specs.StoreCalls.{CountSays, ArrivalSays}
-use Rattle.histories.specs.IndexCalls.{TakeSays, InsertSays, ReturnSays}
+use Rattle.histories.specs.StoreCalls.{CountSpec, ArrivalSpec}
+use Rattle.histories.specs.IndexCalls.{TakeSpec, InsertSpec, ReturnSpec}
 use Rattle.home_places.specs.declared.home.Indexed.{Indexed}
 use Rattle.home_places.specs.declared.home.Indexed.TheVariants.{New, Already, Idle}
 use Rattle.home_places.specs.Seats.{StoreGrew, IndexGrew}
@@ -20,17 +20,17 @@ use Rattle.home_places.specs.Passes.{Sight, StoreTurned, IndexTurned, IsTrouble,
 -- a turn of the store gave the count, and then a turn of the index answered the take below it
 pub record Takes (arrivals : ℕ) (taken : Result (Option ℕ) NoMemory) (v w : Sight) : Type 0 where
   pub middle : Sight
-  pub count : StoreTurned (λ before entry. CountSays before arrivals entry) v middle
-  pub take : IndexTurned (λ before entry. TakeSays arrivals before taken entry) middle w
+  pub count : StoreTurned (λ before entry. CountSpec before arrivals entry) v middle
+  pub take : IndexTurned (λ before entry. TakeSpec arrivals before taken entry) middle w
 
 -- the blob of a number was read in a turn of the store, and its fact given to the index in a turn of that
 pub record Indexes (tells : Bool) (n : ℕ) (answer : Inserted) (v w : Sight) : Type 0 where
   pub middle : Sight
   pub found : List ℕ × List ℕ
   pub fact : Fact
-  pub arrival : StoreTurned (λ before entry. ArrivalSays tells n before (Ok (Some found)) entry) v middle
+  pub arrival : StoreTurned (λ before entry. ArrivalSpec tells n before (Ok (Some found)) entry) v middle
   pub agrees : Agrees (arrivals middle.store.history) (Insert n found.0 fact)
-  pub insert : IndexTurned (λ before entry. InsertSays n found.0 fact before (Ok answer) entry) middle w
+  pub insert : IndexTurned (λ before entry. InsertSpec n found.0 fact before (Ok answer) entry) middle w
 
 -- the blob wasn't read, or its fact not inserted
 pub record Fails (fault : GetFault) (v w : Sight) : Type 0 where
@@ -46,7 +46,7 @@ pub record Fails (fault : GetFault) (v w : Sight) : Type 0 where
 pub record GivesBack (n : ℕ) (fault : GetFault) (v w : Sight) : Type 0 where
   pub middle : Sight
   pub fails : Fails fault v middle
-  pub back : IndexTurned (λ before entry. ReturnSays n before entry) middle w
+  pub back : IndexTurned (λ before entry. ReturnSpec n before entry) middle w
 
 -- a number was taken, and then this was done
 pub record TakesAnd (n : ℕ) (done : Sight → Sight → Type 0) (v w : Sight) : Type 0 where

@@ -1,6 +1,6 @@
 //! Homes: a store with its index.
 ghost use Rattle.std.specs.Prelude.{◌≡◌, Bool, Err, IsErr, option_copied};
-ghost use Rattle.histories.specs.StoreCalls.{PutSays, GetSays, ListSays, StatSays};
+ghost use Rattle.histories.specs.StoreCalls.{PutSpec, GetSpec, ListSpec, StatSpec};
 ghost use Rattle.home_places.specs.Passes.{Sight, StoreCall, Settles, Searches, Counts, IsSight};
 ghost use Rattle.home_places.specs.Working.{IndexesNext};
 
@@ -48,7 +48,7 @@ pub trait Home {
         requires { belongs self.now pass.old }
         ensures own { belongs self.now pass.new }
         ensures turn { StoreCall (result ≡ Err PutFault.NoMemory)
-            (λ before entry. PutSays (sight pass.old).store.limits said.now bytes.now before result entry)
+            (λ before entry. PutSpec (sight pass.old).store.limits said.now bytes.now before result entry)
             (sight pass.old) (sight pass.new) };
 
     /// The bytes of the blob under a ref, in one turn of the store, as `StorePlace::get`.
@@ -61,7 +61,7 @@ pub trait Home {
         requires { belongs self.now pass.old }
         ensures own { belongs self.now pass.new }
         ensures turn { StoreCall (result ≡ Err GetFault.NoMemory)
-            (λ before entry. GetSays (tells self.now) r.now before result entry) (sight pass.old) (sight pass.new) };
+            (λ before entry. GetSpec (tells self.now) r.now before result entry) (sight pass.old) (sight pass.new) };
 
     /// Those of the refs that arrived, with their sizes, in one turn of the store, as `StorePlace::stat`.
     fn stat<R: Wait>(
@@ -73,7 +73,7 @@ pub trait Home {
         requires { belongs self.now pass.old }
         ensures own { belongs self.now pass.new }
         ensures turn { StoreCall (IsErr result)
-            (λ before entry. StatSays refs.now before result entry) (sight pass.old) (sight pass.new) };
+            (λ before entry. StatSpec refs.now before result entry) (sight pass.old) (sight pass.new) };
 
     /// A page of the refs with their sizes, in one turn of the store, as `StorePlace::list`.
     fn list<R: Wait>(
@@ -86,7 +86,7 @@ pub trait Home {
         requires { belongs self.now pass.old }
         ensures own { belongs self.now pass.new }
         ensures turn { StoreCall (IsErr result)
-            (λ before entry. ListSays (option_copied after.entry) limit before result entry)
+            (λ before entry. ListSpec (option_copied after.entry) limit before result entry)
             (sight pass.old) (sight pass.new) };
 
     /// Inserts every number that the pass has seen arrive and the index lacks, also such as others have in hand, in any
@@ -97,13 +97,8 @@ pub trait Home {
         ensures own { belongs self.now pass.new }
         ensures settled { Settles result (sight pass.old) (sight pass.new) };
 
-    /// The answer to a query (`docs/search.md`) over the Inserts that are then shown to the pass.
-    fn search<R: Wait>(
-        &self,
-        rt: &R,
-        pass: &mut Self::Pass,
-        query: &Query,
-    ) -> Result<RefList, NoMemory>
+    /// The answer to a query (`docs/search.md`) over the Inserts that are then shown to the pass. It waits for nobody.
+    fn search(&self, pass: &mut Self::Pass, query: &Query) -> Result<RefList, NoMemory>
         requires { belongs self.now pass.old }
         ensures own { belongs self.now pass.new }
         ensures search { Searches query.now result (sight pass.old) (sight pass.new) };

@@ -2,8 +2,8 @@
 ghost use Rattle.std.specs.Prelude.{◌≡◌, Bool, length, option_copied};
 ghost use Rattle.schema_fact.specs.Validity.{IsValid};
 ghost use Rattle.histories.specs.Stores.{arrivals};
-ghost use Rattle.histories.specs.StoreCalls.{PutSays, GetSays, ListSays, ArrivalSays, CountSays, StatSays};
-ghost use Rattle.histories.specs.IndexCalls.{TakeSays, InsertSays, ReturnSays, LackingSays};
+ghost use Rattle.histories.specs.StoreCalls.{PutSpec, GetSpec, ListSpec, ArrivalSpec, CountSpec, StatSpec};
+ghost use Rattle.histories.specs.IndexCalls.{TakeSpec, InsertSpec, ReturnSpec, LackingSpec};
 ghost use Rattle.home_places.specs.Seats.{StoreSight, StoreTurn, StoreJoin, IsStoreSight};
 ghost use Rattle.home_places.specs.Seats.{IndexSight, IndexTurn, IndexJoin, IsIndexSight};
 ghost use Rattle.home_places.specs.Searches.{IndexSearch};
@@ -43,7 +43,7 @@ pub trait StorePlace {
         requires { belongs self.now seat.old }
         ensures own { belongs self.now seat.new }
         ensures turn { StoreTurn
-            (λ before entry. PutSays (sight seat.old).limits said.now bytes.now before result entry)
+            (λ before entry. PutSpec (sight seat.old).limits said.now bytes.now before result entry)
             (sight seat.old) (sight seat.new) };
 
     /// The bytes of the blob under a ref, and `None` exactly where none arrived. `Disk` and `Damaged` come only with
@@ -57,7 +57,7 @@ pub trait StorePlace {
     ) -> Result<Option<Octets>, GetFault>
         requires { belongs self.now seat.old }
         ensures own { belongs self.now seat.new }
-        ensures turn { StoreTurn (λ before entry. GetSays (tells self.now) r.now before result entry)
+        ensures turn { StoreTurn (λ before entry. GetSpec (tells self.now) r.now before result entry)
             (sight seat.old) (sight seat.new) };
 
     /// The blob of a number, counted from 0, and `None` exactly where no more than that many arrived. Its errors are
@@ -70,7 +70,7 @@ pub trait StorePlace {
     ) -> Result<Option<(Ref, Octets)>, GetFault>
         requires { belongs self.now seat.old }
         ensures own { belongs self.now seat.new }
-        ensures turn { StoreTurn (λ before entry. ArrivalSays (tells self.now) number before result entry)
+        ensures turn { StoreTurn (λ before entry. ArrivalSpec (tells self.now) number before result entry)
             (sight seat.old) (sight seat.new) };
 
     /// The refs greater than `after`, or of all where it is `None`: the first `limit` of them, ascending, each with
@@ -84,7 +84,7 @@ pub trait StorePlace {
     ) -> Result<Listing, NoMemory>
         requires { belongs self.now seat.old }
         ensures own { belongs self.now seat.new }
-        ensures turn { StoreTurn (λ before entry. ListSays (option_copied after.entry) limit before result entry)
+        ensures turn { StoreTurn (λ before entry. ListSpec (option_copied after.entry) limit before result entry)
             (sight seat.old) (sight seat.new) };
 
     /// Those of the refs under which a blob arrived, in their order, each once, with the size of its blob in bytes.
@@ -96,14 +96,14 @@ pub trait StorePlace {
     ) -> Result<Listing, NoMemory>
         requires { belongs self.now seat.old }
         ensures own { belongs self.now seat.new }
-        ensures turn { StoreTurn (λ before entry. StatSays refs.now before result entry)
+        ensures turn { StoreTurn (λ before entry. StatSpec refs.now before result entry)
             (sight seat.old) (sight seat.new) };
 
     /// How many blobs arrived.
     fn count<R: Wait>(&self, rt: &R, seat: &mut Self::Seat) -> u64
         requires { belongs self.now seat.old }
         ensures own { belongs self.now seat.new }
-        ensures turn { StoreTurn (λ before entry. CountSays before result entry) (sight seat.old) (sight seat.new) };
+        ensures turn { StoreTurn (λ before entry. CountSpec before result entry) (sight seat.old) (sight seat.new) };
 
     /// How many blobs arrived in the history that the seat has seen. It takes no turn and no memory.
     fn seen(&self, seat: &Self::Seat) -> u64
@@ -122,8 +122,8 @@ pub trait StorePlace {
 }
 
 /// An index that several seats share (`docs/core.md`). Each call with `rt` takes one turn, in which it answers over the
-/// entries before it, and adds at most one entry to the history of the index, under that turn; `search` and `join` take
-/// any number of turns and add nothing.
+/// entries before it, and adds at most one entry to the history of the index, under that turn; `join` takes any number
+/// of turns and adds nothing. `search` waits for nobody.
 ///
 /// A seat is shown the Inserts of its history, and may be shown further ones.
 pub trait IndexPlace {
@@ -146,7 +146,7 @@ pub trait IndexPlace {
     ) -> Result<Option<u64>, NoMemory>
         requires { belongs self.now seat.old }
         ensures own { belongs self.now seat.new }
-        ensures turn { IndexTurn (λ before entry. TakeSays arrivals before result entry)
+        ensures turn { IndexTurn (λ before entry. TakeSpec arrivals before result entry)
             (sight seat.old) (sight seat.new) };
 
     /// Inserts the fact of the blob of a number, which then is no longer in hand. `Already` comes exactly where the
@@ -163,31 +163,26 @@ pub trait IndexPlace {
         requires own { belongs self.now seat.old }
         requires valid { IsValid fact }
         ensures own { belongs self.now seat.new }
-        ensures turn { IndexTurn (λ before entry. InsertSays number r.now fact before result entry)
+        ensures turn { IndexTurn (λ before entry. InsertSpec number r.now fact before result entry)
             (sight seat.old) (sight seat.new) };
 
     /// Gives a number back, so that it can be taken again. Nothing happens where it isn't in hand.
     fn give_back<R: Wait>(&self, rt: &R, seat: &mut Self::Seat, number: u64)
         requires { belongs self.now seat.old }
         ensures own { belongs self.now seat.new }
-        ensures turn { IndexTurn (λ before entry. ReturnSays number before entry)
+        ensures turn { IndexTurn (λ before entry. ReturnSpec number before entry)
             (sight seat.old) (sight seat.new) };
 
     /// The least number below `below` that isn't inserted, in hand or not, and `None` exactly where there is none.
     fn lacking<R: Wait>(&self, rt: &R, seat: &mut Self::Seat, below: u64) -> Option<u64>
         requires { belongs self.now seat.old }
         ensures own { belongs self.now seat.new }
-        ensures turn { IndexTurn (λ before entry. LackingSays below before result entry)
+        ensures turn { IndexTurn (λ before entry. LackingSpec below before result entry)
             (sight seat.old) (sight seat.new) };
 
     /// The answer to a query (`docs/search.md`) over the Inserts that are then shown to the seat. `NoMemory` comes only
     /// where no memory is left.
-    fn search<R: Wait>(
-        &self,
-        rt: &R,
-        seat: &mut Self::Seat,
-        query: &Query,
-    ) -> Result<RefList, NoMemory>
+    fn search(&self, seat: &mut Self::Seat, query: &Query) -> Result<RefList, NoMemory>
         requires { belongs self.now seat.old }
         ensures own { belongs self.now seat.new }
         ensures search { IndexSearch query.now result (sight seat.old) (sight seat.new) };

@@ -14,7 +14,7 @@ use Rattle.edge_base.specs.Edge.{SourceGave}
 use Rattle.http_exchange.specs.Before.{most_body}
 use Rattle.http_exchange.specs.declared.gathering.BodyFault.{BodyFault}
 use Rattle.http_exchange.specs.declared.gathering.BodyFault.TheVariants as stopped
-use Rattle.http_exchange.specs.Gathering.{Gathers, GatherSays, CanStop, StopSays}
+use Rattle.http_exchange.specs.Gathering.{Gathers, GatherSpec, CanStop, StopSpec}
 
 gave_none : (x : Option (List ℕ)) → SourceGave x x []
 gave_none None = refl
@@ -31,13 +31,13 @@ moves_none x flow at = ([], passed_none x flow, BodyRun-none at)
 pub gathered : (p q r : Option (List ℕ)) (u v w : WireView) (all given : List ℕ) (result : Result (List ℕ) BodyFault)
     → Moves p q u.flow v.flow u.body v.body all → v.head ≡ u.head → v.begun ≡ u.begun
     → Moves q r v.flow w.flow v.body w.body given → (w.head ≡ v.head) × (w.begun ≡ v.begun)
-    → GatherSays (to_come w r) w.flow.bytes w.body v.begun (all ++ given) result → Gathers p r u w result
+    → GatherSpec (to_come w r) w.flow.bytes w.body v.begun (all ++ given) result → Gathers p r u w result
 gathered p q r u v w all given result before head begun then kept says = record {
   given = all ++ given;
   moved = Moves-chain p q r u.flow v.flow w.flow u.body v.body w.body all given before then;
   head = kept.0 ∙ head;
   begun = kept.1 ∙ begun;
-  says = subst (λ (n : ℕ). GatherSays (to_come w r) w.flow.bytes w.body n (all ++ given) result) begun says;
+  says = subst (λ (n : ℕ). GatherSpec (to_come w r) w.flow.bytes w.body n (all ++ given) result) begun says;
 }
 
 pub can_stop : (x : Option (List ℕ)) (at : Body) (place : ℕ) (end : WireEnd) → BodyEnds x at place end → CanStop end
@@ -49,7 +49,7 @@ can_stop x at place (ends.TooLong n) h = h
 can_stop x at place ends.ReadFault h = tt
 
 pub stop_says : (x : Option (List ℕ)) (ahead : List ℕ) (at : Body) (place : ℕ) (given : List ℕ) (why : BodyFault)
-    → length given ≤ most_body → StopSays x ahead at place why → GatherSays x ahead at place given (Err why)
+    → length given ≤ most_body → StopSpec x ahead at place why → GatherSpec x ahead at place given (Err why)
 stop_says x ahead at place given stopped.Long few h = absurd h
 stop_says x ahead at place given stopped.Broken few h = h
 stop_says x ahead at place given stopped.Memory few h = tt

@@ -12,7 +12,7 @@ use Rattle.http_wire.specs.declared.head.Framing.TheVariants.{Empty, Length, Chu
 use Rattle.http_wire.specs.declared.ends.WireEnd.{WireEnd}
 use Rattle.http_wire.specs.declared.ends.WireEnd.TheVariants as ends
 use Rattle.http_wire.specs.Stream.{Flow, Passed, stream}
-use Rattle.http_wire.specs.Heads.{HeadSays, IsFirstOf, IsPlaceIn}
+use Rattle.http_wire.specs.Heads.{HeadSpec, IsFirstOf, IsPlaceIn}
 use Rattle.http_wire.specs.Bodies.{Moves, BodyRun, EndsEarly}
 use Rattle.http_wire.specs.Wires.{WireView, body_of, HeadEnds, LacksHead, to_come}
 use Rattle.http_wire.specs.Speaking.{Begun, IsBegun}
@@ -39,7 +39,7 @@ content_place : (text : List ℕ) (found : List (List ℕ)) (p : Option Piece) �
 content_place text found None is = tt
 content_place text found (Some p) is = (is.3.0, is.3.1)
 
-pub has_pieces : (text : List ℕ) (says : Head) → HeadSays text (Ok says) → HasPieces text says
+pub has_pieces : (text : List ℕ) (says : Head) → HeadSpec text (Ok says) → HasPieces text says
 has_pieces text says h =
     let at = h.3 in
     record {

@@ -21,21 +21,21 @@ CanStop ends.ReadFault = Unit {0}
 
 -- why the wire gave no more of a body, with the bytes still to come, those of them that were read ahead, what is to
 -- come of the body, and the place of the request
-abbrev pub StopSays : Option (List ℕ) → List ℕ → Body → ℕ → BodyFault → Type 0
-StopSays x ahead at place Long = ⊥
-StopSays x ahead at place Broken = IfSome x (IsMalformed at)
-StopSays x ahead at place Memory = ⊥
-StopSays x ahead at place (Cut n) = (n ≡ place) × IfSome x (EndsEarly at)
-StopSays x ahead at place ReadFault = EndsEarly at ahead
+abbrev pub StopSpec : Option (List ℕ) → List ℕ → Body → ℕ → BodyFault → Type 0
+StopSpec x ahead at place Long = ⊥
+StopSpec x ahead at place Broken = IfSome x (IsMalformed at)
+StopSpec x ahead at place Memory = ⊥
+StopSpec x ahead at place (Cut n) = (n ≡ place) × IfSome x (EndsEarly at)
+StopSpec x ahead at place ReadFault = EndsEarly at ahead
 
 -- what was given of a body: all of it, or why that isn't so
-abbrev pub GatherSays : Option (List ℕ) → List ℕ → Body → ℕ → List ℕ → Result (List ℕ) BodyFault → Type 0
-GatherSays x ahead at place given (Ok bytes) = (given ≡ bytes) × (length bytes ≤ most_body) × (at ≡ Done)
-GatherSays x ahead at place given (Err Long) = most_body < length given
-GatherSays x ahead at place given (Err Broken) = StopSays x ahead at place Broken
-GatherSays x ahead at place given (Err Memory) = Unit {0}
-GatherSays x ahead at place given (Err (Cut n)) = (length given ≤ most_body) × StopSays x ahead at place (Cut n)
-GatherSays x ahead at place given (Err ReadFault) = StopSays x ahead at place ReadFault
+abbrev pub GatherSpec : Option (List ℕ) → List ℕ → Body → ℕ → List ℕ → Result (List ℕ) BodyFault → Type 0
+GatherSpec x ahead at place given (Ok bytes) = (given ≡ bytes) × (length bytes ≤ most_body) × (at ≡ Done)
+GatherSpec x ahead at place given (Err Long) = most_body < length given
+GatherSpec x ahead at place given (Err Broken) = StopSpec x ahead at place Broken
+GatherSpec x ahead at place given (Err Memory) = Unit {0}
+GatherSpec x ahead at place given (Err (Cut n)) = (length given ≤ most_body) × StopSpec x ahead at place (Cut n)
+GatherSpec x ahead at place given (Err ReadFault) = StopSpec x ahead at place ReadFault
 
 -- a body is read to its end, or up to what ends the reading
 pub record Gathers (before now : Option (List ℕ)) (old new : WireView) (result : Result (List ℕ) BodyFault) : Type 0 where
@@ -43,4 +43,4 @@ pub record Gathers (before now : Option (List ℕ)) (old new : WireView) (result
   pub moved : Moves before now old.flow new.flow old.body new.body given
   pub head : new.head ≡ old.head
   pub begun : new.begun ≡ old.begun
-  pub says : GatherSays (to_come new now) new.flow.bytes new.body old.begun given result
+  pub says : GatherSpec (to_come new now) new.flow.bytes new.body old.begun given result

@@ -3,7 +3,7 @@ use Rattle.std.specs.Prelude.{◌≡◌, ℕ, List, slice_range, Option, IfSome,
 use Rattle.http_wire.specs.declared.head.Head.{Head}
 use Rattle.http_wire.specs.declared.head.Piece.{Piece}
 use Rattle.http_wire.specs.Stream.{Flow, Passed}
-use Rattle.http_wire.specs.Heads.{IsPlaceIn, IsHeadText, HeadSays}
+use Rattle.http_wire.specs.Heads.{IsPlaceIn, IsHeadText, HeadSpec}
 use Rattle.http_wire.specs.Wires.{WireView, body_of}
 
 -- the bytes of a place in a head
@@ -21,6 +21,6 @@ pub record HasPieces (text : List ℕ) (says : Head) : Type 0 where
 pub record ReadsHead (before now : Option (List ℕ)) (old : Flow) (new : WireView) (says : Head) : Type 0 where
   pub passed : Passed before now old new.flow new.head
   pub lines : IsHeadText new.head
-  pub read : HeadSays new.head (Ok says)
+  pub read : HeadSpec new.head (Ok says)
   pub begun : new.begun ≡ old.taken
   pub ready : new.body ≡ body_of says.framing

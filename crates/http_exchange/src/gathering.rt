@@ -4,7 +4,7 @@ ghost use Rattle.edge_base.specs.Edge.{FaultsRose};
 ghost use Rattle.http_wire.specs.Bodies.{EndsEarly};
 ghost use Rattle.http_wire.specs.Wires.{body_of, BodyEnds};
 ghost use Rattle.http_wire.specs.declared.body.Body.{Body};
-ghost use Rattle.http_exchange.specs.Gathering.{Gathers, CanStop, StopSays};
+ghost use Rattle.http_exchange.specs.Gathering.{Gathers, CanStop, StopSpec};
 
 use crate::before_body::MOST_BODY;
 use blobref::Octets;
@@ -88,7 +88,7 @@ fn zeros(alloc: Global) -> Result<Vec<u8>, AllocError>
 fn stopped_by(end: WireEnd) -> BodyFault
     requires { CanStop end }
     ensures says { (x : Option (List ℕ)) (ahead : List ℕ) (at : Body) (place : ℕ) → BodyEnds x at place end
-        → (end ≡ WireEnd.ReadFault → EndsEarly at ahead) → StopSays x ahead at place result }
+        → (end ≡ WireEnd.ReadFault → EndsEarly at ahead) → StopSpec x ahead at place result }
     ensures fault { result ≡ BodyFault.ReadFault → end ≡ WireEnd.ReadFault }
 {
     match end {

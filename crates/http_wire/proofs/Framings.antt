@@ -5,7 +5,7 @@ use Rattle.http_wire.specs.declared.body.Body.TheVariants as body
 use Rattle.http_wire.specs.declared.head.Framing.{Framing}
 use Rattle.http_wire.specs.declared.head.Framing.TheVariants.{Empty, Length, Chunked, ToEnd}
 use Rattle.http_wire.specs.declared.head.Head.{Head}
-use Rattle.http_wire.specs.Heads.{HeadSays, framing_by, framing_of, headers_of, length_in, same_text, values}
+use Rattle.http_wire.specs.Heads.{HeadSpec, framing_by, framing_of, headers_of, length_in, same_text, values}
 use Rattle.http_wire.specs.Wires.{body_of}
 
 by_headers : (lengths codings : List (List ℕ)) → framing_by lengths codings ≡ Some ToEnd → ⊥
@@ -34,7 +34,7 @@ to_end_alone (Length n) is = absurd (sized (n == 0) is)
 to_end_alone Chunked is = absurd (cc is)
 to_end_alone ToEnd is = refl
 
-pub request_ends : (text : List ℕ) (head : Head) → HeadSays text (Ok head) → body_of head.framing ≡ body.ToEnd → ⊥
+pub request_ends : (text : List ℕ) (head : Head) → HeadSpec text (Ok head) → body_of head.framing ≡ body.ToEnd → ⊥
 request_ends text head says is =
     by_headers (values (codes "content-length") (headers_of says.0)) (values (codes "transfer-encoding") (headers_of says.0))
     (says.3.framing ∙ (λ i. Some (to_end_alone head.framing is i)))

@@ -6,7 +6,7 @@ use Rattle.httparse.specs.Spans.{header_bytes, span_bytes, IsRequestAt}
 use Rattle.httparse.specs.declared.spans.HeaderSpan.{HeaderSpan}
 use Rattle.httparse.specs.declared.spans.RequestSpans.{RequestSpans}
 use Rattle.http_wire.specs.declared.head.Head.{Head}
-use Rattle.http_wire.specs.Heads.{HeadSays, framing_of, headers_of, values, path_of, query_of, closes_by, IsPieceOf, IsFirstOf}
+use Rattle.http_wire.specs.Heads.{HeadSpec, framing_of, headers_of, values, path_of, query_of, closes_by, IsPieceOf, IsFirstOf}
 
 pub head_read :
     (text : List ℕ) (headers used : List HeaderSpan) (spans : RequestSpans) (head : Head)
@@ -17,7 +17,7 @@ pub head_read :
     → IsFirstOf text (values (codes "content-type") (map (header_bytes text) used)) head.content_type
     → Some head.framing ≡ framing_of (map (header_bytes text) used)
     → head.closes ≡ closes_by spans.version (map (header_bytes text) used)
-    → (h : RequestHead) → ReadsRequest text h [] → length h.fields ≤ 64 → IsRequestAt text headers spans h → HeadSays text (Ok head)
+    → (h : RequestHead) → ReadsRequest text h [] → length h.fields ≤ 64 → IsRequestAt text headers spans h → HeadSpec text (Ok head)
 head_read text headers used spans head is method path query kind framing closes h reads few at =
     let same : map (header_bytes text) used ≡ headers_of h = ap (map (header_bytes text)) is ∙ at.fields in (
       h,

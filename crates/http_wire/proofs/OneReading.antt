@@ -14,7 +14,7 @@ use Rattle.http_wire.specs.declared.head.Head.{Head}
 use Rattle.http_wire.specs.declared.head.Piece.{Piece}
 use Rattle.http_wire.specs.declared.head.Framing.{Framing}
 use Rattle.http_wire.specs.declared.line_state.LineState.TheVariants.{Start}
-use Rattle.http_wire.specs.Heads.{HeadSays, IsHeadOf, IsFirstOf}
+use Rattle.http_wire.specs.Heads.{HeadSpec, IsHeadOf, IsFirstOf}
 use Rattle.http_wire.specs.Bodies.{Chunk, print_chunk, content_of, IsChunk, IsChunked, IsLine, IsTrailers, RestOf, BodyRun}
 use Rattle.http_wire.specs.Wires.{body_of}
 use Rattle.http_wire.specs.Speaking.{Request, IsRequest, text_of, Speaks, HasNoRequest, Last, Nothing, Refused, Unfinished, IsOpen, ClosesAtLast, GoesOn, place_behind}
@@ -93,7 +93,7 @@ one_framing : (a b : Framing) → Some a ≡ Some b → a ≡ b
 one_framing a b e = cc e
 
 -- two heads that one text says
-says_same : (head : List ℕ) (a b : Head) (framed1 framed2 body1 body2 : List ℕ) → HeadSays head (Ok a) → HeadSays head (Ok b) → (a.framing ≡ b.framing → (framed1 ≡ framed2) × (body1 ≡ body2))
+says_same : (head : List ℕ) (a b : Head) (framed1 framed2 body1 body2 : List ℕ) → HeadSpec head (Ok a) → HeadSpec head (Ok b) → (a.framing ≡ b.framing → (framed1 ≡ framed2) × (body1 ≡ body2))
     → SaysSame (record { head = head; says = a; framed = framed1; body = body1 }) (record { head = head; says = b; framed = framed2; body = body2 })
 says_same head a b framed1 framed2 body1 body2 h k more =
     let tree : h.0 ≡ k.0 = (request_unique head h.0 k.0 [] [] h.1 k.1).0 in
@@ -120,7 +120,7 @@ one_request x after rest a b is other e f =
     let head : a.head ≡ b.head = one_text Start 16384 x a.head b.head (a.framed ++ after) (b.framed ++ rest) ea eb is.lines other.lines in
     let behind : a.framed ++ after ≡ b.framed ++ rest =
     append_cancel_left a.head (a.framed ++ after) (b.framed ++ rest) (sym ea ∙ eb ∙ ap (λ (h : List ℕ). h ++ (b.framed ++ rest)) (sym head)) in
-    let says : HeadSays a.head (Ok b.says) = subst (λ (h : List ℕ). HeadSays h (Ok b.says)) (sym head) other.read in
+    let says : HeadSpec a.head (Ok b.says) = subst (λ (h : List ℕ). HeadSpec h (Ok b.says)) (sym head) other.read in
     let same : SaysSame a (record { head = a.head; says = b.says; framed = b.framed; body = b.body }) =
     says_same a.head a.says b.says a.framed b.framed a.body b.body is.read says
     (λ framing. one_body a.says.framing a.framed b.framed a.body b.body after rest (request_ends a.head a.says is.read) is.rest

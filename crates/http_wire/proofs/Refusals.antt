@@ -15,7 +15,7 @@ use Rattle.http_wire.specs.declared.head.HeadFault.{HeadFault}
 use Rattle.http_wire.specs.declared.head.HeadFault.TheVariants as fault
 use Rattle.http_wire.specs.Lines.{scanned, scanned_on, Reaches, Lacks}
 use Rattle.http_wire.specs.Stream.{Begins}
-use Rattle.http_wire.specs.Heads.{HeadSays, framing_of, headers_of}
+use Rattle.http_wire.specs.Heads.{HeadSpec, framing_of, headers_of}
 use Rattle.http_wire.specs.Wires.{HeadEnds, RefusesHead, LacksHead}
 use Rattle.http_wire.specs.Speaking.{Request, HasNoRequest, Speaks, SpeaksTo, IsOpen, GoesOn, place_behind, last_of}
 use Rattle.http_wire.proofs.Seams.{scanned-append, reached}
@@ -34,7 +34,7 @@ not_lacking p limit x a after e h lacks =
     cc clash
 
 -- a text isn't a head that is read and one that is refused
-not_both : (text : List ℕ) (says : Head) (why : HeadFault) → HeadSays text (Ok says) → HeadSays text (Err why) → ⊥
+not_both : (text : List ℕ) (says : Head) (why : HeadFault) → HeadSpec text (Ok says) → HeadSpec text (Err why) → ⊥
 not_both text says fault.BadHead h k = let many = k h.0 h.1 in omega (arith, many, h.2)
 not_both text says fault.TooMany h k =
     let same : h.0 ≡ k.0 = (request_unique text h.0 k.0 [] [] h.1 k.1).0 in
@@ -48,7 +48,7 @@ not_refused : (x : List ℕ) (why : HeadFault) → Begins x (RefusesHead why) �
 not_refused x why b = λ r after is e.
     let parts : x ≡ r.head ++ (r.framed ++ after) = e ∙ append_assoc r.head r.framed after in
     let same : b.0 ≡ r.head = one_text Start 16384 x b.0 r.head b.1 (r.framed ++ after) b.2 parts b.3.0 is.lines in
-    not_both r.head r.says why is.read (subst (λ (text : List ℕ). HeadSays text (Err why)) same b.3.1)
+    not_both r.head r.says why is.read (subst (λ (text : List ℕ). HeadSpec text (Err why)) same b.3.1)
 
 not_open : (x : List ℕ) → Lacks Start 16384 x → HasNoRequest x
 not_open x lacks = λ r after is e. not_lacking Start 16384 x r.head (r.framed ++ after) (e ∙ append_assoc r.head r.framed after) is.lines lacks

@@ -7,7 +7,7 @@ use Rattle.std.proofs.lemmas.List.Elements.{All-push}
 use Rattle.http_wire.specs.declared.head.Head.{Head}
 use Rattle.http_wire.specs.declared.body.Body.TheVariants as body
 use Rattle.http_wire.specs.Stream.{Flow, Passed}
-use Rattle.http_wire.specs.Heads.{IsHeadText, HeadSays}
+use Rattle.http_wire.specs.Heads.{IsHeadText, HeadSpec}
 use Rattle.http_wire.specs.Bodies.{BodyRun, RestOf}
 use Rattle.http_wire.specs.Wires.{body_of}
 use Rattle.http_wire.specs.Speaking.{Request, IsRequest, Speaks, text_of}
@@ -24,7 +24,7 @@ speaks_more x rest after rs r h is front = record {
 }
 
 -- a head, and reads of its body to the end, are a request
-pub request_read : (head framed given : List ℕ) (says : Head) → IsHeadText head → HeadSays head (Ok says) → BodyRun (body_of says.framing) body.Done framed given → IsRequest (record { head = head; says = says; framed = framed; body = given })
+pub request_read : (head framed given : List ℕ) (says : Head) → IsHeadText head → HeadSpec head (Ok says) → BodyRun (body_of says.framing) body.Done framed given → IsRequest (record { head = head; says = says; framed = framed; body = given })
 request_read head framed given says lines read leads = record {
   lines = lines;
   read = read;

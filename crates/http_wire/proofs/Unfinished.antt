@@ -9,7 +9,7 @@ use Rattle.http_wire.specs.declared.body.Body.{Body}
 use Rattle.http_wire.specs.declared.body.Body.TheVariants as body
 use Rattle.http_wire.specs.declared.head.Head.{Head}
 use Rattle.http_wire.specs.declared.line_state.LineState.TheVariants.{Start, Next, Last}
-use Rattle.http_wire.specs.Heads.{HeadSays, framing_of, headers_of}
+use Rattle.http_wire.specs.Heads.{HeadSpec, framing_of, headers_of}
 use Rattle.http_wire.specs.Bodies.{IsLine, IsChunked, Chunk, print_chunk, IsChunk, RestOf, EndsEarly, IsMalformed, IsBadEnd}
 use Rattle.http_wire.specs.Wires.{body_of}
 use Rattle.http_wire.specs.Speaking.{HasNoRequest, Begun, IsBegun}
@@ -97,7 +97,7 @@ breaks_short body.Trailers rest more after tail r e (inr bad) =
 breaks_short body.ToEnd rest more after tail r e breaks = breaks
 
 -- a head says one framing
-one_framing : (text : List ℕ) (a b : Head) → HeadSays text (Ok a) → HeadSays text (Ok b) → a.framing ≡ b.framing
+one_framing : (text : List ℕ) (a b : Head) → HeadSpec text (Ok a) → HeadSpec text (Ok b) → a.framing ≡ b.framing
 one_framing text a b h k =
     let same : h.0 ≡ k.0 = (request_unique text h.0 k.0 [] [] h.1 k.1).0 in
     let framings : Some a.framing ≡ Some b.framing = sym h.3.framing ∙ ap (λ (r : RequestHead). framing_of (headers_of r)) same ∙ k.3.framing in
@@ -107,7 +107,7 @@ pub no_whole_request : (x tail : List ℕ) (b : Begun) → IsBegun b → x ≡ b
 no_whole_request x tail b is e ends = λ r after also f.
     let parts : x ≡ r.head ++ (r.framed ++ after) = f ∙ append_assoc r.head r.framed after in
     let heads : r.head ≡ b.head = one_text Start 16384 x r.head b.head (r.framed ++ after) (b.framed ++ tail) parts e also.lines is.lines in
-    let framings : r.says.framing ≡ b.says.framing = one_framing b.head r.says b.says (subst (λ (t : List ℕ). HeadSays t (Ok r.says)) heads also.read) is.read in
+    let framings : r.says.framing ≡ b.says.framing = one_framing b.head r.says b.says (subst (λ (t : List ℕ). HeadSpec t (Ok r.says)) heads also.read) is.read in
     let bodies : r.framed ++ after ≡ b.framed ++ tail = append_cancel_left b.head (r.framed ++ after) (b.framed ++ tail) (ap (λ (t : List ℕ). t ++ (r.framed ++ after)) (sym heads) ∙ sym parts ∙ e) in
     let bound = request_ends b.head b.says is.read in
     let goes = is.leads.back bound r.framed r.body after tail (ap-rest r.framed r.body r.says b.says framings also.rest) bodies in

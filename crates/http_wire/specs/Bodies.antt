@@ -113,10 +113,10 @@ abbrev pub Moves : Option (List ℕ) → Option (List ℕ) → Flow → Flow →
 Moves before now old new from to given = (text : List ℕ) × Passed before now old new text × BodyRun from to text given
 
 -- why no more of a body is given
-abbrev pub StopSays : Option (List ℕ) → Body → Stop → Type 0
-StopSays x at Cut = IfSome x (EndsEarly at)
-StopSays x at Broken = IfSome x (IsMalformed at)
-StopSays x at Failed = Unit {0}
+abbrev pub StopSpec : Option (List ℕ) → Body → Stop → Type 0
+StopSpec x at Cut = IfSome x (EndsEarly at)
+StopSpec x at Broken = IfSome x (IsMalformed at)
+StopSpec x at Failed = Unit {0}
 
 -- no end of a chunk stands there
 abbrev pub IsPastEnd : Body → Type 0

@@ -108,8 +108,8 @@ pub record IsHeadOf (text : List ℕ) (h : RequestHead) (head : Head) : Type 0 w
   pub closes : head.closes ≡ closes_by h.minor (headers_of h)
 
 -- what a text is as a head
-abbrev pub HeadSays : List ℕ → Result Head HeadFault → Type 0
-HeadSays text (Ok head) = (h : RequestHead) × ReadsRequest text h [] × (length h.fields ≤ 64) × IsHeadOf text h head
-HeadSays text (Err BadHead) = (h : RequestHead) → ReadsRequest text h [] → 5462 < length h.fields
-HeadSays text (Err TooMany) = (h : RequestHead) × ReadsRequest text h [] × (64 < length h.fields)
-HeadSays text (Err BadLength) = (h : RequestHead) × ReadsRequest text h [] × (length h.fields ≤ 64) × (framing_of (headers_of h) ≡ None)
+abbrev pub HeadSpec : List ℕ → Result Head HeadFault → Type 0
+HeadSpec text (Ok head) = (h : RequestHead) × ReadsRequest text h [] × (length h.fields ≤ 64) × IsHeadOf text h head
+HeadSpec text (Err BadHead) = (h : RequestHead) → ReadsRequest text h [] → 5462 < length h.fields
+HeadSpec text (Err TooMany) = (h : RequestHead) × ReadsRequest text h [] × (64 < length h.fields)
+HeadSpec text (Err BadLength) = (h : RequestHead) × ReadsRequest text h [] × (length h.fields ≤ 64) × (framing_of (headers_of h) ≡ None)

@@ -23,12 +23,12 @@ reply_framing Chunked = Chunked
 reply_framing ToEnd = ToEnd
 
 -- what a text is as the head of a reply
-abbrev pub ReplySays : List ℕ → Result ReplyHead HeadFault → Type 0
-ReplySays text (Ok head) = (h : ResponseHead) × ReadsResponse text h [] × (length h.fields ≤ 64) × (head.status ≡ status_code h)
+abbrev pub ReplySpec : List ℕ → Result ReplyHead HeadFault → Type 0
+ReplySpec text (Ok head) = (h : ResponseHead) × ReadsResponse text h [] × (length h.fields ≤ 64) × (head.status ≡ status_code h)
     × (option_map reply_framing (framing_of (reply_headers h)) ≡ Some head.framing)
-ReplySays text (Err BadHead) = (h : ResponseHead) → ReadsResponse text h [] → 5462 < length h.fields
-ReplySays text (Err TooMany) = (h : ResponseHead) × ReadsResponse text h [] × (64 < length h.fields)
-ReplySays text (Err BadLength) = (h : ResponseHead) × ReadsResponse text h [] × (length h.fields ≤ 64) × (framing_of (reply_headers h) ≡ None)
+ReplySpec text (Err BadHead) = (h : ResponseHead) → ReadsResponse text h [] → 5462 < length h.fields
+ReplySpec text (Err TooMany) = (h : ResponseHead) × ReadsResponse text h [] × (64 < length h.fields)
+ReplySpec text (Err BadLength) = (h : ResponseHead) × ReadsResponse text h [] × (length h.fields ≤ 64) × (framing_of (reply_headers h) ≡ None)
 
 -- what was found of a head by where its parts lie
 abbrev pub IsParsedReply : List ℕ → ℕ → List HeaderSpan → ParsedReply → Type 0

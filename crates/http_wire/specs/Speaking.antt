@@ -6,7 +6,7 @@ use Rattle.http_wire.specs.declared.ends.WireEnd.{WireEnd}
 use Rattle.http_wire.specs.declared.ends.WireEnd.TheVariants as ends
 use Rattle.http_wire.specs.declared.head.Head.{Head}
 use Rattle.http_wire.specs.Stream.{counted}
-use Rattle.http_wire.specs.Heads.{IsHeadText, HeadSays}
+use Rattle.http_wire.specs.Heads.{IsHeadText, HeadSpec}
 use Rattle.http_wire.specs.Bodies.{RestOf, BodyRun}
 use Rattle.http_wire.specs.Wires.{body_of, HeadEnds}
 
@@ -19,7 +19,7 @@ pub record Request : Type 0 where
 
 pub record IsRequest (r : Request) : Type 0 where
   pub lines : IsHeadText r.head
-  pub read : HeadSays r.head (Ok r.says)
+  pub read : HeadSpec r.head (Ok r.says)
   pub rest : RestOf (body_of r.says.framing) r.framed r.body
 
 abbrev pub text_of : Request → List ℕ
@@ -44,7 +44,7 @@ pub record Begun : Type 0 where
 
 pub record IsBegun (b : Begun) : Type 0 where
   pub lines : IsHeadText b.head
-  pub read : HeadSays b.head (Ok b.says)
+  pub read : HeadSpec b.head (Ok b.says)
   pub leads : BodyRun (body_of b.says.framing) b.at b.framed b.given
 
 -- what is answered behind the whole requests: nothing, a head that is refused, or a request that isn't read to its end

@@ -11,8 +11,8 @@ use Rattle.http_wire.specs.declared.ends.WireEnd.{WireEnd}
 use Rattle.http_wire.specs.declared.ends.WireEnd.TheVariants as ends
 use Rattle.http_wire.specs.Lines.{Lacks}
 use Rattle.http_wire.specs.Stream.{Flow, Begins, stream}
-use Rattle.http_wire.specs.Heads.{IsHeadText, HeadSays}
-use Rattle.http_wire.specs.ReplyHeads.{ReplySays}
+use Rattle.http_wire.specs.Heads.{IsHeadText, HeadSpec}
+use Rattle.http_wire.specs.ReplyHeads.{ReplySpec}
 use Rattle.http_wire.specs.Bodies.{EndsEarly, IsMalformed}
 
 -- what was read ahead, the text of the present head, how many bytes of the stream were taken before it, and what is to come of the body
@@ -35,10 +35,10 @@ body_of ToEnd = body.ToEnd
 
 -- lines that begin the stream are no head that can be read
 abbrev pub RefusesHead : HeadFault → List ℕ → Type 0
-RefusesHead why text = IsHeadText text × HeadSays text (Err why)
+RefusesHead why text = IsHeadText text × HeadSpec text (Err why)
 
 abbrev pub RefusesReply : HeadFault → List ℕ → Type 0
-RefusesReply why text = IsHeadText text × ReplySays text (Err why)
+RefusesReply why text = IsHeadText text × ReplySpec text (Err why)
 
 -- what comes over a connection
 pub data Message : Type 0 where

@@ -2,7 +2,7 @@
 ghost use Rattle.std.specs.Prelude.{◌≡◌, ◌<◌, ◌≤◌, ◌+◌, ℕ, [], List, length, map, take, All, codes, option_map, if◌then◌else◌, Some, None};
 ghost use Rattle.httparse.specs.Grammar.{RequestHead, ReadsRequest};
 ghost use Rattle.httparse.specs.Spans.{header_bytes, span_bytes, IsWithin, IsHeaderWithin, IsRequestWithin, IsRequestAt};
-ghost use Rattle.http_wire.specs.Heads.{HeadSays, framing_of, length_in, same_text, values, IsPieceOf, IsFirstOf};
+ghost use Rattle.http_wire.specs.Heads.{HeadSpec, framing_of, length_in, same_text, values, IsPieceOf, IsFirstOf};
 
 use crate::closing::closes_at;
 use crate::fields::{Values, values_at};
@@ -14,7 +14,7 @@ use httparse::spans::{HeaderSpan, RequestSpans, Span};
 /// Reads the head that the lines are.
 pub fn read_head(text: &[u8], headers: &mut [HeaderSpan]) -> Result<Head, HeadFault>
     requires { length headers.old ≡ 5462 }
-    ensures { HeadSays text.now result }
+    ensures { HeadSpec text.now result }
 {
     match judge(text, headers) {
         ParsedHead::Head(spans) => head_at(text, headers, spans),
@@ -27,7 +27,7 @@ pub fn read_head(text: &[u8], headers: &mut [HeaderSpan]) -> Result<Head, HeadFa
 fn head_at(text: &[u8], headers: &[HeaderSpan], spans: RequestSpans) -> Result<Head, HeadFault>
     requires { IsRequestWithin text.now headers.now spans }
     ensures { (h : RequestHead) → ReadsRequest text.now h [] → length h.fields ≤ 64
-        → IsRequestAt text.now headers.now spans h → HeadSays text.now result }
+        → IsRequestAt text.now headers.now spans h → HeadSpec text.now result }
 {
     let used = &headers[..spans.headers];
     let Some(framing) = framing_at(text, used) else {

@@ -2,7 +2,7 @@
 ghost use Rattle.std.specs.Prelude.{◌≡◌, ◌<◌, ◌≤◌, ◌⊎◌, [], length, take, Ok, IfOk, IfErr, IfSome, OnOk, OnErr, IsErrOf};
 ghost use Rattle.edge_base.specs.Edge.{FaultsRose};
 ghost use Rattle.http_wire.specs.Stream.{stream, Passed};
-ghost use Rattle.http_wire.specs.Bodies.{Moves, BodyRun, EndsEarly, StopSays, IsPastEnd, IsPastLine, IsReady, given_by};
+ghost use Rattle.http_wire.specs.Bodies.{Moves, BodyRun, EndsEarly, StopSpec, IsPastEnd, IsPastLine, IsReady, given_by};
 
 use crate::ahead::ReadAhead;
 use crate::body::Body;
@@ -24,7 +24,7 @@ pub fn read_body<S: Source>(
         (S.left source.old) (S.left source.new) ahead.old ahead.new body.old body.new (given_by result buf.new) }
     ensures bound { IfOk result (λ n. n ≤ length buf.old) }
     ensures end { IfOk result (λ n. n ≡ 0 → 0 < length buf.old → body.new ≡ Body.Done) }
-    ensures err { IfErr result (λ stop. StopSays (stream ahead.new.bytes (S.left source.new)) body.new stop) }
+    ensures err { IfErr result (λ stop. StopSpec (stream ahead.new.bytes (S.left source.new)) body.new stop) }
     ensures to_end { body.old ≡ Body.ToEnd → OnErr result (IsErrOf result Stop.Failed) }
     ensures stays { body.old ≡ Body.ToEnd → (body.new ≡ Body.ToEnd) ⊎ (body.new ≡ Body.Done) }
     ensures ended { body.old ≡ Body.ToEnd → body.new ≡ Body.Done
@@ -44,7 +44,7 @@ fn get_ready<S: Source>(ahead: &mut ReadAhead, source: &mut S, body: &mut Body) 
     ensures moved { Moves (S.left source.old) (S.left source.new) ahead.old ahead.new body.old body.new [] }
     ensures past { OnOk result (IsReady body.new) }
     ensures stays { body.old ≡ Body.ToEnd → (result ≡ Ok tt) × (body.new ≡ Body.ToEnd) }
-    ensures err { IfErr result (λ stop. StopSays (stream ahead.new.bytes (S.left source.new)) body.new stop) }
+    ensures err { IfErr result (λ stop. StopSpec (stream ahead.new.bytes (S.left source.new)) body.new stop) }
     ensures short { IsErrOf result Stop.Failed → EndsEarly body.new ahead.new.bytes }
     ensures fault { IsErrOf result Stop.Failed → FaultsRose (S.faults source.old) (S.faults source.new) }
     ensures later { S.faults source.old ≤ S.faults source.new }
@@ -60,7 +60,7 @@ fn pass_end<S: Source>(ahead: &mut ReadAhead, source: &mut S, body: &mut Body) -
     ensures moved { Moves (S.left source.old) (S.left source.new) ahead.old ahead.new body.old body.new [] }
     ensures past { OnOk result (IsPastEnd body.new) }
     ensures stays { body.old ≡ Body.ToEnd → (result ≡ Ok tt) × (body.new ≡ Body.ToEnd) }
-    ensures err { IfErr result (λ stop. StopSays (stream ahead.new.bytes (S.left source.new)) body.new stop) }
+    ensures err { IfErr result (λ stop. StopSpec (stream ahead.new.bytes (S.left source.new)) body.new stop) }
     ensures short { IsErrOf result Stop.Failed → EndsEarly body.new ahead.new.bytes }
     ensures fault { IsErrOf result Stop.Failed → FaultsRose (S.faults source.old) (S.faults source.new) }
     ensures later { S.faults source.old ≤ S.faults source.new }
@@ -84,7 +84,7 @@ fn pass_line<S: Source>(ahead: &mut ReadAhead, source: &mut S, body: &mut Body) 
     ensures moved { Moves (S.left source.old) (S.left source.new) ahead.old ahead.new body.old body.new [] }
     ensures past { OnOk result (IsPastLine body.new) }
     ensures stays { body.old ≡ Body.ToEnd → (result ≡ Ok tt) × (body.new ≡ Body.ToEnd) }
-    ensures err { IfErr result (λ stop. StopSays (stream ahead.new.bytes (S.left source.new)) body.new stop) }
+    ensures err { IfErr result (λ stop. StopSpec (stream ahead.new.bytes (S.left source.new)) body.new stop) }
     ensures short { IsErrOf result Stop.Failed → EndsEarly body.new ahead.new.bytes }
     ensures fault { IsErrOf result Stop.Failed → FaultsRose (S.faults source.old) (S.faults source.new) }
     ensures later { S.faults source.old ≤ S.faults source.new }
@@ -121,7 +121,7 @@ fn pass_trailers<S: Source>(
     ensures moved { Moves (S.left source.old) (S.left source.new) ahead.old ahead.new body.old body.new [] }
     ensures past { OnOk result (IsReady body.new) }
     ensures stays { body.old ≡ Body.ToEnd → (result ≡ Ok tt) × (body.new ≡ Body.ToEnd) }
-    ensures err { IfErr result (λ stop. StopSays (stream ahead.new.bytes (S.left source.new)) body.new stop) }
+    ensures err { IfErr result (λ stop. StopSpec (stream ahead.new.bytes (S.left source.new)) body.new stop) }
     ensures short { IsErrOf result Stop.Failed → EndsEarly body.new ahead.new.bytes }
     ensures fault { IsErrOf result Stop.Failed → FaultsRose (S.faults source.old) (S.faults source.new) }
     ensures later { S.faults source.old ≤ S.faults source.new }
@@ -148,7 +148,7 @@ fn give<S: Source>(
         (S.left source.old) (S.left source.new) ahead.old ahead.new body.old body.new (given_by result buf.new) }
     ensures bound { IfOk result (λ n. n ≤ length buf.old) }
     ensures end { IfOk result (λ n. n ≡ 0 → 0 < length buf.old → body.new ≡ Body.Done) }
-    ensures err { IfErr result (λ stop. StopSays (stream ahead.new.bytes (S.left source.new)) body.new stop) }
+    ensures err { IfErr result (λ stop. StopSpec (stream ahead.new.bytes (S.left source.new)) body.new stop) }
     ensures to_end { body.old ≡ Body.ToEnd → OnErr result (IsErrOf result Stop.Failed) }
     ensures stays { body.old ≡ Body.ToEnd → (body.new ≡ Body.ToEnd) ⊎ (body.new ≡ Body.Done) }
     ensures ended { body.old ≡ Body.ToEnd → body.new ≡ Body.Done

@@ -2,7 +2,7 @@
 ghost use Rattle.std.specs.Prelude.{◌≡◌, ◌≤◌, ℕ, [], List, length, map};
 ghost use Rattle.httparse.specs.Grammar.{ResponseHead, ReadsResponse};
 ghost use Rattle.httparse.specs.Spans.{IsResponseAt, IsResponseWithin};
-ghost use Rattle.http_wire.specs.ReplyHeads.{ReplySays, reply_framing};
+ghost use Rattle.http_wire.specs.ReplyHeads.{ReplySpec, reply_framing};
 
 use crate::head::{Framing, HeadFault, ReplyHead};
 use crate::heads::framing_at;
@@ -12,7 +12,7 @@ use httparse::spans::{HeaderSpan, ResponseSpans};
 /// Reads the head of a reply that the lines are.
 pub fn read_reply(text: &[u8], headers: &mut [HeaderSpan]) -> Result<ReplyHead, HeadFault>
     requires { length headers.old ≡ 5462 }
-    ensures { ReplySays text.now result }
+    ensures { ReplySpec text.now result }
 {
     match judge_reply(text, headers) {
         ParsedReply::Head(spans) => reply_at(text, headers, spans),
@@ -29,7 +29,7 @@ fn reply_at(
 ) -> Result<ReplyHead, HeadFault>
     requires { IsResponseWithin text.now headers.now spans }
     ensures { (h : ResponseHead) → ReadsResponse text.now h [] → length h.fields ≤ 64
-        → IsResponseAt text.now headers.now spans h → ReplySays text.now result }
+        → IsResponseAt text.now headers.now spans h → ReplySpec text.now result }
 {
     let used = &headers[..spans.headers];
     let Some(framing) = framing_at(text, used) else {

@@ -3,8 +3,8 @@ ghost use Rattle.std.specs.Prelude.{◌≡◌, ◌<◌, ◌≤◌, ℕ, List, Op
 ghost use Rattle.edge_base.specs.Edge.{FaultsRose};
 ghost use Rattle.http_wire.specs.Lines.{Lacks};
 ghost use Rattle.http_wire.specs.Stream.{Passed, AtEnd, stream};
-ghost use Rattle.http_wire.specs.Heads.{IsHeadText, HeadSays};
-ghost use Rattle.http_wire.specs.ReplyHeads.{ReplySays};
+ghost use Rattle.http_wire.specs.Heads.{IsHeadText, HeadSpec};
+ghost use Rattle.http_wire.specs.ReplyHeads.{ReplySpec};
 ghost use Rattle.http_wire.specs.Wires.{Message, MessageEnds, Refuses, HeadEnds, ReplyEnds, LacksHead};
 
 use crate::ahead::ReadAhead;
@@ -27,7 +27,7 @@ pub fn take_head<S: Source>(
 ) -> Result<Head, WireEnd>
     requires { length headers.old ≡ 5462 }
     ensures ok { IfOk result (λ head. Passed (S.left source.old) (S.left source.new) ahead.old ahead.new kept.new
-        × IsHeadText kept.new × HeadSays kept.new (Ok head)) }
+        × IsHeadText kept.new × HeadSpec kept.new (Ok head)) }
     ensures same { OnErr result (Passed (S.left source.old) (S.left source.new) ahead.old ahead.new []) }
     ensures err { IfErr result (λ end. HeadEnds (stream ahead.new.bytes (S.left source.new)) ahead.old.taken end) }
     ensures short { IsErrOf result WireEnd.ReadFault → LacksHead ahead.new.bytes }
@@ -56,7 +56,7 @@ pub fn take_reply<S: Source>(
 ) -> Result<ReplyHead, WireEnd>
     requires { length headers.old ≡ 5462 }
     ensures ok { IfOk result (λ head. Passed (S.left source.old) (S.left source.new) ahead.old ahead.new kept.new
-        × IsHeadText kept.new × ReplySays kept.new (Ok head)) }
+        × IsHeadText kept.new × ReplySpec kept.new (Ok head)) }
     ensures same { OnErr result (Passed (S.left source.old) (S.left source.new) ahead.old ahead.new []) }
     ensures err { IfErr result (λ end. ReplyEnds (stream ahead.new.bytes (S.left source.new)) ahead.old.taken end) }
     ensures short { IsErrOf result WireEnd.ReadFault → LacksHead ahead.new.bytes }

@@ -2,8 +2,8 @@
 ghost use Rattle.std.specs.Prelude.{◌≡◌, ◌<◌, ◌≤◌, ◌⊎◌, [], length, IfOk, IfErr, IfSome, OnOk, OnErr, IsErrOf, slice_range, Ok};
 ghost use Rattle.edge_base.specs.Edge.{FaultsRose};
 ghost use Rattle.http_wire.specs.Stream.{Passed};
-ghost use Rattle.http_wire.specs.Heads.{IsHeadText, HeadSays, IsPlaceIn};
-ghost use Rattle.http_wire.specs.ReplyHeads.{ReplySays};
+ghost use Rattle.http_wire.specs.Heads.{IsHeadText, HeadSpec, IsPlaceIn};
+ghost use Rattle.http_wire.specs.ReplyHeads.{ReplySpec};
 ghost use Rattle.http_wire.specs.Bodies.{Moves, EndsEarly, given_by};
 ghost use Rattle.http_wire.specs.Wires.{to_come, body_of, HeadEnds, ReplyEnds, BodyEnds, LacksHead};
 
@@ -115,7 +115,7 @@ impl Wire {
         requires { self.old.body ≡ Body.Done }
         ensures ok { IfOk result
             (λ head. Passed (S.left source.old) (S.left source.new) self.old.flow self.new.flow self.new.head
-            × IsHeadText self.new.head × HeadSays self.new.head (Ok head) × (self.new.body ≡ body_of head.framing)) }
+            × IsHeadText self.new.head × HeadSpec self.new.head (Ok head) × (self.new.body ≡ body_of head.framing)) }
         ensures begun { self.new.begun ≡ self.old.flow.taken }
         ensures same { OnErr result (Passed (S.left source.old) (S.left source.new) self.old.flow self.new.flow []
             × (self.new.body ≡ Body.Done)) }
@@ -137,7 +137,7 @@ impl Wire {
     pub fn next_reply<S: Source>(&mut self, source: &mut S) -> Result<ReplyHead, WireEnd>
         ensures ok { IfOk result
             (λ head. Passed (S.left source.old) (S.left source.new) self.old.flow self.new.flow self.new.head
-            × IsHeadText self.new.head × ReplySays self.new.head (Ok head) × (self.new.body ≡ body_of head.framing)) }
+            × IsHeadText self.new.head × ReplySpec self.new.head (Ok head) × (self.new.body ≡ body_of head.framing)) }
         ensures begun { self.new.begun ≡ self.old.flow.taken }
         ensures same { OnErr result (Passed (S.left source.old) (S.left source.new) self.old.flow self.new.flow []
             × (self.new.body ≡ self.old.body)) }

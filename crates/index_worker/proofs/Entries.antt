@@ -14,8 +14,8 @@ use Rattle.histories.specs.declared.events.IndexEvent.TheVariants as index
 use Rattle.histories.specs.History.{stamped}
 use Rattle.histories.specs.Stores.{Blob}
 use Rattle.histories.specs.Indexes.{inserts, in_hand}
-use Rattle.histories.specs.StoreCalls.{IsQuiet, GetFails, ArrivalSays}
-use Rattle.histories.specs.IndexCalls.{TakeSays, InsertSays, ReturnSays}
+use Rattle.histories.specs.StoreCalls.{IsQuiet, GetFails, ArrivalSpec}
+use Rattle.histories.specs.IndexCalls.{TakeSpec, InsertSpec, ReturnSpec}
 use Rattle.histories.proofs.Prefixes.{prefix_get}
 use Rattle.home_places.specs.Passes.{IsTrouble, Agrees}
 use Rattle.index_worker.specs.Works.{IsWork}
@@ -36,7 +36,7 @@ fails_trouble tells asked unread.NoMemory e c = quiet_trouble e c
 
 -- a blob that is read by its number adds a Fault or a Damage, if anything
 pub arrival_trouble : (tells : Bool) (n : ℕ) (before : List Blob) (result : Result (Option (List ℕ × List ℕ)) GetFault) (e : StoreEvent)
-    → ArrivalSays tells n before result (Some e) → IsTrouble e
+    → ArrivalSpec tells n before result (Some e) → IsTrouble e
 arrival_trouble tells n before (Ok None) e says = quiet_trouble e says.1
 arrival_trouble tells n before (Ok (Some found)) e says = quiet_trouble e says.1
 arrival_trouble tells n before (Err f) e says = fails_trouble tells (option_map (λ (b : Blob). b.0) (slice_get before n)) f e says
@@ -61,24 +61,24 @@ adds_one blobs count entry e is counted work = rw is (record {
 })
 
 pub take_adds : (blobs : List Blob) (below : ℕ) (before : List IndexEvent) (taken : Result (Option ℕ) NoMemory) (entry : Option IndexEvent)
-    → TakeSays below before taken entry → Adds blobs 0 entry
+    → TakeSpec below before taken entry → Adds blobs 0 entry
 take_adds blobs below before (Ok None) entry says = adds_none blobs entry says.1
 take_adds blobs below before (Ok (Some n)) entry says = adds_one blobs 0 entry (index.Take n) says.1 (λ t. refl) tt
 take_adds blobs below before (Err f) entry says = adds_none blobs entry says
 
 pub new_adds : (blobs : List Blob) (n : ℕ) (r : List ℕ) (fact : Fact) (before : List IndexEvent) (entry : Option IndexEvent)
-    → Agrees blobs (index.Insert n r fact) → InsertSays n r fact before (Ok inserted.New) entry → Adds blobs 1 entry
+    → Agrees blobs (index.Insert n r fact) → InsertSpec n r fact before (Ok inserted.New) entry → Adds blobs 1 entry
 new_adds blobs n r fact before entry agrees says = adds_one blobs 1 entry (index.Insert n r fact) says.1 (λ t. refl) agrees
 
 pub already_adds : (blobs : List Blob) (n : ℕ) (r : List ℕ) (fact : Fact) (before : List IndexEvent) (entry : Option IndexEvent)
-    → InsertSays n r fact before (Ok inserted.Already) entry → Adds blobs 0 entry
+    → InsertSpec n r fact before (Ok inserted.Already) entry → Adds blobs 0 entry
 already_adds blobs n r fact before entry says = adds_none blobs entry says.1
 
 returned : (blobs : List Blob) (n : ℕ) (held : Bool) (entry : Option IndexEvent) → entry ≡ cond held (Some (index.Return n)) None → Adds blobs 0 entry
 returned blobs n true entry is = adds_one blobs 0 entry (index.Return n) is (λ t. refl) tt
 returned blobs n false entry is = adds_none blobs entry is
 
-pub return_adds : (blobs : List Blob) (n : ℕ) (before : List IndexEvent) (entry : Option IndexEvent) → ReturnSays n before entry → Adds blobs 0 entry
+pub return_adds : (blobs : List Blob) (n : ℕ) (before : List IndexEvent) (entry : Option IndexEvent) → ReturnSpec n before entry → Adds blobs 0 entry
 return_adds blobs n before entry says = returned blobs n (in_hand n before) entry says
 
 get_ref : (xs ys : List Blob) (n : ℕ) (r : List ℕ) → IsPrefix xs ys → (o : Option Blob) → slice_get xs n ≡ o → option_map (λ (b : Blob). b.0) o ≡ Some r

@@ -13,8 +13,8 @@ use Rattle.histories.specs.declared.events.IndexEvent.TheVariants.{Insert}
 use Rattle.histories.specs.History.{events, has, own, Grew}
 use Rattle.histories.specs.Stores.{Blob, arrivals}
 use Rattle.histories.specs.Indexes.{inserts}
-use Rattle.histories.specs.StoreCalls.{CountSays, ArrivalSays}
-use Rattle.histories.specs.IndexCalls.{TakeSays, InsertSays, ReturnSays}
+use Rattle.histories.specs.StoreCalls.{CountSpec, ArrivalSpec}
+use Rattle.histories.specs.IndexCalls.{TakeSpec, InsertSpec, ReturnSpec}
 use Rattle.histories.proofs.Prefixes.{prefix_self, prefix_trans}
 use Rattle.histories.proofs.Growing.{grew_none, grew_chain, ran_grew}
 use Rattle.histories.proofs.Standing.{arrivals_prefix, inserts_append}
@@ -181,16 +181,16 @@ module _ (v w : Sight) where
 
   takes_works : (arrived : ℕ) (taken : Result (Option ℕ) NoMemory) → Takes arrived taken v w → Works 1 0 v w
   takes_works arrived taken takes = works_chain 1 0 0 0 v takes.middle w
-      (store_works v takes.middle (λ before entry. CountSays before arrived entry) (λ before e says. absurd (cc says.1)) takes.count)
-      (index_works takes.middle w 0 (λ before entry. TakeSays arrived before taken entry) (λ before entry says. take_adds (arrivals w.store.history) arrived before taken entry says) takes.take)
+      (store_works v takes.middle (λ before entry. CountSpec before arrived entry) (λ before e says. absurd (cc says.1)) takes.count)
+      (index_works takes.middle w 0 (λ before entry. TakeSpec arrived before taken entry) (λ before entry says. take_adds (arrivals w.store.history) arrived before taken entry says) takes.take)
 
   module _ (tells : Bool) (n : ℕ) where
     read_works : (answer : Inserted) (count : ℕ) (i : Indexes tells n answer v w)
-        → ((before : List IndexEvent) (entry : Option IndexEvent) → InsertSays n i.found.0 i.fact before (Ok answer) entry → Adds (arrivals w.store.history) count entry)
+        → ((before : List IndexEvent) (entry : Option IndexEvent) → InsertSpec n i.found.0 i.fact before (Ok answer) entry → Adds (arrivals w.store.history) count entry)
         → Works 1 count v w
     read_works answer count i adds = none_first 1 count v w (works_chain 1 0 0 count v i.middle w
-        (store_works v i.middle (λ before entry. ArrivalSays tells n before (Ok (Some i.found)) entry) (λ before e says. arrival_trouble tells n before (Ok (Some i.found)) e says) i.arrival)
-        (index_works i.middle w count (λ before entry. InsertSays n i.found.0 i.fact before (Ok answer) entry) adds i.insert))
+        (store_works v i.middle (λ before entry. ArrivalSpec tells n before (Ok (Some i.found)) entry) (λ before e says. arrival_trouble tells n before (Ok (Some i.found)) e says) i.arrival)
+        (index_works i.middle w count (λ before entry. InsertSpec n i.found.0 i.fact before (Ok answer) entry) adds i.insert))
 
     -- nothing arrived as the fact was inserted
     new_works : Indexes tells n inserted.New v w → Works 1 1 v w
@@ -212,7 +212,7 @@ module _ (v w : Sight) (n : ℕ) where
 
   backs_works : (fault : GetFault) → GivesBack n fault v w → Works 0 0 v w
   backs_works fault b = works_chain 0 0 0 0 v b.middle w (fails_works v b.middle fault b.fails)
-      (index_works b.middle w 0 (λ before entry. ReturnSays n before entry) (λ before entry says. return_adds (arrivals w.store.history) n before entry says) b.back)
+      (index_works b.middle w 0 (λ before entry. ReturnSpec n before entry) (λ before entry says. return_adds (arrivals w.store.history) n before entry says) b.back)
 
 refuses_works : (fault : GetFault) (v w : Sight) → Refuses fault v w → Works 1 0 v w
 refuses_works fault v w (Refuses.Back n t) = then_works v w n 0 (GivesBack n fault) t (λ b. backs_works t.middle w n fault b)

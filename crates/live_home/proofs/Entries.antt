@@ -13,7 +13,7 @@ use Rattle.histories.specs.declared.events.IndexEvent.{IndexEvent}
 use Rattle.histories.specs.declared.events.IndexEvent.TheVariants as index
 use Rattle.histories.specs.History.{stamp, stamped, has}
 use Rattle.histories.specs.Stores.{Blob}
-use Rattle.histories.specs.StoreCalls.{IsQuiet, GetFails, ArrivalSays}
+use Rattle.histories.specs.StoreCalls.{IsQuiet, GetFails, ArrivalSpec}
 use Rattle.histories.proofs.Prefixes.{prefix_get}
 use Rattle.histories.proofs.Growing.{has_rest}
 use Rattle.home_places.specs.Passes.{IsTrouble, Caused, Agrees}
@@ -34,7 +34,7 @@ fails_trouble tells asked unread.NoMemory e c = quiet_trouble e c
 
 -- a reading call adds a Fault or a Damage, if anything
 pub arrival_trouble : (tells : Bool) (n : ℕ) (before : List Blob) (result : Result (Option (List ℕ × List ℕ)) GetFault) (e : StoreEvent)
-    → ArrivalSays tells n before result (Some e) → IsTrouble e
+    → ArrivalSpec tells n before result (Some e) → IsTrouble e
 arrival_trouble tells n before (Ok None) e says = quiet_trouble e says.1
 arrival_trouble tells n before (Ok (Some found)) e says = quiet_trouble e says.1
 arrival_trouble tells n before (Err f) e says = fails_trouble tells (option_map (λ (b : Blob). b.0) (slice_get before n)) f e says

@@ -10,9 +10,9 @@ use Rattle.histories.specs.declared.events.IndexEvent.{IndexEvent}
 use Rattle.histories.specs.declared.events.IndexEvent.TheVariants.{Insert}
 use Rattle.histories.specs.History.{events, stamped}
 use Rattle.histories.specs.Stores.{Blob, arrivals}
-use Rattle.histories.specs.StoreCalls.{ArrivalSays}
+use Rattle.histories.specs.StoreCalls.{ArrivalSpec}
 use Rattle.histories.specs.Indexes.{inserts, has_number, is_inserted, HasAllBelow}
-use Rattle.histories.specs.IndexCalls.{InsertSays, LackingSays}
+use Rattle.histories.specs.IndexCalls.{InsertSpec, LackingSpec}
 use Rattle.histories.proofs.Prefixes.{prefix_self, prefix_trans}
 use Rattle.histories.proofs.Growing.{grew_none, grew_chain, grew_weaker, ran_grew}
 use Rattle.histories.proofs.Standing.{arrivals_prefix, inserts_prefix, has_longer, inserted_is, insert_stands}
@@ -73,23 +73,23 @@ not_both false e f = absurd (cc e)
 
 -- what was found lacking
 pub lacking_as : (below : ℕ) (x y : IndexSight) (found answer : Option ℕ) → found ≡ answer
-    → IndexTurn (λ before entry. LackingSays below before found entry) x y → IndexTurn (λ before entry. LackingSays below before answer entry) x y
-lacking_as below x y found answer is = subst (λ (o : Option ℕ). IndexTurn (λ before entry. LackingSays below before o entry) x y) is
+    → IndexTurn (λ before entry. LackingSpec below before found entry) x y → IndexTurn (λ before entry. LackingSpec below before answer entry) x y
+lacking_as below x y found answer is = subst (λ (o : Option ℕ). IndexTurn (λ before entry. LackingSpec below before o entry) x y) is
 
 -- a turn that asks what is lacking adds nothing
-module _ (below : ℕ) (found : Option ℕ) (x y : IndexSight) (turn : IndexTurn (λ before entry. LackingSays below before found entry) x y) where
-  adds_none : (o : Option ℕ) (before : List IndexEvent) (e : Option IndexEvent) → LackingSays below before o e → e ≡ None
+module _ (below : ℕ) (found : Option ℕ) (x y : IndexSight) (turn : IndexTurn (λ before entry. LackingSpec below before found entry) x y) where
+  adds_none : (o : Option ℕ) (before : List IndexEvent) (e : Option IndexEvent) → LackingSpec below before o e → e ≡ None
   adds_none None before e says = says.1
   adds_none (Some n) before e says = says.1
 
   asked : turn.ran.before ≡ y.history
   asked = sym (same_before turn.ran.before (turn.ran.ticket + 1) turn.ran.entry y.history (adds_none found (events turn.ran.before) turn.ran.entry turn.ran.said) turn.ran.added)
 
-  says_now : LackingSays below (events y.history) found turn.ran.entry
-  says_now = subst (λ (h : List (Stamped IndexEvent)). LackingSays below (events h) found turn.ran.entry) asked turn.ran.said
+  says_now : LackingSpec below (events y.history) found turn.ran.entry
+  says_now = subst (λ (h : List (Stamped IndexEvent)). LackingSpec below (events h) found turn.ran.entry) asked turn.ran.said
 
   grew_asked : (each : IndexEvent → Type 0) → IndexGrew each x y
-  grew_asked each = ran_grew (λ before t entry. LackingSays below (events before) found entry) each x.history y.history x.turns y.turns
+  grew_asked each = ran_grew (λ before t entry. LackingSpec below (events before) found entry) each x.history y.history x.turns y.turns
       (λ before t e says. absurd (cc (adds_none found (events before) (Some e) says))) turn.ran
 
   history_asked : IsPrefix x.history y.history
@@ -107,11 +107,11 @@ module _ (below : ℕ) (found : Option ℕ) (x y : IndexSight) (turn : IndexTurn
   }
 
 -- nothing is lacking
-pub none_lacking : (below : ℕ) (x y : IndexSight) → IndexTurn (λ before entry. LackingSays below before None entry) x y → HasAllBelow below (inserts y.history)
+pub none_lacking : (below : ℕ) (x y : IndexSight) → IndexTurn (λ before entry. LackingSpec below before None entry) x y → HasAllBelow below (inserts y.history)
 none_lacking below x y turn = λ m lt. sym (inserted_is m y.history) ∙ true_of (is_inserted m (events y.history)) ((says_now below None x y turn).0 m lt)
 
 -- the least number that lacks
-module _ (below n : ℕ) (x y : IndexSight) (turn : IndexTurn (λ before entry. LackingSays below before (Some n) entry) x y) where
+module _ (below n : ℕ) (x y : IndexSight) (turn : IndexTurn (λ before entry. LackingSpec below before (Some n) entry) x y) where
   pub lacks_low : n < below
   lacks_low = (says_now below (Some n) x y turn).0.low
 
@@ -130,13 +130,13 @@ module _ (below n : ℕ) (x y : IndexSight) (turn : IndexTurn (λ before entry. 
 
 -- an insert adds an Insert of its number, where it adds anything
 insert_agrees : (blobs : List Blob) (n : ℕ) (r : List ℕ) (fact : Fact) (answer : Inserted) (before : List IndexEvent) (e : IndexEvent)
-    → Agrees blobs (Insert n r fact) → InsertSays n r fact before (Ok answer) (Some e) → Agrees blobs e
+    → Agrees blobs (Insert n r fact) → InsertSpec n r fact before (Ok answer) (Some e) → Agrees blobs e
 insert_agrees blobs n r fact inserted.New before e a says = let same : e ≡ Insert n r fact = cc (says.1) in subst (Agrees blobs) (sym same) a
 insert_agrees blobs n r fact inserted.Already before e a says = absurd (cc (says.1))
 
 -- after it the number is inserted
 stands_there : (n t : ℕ) (r : List ℕ) (fact : Fact) (answer : Inserted) (h k : List (Stamped IndexEvent)) (e : Option IndexEvent)
-    → InsertSays n r fact (events h) (Ok answer) e → k ≡ h ++ stamped t e → has_number n (inserts k) ≡ true
+    → InsertSpec n r fact (events h) (Ok answer) e → k ≡ h ++ stamped t e → has_number n (inserts k) ≡ true
 stands_there n t r fact inserted.New h k e says is =
     subst (λ (z : List (Stamped IndexEvent)). has_number n (inserts z) ≡ true) (sym (is ∙ ap (λ (o : Option IndexEvent). h ++ stamped t o) says.1)) (insert_stands h t n r fact)
 stands_there n t r fact inserted.Already h k e says is =
@@ -147,12 +147,12 @@ module _ (tells : Bool) (n : ℕ) (answer : Inserted) (v w x : Sight) (i : ℕ) 
   added = Agrees (arrivals x.store.history)
 
   store_read : StoreGrew IsTrouble w.store o.middle.store
-  store_read = ran_grew (λ before t entry. ArrivalSays tells n (arrivals before) (Ok (Some o.found)) entry) IsTrouble w.store.history o.middle.store.history w.store.turns o.middle.store.turns
+  store_read = ran_grew (λ before t entry. ArrivalSpec tells n (arrivals before) (Ok (Some o.found)) entry) IsTrouble w.store.history o.middle.store.history w.store.turns o.middle.store.turns
       (λ before t e says. arrival_trouble tells n (arrivals before) (Ok (Some o.found)) e says) o.arrival.turn.ran
 
   index_put : IndexGrew added w.index x.index
   index_put = subst (λ (z : IndexSight). IndexGrew added z x.index) o.arrival.index
-      (ran_grew (λ before t entry. InsertSays n o.found.0 o.fact (events before) (Ok answer) entry) added o.middle.index.history x.index.history o.middle.index.turns x.index.turns
+      (ran_grew (λ before t entry. InsertSpec n o.found.0 o.fact (events before) (Ok answer) entry) added o.middle.index.history x.index.history o.middle.index.turns x.index.turns
       (λ before t e says. insert_agrees (arrivals x.store.history) n o.found.0 o.fact answer (events before) e (subst (λ (z : StoreSight). Agrees (arrivals z.history) (Insert n o.found.0 o.fact)) (sym o.insert.store) o.agrees) says)
       o.insert.turn.ran)
 

@@ -11,8 +11,8 @@ use Rattle.schema_json.specs.Facts.{fact_of}
 use Rattle.histories.specs.declared.events.IndexEvent.TheVariants.{Insert}
 use Rattle.histories.specs.History.{events, stamped}
 use Rattle.histories.specs.Stores.{Blob, arrivals}
-use Rattle.histories.specs.StoreCalls.{ArrivalSays, IsRead}
-use Rattle.histories.specs.IndexCalls.{InsertSays}
+use Rattle.histories.specs.StoreCalls.{ArrivalSpec, IsRead}
+use Rattle.histories.specs.IndexCalls.{InsertSpec}
 use Rattle.histories.proofs.Prefixes.{prefix_get, prefix_length, prefix_self}
 use Rattle.histories.proofs.Growing.{grew_none, ran_grew}
 use Rattle.histories.proofs.Standing.{arrivals_prefix}
@@ -29,10 +29,10 @@ read_own false r own bytes is own' = own'
 
 module _ (tells : Bool) (n : ℕ) (v w : StoreSight) (x : IndexSight) where
   abbrev reads : Result (Option (List ℕ × List ℕ)) GetFault → Type 0
-  reads result = StoreTurn (λ before entry. ArrivalSays tells n before result entry) v w
+  reads result = StoreTurn (λ before entry. ArrivalSpec tells n before result entry) v w
 
   abbrev pub store_grew : (result : Result (Option (List ℕ × List ℕ)) GetFault) → reads result → StoreGrew IsTrouble v w
-  store_grew result turn = ran_grew (λ before t entry. ArrivalSays tells n (arrivals before) result entry) IsTrouble v.history w.history v.turns w.turns
+  store_grew result turn = ran_grew (λ before t entry. ArrivalSpec tells n (arrivals before) result entry) IsTrouble v.history w.history v.turns w.turns
       (λ before t e says. arrival_trouble tells n (arrivals before) result e says) turn.ran
 
   abbrev pub index_same : IndexGrew (λ e. ⊥) x x
@@ -72,12 +72,12 @@ module _ (tells : Bool) (n : ℕ) (v w : StoreSight) (x : IndexSight) where
 
   module _ (found : List ℕ × List ℕ) (fact : Fact) (turn : reads (Ok (Some found))) (y : IndexSight) where
     -- or for its row
-    pub one_uninserted : (error : NoMemory) → IndexTurn (λ before entry. InsertSays n found.0 fact before (Err error) entry) x y
+    pub one_uninserted : (error : NoMemory) → IndexTurn (λ before entry. InsertSpec n found.0 fact before (Err error) entry) x y
         → Fails unread.NoMemory (sight_at v x) (sight_at w y)
     one_uninserted error put = record {
       store = store_grew (Ok (Some found)) turn;
       cause = tt;
-      index = ran_grew (λ before t entry. InsertSays n found.0 fact (events before) (Err error) entry) (λ e. ⊥) x.history y.history x.turns y.turns
+      index = ran_grew (λ before t entry. InsertSpec n found.0 fact (events before) (Err error) entry) (λ e. ⊥) x.history y.history x.turns y.turns
           (λ before t e says. absurd (cc says)) put.ran;
       shown = put.shown;
       limits = turn.limits;
@@ -92,7 +92,7 @@ module _ (tells : Bool) (n : ℕ) (v w : StoreSight) (x : IndexSight) where
         let here : slice_get (arrivals w.history) n ≡ Some (found.0, told.0) = prefix_get (arrivals turn.ran.before) (arrivals w.history) n (found.0, told.0) later told.1 in
         (found.1, ap (option_map (λ (b : Blob). b.0)) here, read_own tells found.0 told.0 found.1 (arrival_own w.limits w.history n found.0 told.0 legal.legal here) told.2, is)
 
-    pub one_indexed : (answer : Inserted) → IsStoreSight w → fact ≡ fact_of found.1 → IndexTurn (λ before entry. InsertSays n found.0 fact before (Ok answer) entry) x y
+    pub one_indexed : (answer : Inserted) → IsStoreSight w → fact ≡ fact_of found.1 → IndexTurn (λ before entry. InsertSpec n found.0 fact before (Ok answer) entry) x y
         → Indexes tells n answer (sight_at v x) (sight_at w y)
     one_indexed answer legal is put = record {
       middle = sight_at w x;

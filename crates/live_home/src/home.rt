@@ -150,13 +150,12 @@ impl<S: StorePlace, I: IndexPlace> Home for LiveHome<S, I> {
         Ok(())
     }
 
-    fn search<R: Wait>(
+    fn search(
         &self,
-        rt: &R,
         pass: &mut LivePass<S::Seat, I::Seat>,
         query: &Query,
     ) -> Result<RefList, NoMemory> {
-        self.index.search(rt, &mut pass.index, query)
+        self.index.search(&mut pass.index, query)
     }
 
     fn index_next<R: Wait>(

@@ -9,24 +9,24 @@ use Rattle.multipart_read.specs.declared.steps.Stage.TheVariants as stages
 use Rattle.multipart_read.specs.declared.steps.Step.{Step}
 use Rattle.multipart_read.specs.Marks.{first_mark, here}
 use Rattle.multipart_read.specs.Tokens.{Token}
-use Rattle.multipart_read.specs.Body.{Rest, Leads, Led, Steps}
+use Rattle.multipart_read.specs.Body.{Rest, BodyRun, Led, Steps}
 use Rattle.multipart_read.proofs.Looking.{onward}
 use Rattle.multipart_read.proofs.Cuts.{cut_at, first_mark-append}
 
-pub Leads-then : (start : List ℕ) (total : ℕ) (a b c : Stage) (xs ys zs : List ℕ) (t u : List Token)
-    → Leads start total a xs t b ys → Leads start total b ys u c zs → Leads start total a xs (t ++ u) c zs
-unfolding Leads
-Leads-then start total a b c xs ys zs t u first then more tokens end rest =
+pub BodyRun-then : (start : List ℕ) (total : ℕ) (a b c : Stage) (xs ys zs : List ℕ) (t u : List Token)
+    → BodyRun start total a xs t b ys → BodyRun start total b ys u c zs → BodyRun start total a xs (t ++ u) c zs
+unfolding BodyRun
+BodyRun-then start total a b c xs ys zs t u first then more tokens end rest =
     let P : List Token → Type 0 = λ l. Rest start (total + length more) a (xs ++ more) l end in
     subst P (sym (append_assoc t u tokens)) (first more (u ++ tokens) end (then more tokens end rest))
 
 pub Led-then : (start : List ℕ) (total : ℕ) (a b c : Stage) (xs ys zs : List ℕ) (before mid now : List Token)
     → Led start total a xs before mid b ys → Led start total b ys mid now c zs → Led start total a xs before now c zs
 Led-then start total a b c xs ys zs before mid now (t, t_is, first) (u, u_is, then) =
-    (t ++ u, u_is ∙ ap (λ l. l ++ u) t_is ∙ append_assoc before t u, Leads-then start total a b c xs ys zs t u first then)
+    (t ++ u, u_is ∙ ap (λ l. l ++ u) t_is ∙ append_assoc before t u, BodyRun-then start total a b c xs ys zs t u first then)
 
 pub Led-start : (start : List ℕ) (total : ℕ) (a : Stage) (xs : List ℕ) (before : List Token) → Led start total a xs before before a xs
-unfolding Leads
+unfolding BodyRun
 Led-start start total a xs before = ([], sym (append-nil before), λ more tokens end rest. rest)
 
 -- one more step of the loop, over the bytes from a place on
@@ -41,14 +41,14 @@ Led-more start total a b work at before mid now step led more =
 
 pub closed_steps : (start : List ℕ) (total : ℕ) (stage : Stage) (n : ℕ) (work : List ℕ) (before : List Token) → stage ≡ stages.Closed
     → Led start total stage work before before stage (drop n work)
-unfolding Leads
+unfolding BodyRun
 closed_steps start total stage n work before is =
     let P : Stage → Type 0 = λ s. Led start total s work before before s (drop n work) in
     subst P (sym is) ([], sym (append-nil before), λ more tokens end rest. rest)
 
 pub refused_steps : (start : List ℕ) (total : ℕ) (stage : Stage) (n : ℕ) (work : List ℕ) (before : List Token) (fault : PartFault) → stage ≡ stages.Refused fault
     → Led start total stage work before before stage (drop n work)
-unfolding Leads
+unfolding BodyRun
 refused_steps start total stage n work before fault is =
     let P : Stage → Type 0 = λ s. Led start total s work before before s (drop n work) in
     subst P (sym is) ([], sym (append-nil before), λ more tokens end rest. rest)

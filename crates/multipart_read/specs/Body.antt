@@ -92,15 +92,15 @@ Rest start total (stages.Refused fault) bytes tokens end = Ends (Err fault) toke
 
 -- These bytes told these tokens and led to that stage and those bytes: whatever follows in the body, what is told from
 -- there on is what is left to tell from here on.
-unfoldable pub Leads : List ℕ → ℕ → Stage → List ℕ → List Token → Stage → List ℕ → Type 0
-Leads start total stage bytes told after rest =
+unfoldable pub BodyRun : List ℕ → ℕ → Stage → List ℕ → List Token → Stage → List ℕ → Type 0
+BodyRun start total stage bytes told after rest =
     (more : List ℕ) (tokens : List Token) (end : End) → Rest start (total + length more) after (rest ++ more) tokens end
     → Rest start (total + length more) stage (bytes ++ more) (told ++ tokens) end
 
 -- the same, where what was told stands behind what was told before
 abbrev pub Led : List ℕ → ℕ → Stage → List ℕ → List Token → List Token → Stage → List ℕ → Type 0
 Led start total stage bytes before now after rest =
-    (told : List Token) × (now ≡ before ++ told) × Leads start total stage bytes told after rest
+    (told : List Token) × (now ≡ before ++ told) × BodyRun start total stage bytes told after rest
 
 abbrev pub Steps : List ℕ → ℕ → Stage → List ℕ → List Token → List Token → Step → Type 0
 Steps start total stage bytes before now step = Led start total stage bytes before now step.stage (drop step.used bytes)

@@ -1,7 +1,7 @@
 //! One step of a reader: from a stage and bytes to the next stage, how many of the bytes were used, and events.
 ghost use Rattle.std.specs.Prelude.{◌≡◌, ◌<◌, ◌≤◌, ◌++◌, ℕ, List, [], length, drop, slice_index};
 ghost use Rattle.std.specs.Prelude.{IfOk, OnOk, true, false};
-ghost use Rattle.multipart_read.specs.Body.{Leads, Steps, Passable, Waits, refused_at};
+ghost use Rattle.multipart_read.specs.Body.{BodyRun, Steps, Passable, Waits, refused_at};
 ghost use Rattle.multipart_read.specs.Tokens.{tokens_of, content};
 
 use crate::events::{PartEvent, PartEvents, PartFault};
@@ -61,7 +61,7 @@ fn in_preamble(start: &[u8], total: u64, passed: u64, work: &[u8]) -> Step
     ensures moves { result.stops ≡ false → 0 < result.used }
     ensures passable { Passable result.stage }
     ensures waits { result.stops ≡ true → Waits start.now result.stage (drop result.used work.now) }
-    ensures leads { Leads start.now total (Stage.Preamble passed) work.now [] result.stage (drop result.used work.now) }
+    ensures leads { BodyRun start.now total (Stage.Preamble passed) work.now [] result.stage (drop result.used work.now) }
 {
     let seen = first_mark(start, work);
     if seen.sure as u64 > MAX_BEFORE - passed {

@@ -5,6 +5,7 @@ use crate::ending::Ending;
 use crate::keys::read_keyring;
 use blob_server::{Served, desks, serve_all};
 use blobref::NoMemory;
+use claim_verify::Verifier;
 use edge_os::{Readiness, TcpListenerOn, tell_person};
 use folder_disk::{Access, FolderDisk};
 use home_places::Home;
@@ -46,10 +47,27 @@ pub(crate) fn serve<R: Threads + Wait + Sync>(
         rt,
         format_args!("perkeep: has port {}, and reads the store", plan.port),
     );
+    serve_folder(rt, threads, threads, folder, &keys, &listener, plan)
+}
+
+// Opens the store of a folder, and serves it to those who connect to the listener. The home keeps `handle`.
+fn serve_folder<
+    V: Verifier + Copy + Drop + Send + Sync,
+    H: Wait + Drop + Send,
+    R: Threads + Wait + Sync,
+>(
+    rt: &HostRuntime,
+    threads: &R,
+    handle: H,
+    folder: &str,
+    keys: V,
+    listener: &TcpListener,
+    plan: &ServePlan,
+) -> Ending {
     let appends = AtomicU64::new(0);
     let disk = FolderDisk::new(rt, folder, Access::Write).counting(&appends);
     let count = plan.workers.saturating_add(plan.indexers);
-    let (home, passes) = match home_over(rt.alloc(), disk, LIMITS, keys, count) {
+    let (home, passes) = match home_over(handle, rt.alloc(), disk, LIMITS, keys, count) {
         Ok(home) => home,
         Err(HomeFault::Disk { .. }) => return Ending::Ran(Status::Disk),
         Err(HomeFault::NoMemory) => return Ending::Ran(Status::NoMemory),
@@ -58,7 +76,7 @@ pub(crate) fn serve<R: Threads + Wait + Sync>(
         rt,
         appends: &appends,
     };
-    serve_home(rt, threads, &home, passes, &listener, &gate, plan)
+    serve_home(rt, threads, &home, passes, listener, &gate, plan)
 }
 
 // Serves connections of the listener over a home, with a worker or an indexer for each pass.

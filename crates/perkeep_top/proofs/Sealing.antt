@@ -7,7 +7,7 @@ use Rattle.pack_store.specs.Puts.{PutsAll, HoldAll}
 use Rattle.top_frame.specs.declared.status.InputFault.{InputFault}
 use Rattle.top_frame.specs.declared.status.Status.{Status}
 use Rattle.top_frame.specs.declared.status.Status.TheVariants as status
-use Rattle.top_frame.specs.Frame.{Meaning, Given, reads_first, GaveWhole, IsTime, AreRandom, IsDrawn, Always, Finishes, RefusedEarly, RefusedLate, PutsFront, Stops, StopsFull, Unusable, said_badly, read_too_much, read_wrongly, found_unfit, EndsBy, Ends}
+use Rattle.top_frame.specs.Frame.{Meaning, Given, reads_first, GaveWhole, IsTime, AreRandom, IsDrawn, Always, Finishes, RefusedEarly, RefusedLate, PutsFront, EndsEarly, StopsFull, Unusable, said_badly, read_too_much, read_wrongly, found_unfit, EndsBy, Ends}
 use Rattle.top_frame.specs.Limits.{limits}
 use Rattle.perkeep_top.specs.Notes.{Keys, unless_held, note_blobs, IsNoteOutput, RefusesNote, signed_meaning, note_meaning}
 use Rattle.top_frame.specs.Outside.{Outside, World, world}
@@ -108,7 +108,7 @@ module _ {D P S K C R : Type 0} (o : Outside D P S K C R) (keys : Keys) (name : 
     why = so w.blobs w.rest w.why;
   }
 
-  stops : (Why Since : Given → List ℕ → List Blob → List Blob → Type 0) → ((given : Given) (bytes : List ℕ) (gone rest : List Blob) → Why given bytes gone rest → Since (with_text text given) bytes gone rest) → Stops o n between new Why → Stops o m b new Since
+  stops : (Why Since : Given → List ℕ → List Blob → List Blob → Type 0) → ((given : Given) (bytes : List ℕ) (gone rest : List Blob) → Why given bytes gone rest → Since (with_text text given) bytes gone rest) → EndsEarly o n between new Why → EndsEarly o m b new Since
   stops Why Since so w = late (λ given bytes. PutsFront o n between new (Why given bytes) given) (λ given bytes. PutsFront o m b new (Since given bytes) given)
       (λ given bytes h. front (Why given bytes) (Since (with_text text given) bytes) given (so given bytes) h) w
 
@@ -117,11 +117,11 @@ module _ {D P S K C R : Type 0} (o : Outside D P S K C R) (keys : Keys) (name : 
   full blobs pack (next ∷ more) w = w
 
   -- it is refused for what it finds
-  refuses : (end : Status) → Stops o n between new (λ given bytes gone rest. n.Refuses given (o.disk.packs b.disk) bytes gone end) → Stops o m b new (λ given bytes gone rest. m.Refuses given (o.disk.packs b.disk) bytes gone end)
+  refuses : (end : Status) → EndsEarly o n between new (λ given bytes gone rest. n.Refuses given (o.disk.packs b.disk) bytes gone end) → EndsEarly o m b new (λ given bytes gone rest. m.Refuses given (o.disk.packs b.disk) bytes gone end)
   refuses end w = stops (λ given bytes gone rest. n.Refuses given (o.disk.packs b.disk) bytes gone end) (λ given bytes gone rest. m.Refuses given (o.disk.packs b.disk) bytes gone end)
       (λ given bytes gone rest h. subst (λ (payload : List ℕ). RefusesNote payload gone end) (same given) h) w
 
-  anywhere : Stops o n between new (λ given bytes gone rest. Unit {0}) → Stops o m b new (λ given bytes gone rest. Unit {0})
+  anywhere : EndsEarly o n between new (λ given bytes gone rest. Unit {0}) → EndsEarly o m b new (λ given bytes gone rest. Unit {0})
   anywhere w = stops (λ given bytes gone rest. Unit {0}) (λ given bytes gone rest. Unit {0}) (λ given bytes gone rest h. h) w
 
   unusable : (fault : InputFault) → Unusable o n between new fault → Unusable o m b new fault
@@ -130,15 +130,15 @@ module _ {D P S K C R : Type 0} (o : Outside D P S K C R) (keys : Keys) (name : 
   unusable fault (read_wrongly w) = absurd w
   unusable fault (found_unfit w) = found_unfit (refuses (status.BadInput fault) w)
 
-  no_memory : RefusedEarly o n between new (Unit {0}) ⊎ Stops o n between new (λ given bytes gone rest. Unit {0}) → RefusedEarly o m b new (Unit {0}) ⊎ Stops o m b new (λ given bytes gone rest. Unit {0})
+  no_memory : RefusedEarly o n between new (Unit {0}) ⊎ EndsEarly o n between new (λ given bytes gone rest. Unit {0}) → RefusedEarly o m b new (Unit {0}) ⊎ EndsEarly o m b new (λ given bytes gone rest. Unit {0})
   no_memory (inl w) = inl (record { unasked = w.unasked; unwritten = w.unwritten; unsent = w.unsent; why = tt })
   no_memory (inr w) = inr (anywhere w)
 
   abbrev Told : List ℕ → Type 0
   Told bytes = SinkTookFront (o.sink.written b.sink) (o.sink.written new.sink) bytes
 
-  unwritten : Finishes o n between new Told ⊎ ((n.streams ≡ true) × Stops o n between new (λ given bytes gone rest. Unit {0}))
-      → Finishes o m b new Told ⊎ ((m.streams ≡ true) × Stops o m b new (λ given bytes gone rest. Unit {0}))
+  unwritten : Finishes o n between new Told ⊎ ((n.streams ≡ true) × EndsEarly o n between new (λ given bytes gone rest. Unit {0}))
+      → Finishes o m b new Told ⊎ ((m.streams ≡ true) × EndsEarly o m b new (λ given bytes gone rest. Unit {0}))
   unwritten (inl w) = inl (finishes Told w)
   unwritten (inr w) = inr (w.0, anywhere w.1)
 

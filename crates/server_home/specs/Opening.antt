@@ -1,5 +1,5 @@
 -- What stands once a home is open.
-use Rattle.std.specs.Prelude.{◌≡◌, ℕ, List, [], ◌∷◌, ◌++◌, All, length, map}
+use Rattle.std.specs.Prelude.{◌≡◌, ℕ, List, [], All, length, map}
 use Rattle.std.specs.Option.{ForSome, is_some}
 use Rattle.std.specs.FinMap.{entries}
 use Rattle.claim_verify.specs.Verifier.{Accepts}
@@ -10,39 +10,33 @@ use Rattle.pack_store.specs.declared.limits.Limits.{Limits}
 use Rattle.histories.specs.History.{stamp}
 use Rattle.histories.specs.Stores.{Blob}
 use Rattle.told_store.specs.Beginning.{puts_from}
-use Rattle.home_places.specs.Seats.{StoreSight, IndexSight}
-use Rattle.home_places.specs.Showing.{shown_alone}
+use Rattle.histories.specs.declared.events.IndexEvent.{IndexEvent}
+use Rattle.home_places.specs.Seats.{StoreSight}
 use Rattle.live_home.specs.declared.home.LiveHome.{LiveHome}
 use Rattle.live_home.specs.declared.home.LivePass.{LivePass}
 use Rattle.turn_home.specs.declared.store.TurnStore.{TurnStore}
 use Rattle.turn_home.specs.declared.store.StoreSeat.{StoreSeat}
-use Rattle.turn_home.specs.declared.index.TurnIndex.{TurnIndex}
-use Rattle.turn_home.specs.declared.index.IndexSeat.{IndexSeat}
-use Rattle.turn_home.specs.StoreSeats.{IsOfStore, store_sight, place_limits, place_tells}
-use Rattle.turn_home.specs.IndexSeats.{IsOfIndex, index_sight}
+use Rattle.turn_home.specs.StoreSeats.{place_limits, place_tells}
+use Rattle.snap_index.specs.declared.held.About.{About}
+use Rattle.snap_index.specs.declared.seat.SharedIndex.{SharedIndex}
+use Rattle.snap_index.specs.declared.seat.SharedSeat.{SharedSeat}
+use Rattle.snap_index.specs.Making.{IsFresh}
+use Rattle.server_home.specs.Passes.{IsNewSeat}
 use Rattle.server_home.specs.declared.opening.HomeFault.{HomeFault}
 use Rattle.server_home.specs.declared.opening.HomeFault.TheVariants.{Disk, NoMemory}
 
--- the pass belongs to the two places, has seen this of them, and drew no turn
-pub record IsNew {D V : Type 0} {b c : _} (g : Ghosts D) (accepts : V → Accepts) (s : TurnStore D) (i : TurnIndex V)
-    (v : StoreSight) (w : IndexSight) (p : LivePass (StoreSeat D b) (IndexSeat V c)) : Type 0 where
-  pub store_own : IsOfStore g s p.store
-  pub index_own : IsOfIndex i p.index
-  pub store : store_sight p.store ≡ record v { turns = [] }
-  pub index : index_sight accepts p.index ≡ record w { turns = [] }
-
--- a list of passes with such a one behind the others
-pub record HasOneMore {D V : Type 0} {b c : _} (g : Ghosts D) (accepts : V → Accepts) (s : TurnStore D)
-    (i : TurnIndex V) (v : StoreSight) (w : IndexSight)
-    (old new : List (LivePass (StoreSeat D b) (IndexSeat V c))) : Type 0 where
-  pub pass : LivePass (StoreSeat D b) (IndexSeat V c)
-  pub added : new ≡ old ++ pass ∷ []
-  pub is_new : IsNew g accepts s i v w pass
+-- the pass belongs to the two places, and drew no turn; it has seen this of the store, and an index of nothing over these
+-- keys
+pub record IsNew {D V C : Type 0} {b : _} (g : Ghosts D) (accepts : V → Accepts) (s : TurnStore D)
+    (i : SharedIndex V C IndexEvent (About V)) (v : StoreSight) (keys : V)
+    (p : LivePass (StoreSeat D b) (SharedSeat V C)) : Type 0 where
+  pub store : IsNewSeat g s v p.store
+  pub index : IsFresh accepts i keys p.index
 
 -- so many of them
-abbrev pub ArePasses : {D V : Type 0} {b c : _} → Ghosts D → (V → Accepts) → TurnStore D → TurnIndex V → StoreSight
-    → IndexSight → ℕ → List (LivePass (StoreSeat D b) (IndexSeat V c)) → Type 0
-ArePasses g accepts s i v w count passes = (length passes ≡ count) × All (IsNew g accepts s i v w) passes
+abbrev pub ArePasses : {D V C : Type 0} {b : _} → Ghosts D → (V → Accepts) → TurnStore D
+    → SharedIndex V C IndexEvent (About V) → StoreSight → V → ℕ → List (LivePass (StoreSeat D b) (SharedSeat V C)) → Type 0
+ArePasses g accepts s i v keys count passes = (length passes ≡ count) × All (IsNew g accepts s i v keys) passes
 
 -- these blobs arrived in turn 0
 abbrev pub arrived : Limits → List Blob → StoreSight
@@ -54,15 +48,14 @@ arrived limits blobs = record {
 
 -- The home is over the store that the disk held, opened with these limits: where the disk told its packs, over their
 -- arrivals, and elsewhere over blobs of which nothing more is said.
-pub record IsOpenHome {D V : Type 0} {b c : _} (g : Ghosts D) (accepts : V → Accepts) (disk : D) (limits : Limits)
-    (keys : V) (count : ℕ) (home : LiveHome (TurnStore D) (TurnIndex V))
-    (passes : List (LivePass (StoreSeat D b) (IndexSeat V c))) : Type 0 where
+pub record IsOpenHome {D V C : Type 0} {b : _} (g : Ghosts D) (accepts : V → Accepts) (disk : D) (limits : Limits)
+    (keys : V) (count : ℕ) (home : LiveHome (TurnStore D) (SharedIndex V C IndexEvent (About V)))
+    (passes : List (LivePass (StoreSeat D b) (SharedSeat V C))) : Type 0 where
   pub blobs : List Blob
   pub told : ForSome (g.packs disk) (λ held. blobs ≡ arrivals (entries held))
   pub limits_are : place_limits home.store ≡ limits
   pub tells : place_tells g home.store ≡ is_some (g.packs disk)
-  pub passes_are : ArePasses g accepts home.store home.index (arrived limits blobs) (shown_alone [] [] (accepts keys))
-      count passes
+  pub passes_are : ArePasses g accepts home.store home.index (arrived limits blobs) keys count passes
 
 -- where the disk failed it counted that
 abbrev pub HasCause : {D : Type 0} → (D → ℕ) → D → HomeFault D → Type 0

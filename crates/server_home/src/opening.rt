@@ -9,14 +9,16 @@ use claim_verify::Verifier;
 use live_home::{LiveHome, LivePass};
 use pack_disk::Disk;
 use pack_store::{Limits, OpenFault, Store};
+use snap_index::{SnapIndex, SnapSeat};
 use std::alloc::Global;
-use turn_home::{IndexSeat, StoreSeat, TurnIndex, TurnStore};
+use std::sync::Wait;
+use turn_home::{StoreSeat, TurnStore};
 
-/// A store of packs and an index that threads share.
-pub type ServerHome<D, V> = LiveHome<TurnStore<D>, TurnIndex<V>>;
+/// A store of packs and an index that threads share, with a handle that may wait.
+pub type ServerHome<D, V, H> = LiveHome<TurnStore<D>, SnapIndex<V, H>>;
 
 /// What one thread holds of it.
-pub type ServerPass<D, V> = LivePass<StoreSeat<D>, IndexSeat<V>>;
+pub type ServerPass<D, V, H> = LivePass<StoreSeat<D>, SnapSeat<V, H>>;
 
 /// Why there is no home.
 #[derive(Drop)]
@@ -31,14 +33,15 @@ pub enum HomeFault<D> {
 /// the keys. Each pass has seen the blobs of the store arrive, in turn 0, and an index of nothing; it drew no turn. The
 /// index stays empty until a pass settles. `Disk` comes only where the disk's count of faults rose.
 ///
-/// It reads the packs whole. A pass takes 16 bytes.
-pub fn home_over<D: Disk + Drop, V: Verifier + Drop>(
+/// It reads the packs whole. The handle is used to wait for searches to leave a copy of the index.
+pub fn home_over<D: Disk + Drop, V: Verifier + Copy + Drop, H: Wait + Drop>(
+    rt: H,
     alloc: Global,
     disk: D,
     limits: Limits,
     keys: V,
     count: usize,
-) -> Result<(ServerHome<D, V>, Vec<ServerPass<D, V>>), HomeFault<D>>
+) -> Result<(ServerHome<D, V, H>, Vec<ServerPass<D, V, H>>), HomeFault<D>>
     requires last_pack { limits.last_pack ≤ last_number }
     requires pack_bytes { limits.pack_bytes ≤ 2 ^ 63 }
     ensures opened { IfOk result (λ r. IsOpenHome D.Disk V.accepts disk limits keys count r.0 r.1.items) }
@@ -52,17 +55,10 @@ pub fn home_over<D: Disk + Drop, V: Verifier + Drop>(
     let Ok((store, mut store_seat)) = TurnStore::make(alloc, store) else {
         return Err(HomeFault::NoMemory);
     };
-    let Ok((index, mut index_seat)) = TurnIndex::make(alloc, keys) else {
+    let Ok((index, seats)) = SnapIndex::make(rt, alloc, keys, count) else {
         return Err(HomeFault::NoMemory);
     };
-    match passes_of(
-        alloc,
-        &store,
-        &mut store_seat,
-        &index,
-        &mut index_seat,
-        count,
-    ) {
+    match passes_of(alloc, &store, &mut store_seat, seats) {
         Ok(passes) => Ok((LiveHome::make(alloc, store, index), passes)),
         Err(NoMemory) => Err(HomeFault::NoMemory),
     }

@@ -6,16 +6,17 @@ use Rattle.blob_server.specs.Desks.{desks_of, desk}
 use Rattle.claim_verify.specs.Verifier.{Accepts}
 use Rattle.pack_disk.specs.declared.disk.Disk.{Ghosts}
 use Rattle.pack_store.specs.declared.limits.Limits.{Limits}
-use Rattle.home_places.specs.Seats.{StoreSight, IndexSight}
-use Rattle.home_places.specs.Showing.{shown_alone}
+use Rattle.histories.specs.declared.events.IndexEvent.{IndexEvent}
+use Rattle.home_places.specs.Seats.{StoreSight}
 use Rattle.live_home.specs.declared.home.LiveHome.{LiveHome}
 use Rattle.live_home.specs.declared.home.LivePass.{LivePass}
 use Rattle.turn_home.specs.declared.store.TurnStore.{TurnStore}
 use Rattle.turn_home.specs.declared.store.StoreSeat.{StoreSeat}
-use Rattle.turn_home.specs.declared.index.TurnIndex.{TurnIndex}
-use Rattle.turn_home.specs.declared.index.IndexSeat.{IndexSeat}
+use Rattle.snap_index.specs.declared.held.About.{About}
+use Rattle.snap_index.specs.declared.seat.SharedIndex.{SharedIndex}
+use Rattle.snap_index.specs.declared.seat.SharedSeat.{SharedSeat}
+use Rattle.snap_index.specs.SnapSeats.{IsOfSnap}
 use Rattle.turn_home.specs.StoreSeats.{IsOfStore}
-use Rattle.turn_home.specs.IndexSeats.{IsOfIndex}
 use Rattle.server_home.specs.Opening.{IsNew, IsOpenHome, arrived}
 
 -- the seats of a desk's pass are of these places
@@ -42,19 +43,21 @@ desks_own {P} {L} belongs (p ∷ passes) (l ∷ listeners) own =
     (All-head belongs p passes own) (desks_own belongs passes listeners (All-tail belongs p passes own))
 
 -- new passes belong to their home
-pub new_own : {D V : Type 0} {b c : _} (g : Ghosts D) (accepts : V → Accepts) (s : TurnStore D) (i : TurnIndex V)
-    (v : StoreSight) (w : IndexSight) (passes : List (LivePass (StoreSeat D b) (IndexSeat V c)))
-    → All (IsNew g accepts s i v w) passes → All (λ p. IsOfStore g s p.store × IsOfIndex i p.index) passes
-new_own g accepts s i v w passes are k p under = let new = are k p under in (new.store_own, new.index_own)
+pub new_own : {D V C : Type 0} {b : _} (g : Ghosts D) (accepts : V → Accepts) (s : TurnStore D)
+    (i : SharedIndex V C IndexEvent (About V)) (v : StoreSight) (keys : V)
+    (passes : List (LivePass (StoreSeat D b) (SharedSeat V C))) → All (IsNew g accepts s i v keys) passes
+    → All (λ p. IsOfStore g s p.store × IsOfSnap i p.index) passes
+new_own g accepts s i v keys passes are k p under = let new = are k p under in (new.store.own, new.index.own)
 
 -- and so do the passes of desks that are made of them
-pub new_desks : {D V L : Type 0} {b c : _} {g : Ghosts D} {accepts : V → Accepts} {disk : D} {limits : Limits} {keys : V}
-    {count : ℕ} {home : LiveHome (TurnStore D) (TurnIndex V)} {passes : List (LivePass (StoreSeat D b) (IndexSeat V c))}
-    (listeners : List L) (desks : List (Desk (LivePass (StoreSeat D b) (IndexSeat V c)) L))
+pub new_desks : {D V C L : Type 0} {b : _} {g : Ghosts D} {accepts : V → Accepts} {disk : D} {limits : Limits} {keys : V}
+    {count : ℕ} {home : LiveHome (TurnStore D) (SharedIndex V C IndexEvent (About V))}
+    {passes : List (LivePass (StoreSeat D b) (SharedSeat V C))} (listeners : List L)
+    (desks : List (Desk (LivePass (StoreSeat D b) (SharedSeat V C)) L))
     → IsOpenHome g accepts disk limits keys count home passes → desks ≡ desks_of passes listeners
-    → All (HasOwn (IsOfStore g home.store) (IsOfIndex home.index)) desks
-new_desks {D} {V} {L} {b} {c} {g} {accepts} {disk} {limits} {keys} {count} {home} {passes} listeners desks opened is =
-    subst (All (HasOwn (IsOfStore g home.store) (IsOfIndex home.index))) (sym is)
-    (desks_own (λ (p : LivePass (StoreSeat D b) (IndexSeat V c)). IsOfStore g home.store p.store × IsOfIndex home.index p.index)
+    → All (HasOwn (IsOfStore g home.store) (IsOfSnap home.index)) desks
+new_desks {D} {V} {C} {L} {b} {g} {accepts} {disk} {limits} {keys} {count} {home} {passes} listeners desks opened is =
+    subst (All (HasOwn (IsOfStore g home.store) (IsOfSnap home.index))) (sym is)
+    (desks_own (λ (p : LivePass (StoreSeat D b) (SharedSeat V C)). IsOfStore g home.store p.store × IsOfSnap home.index p.index)
     passes listeners
-    (new_own g accepts home.store home.index (arrived limits opened.blobs) (shown_alone [] [] (accepts keys)) passes opened.passes_are.1))
+    (new_own g accepts home.store home.index (arrived limits opened.blobs) keys passes opened.passes_are.1))

@@ -1,1 +1,3 @@
 pub mod Desks
+pub mod FewSteps
+pub mod Taken

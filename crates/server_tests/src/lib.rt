@@ -4,6 +4,10 @@
 #[cfg(test)]
 mod ends;
 #[cfg(test)]
+mod rows;
+#[cfg(test)]
+mod seats;
+#[cfg(test)]
 mod serving;
 #[cfg(test)]
 mod texts;

@@ -128,7 +128,7 @@ fn serves_two<R: Threads + Wait + Sync>(
     let lines = two_lines(alloc, first, second)?;
     let late = AtomicBool::new(false);
     let gate = gate(&first.told, 0, &late);
-    let ending = served(rt, alloc, archive(alloc, 100), lines, 0, 2, &gate)?;
+    let ending = served(rt, rt, alloc, archive(alloc, 100), lines, 0, 2, &gate)?;
     Ok(is_done(&ending, (2, 2)) && first.is_told() && second.is_told())
 }
 
@@ -160,7 +160,7 @@ fn finds_uploaded<R: Threads + Wait + Sync>(
     push_line(alloc, &mut lines, connection)?;
     let late = AtomicBool::new(false);
     let gate = gate(&talk.told, talk.wanted.as_slice().len() as u64, &late);
-    let ending = served(rt, alloc, signed_archive(alloc), lines, 2, 1, &gate)?;
+    let ending = served(rt, rt, alloc, signed_archive(alloc), lines, 2, 1, &gate)?;
     Ok(is_done(&ending, (3, 3)) && talk.is_told() && !late.load(Ordering::SeqCst))
 }
 
@@ -198,7 +198,7 @@ fn refuses_when_full<R: Threads + Wait + Sync>(
     lines.push(uploads(alloc, first, second, third)?)?;
     let late = AtomicBool::new(false);
     let gate = gate(&first.told, 0, &late);
-    let ending = served(rt, alloc, archive(alloc, 1), lines, 0, 3, &gate)?;
+    let ending = served(rt, rt, alloc, archive(alloc, 1), lines, 0, 3, &gate)?;
     Ok(is_done(&ending, (1, 0)) && first.is_told() && second.is_told() && third.is_told())
 }
 
@@ -250,7 +250,7 @@ fn tells_failure<R: Threads + Wait + Sync>(
     let lines = failing_lines(alloc, talk, failed)?;
     let late = AtomicBool::new(false);
     let gate = gate(failed, 0, &late);
-    let ending = served(rt, alloc, archive(alloc, 100), lines, 1, 2, &gate)?;
+    let ending = served(rt, rt, alloc, archive(alloc, 100), lines, 1, 2, &gate)?;
     Ok(
         matches!(ending.served, Served::ListenerFault)
             && ending.failed.as_slice() == [true, false, false].as_slice()

@@ -1,9 +1,11 @@
 //! A home that is served, and what all its passes together have seen.
-ghost use Rattle.std.specs.Prelude.{All};
+ghost use Rattle.std.specs.Prelude.{All, ◌≤◌, ◌^◌};
+ghost use Rattle.std.specs.Vec.{vec_len};
+ghost use Rattle.pack_disk.specs.Disk.{last_number};
 
 use blob_server::{Desk, Served, desks, serve_all};
 use blobref::NoMemory;
-use claim_verify::Keyring;
+use claim_verify::{Keyring, Verifier};
 use edge_listen::Listener;
 use home_places::{Home, IndexPlace, StorePlace};
 use index_worker::Gate;
@@ -32,9 +34,15 @@ pub(crate) struct Archive {
     pub(crate) keys: Keyring,
 }
 
-/// Serves so many connections by a desk for each listener, and so many indexers behind them.
-pub(crate) fn served<L: Listener + Drop + Send, G: Gate + Copy + Sync, R: Threads + Wait + Sync>(
+/// Serves so many connections by a desk for each listener, and so many indexers behind them. The home keeps `handle`.
+pub(crate) fn served<
+    L: Listener + Drop + Send,
+    G: Gate + Copy + Sync,
+    R: Threads + Wait + Sync,
+    H: Wait + Drop + Send,
+>(
     rt: &R,
+    handle: H,
     alloc: Global,
     archive: Archive,
     listeners: Vec<L>,
@@ -53,7 +61,55 @@ where
         last_pack: 9,
     };
     let count = listeners.len().saturating_add(indexers);
-    match home_over(alloc, disk, limits, keys, count) {
+    let made_of = MadeOf {
+        handle,
+        disk,
+        limits,
+        keys: &keys,
+        passes: count,
+    };
+    served_by(rt, alloc, made_of, listeners, connections, gate)
+}
+
+// What a home is made of, with so many passes.
+#[derive(Drop)]
+struct MadeOf<V, H> {
+    handle: H,
+    disk: MemDisk,
+    limits: Limits,
+    keys: V,
+    passes: usize,
+}
+
+fn served_by<
+    V: Verifier + Copy + Drop + Send + Sync,
+    H: Wait + Drop + Send,
+    L: Listener + Drop + Send,
+    G: Gate + Copy + Sync,
+    R: Threads + Wait + Sync,
+>(
+    rt: &R,
+    alloc: Global,
+    made_of: MadeOf<V, H>,
+    listeners: Vec<L>,
+    connections: u64,
+    gate: &G,
+) -> Result<Ending, NoMemory>
+where
+    L::In: Send,
+    L::Out: Send,
+    requires enough { vec_len listeners ≤ made_of.passes }
+    requires last_pack { made_of.limits.last_pack ≤ last_number }
+    requires pack_bytes { made_of.limits.pack_bytes ≤ 2 ^ 63 }
+{
+    let MadeOf {
+        handle,
+        disk,
+        limits,
+        keys,
+        passes,
+    } = made_of;
+    match home_over(handle, alloc, disk, limits, keys, passes) {
         Ok((home, passes)) => {
             let desks = desks(alloc, passes, listeners)?;
             served_over(rt, alloc, &home, desks, connections, gate)

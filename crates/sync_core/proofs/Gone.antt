@@ -16,7 +16,7 @@ use Rattle.sync_core.specs.declared.syncing.SyncFault.{SyncFault}
 use Rattle.sync_core.specs.declared.syncing.SyncFault.TheVariants.{Source, Target, Gone}
 use Rattle.sync_core.specs.Answers.{Fetched, SourceAnswered, TargetAnswered}
 use Rattle.sync_core.specs.Causes.{ListFault, SourceFault, TargetFault}
-use Rattle.sync_core.specs.Copying.{StandIn, AreThere, Copies, PutsBut, Stops, Stopped, CopiesRefs, CopiesFront}
+use Rattle.sync_core.specs.Copying.{StandIn, AreThere, Copies, PutsBut, StopCause, Stopped, CopiesRefs, CopiesFront}
 use Rattle.sync_core.proofs.Runs.{Laws, source_answered_on, target_answered_on, fetched_on}
 
 -- ---- causes
@@ -123,7 +123,7 @@ module _ {A B : Type 0} (g : Ghosts A) (h : Ghosts B) (la : Laws g) (lb : Laws h
   puts_but a b c xs ys (Gone r) p q = lb.puts_then a b c xs ys p q
 
   stops_on : (source between now : A) (a b c : B) (xs next : List Blob) (e : SyncFault) → g.content between ≡ g.content source → g.faults source ≤ g.faults between → h.faults a ≤ h.faults b
-      → g.puts source [] between → Keeps (h.content a) (h.content b) xs → h.puts a xs b → Stops g h between now b c next e → Stops g h source now a c next e
+      → g.puts source [] between → Keeps (h.content a) (h.content b) xs → h.puts a xs b → StopCause g h between now b c next e → StopCause g h source now a c next e
   stops_on source between now a b c xs next (Source f) same le lower nothing given put w = (
     source_later (g.content between) (g.content source) (g.faults source) (g.faults between) (g.faults now) f same le w.0,
     source_answered_on g la source between now f (la.puts_follows source between [] nothing) w.1,

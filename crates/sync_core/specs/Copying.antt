@@ -44,19 +44,19 @@ module _ {A B : Type 0} (g : Ghosts A) (h : Ghosts B) where
   PutsBut old new gone _ = h.puts old gone new
 
   -- why it stopped: the blobs are those that were still to be copied, if any is known
-  abbrev pub Stops : A → A → B → B → List Blob → SyncFault → Type 0
-  Stops source source_now old new rest (Source e) =
+  abbrev pub StopCause : A → A → B → B → List Blob → SyncFault → Type 0
+  StopCause source source_now old new rest (Source e) =
       SourceFault (g.content source) (g.faults source) (g.faults source_now) e × SourceAnswered g source source_now e
-  Stops source source_now old new rest (Target e) =
+  StopCause source source_now old new rest (Target e) =
       TargetFault (h.content old) (h.fills new) (h.faults old) (h.faults new) rest e × TargetAnswered h old new e
-  Stops source source_now old new rest (Gone r) = (g.content source ≡ None) × Fetched g source source_now r (Ok None)
+  StopCause source source_now old new rest (Gone r) = (g.content source ≡ None) × Fetched g source source_now r (Ok None)
 
   -- these blobs were copied, the next one was tried if any is told, and it stopped
   pub record Stopped (source source_now : A) (old new : B) (gone next : List Blob) (e : SyncFault) : Type 0 where
     pub stand : StandIn (g.content source) (gone ++ next)
     pub given : Keeps (h.content old) (h.content new) gone
     pub put : PutsBut old new gone e
-    pub why : Stops source source_now old new next e
+    pub why : StopCause source source_now old new next e
 
   -- ---- the blobs of some refs
 

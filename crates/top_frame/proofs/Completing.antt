@@ -15,7 +15,7 @@ use Rattle.top_frame.specs.declared.status.InputFault.{InputFault}
 use Rattle.top_frame.specs.declared.status.Status.{Status}
 use Rattle.top_frame.specs.declared.status.Status.TheVariants as status
 use Rattle.top_frame.specs.Complete.{IsFitInput, IsCalm, IsTold, IsToldTo, IsValid, EndsWell}
-use Rattle.top_frame.specs.Frame.{Input, Exchange, Meaning, Ends, Stops, StopsFull, Unusable, said_badly, read_too_much, read_wrongly, found_unfit, WhileReading, ReadsTooMuch, WhenRead, WhileExchanging, WhilePushing, WhereUntold, PeerReplied, PeerAnswered, reads_nothing, reads_first, reads_later, no_peer, pulls, pushes}
+use Rattle.top_frame.specs.Frame.{Input, Exchange, Meaning, Ends, EndsEarly, StopsFull, Unusable, said_badly, read_too_much, read_wrongly, found_unfit, WhileReading, ReadsTooMuch, WhenRead, WhileExchanging, WhilePushing, WhereUntold, PeerReplied, PeerAnswered, reads_nothing, reads_first, reads_later, no_peer, pulls, pushes}
 use Rattle.top_frame.specs.Limits.{limits}
 use Rattle.top_frame.specs.Outside.{Outside, World}
 use Rattle.peer_base.specs.declared.peer.PeerFault.TheVariants as peer_fault
@@ -52,7 +52,7 @@ not_full most count last next needs current few low full = by needs (nat_le most
 
 module _ {D P S K C R : Type 0} (o : Outside D P S K C R) (m : Meaning) (old new : World D P S K C R) (held : Packs) (v : IsValid o old new m held) (calm : IsCalm o old new) where
   -- what it refuses for what it finds it doesn't refuse
-  not_refused : (answer : Status) → Stops o m old new (λ given bytes gone rest. m.Refuses given (o.disk.packs old.disk) bytes gone answer) → ⊥
+  not_refused : (answer : Status) → EndsEarly o m old new (λ given bytes gone rest. m.Refuses given (o.disk.packs old.disk) bytes gone answer) → ⊥
   not_refused answer w = v.stands w.given w.bytes w.why.blobs answer w.drawn (subst (λ told. m.Refuses w.given told w.bytes w.why.blobs answer) v.tells w.why.why)
 
   no_read : (i : Input) → WhileReading o m old new i (λ most. FaultsRose (o.source.faults old.source) (o.source.faults new.source)) → ⊥
@@ -96,7 +96,7 @@ module _ {D P S K C R : Type 0} (o : Outside D P S K C R) (m : Meaning) (old new
   never_full pulls blobs pack tells w = w
   never_full pushes blobs pack tells w = tells.empties w.why.why.0 blobs pack w.why.why.1
 
-  has_room : (blobs pack : ℕ) → Stops o m old new (λ given bytes gone rest. StopsFull o m old new blobs pack rest) → ⊥
+  has_room : (blobs pack : ℕ) → EndsEarly o m old new (λ given bytes gone rest. StopsFull o m old new blobs pack rest) → ⊥
   has_room blobs pack w = go w.why.rest w.why.cut w.why.why (told_now w.why.blobs (o.disk.packs old.disk) (o.disk.packs new.disk) held v.tells w.why.put)
     where
       go : (rest : List Blob) → m.blobs w.given ≡ w.why.blobs ++ rest → StopsFull o m old new blobs pack rest
@@ -121,11 +121,11 @@ module _ {D P S K C R : Type 0} (o : Outside D P S K C R) (m : Meaning) (old new
   ends_well (status.BadReply why) e = absurd (while m.exchange (WhereUntold o m old new (PeerReplied o m old new why)) (both_tell (PeerReplied o m old new why)) v.peer e.ends)
   ends_well (status.Full blobs pack) e = absurd (full e.ends)
     where
-      full : Stops o m old new (λ given bytes gone rest. StopsFull o m old new blobs pack rest) ⊎ WhilePushing o m old new m.exchange blobs pack → ⊥
+      full : EndsEarly o m old new (λ given bytes gone rest. StopsFull o m old new blobs pack rest) ⊎ WhilePushing o m old new m.exchange blobs pack → ⊥
       full (inl w) = has_room blobs pack w
       full (inr w) = never_full m.exchange blobs pack v.peer w
   ends_well (status.Damaged want is) e = absurd (damaged e.ends)
     where
-      damaged : Stops o m old new (λ given bytes gone rest. m.Refuses given (o.disk.packs old.disk) bytes gone (status.Damaged want is)) ⊎ WhileExchanging o m old new m.exchange ((is ≢ want) × WhereUntold o m old new (PeerAnswered o m old new (peer_fault.Damaged want is))) → ⊥
+      damaged : EndsEarly o m old new (λ given bytes gone rest. m.Refuses given (o.disk.packs old.disk) bytes gone (status.Damaged want is)) ⊎ WhileExchanging o m old new m.exchange ((is ≢ want) × WhereUntold o m old new (PeerAnswered o m old new (peer_fault.Damaged want is))) → ⊥
       damaged (inl w) = not_refused (status.Damaged want is) w
       damaged (inr w) = while m.exchange ((is ≢ want) × WhereUntold o m old new (PeerAnswered o m old new (peer_fault.Damaged want is))) (λ tells w. both_tell (PeerAnswered o m old new (peer_fault.Damaged want is)) tells w.1) v.peer w

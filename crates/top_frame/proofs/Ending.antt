@@ -26,7 +26,7 @@ use Rattle.top_frame.specs.declared.status.InputFault.TheVariants.{BadRef, BadDa
 use Rattle.top_frame.specs.declared.status.Status.{Status}
 use Rattle.top_frame.specs.declared.status.Status.TheVariants as status
 use Rattle.top_frame.specs.Faults.{put_status}
-use Rattle.top_frame.specs.Frame.{leaves_alone, only_looks, opens_store, reads_nothing, reads_first, no_peer, RefusedEarly, Meaning, Given, IsDrawn, IsQuiet, ReadsAll, ReadsSome, Always, Exchanges, ExchangesSome, Finishes, WritesSome, Stops, StopsFull, WhileReading, IsTooLong, ReadsTooMuch, read_too_much, found_unfit, said_badly, EndsBy, Ends}
+use Rattle.top_frame.specs.Frame.{leaves_alone, only_looks, opens_store, reads_nothing, reads_first, no_peer, RefusedEarly, Meaning, Given, IsDrawn, IsQuiet, ReadsAll, ReadsSome, Always, Exchanges, ExchangesSome, Finishes, WritesSome, EndsEarly, StopsFull, WhileReading, IsTooLong, ReadsTooMuch, read_too_much, found_unfit, said_badly, EndsBy, Ends}
 use Rattle.top_frame.specs.Limits.{limits}
 use Rattle.top_frame.specs.Outside.{Outside, World, world}
 use Rattle.top_frame.specs.Steps.{RefusesInput, Finds, Writes}
@@ -326,7 +326,7 @@ module _ {D P S K C R : Type 0} (run : Begun D P S K C R) where
 
   module _ (now : World D P S K C R) (blobs : List Blob) (bytes : List ℕ) (far : Far now blobs bytes) (given : Given) (rest : List Blob) (has : Has now.source given) (cut : m.blobs given ≡ blobs ++ rest)
       (part : m.IsPart given (disk.packs b.disk) bytes) where
-    pub stops : (Why : Given → List ℕ → List Blob → List Blob → Type 0) → Why given bytes blobs rest → Stops run.o m b now Why
+    pub stops : (Why : Given → List ℕ → List Blob → List Blob → Type 0) → Why given bytes blobs rest → EndsEarly run.o m b now Why
     stops Why why = record {
       given = given;
       bytes = bytes;

@@ -275,8 +275,8 @@ module _ {D P S K C R : Type 0} (o : Outside D P S K C R) (m : Meaning) (old new
     pub why : Why blobs rest
 
   -- a refusal of that kind with a cause that the given, what was written, what was put and what is left to put give
-  abbrev pub Stops : (Given → List ℕ → List Blob → List Blob → Type 0) → Type 0
-  Stops Why = RefusedLate (λ given bytes. PutsFront (Why given bytes) given)
+  abbrev pub EndsEarly : (Given → List ℕ → List Blob → List Blob → Type 0) → Type 0
+  EndsEarly Why = RefusedLate (λ given bytes. PutsFront (Why given bytes) given)
 
   -- the next blob is lacking, and there is no room for it
   abbrev pub StopsFull : ℕ → ℕ → List Blob → Type 0
@@ -286,19 +286,19 @@ module _ {D P S K C R : Type 0} (o : Outside D P S K C R) (m : Meaning) (old new
   -- a refusal of that kind as blobs are copied from the peer or to it
   abbrev pub WhileExchanging : Exchange → Type 0 → Type 0
   WhileExchanging no_peer Why = ⊥
-  WhileExchanging pulls Why = Stops (λ given bytes gone rest. Why)
-  WhileExchanging pushes Why = Stops (λ given bytes gone rest. Why)
+  WhileExchanging pulls Why = EndsEarly (λ given bytes gone rest. Why)
+  WhileExchanging pushes Why = EndsEarly (λ given bytes gone rest. Why)
 
   -- the peer has no room for a blob that is pushed
   abbrev pub WhilePushing : Exchange → ℕ → ℕ → Type 0
-  WhilePushing pushes blobs pack = Stops (λ given bytes gone rest. (blob : Blob) × o.peer.fills new.peer blob blobs pack)
+  WhilePushing pushes blobs pack = EndsEarly (λ given bytes gone rest. (blob : Blob) × o.peer.fills new.peer blob blobs pack)
   WhilePushing _ blobs pack = ⊥
 
   -- a fault of the reading, where the command reads
   abbrev pub WhileReading : Input → (ℕ → Type 0) → Type 0
   WhileReading reads_nothing Why = ⊥
   WhileReading (reads_first most) Why = RefusedEarly ((m.bad ≡ None) × Why most)
-  WhileReading (reads_later most) Why = Stops (λ given bytes gone rest. Why most)
+  WhileReading (reads_later most) Why = EndsEarly (λ given bytes gone rest. Why most)
 
   -- an input that is too long is told as such a fault
   abbrev pub IsTooLong : InputFault → ℕ → Type 0
@@ -311,7 +311,7 @@ module _ {D P S K C R : Type 0} (o : Outside D P S K C R) (m : Meaning) (old new
   abbrev pub ReadsTooMuch : Input → InputFault → Type 0
   ReadsTooMuch reads_nothing fault = ⊥
   ReadsTooMuch (reads_first most) fault = RefusedEarly ((m.bad ≡ None) × IsTooLong fault most)
-  ReadsTooMuch (reads_later most) fault = Stops (λ given bytes gone rest. IsTooMany fault most)
+  ReadsTooMuch (reads_later most) fault = EndsEarly (λ given bytes gone rest. IsTooMany fault most)
 
   -- an input that was read whole before the store is opened, and is wrong
   abbrev pub WhenRead : Input → InputFault → Type 0
@@ -324,7 +324,7 @@ module _ {D P S K C R : Type 0} (o : Outside D P S K C R) (m : Meaning) (old new
     said_badly : m.bad ≡ Some fault → new ≡ old → Unusable fault
     read_too_much : ReadsTooMuch m.input fault → Unusable fault
     read_wrongly : WhenRead m.input fault → Unusable fault
-    found_unfit : Stops (λ given bytes gone rest. m.Refuses given told bytes gone (status.BadInput fault)) → Unusable fault
+    found_unfit : EndsEarly (λ given bytes gone rest. m.Refuses given told bytes gone (status.BadInput fault)) → Unusable fault
 
   -- the clock or the dice failed, where they are asked; what is read first was read, and isn't wrong
   pub record WhileDrawing : Type 0 where
@@ -339,17 +339,17 @@ module _ {D P S K C R : Type 0} (o : Outside D P S K C R) (m : Meaning) (old new
   abbrev pub EndsBy : Status → Type 0
   EndsBy status.Done = Finishes (SinkTook (o.sink.written old.sink) (o.sink.written new.sink))
   EndsBy status.WriteFault = FaultsRose (o.sink.faults old.sink) (o.sink.faults new.sink)
-      × (Finishes (SinkTookFront (o.sink.written old.sink) (o.sink.written new.sink)) ⊎ ((m.streams ≡ true) × Stops (λ given bytes gone rest. Unit {0})))
-  EndsBy status.NoMemory = RefusedEarly (Unit {0}) ⊎ Stops (λ given bytes gone rest. Unit {0})
+      × (Finishes (SinkTookFront (o.sink.written old.sink) (o.sink.written new.sink)) ⊎ ((m.streams ≡ true) × EndsEarly (λ given bytes gone rest. Unit {0})))
+  EndsBy status.NoMemory = RefusedEarly (Unit {0}) ⊎ EndsEarly (λ given bytes gone rest. Unit {0})
   EndsBy status.ReadFault = WhileReading m.input (λ most. FaultsRose (o.source.faults old.source) (o.source.faults new.source))
   EndsBy (status.BadInput fault) = Unusable fault
   EndsBy status.HandFault = RefusedEarly WhileDrawing
   EndsBy status.Disk = RefusedLate (λ given bytes. FaultsRose (o.disk.faults old.disk) (o.disk.faults new.disk))
   EndsBy status.Peer = WhileExchanging m.exchange (FaultsRose (o.peer.faults old.peer) (o.peer.faults new.peer))
   EndsBy (status.BadReply why) = WhileExchanging m.exchange (WhereUntold (PeerReplied why))
-  EndsBy (status.Full blobs pack) = Stops (λ given bytes gone rest. StopsFull blobs pack rest) ⊎ WhilePushing m.exchange blobs pack
-  EndsBy (status.Absent r) = Stops (λ given bytes gone rest. m.Refuses given told bytes gone (status.Absent r))
-  EndsBy (status.Damaged want is) = Stops (λ given bytes gone rest. m.Refuses given told bytes gone (status.Damaged want is))
+  EndsBy (status.Full blobs pack) = EndsEarly (λ given bytes gone rest. StopsFull blobs pack rest) ⊎ WhilePushing m.exchange blobs pack
+  EndsBy (status.Absent r) = EndsEarly (λ given bytes gone rest. m.Refuses given told bytes gone (status.Absent r))
+  EndsBy (status.Damaged want is) = EndsEarly (λ given bytes gone rest. m.Refuses given told bytes gone (status.Damaged want is))
       ⊎ WhileExchanging m.exchange ((is ≢ want) × WhereUntold (PeerAnswered (peer_fault.Damaged want is)))
   EndsBy status.BadWords = ⊥
 

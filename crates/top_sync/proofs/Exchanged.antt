@@ -19,7 +19,7 @@ use Rattle.peer_base.specs.declared.peer.Peer.{Ghosts as PeerGhosts}
 use Rattle.sync_core.specs.Copying.{StandIn}
 use Rattle.top_frame.specs.declared.status.Status.{Status}
 use Rattle.top_frame.specs.declared.status.Status.TheVariants as status
-use Rattle.top_frame.specs.Frame.{Exchange, no_peer, pulls, Given, Meaning, IsQuiet, Always, Exchanges, ExchangesSome, Finishes, RefusedLate, Stops, EndsBy}
+use Rattle.top_frame.specs.Frame.{Exchange, no_peer, pulls, Given, Meaning, IsQuiet, Always, Exchanges, ExchangesSome, Finishes, RefusedLate, EndsEarly, EndsBy}
 use Rattle.top_frame.specs.Limits.{limits}
 use Rattle.top_frame.specs.Outside.{Outside, World, world}
 use Rattle.top_frame.specs.Steps.{Finds, NeverRefuses, Writes}
@@ -115,7 +115,7 @@ module _ {D P S K C R : Type 0} (o : Outside D P S K C R) (old : World D P S K C
 
     -- and a front of the blobs was put
     pub stops : ExchangesSome o m old (now_at d p old.sink) way given → (gone rest : List Blob) → blobs given ≡ gone ++ rest → Tells told (o.disk.packs d) (PutsAll limits gone) → HoldAll (o.disk.images d) gone
-        → {Why : Given → List ℕ → List Blob → List Blob → Type 0} → Why given [] gone rest → Stops o m old (now_at d p old.sink) Why
+        → {Why : Given → List ℕ → List Blob → List Blob → Type 0} → Why given [] gone rest → EndsEarly o m old (now_at d p old.sink) Why
     stops some gone rest cut put held why = late some (record { blobs = gone; rest = rest; cut = cut; put = put; held = held; why = why })
 
     -- all was copied, and the line was written or not

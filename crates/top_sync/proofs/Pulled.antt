@@ -23,7 +23,7 @@ use Rattle.sync_core.specs.Syncing.{ForBoth, IsStopped, IsSynced}
 use Rattle.top_frame.specs.declared.status.Status.{Status}
 use Rattle.top_frame.specs.declared.status.Status.TheVariants as status
 use Rattle.top_frame.specs.Faults.{pull_status}
-use Rattle.top_frame.specs.Frame.{pulls, Given, IsQuiet, Always, PullsAll, PullsSome, PeerAnswered, Stops, StopsFull, EndsBy, Ends}
+use Rattle.top_frame.specs.Frame.{pulls, Given, IsQuiet, Always, PullsAll, PullsSome, PeerAnswered, EndsEarly, StopsFull, EndsBy, Ends}
 use Rattle.top_frame.specs.Limits.{limits}
 use Rattle.top_frame.specs.Outside.{Outside, World}
 use Rattle.top_frame.specs.Steps.{Finds, NeverRefuses, Writes}
@@ -130,7 +130,7 @@ module _ {D P S K C R : Type 0} (o : Outside D P S K C R)
           let all = front from e (blobs_of held) (in_packs held f) in
           (all.0, all.1 ∙ append_assoc gone next all.0)
 
-      stopped : PutsStore o.disk s0 gone s1 → {Why : Given → List ℕ → List Blob → List Blob → Type 0} → ((rest : List Blob) → Why given [] gone (next ++ rest)) → Stops o pull_meaning old (here s1.disk p1 old.sink) Why
+      stopped : PutsStore o.disk s0 gone s1 → {Why : Given → List ℕ → List Blob → List Blob → Type 0} → ((rest : List Blob) → Why given [] gone (next ++ rest)) → EndsEarly o pull_meaning old (here s1.disk p1 old.sink) Why
       stopped puts why =
           let cut = cut_of there told refl refl in
           stops o old pulls its_blobs s1.disk p1 given refl some gone (next ++ cut.0) cut.1 (put_of gone puts) (of_store gone puts).held (why cut.0)

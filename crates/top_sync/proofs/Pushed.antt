@@ -22,7 +22,7 @@ use Rattle.sync_core.specs.Syncing.{IsStopped, IsSynced}
 use Rattle.top_frame.specs.declared.status.Status.{Status}
 use Rattle.top_frame.specs.declared.status.Status.TheVariants as status
 use Rattle.top_frame.specs.Faults.{push_status}
-use Rattle.top_frame.specs.Frame.{pushes, Given, Always, PushesAll, PushesSome, PeerAnswered, Stops, EndsBy, Ends}
+use Rattle.top_frame.specs.Frame.{pushes, Given, Always, PushesAll, PushesSome, PeerAnswered, EndsEarly, EndsBy, Ends}
 use Rattle.top_frame.specs.Limits.{limits}
 use Rattle.top_frame.specs.Outside.{Outside, World}
 use Rattle.top_frame.specs.Steps.{Finds, NeverRefuses, Writes}
@@ -120,7 +120,7 @@ module _ {D P S K C R : Type 0} (o : Outside D P S K C R)
         front = λ held e there f. let rest = w.front (blobs_of held) (in_packs held e) there f in (w.next ++ rest.0, rest.1 ∙ append_assoc w.gone w.next rest.0);
       }
 
-      stopped : {Why : Given → List ℕ → List Blob → List Blob → Type 0} → Why pushed [] [] [] → Stops o push_meaning old (here s1.disk p1 old.sink) Why
+      stopped : {Why : Given → List ℕ → List Blob → List Blob → Type 0} → Why pushed [] [] [] → EndsEarly o push_meaning old (here s1.disk p1 old.sink) Why
       stopped why = stops o old pushes no_blobs s1.disk p1 pushed refl some [] [] refl (put_none o old pushes no_blobs s1.disk stays) tt why
 
     push_why : (f : SyncFault) → IsStopped (peer_of o.disk) o.peer s0 s1 old.peer p1 f → EndsBy o push_meaning old (here s1.disk p1 old.sink) (push_status f)

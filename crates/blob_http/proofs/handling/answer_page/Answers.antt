@@ -1,5 +1,5 @@
 use Rattle.std.proofs.Common.{ℕ, ◌+◌, List, Option, IsErr, sym, subst}
-use Rattle.histories.specs.StoreCalls.{ListSays}
+use Rattle.histories.specs.StoreCalls.{ListSpec}
 use Rattle.home_places.specs.Passes.{StoreCall}
 use Rattle.blob_http.specs.declared.operations.Operation.TheVariants as question
 use Rattle.blob_http.specs.Handling.{Answers}
@@ -16,6 +16,6 @@ returns-clause-answers g c =
     (page_answers tells c.args.closes c.args.page.now c.list-found.result c.page_reply-made.result v w
     c.seen-counts.result c.page_reply-made.ensures
     (subst (λ (o : Option (List ℕ)). StoreCall (IsErr c.list-found.result)
-    (λ before e. ListSays o (c.args.page.now.limit + 1) before c.list-found.result e) v w) c.as_ref.ensures.value
+    (λ before e. ListSpec o (c.args.page.now.limit + 1) before c.list-found.result e) v w) c.as_ref.ensures.value
     c.list-found.ensures.turn)
     c.seen-counts.ensures)

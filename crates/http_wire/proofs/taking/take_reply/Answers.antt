@@ -3,7 +3,7 @@ use Rattle.http_wire.specs.declared.line_state.LineState.TheVariants.{Start}
 use Rattle.http_wire.specs.Stream.{stream, Passed}
 use Rattle.http_wire.specs.Wires.{Reply, ReplyEnds}
 use Rattle.http_wire.specs.Heads.{IsHeadText}
-use Rattle.http_wire.specs.ReplyHeads.{ReplySays}
+use Rattle.http_wire.specs.ReplyHeads.{ReplySpec}
 use Rattle.http_wire.proofs.Seams.{reached}
 use Rattle.http_wire.proofs.Passing.{Passed-chain}
 use Rattle.http_wire.proofs.taking.take_reply.Goals as goal
@@ -19,10 +19,10 @@ returns-in-Ok-clause-ok g c =
     let same : take c.in_ok-n.n c.lines_end.new.ahead.bytes ≡ c.keep.new.self = ap (take c.in_ok-n.n) (sym read) ∙ sym c.keep.ensures in (
       subst (λ (xs : List ℕ). Passed (g.S.Source.left c.args.source.now) (g.S.Source.left c.lines_end.new.source) c.args.ahead.now c.pass.new.self xs) same (Passed-chain _ _ _ _ _ _ [] _ c.in_ok-n.ensures.same (c.pass.ensures _)),
       subst IsHeadText same c.in_ok-n.ensures.found,
-      subst (λ (xs : List ℕ). ReplySays xs (Ok c.in-Ok.head)) (sym c.keep.ensures) c.in-Ok.ensures,
+      subst (λ (xs : List ℕ). ReplySpec xs (Ok c.in-Ok.head)) (sym c.keep.ensures) c.in-Ok.ensures,
     )
 
 pub returns-in-Err-clause-err : goal.returns-in-Err-clause-err
 returns-in-Err-clause-err g c =
-    let said = c.end_of_fault.ensures.says Reply c.in_ok-n.n c.lines_end.new.ahead.bytes _ (c.in_ok-n.ensures.found, subst (λ (xs : List ℕ). ReplySays (take c.in_ok-n.n xs) (Err c.in-Err.fault)) c.as_slice.ensures c.in-Err.ensures) in
+    let said = c.end_of_fault.ensures.says Reply c.in_ok-n.n c.lines_end.new.ahead.bytes _ (c.in_ok-n.ensures.found, subst (λ (xs : List ℕ). ReplySpec (take c.in_ok-n.n xs) (Err c.in-Err.fault)) c.as_slice.ensures c.in-Err.ensures) in
     subst (λ (place : ℕ). ReplyEnds (stream c.lines_end.new.ahead.bytes (g.S.Source.left c.lines_end.new.source)) place c.end_of_fault.result) c.taken-place.ensures said

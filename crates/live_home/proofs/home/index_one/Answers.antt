@@ -1,15 +1,15 @@
 use Rattle.std.proofs.Common.{◌≡◌, ◌∙◌, ap, subst, ℕ, Bool, List, Option, Some, None, Result, Ok, Err}
 use Rattle.edge_base.specs.declared.answers.GetFault.{GetFault}
 use Rattle.schema_json.specs.Facts.{fact_of}
-use Rattle.histories.specs.StoreCalls.{ArrivalSays}
+use Rattle.histories.specs.StoreCalls.{ArrivalSpec}
 use Rattle.home_places.specs.Seats.{StoreSight, StoreTurn}
 use Rattle.live_home.proofs.Indexing.{one_unread, one_unsaid, none_left, one_indexed}
 use Rattle.live_home.proofs.home.index_one.Goals as goal
 
 -- what a read answered
 read_as : (tells : Bool) (n : ℕ) (v w : StoreSight) (result answer : Result (Option (List ℕ × List ℕ)) GetFault) → result ≡ answer
-    → StoreTurn (λ before entry. ArrivalSays tells n before result entry) v w → StoreTurn (λ before entry. ArrivalSays tells n before answer entry) v w
-read_as tells n v w result answer is = subst (λ (r : Result (Option (List ℕ × List ℕ)) GetFault). StoreTurn (λ before entry. ArrivalSays tells n before r entry) v w) is
+    → StoreTurn (λ before entry. ArrivalSpec tells n before result entry) v w → StoreTurn (λ before entry. ArrivalSpec tells n before answer entry) v w
+read_as tells n v w result answer is = subst (λ (r : Result (Option (List ℕ × List ℕ)) GetFault). StoreTurn (λ before entry. ArrivalSpec tells n before r entry) v w) is
 
 pub returns-in-Err-clause-indexes : goal.returns-in-Err-clause-indexes
 returns-in-Err-clause-indexes g c = one_unread (g.S.StorePlace.tells c.args.home.now.store) c.args.number (g.S.StorePlace.sight c.args.pass.now.store) (g.S.StorePlace.sight c.arrival.new.seat) (g.I.IndexPlace.sight c.args.pass.now.index)

@@ -1,9 +1,9 @@
-use Rattle.std.proofs.Common.{sym, subst, ◌∙◌, ap, []}
+use Rattle.std.proofs.Common.{sym, subst, ◌∙◌, ap}
 use Rattle.std.specs.Option.{is_some}
 use Rattle.told_store.specs.Beginning.{blobs_told}
-use Rattle.home_places.specs.Showing.{shown_alone}
 use Rattle.turn_home.specs.StoreSeats.{store_sight, place_limits, place_tells}
 use Rattle.server_home.specs.Opening.{ArePasses, arrived}
+use Rattle.server_home.proofs.Passing.{new_passes}
 use Rattle.server_home.proofs.opening.home_over.Goals as goal
 
 pub returns-in-Ok-passes_of-clause-opened : goal.returns-in-Ok-passes_of-clause-opened
@@ -16,6 +16,7 @@ returns-in-Ok-passes_of-clause-opened g c =
     let blobs = blobs_told rows (disk.packs c.in-Ok.store.disk) in
     let home = c.make-in-Ok-passes_of in
     let count = c.args.count in
+    let keys = c.args.keys in
     let passes = c.in-Ok-passes_of.passes.items in
     let seen = c.in-Ok-make.ensures.seat ∙ ap (λ l. arrived l blobs) opened.limited in
     record {
@@ -24,16 +25,12 @@ returns-in-Ok-passes_of-clause-opened g c =
       limits_are = ap place_limits home.ensures.store ∙ c.in-Ok-make.ensures.limits ∙ opened.limited;
       tells = ap (place_tells disk) home.ensures.store ∙ c.in-Ok-make.ensures.tells ∙ ap is_some stays.told;
       passes_are =
-          let fresh = shown_alone [] [] (accepts c.args.keys) in
           let store = home.result.store in
           let index = home.result.index in
-          subst (λ s. ArePasses disk accepts s index (arrived c.args.limits blobs) fresh count passes)
-          (sym home.ensures.store)
-          (subst (λ i. ArePasses disk accepts c.in-Ok-make.store i (arrived c.args.limits blobs) fresh count passes)
+          subst (λ s. ArePasses disk accepts s index (arrived c.args.limits blobs) keys count passes) (sym home.ensures.store)
+          (subst (λ i. ArePasses disk accepts c.in-Ok-make.store i (arrived c.args.limits blobs) keys count passes)
           (sym home.ensures.index)
-          (subst (λ v. ArePasses disk accepts c.in-Ok-make.store c.in-Ok-make-2.index v fresh count passes) seen
-          (subst (λ w. ArePasses disk accepts c.in-Ok-make.store c.in-Ok-make-2.index
-          (store_sight c.in-Ok-make.store_seat) w count passes)
-          c.in-Ok-make-2.ensures.seat
-          c.in-Ok-passes_of.ensures)));
+          (subst (λ v. ArePasses disk accepts c.in-Ok-make.store c.in-Ok-make-2.index v keys count passes) seen
+          (new_passes disk accepts c.in-Ok-make.store c.in-Ok-make-2.index (store_sight c.in-Ok-make.store_seat) keys count
+          c.in-Ok-make-2.seats.items passes c.in-Ok-make-2.ensures.count c.in-Ok-make-2.ensures.fresh c.in-Ok-passes_of.ensures)));
     }

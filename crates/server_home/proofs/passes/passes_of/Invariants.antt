@@ -1,14 +1,16 @@
-use Rattle.std.proofs.Common.{◌≡◌}
+use Rattle.std.proofs.Common.{◌≡◌, ◌+◌, All, length}
+use Rattle.std.specs.List.{Contains}
 use Rattle.turn_home.specs.StoreSeats.{IsOfStore, store_sight}
-use Rattle.turn_home.specs.IndexSeats.{IsOfIndex, index_sight}
-use Rattle.server_home.specs.Opening.{ArePasses}
+use Rattle.server_home.specs.Passes.{IsOneOf}
 use Rattle.server_home.proofs.passes.passes_of.Given as goal
 
-abbrev pub invariant-passes : goal.invariant-passes
-invariant-passes g l =
+abbrev pub invariant-seats : goal.invariant-seats
+invariant-seats g l =
     IsOfStore g.D.Disk l.store l.store_seat
-    × IsOfIndex l.index l.index_seat
     × (store_sight l.store_seat ≡ store_sight l.fn.store_seat)
-    × (index_sight g.V.Verifier.accepts l.index_seat ≡ index_sight g.V.Verifier.accepts l.fn.index_seat)
-    × ArePasses g.D.Disk g.V.Verifier.accepts l.store l.index (store_sight l.fn.store_seat)
-    (index_sight g.V.Verifier.accepts l.fn.index_seat) l.counter l.passes.items
+    × All (Contains l.fn.seats.items) l.left.items
+    × All (IsOneOf g.D.Disk l.store (store_sight l.fn.store_seat) l.fn.seats.items) l.passes.items
+    × (length l.passes.items + length l.left.items ≡ length l.fn.seats.items)
+
+abbrev pub decreases-seats : goal.decreases-seats
+decreases-seats g l = length l.left.items

@@ -1,6 +1,6 @@
 use Rattle.std.proofs.Common.{◌≡◌, List, None, sym, subst, arith}
 use Rattle.std.proofs.Common.{true}
-use Rattle.histories.specs.StoreCalls.{GetSays}
+use Rattle.histories.specs.StoreCalls.{GetSpec}
 use Rattle.histories.specs.Stores.{Blob}
 use Rattle.core_home.specs.Keeping.{store_of, index_of}
 use Rattle.core_home.proofs.Turning.{kept_later, store_read}
@@ -15,8 +15,8 @@ invariant_of-self-2 g c = record {
 
 pub returns-clause-turn : goal.returns-clause-turn
 returns-clause-turn g c =
-    store_read (g.V.Verifier.accepts c.args.self.now.core.keys) (λ before e. GetSays true c.args.r.now before c.fetch-answer.result e) _ (store_of c.args.self.now.puts.items c.args.self.now.core.state.store) c.args.self.now.stores c.in-Some.turn
+    store_read (g.V.Verifier.accepts c.args.self.now.core.keys) (λ before e. GetSpec true c.args.r.now before c.fetch-answer.result e) _ (store_of c.args.self.now.puts.items c.args.self.now.core.state.store) c.args.self.now.stores c.in-Some.turn
     (index_of c.args.self.now.core.state.store c.args.self.now.inserts.items c.args.self.now.core.state.indexed) c.args.self.now.indexes c.args.self.now.spent c.last_of.new.spent
     c.args.self.now.kept.store_within c.args.self.now.kept.store_rises c.in-Some.ensures.last c.in-Some.ensures.stays
-    (subst (λ (before : List Blob). GetSays true c.args.r.now before c.fetch-answer.result None) (sym (arrivals_of c.args.self.now.puts.items c.args.self.now.core.state.store c.args.self.now.kept.each_put))
-    (subst (λ (before : List Blob). GetSays true c.args.r.now before c.fetch-answer.result None) c.blobs.ensures c.fetch-answer.ensures.says))
+    (subst (λ (before : List Blob). GetSpec true c.args.r.now before c.fetch-answer.result None) (sym (arrivals_of c.args.self.now.puts.items c.args.self.now.core.state.store c.args.self.now.kept.each_put))
+    (subst (λ (before : List Blob). GetSpec true c.args.r.now before c.fetch-answer.result None) c.blobs.ensures c.fetch-answer.ensures.says))

@@ -1,6 +1,6 @@
 use Rattle.std.proofs.Common.{◌≡◌, List, None, sym, subst, arith, rules}
 use Rattle.std.proofs.Common.{option_copied}
-use Rattle.histories.specs.StoreCalls.{ListSays}
+use Rattle.histories.specs.StoreCalls.{ListSpec}
 use Rattle.core_home.proofs.Listings.{list_says}
 use Rattle.histories.specs.Stores.{Blob}
 use Rattle.core_home.specs.Keeping.{store_of, index_of}
@@ -16,8 +16,8 @@ invariant_of-self-2 g c = record {
 
 pub returns-clause-turn : goal.returns-clause-turn
 returns-clause-turn g c =
-    store_read (g.V.Verifier.accepts c.args.self.now.core.keys) (λ before e. ListSays (option_copied c.args.after) c.args.limit before c.list-answer.result e) _ (store_of c.args.self.now.puts.items c.args.self.now.core.state.store) c.args.self.now.stores c.in-Some.turn
+    store_read (g.V.Verifier.accepts c.args.self.now.core.keys) (λ before e. ListSpec (option_copied c.args.after) c.args.limit before c.list-answer.result e) _ (store_of c.args.self.now.puts.items c.args.self.now.core.state.store) c.args.self.now.stores c.in-Some.turn
     (index_of c.args.self.now.core.state.store c.args.self.now.inserts.items c.args.self.now.core.state.indexed) c.args.self.now.indexes c.args.self.now.spent c.last_of.new.spent
     c.args.self.now.kept.store_within c.args.self.now.kept.store_rises c.in-Some.ensures.last c.in-Some.ensures.stays
-    (subst (λ (before : List Blob). ListSays (option_copied c.args.after) c.args.limit before c.list-answer.result None) (sym (arrivals_of c.args.self.now.puts.items c.args.self.now.core.state.store c.args.self.now.kept.each_put))
+    (subst (λ (before : List Blob). ListSpec (option_copied c.args.after) c.args.limit before c.list-answer.result None) (sym (arrivals_of c.args.self.now.puts.items c.args.self.now.core.state.store c.args.self.now.kept.each_put))
     (list_says (option_copied c.args.after) c.args.limit _ c.list-answer.result (search rules)))

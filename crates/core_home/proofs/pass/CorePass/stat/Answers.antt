@@ -1,5 +1,5 @@
 use Rattle.std.proofs.Common.{◌≡◌, List, None, sym, subst, arith, rules}
-use Rattle.histories.specs.StoreCalls.{StatSays}
+use Rattle.histories.specs.StoreCalls.{StatSpec}
 use Rattle.core_home.proofs.Listings.{stat_says}
 use Rattle.histories.specs.Stores.{Blob}
 use Rattle.core_home.specs.Keeping.{store_of, index_of}
@@ -15,8 +15,8 @@ invariant_of-self-2 g c = record {
 
 pub returns-clause-turn : goal.returns-clause-turn
 returns-clause-turn g c =
-    store_read (g.V.Verifier.accepts c.args.self.now.core.keys) (λ before e. StatSays c.args.refs.now before c.stat-answer.result e) _ (store_of c.args.self.now.puts.items c.args.self.now.core.state.store) c.args.self.now.stores c.in-Some.turn
+    store_read (g.V.Verifier.accepts c.args.self.now.core.keys) (λ before e. StatSpec c.args.refs.now before c.stat-answer.result e) _ (store_of c.args.self.now.puts.items c.args.self.now.core.state.store) c.args.self.now.stores c.in-Some.turn
     (index_of c.args.self.now.core.state.store c.args.self.now.inserts.items c.args.self.now.core.state.indexed) c.args.self.now.indexes c.args.self.now.spent c.last_of.new.spent
     c.args.self.now.kept.store_within c.args.self.now.kept.store_rises c.in-Some.ensures.last c.in-Some.ensures.stays
-    (subst (λ (before : List Blob). StatSays c.args.refs.now before c.stat-answer.result None) (sym (arrivals_of c.args.self.now.puts.items c.args.self.now.core.state.store c.args.self.now.kept.each_put))
+    (subst (λ (before : List Blob). StatSpec c.args.refs.now before c.stat-answer.result None) (sym (arrivals_of c.args.self.now.puts.items c.args.self.now.core.state.store c.args.self.now.kept.each_put))
     (stat_says c.args.refs.now _ c.stat-answer.result (search rules)))
