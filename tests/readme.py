@@ -111,7 +111,8 @@ def crates(program):
 
 
 ROW = re.compile(r"^\| [^|]* \| ([^|]*) \| (?:`(\w+)`, )?`([\w/]+\.rt)` \|", re.MULTILINE)
-WRITTEN = {"u64::MAX": 2**64 - 1, "1 << 63": 2**63}
+WRITTEN = {"u64::MAX": 2**64 - 1, "1 << 63": 2**63, "1 << 60": 2**60}
+POWER = re.compile(r"2\^(\d+)")
 
 
 def limits(program):
@@ -121,7 +122,8 @@ def limits(program):
 
 def limit_stands(told, name, path):
     text = (TOP / "crates" / path).read_text()
-    number = 2**63 if told.startswith("2^63") else int(re.search(r"[\d,]+", told)[0].replace(",", ""))
+    power = POWER.match(told)
+    number = 2 ** int(power[1]) if power else int(re.search(r"[\d,]+", told)[0].replace(",", ""))
     found = re.findall(rf"\b{name}(?:: \w+ =|:) ([^;,]+)[;,]", text) if name else re.findall(r"\b\d[\d_]*\b", text)
     values = [WRITTEN.get(one) or int(one.replace("_", "")) for one in found if one in WRITTEN or one[0].isdigit()]
     check(f"{path} has {name or 'no name'} {found}, and the page {told}", number in values)

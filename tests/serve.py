@@ -3,8 +3,8 @@ who can reach it, when it ends, and what goes wrong at it.
 
 Who gets in is in serve_door.py, clients that stay in serve_stays.py, streams in serve_streams.py, clients that ask in
 turn in serve_sessions.py, other programs as clients in serve_clients.py, eight clients at once in serve_load.py, many
-values on one permanode in serve_values.py, kills in serve_kills.py, full disks and folders that go in serve_disk.py,
-and calls to the system in serve_calls.py.
+values on one permanode in serve_values.py, a query that takes long in serve_long.py, kills in serve_kills.py, full disks
+and folders that go in serve_disk.py, and calls to the system in serve_calls.py.
 """
 
 import contextlib
@@ -23,6 +23,7 @@ import serve_disk
 import serve_door
 import serve_kills
 import serve_load
+import serve_long
 import serve_sessions
 import serve_stays
 import serve_streams
@@ -385,7 +386,7 @@ GROUPS += [serve_kills.kills, serve_calls.calls, serve_calls.failing]
 GROUPS += [serve_door.sent, serve_door.values, serve_door.random_heads, serve_disk.full, serve_disk.goes]
 ONE_AT_A_TIME = [serve_streams.of_inputs(group) for group in serve_streams.INPUTS]
 ONE_AT_A_TIME += [serve_door.bodies, serve_clients.curl, serve_clients.requests, serve_clients.wget, serve_clients.http_client]
-ONE_AT_A_TIME += [serve_clients.node, serve_load.clients, serve_values.values]
+ONE_AT_A_TIME += [serve_clients.node, serve_load.clients, serve_values.values, serve_long.long]
 
 if __name__ == "__main__":
     harness.main("serve.sh", GROUPS, ONE_AT_A_TIME, beside=[serve_stays.minutes])
