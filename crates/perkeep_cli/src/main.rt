@@ -4,6 +4,7 @@
 mod ending;
 mod hand;
 mod keys;
+mod pauses;
 mod serving;
 mod streams;
 

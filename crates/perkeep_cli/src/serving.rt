@@ -3,29 +3,20 @@ ghost use Rattle.std.specs.Prelude.{◌≤◌, All, IfOk, vec_len};
 
 use crate::ending::Ending;
 use crate::keys::read_keyring;
+use crate::pauses::Pauses;
 use blob_server::{Served, desks, serve_all};
 use blobref::NoMemory;
 use claim_verify::Verifier;
 use edge_os::{Readiness, TcpListenerOn, tell_person};
 use folder_disk::{Access, FolderDisk};
 use home_places::Home;
-use index_worker::{Gate, GatePlace};
 use perkeep_top::{LIMITS, Status};
 use perkeep_words::ServePlan;
 use server_home::{HomeFault, home_over};
 use std::net::{Ipv4Addr, SocketAddr, TcpListener};
 use std::sync::Wait;
-use std::sync::atomic::{AtomicU64, Ordering};
-use std::thread::{self, Threads};
-use std::time::Duration;
-
-// How many milliseconds an indexer pauses where nothing waits to be indexed, and where its step failed.
-const IDLE_PAUSE: u64 = 10;
-
-const FAULT_PAUSE: u64 = 100;
-
-// How many pauses an indexer makes at most while blobs go on to come: a quarter of a second.
-const MOST_PAUSES: u32 = 25;
+use std::sync::atomic::AtomicU64;
+use std::thread::Threads;
 
 /// Serves the store of a folder on the loopback address (`docs/commands.md`), until as many connections were served as
 /// the plan says.
@@ -72,10 +63,7 @@ fn serve_folder<
         Err(HomeFault::Disk { .. }) => return Ending::Ran(Status::Disk),
         Err(HomeFault::NoMemory) => return Ending::Ran(Status::NoMemory),
     };
-    let gate = Pauses {
-        rt,
-        appends: &appends,
-    };
+    let gate = Pauses::new(rt, &appends);
     serve_home(rt, threads, &home, passes, listener, &gate, plan)
 }
 
@@ -125,43 +113,4 @@ fn listeners<'a>(
         listeners.push(TcpListenerOn::new(rt, listener, ready))?;
     }
     Ok(listeners)
-}
-
-// The gate of the indexers: they pause where there is nothing to do, and give way to uploads.
-#[derive(Clone, Copy)]
-struct Pauses<'a> {
-    rt: &'a HostRuntime,
-    // How often something was appended to a pack.
-    appends: &'a AtomicU64,
-}
-
-impl<'a> Pauses<'a> {
-    fn pause(&self, milliseconds: u64) {
-        thread::sleep(self.rt, Duration::from_millis(milliseconds));
-    }
-
-    // Pauses once, and then on while blobs come.
-    fn give_way(&self) {
-        let mut before = self.appends.load(Ordering::Relaxed);
-        for _ in 0..MOST_PAUSES {
-            self.pause(IDLE_PAUSE);
-            let now = self.appends.load(Ordering::Relaxed);
-            if now == before {
-                return;
-            }
-            before = now;
-        }
-    }
-}
-
-impl<'a> Gate for Pauses<'a> {
-    ghost tells = { λ gate asked. Unit {0} };
-
-    fn wait_at<R: Wait>(&mut self, _rt: &R, place: GatePlace) {
-        match place {
-            GatePlace::Before | GatePlace::After => {}
-            GatePlace::Idle => self.give_way(),
-            GatePlace::Fault => self.pause(FAULT_PAUSE),
-        }
-    }
 }
