@@ -1,5 +1,5 @@
 -- What a pass tells: what it has seen, and the answer to a query.
-use Rattle.std.proofs.Common.{◌≡◌, ℕ, ◌+◌, inl, List, map, length, refl, ap, sym, subst, ◌∙◌, arith, Bool, Result, IfOk}
+use Rattle.std.proofs.Common.{◌≡◌, ℕ, inl, List, length, refl, ap, sym, subst, ◌∙◌, Bool, Result, IfOk}
 use Rattle.std.specs.FinMap.{from_entries}
 use Rattle.blobref.specs.declared.memory.NoMemory.{NoMemory}
 use Rattle.claim_verify.specs.Verifier.{Accepts}
@@ -8,8 +8,6 @@ use Rattle.search_eval.specs.Answer.{answer}
 use Rattle.claim_model.specs.Facts.{Facts}
 use Rattle.histories.specs.declared.stamped.Stamped.{Stamped}
 use Rattle.histories.specs.declared.events.IndexEvent.{IndexEvent}
-use Rattle.histories.specs.Stores.{Blob}
-use Rattle.histories.specs.declared.events.Insertion.{Insertion}
 use Rattle.histories.specs.Indexes.{inserts, indexed}
 use Rattle.histories.proofs.Prefixes.{prefix_self}
 use Rattle.home_core.specs.State.{CoreState, IsSound}

@@ -1,8 +1,8 @@
 -- How many numbers lack.
-use Rattle.std.proofs.Common.{◌≡◌, ℕ, zero, suc, ◌+◌, ◌-◌, ◌<◌, ◌≤◌, ◌⊎◌, inl, inr, ⊎_elim, Bool, true, false, not, ◌||◌, cond, nat_eq, List, [], ◌∷◌, ◌++◌, length, length-append, refl, ap, sym, subst, ◌∙◌, arith}
+use Rattle.std.proofs.Common.{◌≡◌, ℕ, zero, suc, ◌+◌, ◌-◌, ◌<◌, ◌≤◌, ◌⊎◌, ⊎_elim, Bool, true, false, not, ◌||◌, cond, nat_eq, List, [], ◌∷◌, length, length-append, refl, ap, sym, subst, arith}
 use Rattle.std.proofs.lemmas.Bool.{eqb-true, eq-eqb, ne_eqb}
 use Rattle.home_core.specs.State.{CoreState, IsSound, has, times, numbers_below, without}
-use Rattle.home_core.proofs.Times.{times_absent, times_present, below_once, has_below}
+use Rattle.home_core.proofs.Times.{times_present, below_once, has_below}
 
 -- ---- numbers that stand in a list once, and below a bound
 

@@ -1,8 +1,7 @@
 -- Indexed numbers as a history.
 use Rattle.std.proofs.Common.{◌≡◌, ℕ, zero, suc, ◌+◌, ◌<◌, ◌≤◌, Bool, true, false, not, ◌&&◌, ◌||◌, cond, nat_eq, List, [], ◌∷◌, ◌++◌, map, length, slice_get, append_assoc, refl, ap, sym, subst, ◌∙◌, arith, Option, Some, None}
 use Rattle.std.specs.Option.{unwrap_or}
-use Rattle.std.specs.List.{filter_map, cons_option, list_any}
-use Rattle.std.proofs.lemmas.List.{append-nil}
+use Rattle.std.specs.List.{cons_option}
 use Rattle.std.proofs.lemmas.Bool.{and_from}
 use Rattle.std.proofs.lemmas.Option.{slice_get-get_or, unwrap_or-slice_get}
 use mathlib.Core.List.{IsPrefix}
@@ -14,11 +13,11 @@ use Rattle.histories.specs.declared.events.IndexEvent.TheVariants.{Take, Insert,
 use Rattle.histories.specs.History.{events, stamp, is_legal_after}
 use Rattle.histories.specs.Stores.{Blob}
 use Rattle.histories.specs.declared.events.Insertion.{Insertion}
-use Rattle.histories.specs.Indexes.{insertion_of, inserts, has_number, is_inserted, in_hand, in_hand_after, waits_in, may_join_index, is_legal_index}
+use Rattle.histories.specs.Indexes.{inserts, has_number, is_inserted, in_hand, in_hand_after, waits_in, may_join_index, is_legal_index}
 use Rattle.histories.proofs.Standing.{inserted_is}
 use Rattle.home_core.specs.State.{has, times}
 use Rattle.home_core.specs.Steps.{blobs_at, entry_of}
-use Rattle.home_core.proofs.Times.{times_append, times_present}
+use Rattle.home_core.proofs.Times.{times_append}
 use Rattle.core_home.specs.declared.turns.Turns.{Turns}
 use Rattle.core_home.specs.Keeping.{blob_at, insert_of, take_of, index_of}
 use Rattle.core_home.proofs.Counting.{AreBelow, times_first, not_there}

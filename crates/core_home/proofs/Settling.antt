@@ -1,26 +1,23 @@
 -- Every number that lacks is inserted, each in a turn of its own.
-use Rattle.std.proofs.Common.{◌≡◌, ℕ, zero, suc, ◌+◌, ◌-◌, ◌<◌, ◌≤◌, ◌⊎◌, inl, inr, Bool, true, false, not, cond, nat_eq, List, [], ◌∷◌, ◌++◌, length, length-append, min, max, slice_get, append_assoc, refl, ap, sym, subst, ◌∙◌, arith, Option, Some, None, Result, Ok, Err, OnOk, OnErr}
+use Rattle.std.proofs.Common.{◌≡◌, ℕ, zero, suc, ◌+◌, ◌-◌, ◌<◌, inl, inr, Bool, true, false, cond, nat_eq, List, [], ◌∷◌, ◌++◌, length, length-append, min, max, append_assoc, refl, ap, sym, subst, ◌∙◌, arith, Option, Some, None, Result, Ok, Err}
 use Rattle.std.specs.Option.{option_map}
 use Rattle.std.proofs.lemmas.List.{append-nil}
 use Rattle.std.proofs.lemmas.Bool.{eqb-true}
-use mathlib.Core.List.{IsPrefix}
 use Rattle.blobref.proofs.Digests.{is_own_ref-true}
 use Rattle.edge_base.specs.declared.answers.GetFault.{GetFault}
 use Rattle.edge_base.specs.declared.answers.GetFault.TheVariants as unread
 use Rattle.claim_verify.specs.Verifier.{Accepts}
-use Rattle.schema_json.specs.Facts.{fact_of}
 use Rattle.histories.specs.declared.stamped.Stamped.{Stamped}
 use Rattle.histories.specs.declared.events.StoreEvent.{StoreEvent}
 use Rattle.histories.specs.declared.events.IndexEvent.{IndexEvent}
-use Rattle.histories.specs.declared.events.IndexEvent.TheVariants.{Insert}
 use Rattle.histories.specs.History.{stamp, stamped, rises, Grew}
 use Rattle.histories.specs.Stores.{Blob, are_arrivals, arrivals}
-use Rattle.histories.specs.Indexes.{inserts, has_number, HasAllBelow, is_legal_index}
+use Rattle.histories.specs.Indexes.{inserts}
 use Rattle.histories.proofs.Prefixes.{prefix_self}
 use Rattle.histories.proofs.Growing.{grew_none, grew_chain, ran_grew}
 use Rattle.histories.proofs.Standing.{inserts_prefix}
 use Rattle.home_core.specs.declared.events.Event.TheVariants as event
-use Rattle.home_core.specs.State.{CoreState, IsSound, has, times, numbers_below, without, seen_by}
+use Rattle.home_core.specs.State.{CoreState, IsSound, has, numbers_below, without, seen_by}
 use Rattle.home_core.specs.Steps.{core_step, unindexed_below, settle_bound}
 use Rattle.home_places.specs.Passes.{Sight, IsTrouble, Agrees, Settles, Stays}
 use Rattle.home_core.proofs.Times.{times_less, below_none}
@@ -28,7 +25,7 @@ use Rattle.home_places.proofs.Owning.{own_after}
 use Rattle.home_core.proofs.Promised.{found_by}
 use Rattle.core_home.specs.declared.turns.Turns.{Turns}
 use Rattle.core_home.specs.Keeping.{IsKept, upto, is_within, store_of, blob_at, insert_of, index_of, inserted_from}
-use Rattle.core_home.specs.Answers.{lacking, lacking_count, settled, after_settle}
+use Rattle.core_home.specs.Answers.{lacking, lacking_count, settled}
 use Rattle.core_home.specs.Sights.{alone}
 use Rattle.core_home.proofs.Turning.{turn_ran, turn_within, turn_rises, now_spent}
 use Rattle.core_home.proofs.Counting.{AreBelow, are_below, indexed_below, indexed_once, how_many_lack}

@@ -1,9 +1,8 @@
 -- A step of a worker.
-use Rattle.std.proofs.Common.{◌≡◌, ℕ, zero, suc, ◌+◌, ◌<◌, ◌≤◌, ◌⊎◌, inl, inr, ⊎_elim, Bool, true, false, not, ◌&&◌, ◌||◌, cond, nat_lt, nat_eq, List, [], ◌∷◌, ◌++◌, length, length-append, min, slice_get, append_assoc, refl, ap, sym, subst, ◌∙◌, arith, Option, Some, None, find, Result, Ok, Err, OnOk, OnErr, is_some}
+use Rattle.std.proofs.Common.{◌≡◌, ℕ, zero, suc, ◌+◌, ◌<◌, ◌⊎◌, ⊎_elim, Bool, true, false, not, ◌&&◌, ◌||◌, cond, nat_lt, nat_eq, List, [], ◌∷◌, ◌++◌, length, length-append, min, append_assoc, refl, ap, sym, subst, ◌∙◌, arith, Option, Some, None, find, Result, Ok, Err}
 use Rattle.std.proofs.lemmas.List.{append-nil}
 use Rattle.std.proofs.lemmas.Bool.{and_from, lt-ltb, not-true}
 use Rattle.blobref.specs.declared.memory.NoMemory.{NoMemory}
-use Rattle.edge_base.specs.declared.answers.GetFault.{GetFault}
 use Rattle.edge_base.specs.declared.answers.GetFault.TheVariants as unread
 use Rattle.edge_base.specs.declared.answers.Inserted.TheVariants as inserted
 use Rattle.claim_verify.specs.Verifier.{Accepts}
@@ -18,16 +17,15 @@ use Rattle.histories.specs.StoreCalls.{CountSpec, ArrivalSpec}
 use Rattle.histories.specs.Indexes.{is_inserted, waits_in}
 use Rattle.histories.specs.IndexCalls.{TakeSpec, InsertSpec, IsLeast, NonePasses}
 use Rattle.histories.proofs.Rising.{events_more}
-use Rattle.home_places.specs.declared.home.Indexed.{Indexed}
 use Rattle.home_places.specs.declared.home.Indexed.TheVariants.{New, Idle}
 use Rattle.home_core.specs.declared.events.Event.TheVariants as event
 use Rattle.home_core.specs.State.{CoreState, IsSound, has, numbers_below, is_in_neither, without}
-use Rattle.home_core.specs.Steps.{core_step, least_waiting, waits, may_insert, with_indexed, insert_number}
+use Rattle.home_core.specs.Steps.{core_step, least_waiting, waits, may_insert, with_indexed}
 use Rattle.home_places.specs.Passes.{Sight, StoreTurned, IndexTurned, Agrees}
 use Rattle.home_places.specs.Working.{Takes, TakesAnd, Indexes, Refuses, IndexesNext}
 use Rattle.home_core.proofs.Counting.{find_last, find_front}
 use Rattle.core_home.specs.declared.turns.Turns.{Turns}
-use Rattle.core_home.specs.Keeping.{IsKept, no_limits, upto, is_within, store_of, blob_at, insert_of, index_of}
+use Rattle.core_home.specs.Keeping.{IsKept, no_limits, is_within, store_of, blob_at, insert_of, index_of}
 use Rattle.core_home.specs.Sights.{alone}
 use Rattle.core_home.proofs.Turning.{kept_later, within_later, turn_within, turn_rises, store_turn, index_turn, now_spent}
 use Rattle.core_home.proofs.Counting.{indexed_once}

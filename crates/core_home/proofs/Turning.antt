@@ -1,5 +1,5 @@
 -- Turns of one who has a store and an index to himself.
-use Rattle.std.proofs.Common.{◌≡◌, ℕ, zero, suc, ◌+◌, ◌-◌, ◌^◌, ◌<◌, ◌≤◌, ◌⊎◌, inl, inr, Bool, true, false, not, ◌||◌, ◌&&◌, nat_le, List, [], ◌∷◌, ◌++◌, refl, ap, sym, subst, ◌∙◌, arith, Option, Some, None}
+use Rattle.std.proofs.Common.{◌≡◌, ℕ, zero, suc, ◌+◌, ◌-◌, ◌≤◌, inl, Bool, true, false, not, ◌||◌, nat_le, List, [], ◌∷◌, ◌++◌, refl, ap, sym, subst, ◌∙◌, arith, Option, None}
 use Rattle.std.proofs.lemmas.List.{append-nil}
 use Rattle.std.proofs.lemmas.Bool.{and_parts, and_from, leb-true, le-leb}
 use Rattle.claim_verify.specs.Verifier.{Accepts}
@@ -13,7 +13,6 @@ use Rattle.histories.proofs.Prefixes.{prefix_self}
 use Rattle.histories.proofs.Rising.{own_turned, rises_more, drawn_append, drawn_has, ahead_none, ahead_turned}
 use Rattle.histories.proofs.Rising.{within_append, within_stamped, within_more}
 use Rattle.histories.proofs.Standing.{inserts_prefix}
-use Rattle.home_places.specs.Showing.{shown_alone}
 use Rattle.home_places.specs.Passes.{Sight, StoreTurned, IndexTurned, StoreCall, Spends}
 use Rattle.home_core.specs.State.{CoreState}
 use Rattle.core_home.specs.declared.turns.Turns.{Turns}

@@ -1,30 +1,25 @@
 -- An upload.
-use Rattle.std.proofs.Common.{◌≡◌, ℕ, ◌+◌, ◌⊎◌, inl, Bool, true, false, not, cond, nat_lt, List, [], ◌∷◌, ◌++◌, length, length-append, refl, ap, sym, subst, ◌∙◌, arith, Option, Some, None, Result, Ok, Err, IfOk, IfErr, OnOk, OnErr, is_none}
-use Rattle.std.specs.Option.{option_map}
+use Rattle.std.proofs.Common.{◌≡◌, ℕ, ◌+◌, Bool, true, cond, List, [], ◌∷◌, ◌++◌, length, length-append, refl, ap, sym, subst, ◌∙◌, arith, Option, Some, None, Result, Ok, Err, is_none}
 use Rattle.std.proofs.lemmas.List.{append-nil}
-use Rattle.blobref.specs.Blobref.{ref_like, is_own_ref}
 use Rattle.edge_base.specs.declared.answers.Put.{Put}
 use Rattle.edge_base.specs.declared.answers.Put.TheVariants.{Stored, Already}
 use Rattle.edge_base.specs.declared.answers.PutFault.{PutFault}
-use Rattle.edge_base.specs.declared.answers.PutFault.TheVariants as fault
-use Rattle.pack_format.specs.Header.{max_size}
 use Rattle.claim_verify.specs.Verifier.{Accepts}
 use Rattle.histories.specs.declared.stamped.Stamped.{Stamped}
 use Rattle.histories.specs.declared.events.StoreEvent.{StoreEvent}
 use Rattle.histories.specs.declared.events.StoreEvent.TheVariants as store
 use Rattle.histories.specs.declared.events.IndexEvent.{IndexEvent}
 use Rattle.histories.specs.History.{stamped, rises}
-use Rattle.histories.specs.Stores.{Blob, arrivals, number_of}
+use Rattle.histories.specs.Stores.{Blob, arrivals}
 use Rattle.histories.specs.StoreCalls.{put_settled, PutAnswers, PutSpec}
 use Rattle.histories.specs.Indexes.{is_legal_index}
-use Rattle.home_core.specs.declared.events.Event.TheVariants as event
 use Rattle.home_core.specs.State.{CoreState, IsSound}
-use Rattle.home_core.specs.Steps.{core_step, put_blob}
-use Rattle.home_places.specs.Passes.{Sight, StoreTurned}
+use Rattle.home_core.specs.Steps.{put_blob}
+use Rattle.home_places.specs.Passes.{StoreTurned}
 use Rattle.home_core.proofs.Putting.{put_blob_longer}
 use Rattle.core_home.specs.declared.turns.Turns.{Turns}
 use Rattle.core_home.specs.Keeping.{IsKept, no_limits, is_within, store_of, index_of}
-use Rattle.core_home.specs.Answers.{is_stored, put_entry, after_put, after_upload, IsRefusal}
+use Rattle.core_home.specs.Answers.{put_entry, after_put, after_upload}
 use Rattle.core_home.specs.Sights.{alone}
 use Rattle.core_home.proofs.Turning.{turn_within, turn_rises, store_turn}
 use Rattle.core_home.proofs.Counting.{AreBelow, indexed_below}

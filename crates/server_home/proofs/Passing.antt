@@ -1,5 +1,5 @@
 -- Passes as they are made.
-use Rattle.std.proofs.Common.{◌≡◌, ◌+◌, List, [], ◌∷◌, ◌++◌, All, length, sym, ap, subst, ◌∙◌}
+use Rattle.std.proofs.Common.{◌≡◌, ◌+◌, List, [], ◌∷◌, All, length, sym, ap, subst, ◌∙◌}
 use Rattle.std.specs.List.{Contains}
 use Rattle.std.proofs.lemmas.List.{length-append}
 use Rattle.std.proofs.lemmas.List.Elements.{All-contains, All-push, All-weaker}
@@ -14,7 +14,7 @@ use Rattle.snap_index.specs.declared.held.About.{About}
 use Rattle.snap_index.specs.declared.seat.SharedIndex.{SharedIndex}
 use Rattle.snap_index.specs.declared.seat.SharedSeat.{SharedSeat}
 use Rattle.snap_index.specs.Making.{IsFresh}
-use Rattle.server_home.specs.Passes.{IsNewSeat, IsOneOf, HasOneMore, AreOf}
+use Rattle.server_home.specs.Passes.{IsOneOf, HasOneMore, AreOf}
 use Rattle.server_home.specs.Opening.{IsNew, ArePasses}
 
 module _ {D B : Type 0} {b : _} (g : Ghosts D) (s : TurnStore D) (v : StoreSight) (seat : B) where

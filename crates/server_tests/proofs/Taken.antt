@@ -2,7 +2,6 @@
 use Rattle.std.proofs.Common.{Option, Some, None}
 use Rattle.std.specs.Prelude.{IfSome}
 use Rattle.claim_verify.specs.Verifier.{Accepts}
-use Rattle.snap_index.specs.declared.seat.SharedIndex.{SharedIndex}
 use Rattle.snap_index.specs.declared.seat.SharedSeat.{SharedSeat}
 use Rattle.snap_index.specs.Making.{IsFresh}
 use Rattle.snap_index.specs.SnapSeats.{IsOfSnap}

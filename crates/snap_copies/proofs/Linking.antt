@@ -1,5 +1,5 @@
 -- How the first views come to know the copies.
-use Rattle.std.proofs.Common.{◌≡◌, ◌≢◌, ℕ, ◌⊎◌, Bool, true, false, List, [], ◌∷◌, ◌++◌, set, refl, ap, sym, subst, ◌∙◌, ⊎_elim, Option, Some, None}
+use Rattle.std.proofs.Common.{◌≡◌, ◌≢◌, ℕ, ◌⊎◌, true, false, [], ◌∷◌, set, ap, sym, subst, ◌∙◌, ⊎_elim}
 use Rattle.std.proofs.lemmas.Bool.{false≢true}
 use Rattle.std.specs.FinMap.{contains_key, empty}
 use mathlib.Core.Option.{some}
@@ -7,7 +7,6 @@ use mathlib.Core.List.{IsPrefix}
 use lib.ListN.{get_elem?}
 use Rattle.crossbeam_utils.specs.Register.{Admits, TurnsAt, Forks, Merges}
 use Rattle.atomic_table.proofs.Lists.{at_set, at_snoc}
-use Rattle.claim_model.specs.Facts.{Facts}
 use Rattle.histories.specs.Indexes.{indexed, has_number}
 use Rattle.histories.proofs.Prefixes.{prefix_self}
 use Rattle.claim_index.specs.Numbers.{NumberSet}

@@ -2,10 +2,8 @@
 use Rattle.std.proofs.Common.{◌≡◌, Bool, true, false, ◌||◌, cond, refl, sym, ap, ◌∙◌}
 use Rattle.std.proofs.lemmas.Bool.{false≢true}
 use Rattle.std.specs.FinMap.{contains_key, insert}
-use Rattle.claim_model.specs.Facts.{Facts}
 use Rattle.index_rows.specs.Loose.{LooseRow}
 use Rattle.claim_index.specs.Indexed.{Indexed, IsPut, IsSame}
-use Rattle.claim_index.specs.Numbers.{NumberSet}
 use Rattle.snap_copies.specs.Copies.{facts_with, numbers_with}
 
 or_absent : (a b : Bool) → a ≡ false → b ≡ (a || b)

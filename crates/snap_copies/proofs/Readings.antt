@@ -1,12 +1,12 @@
 -- A look and a publication keep the rule.
-use Rattle.std.proofs.Common.{◌≡◌, ◌≢◌, ℕ, ◌⊎◌, Bool, true, false, ◌||◌, List, [], ◌∷◌, ◌++◌, set, refl, ap, sym, subst, ◌∙◌, ⊎_elim, Option, Some, None, MatchOption, nat_eq, is_some, cond}
+use Rattle.std.proofs.Common.{◌≡◌, ◌≢◌, ℕ, ◌⊎◌, Bool, true, false, ◌||◌, List, [], ◌∷◌, ◌++◌, refl, ap, sym, subst, ◌∙◌, ⊎_elim, Option, Some, None, MatchOption, nat_eq, cond}
 use Rattle.std.proofs.lemmas.Bool.{false≢true}
 use Rattle.std.specs.FinMap.{contains_key, insert}
 use mathlib.Core.Option.{some}
 use mathlib.Core.List.{IsPrefix}
 use lib.ListN.{get_elem?}
-use Rattle.crossbeam_utils.specs.Register.{Admits, TurnsAt, Forks, Merges}
-use Rattle.atomic_table.proofs.Lists.{at_set, at_snoc}
+use Rattle.crossbeam_utils.specs.Register.{TurnsAt}
+use Rattle.atomic_table.proofs.Lists.{at_set}
 use Rattle.claim_model.specs.Facts.{Facts}
 use Rattle.claim_index.specs.Numbers.{NumberSet}
 use Rattle.index_rows.specs.Loose.{LooseRow, with_fact}
@@ -19,7 +19,7 @@ use Rattle.snap_copies.specs.declared.copies.Common.{Common}
 use Rattle.snap_copies.specs.declared.copies.Addition.{Addition}
 use Rattle.snap_copies.specs.declared.rule.Shown.{Shown}
 use Rattle.snap_copies.specs.Copies.{common_of, absorbed, facts_with, numbers_with}
-use Rattle.snap_copies.specs.Shows.{Knows, Shows, SeesNow, Fits, newcomer, row_of}
+use Rattle.snap_copies.specs.Shows.{Knows, Shows, SeesNow, Fits, row_of}
 use Rattle.snap_copies.proofs.Facts.{indexed_more}
 
 -- ---- a publication

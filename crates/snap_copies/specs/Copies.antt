@@ -1,5 +1,5 @@
 -- What the two copies have in common, and what an Insert makes of it.
-use Rattle.std.specs.Prelude.{ℕ, List, Bool, ◌||◌, if◌then◌else◌}
+use Rattle.std.specs.Prelude.{Bool, ◌||◌, if◌then◌else◌}
 use Rattle.std.specs.FinMap.{contains_key, insert}
 use Rattle.claim_model.specs.Facts.{Facts}
 use Rattle.index_rows.specs.Loose.{LooseRow}

@@ -1,5 +1,5 @@
 -- What is published, and what readers know of it.
-use Rattle.std.specs.Prelude.{◌≡◌, ℕ, true, false, List, [], ◌∷◌, ◌++◌, Option, Some, None, MatchOption}
+use Rattle.std.specs.Prelude.{◌≡◌, ℕ, true, false, List, [], ◌∷◌, ◌++◌, Some, None, MatchOption}
 use Rattle.std.specs.FinMap.{contains_key}
 use mathlib.Core.Option.{some}
 use mathlib.Core.List.{IsPrefix}

@@ -1,13 +1,12 @@
 -- An Insert more keeps a list of Inserts fine.
-use Rattle.std.proofs.Common.{◌≡◌, ℕ, zero, suc, ◌+◌, ◌<◌, ◌≤◌, List, [], ◌∷◌, ◌++◌, map, Bool, true, false, not, ◌||◌, ◌&&◌, nat_eq, Option, Some, None, refl, sym, ap, subst, ◌∙◌, arith, zero-le}
-use mathlib.Core.List.{map-append}
+use Rattle.std.proofs.Common.{◌≡◌, ℕ, zero, suc, ◌+◌, ◌<◌, List, [], ◌∷◌, ◌++◌, Bool, true, false, not, ◌||◌, ◌&&◌, nat_eq, Some, refl, sym, ap, subst, ◌∙◌, arith, zero-le}
 use Rattle.std.proofs.lemmas.Bool.{and_parts, and_from}
 use Rattle.schema_fact.specs.declared.kinds.Fact.{Fact}
 use Rattle.histories.specs.declared.stamped.Stamped.{Stamped}
 use Rattle.histories.specs.declared.events.Insertion.{Insertion}
 use Rattle.histories.specs.declared.events.IndexEvent.{IndexEvent}
 use Rattle.histories.specs.declared.events.IndexEvent.TheVariants.{Take, Insert, Return}
-use Rattle.histories.specs.History.{events, stamp, stamped, rises, Before, Within, is_legal_after}
+use Rattle.histories.specs.History.{events, stamp, rises, Before, Within, is_legal_after}
 use Rattle.histories.specs.Indexes.{insertion_of, inserts, has_number, is_inserted, may_join_index, is_legal_index}
 use Rattle.histories.proofs.Legality.{legal_more}
 use Rattle.histories.proofs.Rising.{events_more, rises_more}

@@ -1,5 +1,5 @@
 -- What the join of two seats and the turn after it are.
-use Rattle.std.proofs.Common.{◌≡◌, ◌≢◌, ℕ, ◌+◌, ◌≤◌, ◌<◌, List, [], ◌∷◌, ◌++◌, Bool, true, false, ◌||◌, cond, Option, Some, None, refl, sym, ap, subst, ◌∙◌, eqb, arith, ⊎_elim}
+use Rattle.std.proofs.Common.{◌≡◌, ℕ, ◌+◌, ◌≤◌, List, [], ◌∷◌, ◌++◌, Bool, true, false, ◌||◌, cond, Option, None, refl, sym, ap, subst, ◌∙◌, eqb, arith}
 use Rattle.std.specs.List.{filter}
 use Rattle.std.proofs.lemmas.List.{append-nil}
 use Rattle.std.proofs.lemmas.List.Elements.{filter-append}
@@ -13,7 +13,7 @@ use Rattle.histories.specs.History.{stamped, has, own, AheadOf, Ran, IsLonger, W
 use Rattle.histories.specs.Indexes.{inserts}
 use Rattle.histories.proofs.Growing.{has_front, has_rest}
 use Rattle.histories.proofs.Rising.{ahead_chain}
-use Rattle.home_places.specs.Seats.{IndexSight, IndexJoin}
+use Rattle.home_places.specs.Seats.{IndexJoin}
 
 module _ {A : Type 0} (p q : A → Bool) where
   -- a rest that adds nothing that passes has nothing that passes

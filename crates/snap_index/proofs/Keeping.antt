@@ -1,5 +1,5 @@
 -- What a turn leaves of what the writer with its numbers stands for.
-use Rattle.std.proofs.Common.{◌≡◌, ℕ, List, [], ◌∷◌, ◌++◌, Option, Some, None, Result, Ok, Err, Bool, true, false, refl, sym, ap, subst, ◌∙◌}
+use Rattle.std.proofs.Common.{◌≡◌, ℕ, List, [], ◌++◌, Option, Some, None, Result, Ok, Err, Bool, true, false, refl, sym, ap, subst, ◌∙◌}
 use Rattle.std.proofs.lemmas.List.{append-nil}
 use Rattle.blobref.specs.declared.memory.NoMemory.{NoMemory}
 use Rattle.histories.specs.declared.stamped.Stamped.{Stamped}

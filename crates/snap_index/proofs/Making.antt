@@ -1,18 +1,17 @@
 -- Seats as they are made.
-use Rattle.std.proofs.Common.{◌≡◌, ℕ, ◌+◌, List, [], ◌∷◌, ◌++◌, All, length, Option, Some, None, refl, sym, ap, subst, ◌∙◌, arith}
+use Rattle.std.proofs.Common.{◌≡◌, ◌+◌, List, [], ◌∷◌, All, length, Option, Some, sym, ap, subst, ◌∙◌}
 use Rattle.std.proofs.lemmas.List.{length-append}
 use Rattle.std.proofs.lemmas.List.Elements.{All-weaker, All-push}
 use Rattle.claim_verify.specs.Verifier.{Accepts}
 use Rattle.histories.specs.declared.events.IndexEvent.{IndexEvent}
 use Rattle.turn_cell.specs.declared.turn.Turn.{Turn}
-use Rattle.home_places.specs.Showing.{shown_alone}
 use Rattle.snap_copies.specs.declared.copies.IndexCopy.{IndexCopy}
 use Rattle.snap_copies.specs.declared.watch.Watch.{Watch}
 use Rattle.snap_index.specs.declared.held.Held.{Held}
 use Rattle.snap_index.specs.declared.held.About.{About}
 use Rattle.snap_index.specs.declared.seat.SharedIndex.{SharedIndex}
 use Rattle.snap_index.specs.declared.seat.SharedSeat.{SharedSeat}
-use Rattle.snap_index.specs.SnapSeats.{accepts_of, snap_sight}
+use Rattle.snap_index.specs.SnapSeats.{accepts_of}
 use Rattle.snap_copies.specs.Linked.{IsLinked}
 use Rattle.snap_index.specs.Making.{IsFor, IsNewSeat, HasOneMoreSeat, IsFresh}
 

@@ -1,5 +1,5 @@
 -- What a look in a search leaves and answers.
-use Rattle.std.proofs.Common.{◌≡◌, ℕ, List, Option, Some, None, Result, Ok, Err, IfOk, length, take, refl, sym, ap, ◌∙◌}
+use Rattle.std.proofs.Common.{◌≡◌, ℕ, List, Option, Some, None, Result, Ok, Err, IfOk, length, take}
 use Rattle.std.specs.Prelude.{option_map}
 use Rattle.blobref.specs.declared.memory.NoMemory.{NoMemory}
 use Rattle.claim_verify.specs.Verifier.{Accepts}

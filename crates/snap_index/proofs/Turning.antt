@@ -1,18 +1,13 @@
 -- What a turn and a join are to a seat.
-use Rattle.std.proofs.Common.{◌≡◌, ℕ, ◌+◌, List, [], ◌∷◌, ◌++◌, Bool, true, false, ◌||◌, cond, length, take, Option, Some, None, refl, sym, ap, subst, ◌∙◌, eqb, arith, ⊎_elim, inl, inr, ◌⊎◌}
-use Rattle.std.specs.List.{filter}
-use Rattle.std.proofs.lemmas.List.{append-nil}
-use Rattle.std.proofs.lemmas.List.Elements.{filter-append}
-use Rattle.std.proofs.lemmas.Bool.{ne_eqb}
+use Rattle.std.proofs.Common.{◌≡◌, ℕ, ◌+◌, List, [], ◌∷◌, ◌++◌, true, length, take, Option, Some, sym, ap, subst, ◌∙◌}
 use mathlib.Core.List.{IsPrefix}
 use Rattle.logbook.specs.Pages.{Book}
 use Rattle.histories.specs.declared.stamped.Stamped.{Stamped}
 use Rattle.histories.specs.declared.events.Insertion.{Insertion}
 use Rattle.histories.specs.declared.events.IndexEvent.{IndexEvent}
-use Rattle.histories.specs.History.{events, stamped, has, own, rises, AheadOf, Drawn, Ran, IsLonger, Within}
+use Rattle.histories.specs.History.{stamped, own, rises, AheadOf, Drawn, Ran, Within}
 use Rattle.histories.specs.Indexes.{inserts}
-use Rattle.histories.proofs.Prefixes.{prefix_self, prefix_trans}
-use Rattle.home_places.specs.Seats.{IndexSight, IndexTurn, IndexJoin}
+use Rattle.home_places.specs.Seats.{IndexSight, IndexTurn}
 use Rattle.snap_copies.specs.declared.book.Front.{Front}
 use Rattle.snap_index.specs.Beginnings.{taken}
 use Rattle.snap_index.specs.Telling.{GuardedSpec}

@@ -1,5 +1,5 @@
 -- What a seat has seen and been shown is legal.
-use Rattle.std.proofs.Common.{◌≡◌, ap, true, List, length, take, Option, Some, None}
+use Rattle.std.proofs.Common.{◌≡◌, true, List, length, take, Option, Some, None}
 use Rattle.std.specs.Prelude.{option_map}
 use Rattle.std.proofs.lemmas.Bool.{and_parts}
 use mathlib.Core.List.{IsPrefix}

@@ -1,5 +1,5 @@
 -- What a seat is seen as, and of which place it is.
-use Rattle.std.specs.Prelude.{◌≡◌, List, [], Bool, false, Option, Some, None}
+use Rattle.std.specs.Prelude.{List, [], Bool, false, Option, Some, None}
 use Rattle.claim_verify.specs.Verifier.{Accepts}
 use Rattle.histories.specs.declared.events.Insertion.{Insertion}
 use Rattle.histories.specs.declared.events.IndexEvent.{IndexEvent}

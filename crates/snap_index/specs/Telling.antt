@@ -1,5 +1,5 @@
 -- Which histories the writer with its numbers stands for, and what a turn says.
-use Rattle.std.specs.Prelude.{◌≡◌, ℕ, List, ◌++◌, ◌∷◌, [], Option, Some, None, MatchOption, Result, Ok, Err}
+use Rattle.std.specs.Prelude.{◌≡◌, ℕ, List, ◌++◌, [], Option, Some, None, Result, Ok, Err}
 use mathlib.Core.List.{IsPrefix}
 use Rattle.blobref.specs.declared.memory.NoMemory.{NoMemory}
 use Rattle.edge_base.specs.declared.answers.Inserted.{Inserted}

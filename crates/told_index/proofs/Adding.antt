@@ -1,6 +1,5 @@
 -- What a place leaves, where no fact stood under the ref.
 use Rattle.std.proofs.Common.{◌≡◌, ℕ, Bool, true, false, ◌||◌, cond, nat_eq, refl, sym, ap, ◌∙◌}
-use Rattle.std.proofs.lemmas.Bool.{false≢true}
 use Rattle.std.specs.FinMap.{contains_key, insert}
 use Rattle.index_rows.specs.Loose.{LooseRow, with_row}
 use Rattle.claim_index.specs.Indexed.{Indexed, IsPut, IsSame}

@@ -16,7 +16,7 @@ use Rattle.histories.specs.declared.events.Insertion.{Insertion}
 use Rattle.histories.specs.History.{events, stamped}
 use Rattle.histories.specs.Indexes.{indexed, inserts, is_inserted}
 use Rattle.histories.proofs.Standing.{inserts_append}
-use Rattle.work_numbers.specs.Working.{Working, with_noted}
+use Rattle.work_numbers.specs.Working.{with_noted}
 use Rattle.work_numbers.specs.Telling.{NumbersTell, return_entry, take_entry}
 use Rattle.work_numbers.proofs.Entries.{inserted_append}
 use Rattle.work_numbers.proofs.Facts.{indexed_more}

@@ -10,7 +10,7 @@ use Rattle.histories.specs.declared.events.IndexEvent.TheVariants.{Take, Insert,
 use Rattle.histories.specs.History.{events, stamped, is_legal_after}
 use Rattle.histories.specs.IndexCalls.{TakeSpec, LackingSpec}
 use Rattle.histories.specs.declared.events.Insertion.{Insertion}
-use Rattle.histories.specs.Indexes.{indexed, inserts, in_hand, in_hand_after, is_inserted, may_join_index, waits_in}
+use Rattle.histories.specs.Indexes.{inserts, in_hand, in_hand_after, is_inserted, may_join_index, waits_in}
 use Rattle.histories.proofs.Legality.{legal_more}
 use Rattle.histories.proofs.Rising.{events_more}
 use Rattle.histories.proofs.Standing.{inserts_append}

@@ -1,4 +1,4 @@
-use Rattle.std.proofs.Common.{◌≡◌, ◌<◌, ◌+◌, ◌-◌, ◌++◌, ◌∷◌, ◌∙◌, ℕ, Bool, List, ap, sym, length, take, drop, filter, option_copied}
+use Rattle.std.proofs.Common.{◌<◌, ◌+◌, ◌-◌, ◌++◌, ◌∷◌, ◌∙◌, ℕ, Bool, List, ap, sym, length, take, drop, filter, option_copied}
 use Rattle.std.proofs.lemmas.List.{drop_more}
 use Rattle.blobref.specs.Blobref.{is_after}
 use Rattle.core_home.proofs.Listings.{not_full, page_within, page_more}

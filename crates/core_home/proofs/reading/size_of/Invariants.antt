@@ -1,5 +1,4 @@
-use Rattle.std.proofs.Common.{◌≡◌, drop, length, List, ℕ}
-use Rattle.std.specs.Option.{option_map}
+use Rattle.std.proofs.Common.{◌≡◌, drop}
 use Rattle.histories.specs.Stores.{bytes_of}
 use Rattle.core_home.proofs.reading.size_of.Given as goal
 

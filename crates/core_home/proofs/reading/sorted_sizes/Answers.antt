@@ -1,7 +1,6 @@
-use Rattle.std.proofs.Common.{◌≡◌, ap, sym, subst, ◌∙◌, rules, List, ℕ}
-use Rattle.std.specs.List.{IsDistinct}
+use Rattle.std.proofs.Common.{ap, sym, subst, ◌∙◌, rules, List, ℕ}
 use Rattle.std.specs.List.Sorted.{IsPermutation}
-use Rattle.std.specs.FinMap.{entries, from_entries}
+use Rattle.std.specs.FinMap.{entries}
 use Rattle.std.specs.Cmp.Lexicographic.{nat_list_cmp_total}
 use Rattle.std.proofs.lemmas.List.Sorted.{answers_always}
 use Rattle.histories.specs.StoreCalls.{sizes}

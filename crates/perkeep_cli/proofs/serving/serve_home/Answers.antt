@@ -1,5 +1,4 @@
 use Rattle.std.proofs.Common.{rules, All, sym, subst, ◌∙◌}
-use Rattle.blob_server.specs.declared.desk_list.Desk.{Desk}
 use Rattle.perkeep_cli.proofs.Desks.{all_desks}
 use Rattle.perkeep_cli.proofs.serving.serve_home.Goals as goal
 

@@ -1,4 +1,4 @@
-use Rattle.std.proofs.Common.{◌≡◌, ◌∙◌, refl, sym, ap, subst, arith, All, List, length, [], ◌∷◌, Some}
+use Rattle.std.proofs.Common.{◌∙◌, refl, sym, ap, subst, arith, All, length, [], ◌∷◌, Some}
 use Rattle.std.specs.List.{Contains}
 use Rattle.std.proofs.lemmas.List.{length-append}
 use Rattle.std.proofs.lemmas.List.Elements.{All-nil, All-pop, All-contains_itself}

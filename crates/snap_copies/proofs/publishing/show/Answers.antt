@@ -1,4 +1,4 @@
-use Rattle.std.proofs.Common.{◌≡◌, sym, ap, ◌∙◌, refl, [], ◌∷◌, ◌++◌}
+use Rattle.std.proofs.Common.{sym, ap, ◌∙◌, refl, [], ◌∷◌, ◌++◌}
 use Rattle.histories.specs.Indexes.{has_number}
 use Rattle.snap_copies.specs.declared.copies.Addition.{Addition}
 use Rattle.snap_copies.specs.Books.{insertion}

@@ -1,4 +1,3 @@
-use Rattle.std.proofs.Common.{rules, refl, sym, ap, ◌∙◌}
 use Rattle.snap_copies.proofs.Linking.{admits, forks, merges}
 use Rattle.snap_copies.proofs.readers.new_watch.Goals as goal
 

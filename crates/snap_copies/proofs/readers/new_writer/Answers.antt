@@ -1,5 +1,4 @@
-use Rattle.std.proofs.Common.{◌≡◌, refl, sym, ap, ◌∙◌, fold}
-use Rattle.snap_copies.specs.declared.copies.Common.{Common}
+use Rattle.std.proofs.Common.{sym, ap, ◌∙◌, fold}
 use Rattle.snap_copies.specs.Copies.{common_of, absorbed}
 use Rattle.snap_copies.proofs.Linking.{starts, same_copy}
 use Rattle.snap_copies.proofs.readers.new_writer.Goals as goal

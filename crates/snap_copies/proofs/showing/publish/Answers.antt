@@ -1,4 +1,4 @@
-use Rattle.std.proofs.Common.{◌≡◌, sym, subst, ◌∙◌}
+use Rattle.std.proofs.Common.{sym, subst, ◌∙◌}
 use Rattle.snap_copies.specs.Shows.{Fits}
 use Rattle.snap_copies.proofs.showing.publish.Goals as goal
 

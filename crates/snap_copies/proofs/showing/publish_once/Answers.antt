@@ -1,4 +1,4 @@
-use Rattle.std.proofs.Common.{ap, subst, sym, ◌∙◌, ◌∷◌, [], ◌≡◌, fold}
+use Rattle.std.proofs.Common.{ap, ◌∙◌, fold}
 use Rattle.snap_copies.specs.Copies.{common_of, absorbed}
 use Rattle.snap_copies.proofs.Readings.{publishes}
 use Rattle.snap_copies.proofs.showing.publish_once.Goals as goal

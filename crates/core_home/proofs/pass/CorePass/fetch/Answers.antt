@@ -1,4 +1,4 @@
-use Rattle.std.proofs.Common.{◌≡◌, List, None, sym, subst, arith}
+use Rattle.std.proofs.Common.{List, None, sym, subst, arith}
 use Rattle.std.proofs.Common.{true}
 use Rattle.histories.specs.StoreCalls.{GetSpec}
 use Rattle.histories.specs.Stores.{Blob}

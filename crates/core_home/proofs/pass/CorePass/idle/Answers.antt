@@ -1,4 +1,4 @@
-use Rattle.std.proofs.Common.{◌≡◌, ◌∙◌, arith}
+use Rattle.std.proofs.Common.{◌∙◌, arith}
 use Rattle.core_home.proofs.Turning.{kept_later}
 use Rattle.core_home.proofs.Stepping.{idles}
 use Rattle.core_home.proofs.pass.CorePass.idle.Goals as goal

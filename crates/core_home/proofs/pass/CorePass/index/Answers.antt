@@ -1,4 +1,4 @@
-use Rattle.std.proofs.Common.{◌≡◌, ◌+◌, ◌∙◌, ap, refl, rules}
+use Rattle.std.proofs.Common.{◌+◌, ◌∙◌, ap, refl, rules}
 use Rattle.core_home.proofs.Stepping.{refused_kept, take_refused, next_kept, next_done}
 use Rattle.core_home.proofs.pass.CorePass.index.Goals as goal
 

@@ -1,4 +1,4 @@
-use Rattle.std.proofs.Common.{◌≡◌, ℕ, ◌≤◌, ◌-◌, ap, arith, length}
+use Rattle.std.proofs.Common.{◌-◌, ap, arith, length}
 use Rattle.core_home.proofs.Settling.{count_of_lacking}
 use Rattle.core_home.proofs.pass.CorePass.lacking.Goals as goal
 

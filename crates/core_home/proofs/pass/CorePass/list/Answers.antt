@@ -1,4 +1,4 @@
-use Rattle.std.proofs.Common.{◌≡◌, List, None, sym, subst, arith, rules}
+use Rattle.std.proofs.Common.{List, None, sym, subst, arith, rules}
 use Rattle.std.proofs.Common.{option_copied}
 use Rattle.histories.specs.StoreCalls.{ListSpec}
 use Rattle.core_home.proofs.Listings.{list_says}

@@ -1,4 +1,4 @@
-use Rattle.std.proofs.Common.{◌≡◌, ◌∙◌, ap, length, replicate, List, ℕ}
+use Rattle.std.proofs.Common.{◌∙◌, ap, length, replicate, List, ℕ}
 use Rattle.histories.specs.Stores.{Blob}
 use Rattle.core_home.specs.Keeping.{from_the_start}
 use Rattle.core_home.proofs.Starting.{starts_kept, starts_seen}

@@ -1,4 +1,3 @@
-use Rattle.std.proofs.Common.{ap}
 use Rattle.core_home.proofs.Answering.{searches}
 use Rattle.core_home.proofs.pass.CorePass.search.Goals as goal
 

@@ -1,4 +1,4 @@
-use Rattle.std.proofs.Common.{◌≡◌, List, None, sym, subst, arith, rules}
+use Rattle.std.proofs.Common.{List, None, sym, subst, arith, rules}
 use Rattle.histories.specs.StoreCalls.{StatSpec}
 use Rattle.core_home.proofs.Listings.{stat_says}
 use Rattle.histories.specs.Stores.{Blob}

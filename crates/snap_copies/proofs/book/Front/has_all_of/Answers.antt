@@ -1,4 +1,4 @@
-use Rattle.std.proofs.Common.{◌≤◌, ◌≡◌, ap, subst, arith, length, List, ℕ, Bool, true, false, sym, ◌∙◌, refl}
+use Rattle.std.proofs.Common.{◌≡◌, ap, subst, arith, length, List, ℕ, Bool, true, false, refl}
 use Rattle.std.specs.Bool.{MatchBool}
 use Rattle.std.proofs.lemmas.Bool.{leb-true, leb-false}
 use lib.Dec.{leb}

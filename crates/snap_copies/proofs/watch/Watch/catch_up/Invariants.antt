@@ -1,4 +1,3 @@
-use Rattle.std.proofs.Common.{◌≡◌}
 use Rattle.snap_copies.specs.Watches.{Sees}
 use Rattle.snap_copies.proofs.watch.Watch.catch_up.Given as goal
 

@@ -1,4 +1,4 @@
-use Rattle.std.proofs.Common.{◌≡◌, List, false, sym, ap, subst, ◌∙◌, refl, [], ◌∷◌, ◌++◌, Some, drop}
+use Rattle.std.proofs.Common.{◌≡◌, List, sym, ap, subst, ◌∙◌, refl, [], ◌∷◌, ◌++◌, Some, drop}
 use Rattle.histories.specs.declared.events.Insertion.{Insertion}
 use Rattle.histories.specs.History.{stamped, Before}
 use Rattle.histories.specs.Indexes.{has_number}

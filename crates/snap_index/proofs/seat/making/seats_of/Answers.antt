@@ -1,4 +1,4 @@
-use Rattle.std.proofs.Common.{◌≡◌, ◌∙◌, ap, subst, arith, length, [], ◌∷◌, Option, Some}
+use Rattle.std.proofs.Common.{◌∙◌, ap, subst, arith, length, [], ◌∷◌, Option, Some}
 use Rattle.std.proofs.lemmas.List.{length-append}
 use Rattle.std.proofs.lemmas.List.Elements.{All-pop}
 use Rattle.turn_cell.specs.Seats.{about}

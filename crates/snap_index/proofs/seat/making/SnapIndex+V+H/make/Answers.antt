@@ -1,4 +1,4 @@
-use Rattle.std.proofs.Common.{◌≡◌, ◌∙◌, sym, ap, subst, refl, All, Option}
+use Rattle.std.proofs.Common.{◌∙◌, sym, ap, subst, refl, All, Option}
 use Rattle.snap_index.specs.declared.held.About.{About}
 use Rattle.snap_index.specs.Making.{IsFor, IsNewSeat}
 use Rattle.snap_index.proofs.Making.{are_for, are_fresh}

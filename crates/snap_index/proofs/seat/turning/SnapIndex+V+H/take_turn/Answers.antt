@@ -4,7 +4,7 @@ use mathlib.Core.List.{IsPrefix}
 use Rattle.turn_cell.specs.Seats.{seen, turns, about}
 use Rattle.snap_index.specs.SnapSeats.{snap_sight, shown_in, accepts_of}
 use Rattle.snap_copies.specs.Watches.{shown_of, keys_of}
-use Rattle.snap_index.proofs.Turning.{answered, front_book, front_all, known_now, index_turn, turn_moved}
+use Rattle.snap_index.proofs.Turning.{answered, known_now, index_turn, turn_moved}
 use Rattle.snap_index.proofs.seat.turning.SnapIndex+V+H.take_turn.Goals as goal
 
 pub invariant_of-seat : goal.invariant_of-seat
