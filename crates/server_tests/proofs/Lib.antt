@@ -1,3 +1,1 @@
 pub mod Desks
-pub mod FewSteps
-pub mod Taken

@@ -4,10 +4,6 @@
 #[cfg(test)]
 mod ends;
 #[cfg(test)]
-mod rows;
-#[cfg(test)]
-mod seats;
-#[cfg(test)]
 mod serving;
 #[cfg(test)]
 mod texts;

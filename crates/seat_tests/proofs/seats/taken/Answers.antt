@@ -1,7 +1,7 @@
 use Rattle.std.proofs.lemmas.List.Elements.{All-pop}
 use Rattle.snap_index.specs.Making.{IsFresh}
-use Rattle.server_tests.proofs.Taken.{own_of}
-use Rattle.server_tests.proofs.seats.taken.Goals as goal
+use Rattle.seat_tests.proofs.Taken.{own_of}
+use Rattle.seat_tests.proofs.seats.taken.Goals as goal
 
 pub returns-clause-rest : goal.returns-clause-rest
 returns-clause-rest g c =

@@ -1,31 +1,17 @@
-//! Indexes that two seats share.
+//! Indexes that stand twice, which two seats share.
 ghost use Rattle.std.specs.Prelude.{All, IfSome};
-ghost use Rattle.schema_fact.specs.Validity.{IsValid};
 ghost use Rattle.snap_index.specs.Making.{IsFresh};
 ghost use Rattle.snap_index.specs.SnapSeats.{IsOfSnap};
 
+use crate::facts::{is_new, plain};
 use blobref::{NoMemory, Ref};
 use claim_verify::{Keyring, Verifier};
-use edge_base::Inserted;
 use home_places::IndexPlace;
 use schema_date::When;
-use schema_fact::{Fact, Kind};
 use search_query::Query;
 use snap_index::{SnapIndex, SnapSeat};
 use std::alloc::Global;
 use std::sync::Wait;
-use std::test::Fail;
-use turn_home::TurnIndex;
-
-// The fact of three bytes that say nothing.
-fn plain() -> Fact
-    ensures { IsValid result }
-{
-    Fact {
-        size: 3,
-        kind: Kind::Plain,
-    }
-}
 
 /// One of the seats with which a place was made.
 pub(crate) fn taken<V: Verifier + Copy + Drop, H: Wait + Drop>(
@@ -51,6 +37,19 @@ fn has_two_seats<V: Verifier + Copy + Drop, H: Wait + Drop>(
     Ok(are_two && seats.pop().is_none())
 }
 
+// Whether nothing is found for a value.
+fn finds_none<V: Verifier + Drop, H: Wait + Drop>(
+    alloc: Global,
+    index: &SnapIndex<V, H>,
+    seat: &mut SnapSeat<V, H>,
+) -> Result<bool, NoMemory>
+    requires { IsOfSnap index.now seat.old }
+    ensures { IsOfSnap index.now seat.new }
+{
+    let query = Query::for_value(alloc, "tag", "sunset", When::Always)?;
+    Ok(index.search(seat, &query)?.len() == 0)
+}
+
 // Whether a search shows a seat what another one inserted, and nothing showed it before.
 fn shows_what_another_inserted<V: Verifier + Copy + Drop, H: Wait + Drop, R: Wait>(
     rt: &R,
@@ -58,7 +57,6 @@ fn shows_what_another_inserted<V: Verifier + Copy + Drop, H: Wait + Drop, R: Wai
     alloc: Global,
     keys: V,
 ) -> Result<bool, NoMemory> {
-    let query = Query::for_value(alloc, "tag", "sunset", When::Always)?;
     let (index, mut seats) = SnapIndex::make(handle, alloc, keys, 2)?;
     let Some(mut one) = taken(&index, keys, &mut seats) else {
         return Ok(false);
@@ -66,10 +64,10 @@ fn shows_what_another_inserted<V: Verifier + Copy + Drop, H: Wait + Drop, R: Wai
     let Some(mut other) = taken(&index, keys, &mut seats) else {
         return Ok(false);
     };
-    index.insert(rt, &mut one, 0, &Ref::of(b"abc"), plain())?;
+    let inserted = index.insert(rt, &mut one, 0, &Ref::of(b"abc"), plain());
     let before = index.seen(&other);
-    let found = index.search(&mut other, &query)?;
-    Ok(before == 0 && found.len() == 0 && index.seen(&other) == 1)
+    let finds_none = finds_none(alloc, &index, &mut other)?;
+    Ok(is_new(inserted) && before == 0 && finds_none && index.seen(&other) == 1)
 }
 
 #[test]
@@ -83,33 +81,5 @@ fn two_seats_and_then_none(rt: HostRuntime) -> Result<(), NoMemory> {
 fn a_search_shows_what_another_seat_inserted(rt: HostRuntime) -> Result<(), NoMemory> {
     let keys = Keyring::empty(rt.alloc());
     assert!(rt; shows_what_another_inserted(&rt, &rt, rt.alloc(), &keys)?);
-    Ok(())
-}
-
-#[test]
-fn a_joined_seat_searches_what_the_other_inserted(rt: HostRuntime) -> Result<(), Fail> {
-    let alloc = rt.alloc();
-    let keys = Keyring::empty(alloc);
-    let query = Query::for_value(alloc, "tag", "sunset", When::Always)?;
-    let (index, mut one) = TurnIndex::make(alloc, &keys)?;
-    let mut other = index.split(&mut one);
-    let inserted = index.insert(&rt, &mut one, 0, &Ref::of(b"abc"), plain())?;
-    assert!(rt; matches!(inserted, Inserted::New));
-    assert_eq!(rt; index.seen(&other), 0);
-    index.join(&mut other, one);
-    assert_eq!(rt; index.seen(&other), 1);
-    assert_eq!(rt; index.search(&rt, &mut other, &query)?.len(), 0);
-    Ok(())
-}
-
-#[test]
-fn a_number_in_hand_lacks_and_is_not_taken(rt: HostRuntime) -> Result<(), Fail> {
-    let keys = Keyring::empty(rt.alloc());
-    let (index, mut seat) = TurnIndex::make(rt.alloc(), &keys)?;
-    assert_eq!(rt; index.take(&rt, &mut seat, 1)?, Some(0));
-    assert_eq!(rt; index.take(&rt, &mut seat, 1)?, None);
-    assert_eq!(rt; index.lacking(&rt, &mut seat, 1), Some(0));
-    index.give_back(&rt, &mut seat, 0);
-    assert_eq!(rt; index.take(&rt, &mut seat, 1)?, Some(0));
     Ok(())
 }

@@ -1,4 +1,4 @@
-use Rattle.server_tests.proofs.rows.uses_rows.Given as goal
+use Rattle.seat_tests.proofs.rows.uses_rows.Given as goal
 
 -- the blank's own ledger
 abbrev pub ghosts-finds_none : goal.ghosts-finds_none

@@ -1,7 +1,7 @@
 use Rattle.std.proofs.Common.{sym, ◌∙◌}
 use Rattle.std.proofs.lemmas.Bool.{eqb-true}
-use Rattle.server_tests.proofs.FewSteps.{few_steps}
-use Rattle.server_tests.proofs.rows.goes_by_rows.Goals as goal
+use Rattle.seat_tests.proofs.FewSteps.{few_steps}
+use Rattle.seat_tests.proofs.rows.goes_by_rows.Goals as goal
 
 pub returns-clause-few : goal.returns-clause-few
 returns-clause-few g c = λ none.

@@ -1,0 +1,2 @@
+pub mod FewSteps
+pub mod Taken
