@@ -28,7 +28,7 @@ OLDER_PROOFS = {
     # Small ones that tie others together.
     "edge_dial": 1.2, "top_sync": 1.2,
     # Newer ones, whose values with a drop are those of an index and of a lock. Half of it is dropping these, so a further cut saves little.
-    "snap_copies": 6.5, "snap_index": 7.3,
+    "snap_copies": 6.5, "snap_index": 5.0,
 }
 # No other contract than this dear crate's says what a search is over.
 DEAR_WITH_EDITS = ("snap_index",)
