@@ -283,7 +283,7 @@ EDITS = {
     "a file that is gone": lambda tree: (tree.top / "crates/blobref/specs/Lib.antt").unlink(),
     "a file of another name": lambda tree: (tree.top / "crates/blobref/src/lib.rt").rename(tree.top / "crates/blobref/src/other.rt"),
     "a text of the same length and time": lambda tree: same_length_and_time(tree, "crates/blobref/src/lib.rt"),
-    "the line of a crate": lambda tree: edit_lines(tree, "pack_format: blobref edge_base itoa", "pack_format: blobref edge_base itoa hex"),
+    "the line of a crate": lambda tree: lengthen_line(tree, "pack_format", "hex"),
     "another toolchain": lambda tree: tree.tool("rt", RT.replace("version 1", "version 2")),
     "a program that is gone": lambda tree: (tree.top / PROGRAM).unlink(),
     "another program": lambda tree: (tree.top / PROGRAM).write_text("#!/bin/sh\necho another\n"),
@@ -298,10 +298,12 @@ def same_length_and_time(tree, name):
     os.utime(file, ns=(before.st_atime_ns, before.st_mtime_ns))
 
 
-def edit_lines(tree, old, new):
-    lines = (tree.top / "crates.txt").read_text()
-    compare("crates.txt", "such lines", 1, lines.count(old + "\n"))
-    tree.write("crates.txt", lines.replace(old, new))
+def lengthen_line(tree, name, used):
+    lines = (tree.top / "crates.txt").read_text().splitlines(keepends=True)
+    places = [place for place, line in enumerate(lines) if line.startswith(f"{name}:")]
+    compare("crates.txt", "lines of the crate", 1, len(places))
+    lines[places[0]] = f"{lines[places[0]].rstrip()} {used}\n"
+    tree.write("crates.txt", "".join(lines))
 
 
 def stale(program):
