@@ -14,3 +14,16 @@ pub(crate) const ROUND_CONSTANTS: [u32; 64] = [
 pub(crate) const INITIAL_HASH: [u32; 8] = [
     0xc1059ed8, 0x367cd507, 0x3070dd17, 0xf70e5939, 0xffc00b31, 0x68581511, 0x64f98fa7, 0xbefa4fa4,
 ];
+
+/// How many lanes the wide vectors have.
+pub(crate) const LANES: usize = 8;
+
+/// How many lanes the narrow vectors have.
+pub(crate) const FEW_LANES: usize = 4;
+
+/// The wide vectors run while so many messages are left. Where the program isn't built for AVX2, they take twice as
+/// long as the narrow ones.
+pub(crate) const ENOUGH: usize = 6;
+
+/// So many messages, or fewer, are hashed one after the other: lanes don't pay for them.
+pub(crate) const LAST: usize = 2;

@@ -1,9 +1,9 @@
 //! A message, block by block, with its padding (FIPS 180-4, 5.1.1 and 5.2.1).
-ghost use Rattle.std.specs.Prelude.{◌≡◌, ℕ, [], ◌∷◌, ◌+◌, ◌*◌, ◌<◌, ◌≤◌, length, slice_index_or};
+ghost use Rattle.std.specs.Prelude.{◌≡◌, ℕ, ◌+◌, ◌<◌, ◌≤◌, length, slice_index};
 ghost use Rattle.sha2.specs.Sha256.{word_at};
+ghost use Rattle.sha_lanes.specs.Lanes.{AreRows, lane_at};
 ghost use Rattle.sha_lanes.specs.Message.{IsTail, block_count, block_of};
-
-use std::simd::u32x4;
+ghost use Rattle.sha_lanes.specs.Schedules.{HasBlock, IsLine};
 
 /// How many blocks a message of so many bytes has with its padding.
 pub(crate) fn block_count(len: usize) -> usize
@@ -53,24 +53,66 @@ fn word_at(block: &[u8], at: usize) -> u32
     u32::from_be_bytes([block[at], block[at + 1], block[at + 2], block[at + 3]])
 }
 
-/// The words of four blocks, those of the first in lane 0.
-pub(crate) fn words_of(a: &[u8], b: &[u8], c: &[u8], d: &[u8]) -> [u32x4; 16]
+/// The words of a block.
+#[inline(always)]
+pub(crate) fn line_of(block: &[u8]) -> [u32; 16]
+    requires { length block.now ≡ 64 }
+    ensures { IsLine result block.now }
+{
+    let mut line = [0; 16];
+    for k in 0..16 {
+        line[k] = word_at(block, 4 * k);
+    }
+    line
+}
+
+/// Puts the words of four blocks into four lanes from `lane` on, row by row, so that the compiler makes one write of
+/// each four words.
+#[inline(always)]
+pub(crate) fn put_four<const N: usize>(
+    words: &mut [[u32; N]; 16],
+    lane: usize,
+    a: &[u8],
+    b: &[u8],
+    c: &[u8],
+    d: &[u8],
+)
+    requires rows { AreRows N words.old }
+    requires lane { lane + 4 ≤ N }
     requires a { length a.now ≡ 64 }
     requires b { length b.now ≡ 64 }
     requires c { length c.now ≡ 64 }
     requires d { length d.now ≡ 64 }
-    ensures { (k : ℕ) → k < 16 → slice_index_or result k []
-        ≡ word_at a.now (4 * k) ∷ word_at b.now (4 * k) ∷ word_at c.now (4 * k) ∷ word_at d.now (4 * k) ∷ [] }
+    ensures rows { AreRows N words.new }
+    ensures a { HasBlock words.new lane a.now }
+    ensures b { HasBlock words.new (lane + 1) b.now }
+    ensures c { HasBlock words.new (lane + 2) c.now }
+    ensures d { HasBlock words.new (lane + 3) d.now }
+    ensures rest { (j : ℕ) → j < lane → (k : ℕ) → lane_at words.new k j ≡ lane_at words.old k j }
 {
-    let mut words = [u32x4::splat(0); 16];
     for k in 0..16 {
         let at = 4 * k;
-        words[k] = u32x4::from_array([
-            word_at(a, at),
-            word_at(b, at),
-            word_at(c, at),
-            word_at(d, at),
-        ]);
+        let first = word_at(a, at);
+        let second = word_at(b, at);
+        let third = word_at(c, at);
+        let fourth = word_at(d, at);
+        words[k][lane] = first;
+        words[k][lane + 1] = second;
+        words[k][lane + 2] = third;
+        words[k][lane + 3] = fourth;
     }
-    words
+}
+
+/// Puts the words of a block into a lane.
+#[inline(always)]
+pub(crate) fn put_line<const N: usize>(words: &mut [[u32; N]; 16], lane: usize, line: &[u32; 16])
+    requires rows { AreRows N words.old }
+    requires lane { lane < N }
+    ensures rows { AreRows N words.new }
+    ensures put { (k : ℕ) → k < 16 → lane_at words.new k lane ≡ slice_index line.now k }
+    ensures rest { (j : ℕ) → j < N → ¬ (j ≡ lane) → (k : ℕ) → lane_at words.new k j ≡ lane_at words.old k j }
+{
+    for k in 0..16 {
+        words[k][lane] = line[k];
+    }
 }
