@@ -2,7 +2,7 @@
 ghost use Rattle.std.specs.Prelude.{◌≡◌, ℕ, ◌+◌, ◌<◌, ◌≤◌, length, slice_index};
 ghost use Rattle.sha2.specs.Sha256.{word_at};
 ghost use Rattle.sha_lanes.specs.Lanes.{AreRows, lane_at};
-ghost use Rattle.sha_lanes.specs.Message.{IsTail, block_count, block_of};
+ghost use Rattle.sha_lanes.specs.Message.{IsTail, block_count, block_in, whole_blocks, with_tail};
 ghost use Rattle.sha_lanes.specs.Schedules.{HasBlock, IsLine};
 
 /// How many blocks a message of so many bytes has with its padding.
@@ -28,11 +28,11 @@ pub(crate) fn tail_of(message: &[u8]) -> [u8; 128]
     tail
 }
 
-/// Block `i` of a message, and any block past its last one.
+/// Block `i` of the whole ones of a message and the two of its tail, and the last of these past it.
 pub(crate) fn block_at<'a>(message: &'a [u8], tail: &'a [u8; 128], i: usize) -> &'a [u8]
     ensures long { length result.now ≡ 64 }
-    ensures block { IsTail tail.now message.now → i < block_count (length message.now)
-        → result.now ≡ block_of message.now i }
+    ensures block { i < whole_blocks (length message.now) + 2
+        → result.now ≡ block_in (with_tail message.now tail.now) i }
 {
     let whole = message.len() / 64;
     if i < whole {

@@ -5,8 +5,8 @@ ghost use Rattle.sha_lanes.specs.Lanes.{AreRows};
 ghost use Rattle.sha_lanes.specs.Message.{message_at, texts};
 ghost use Rattle.sha_lanes.specs.Working.{AreLanes, AreWithin, HaveBlocks, IsBlockAt, IsPut};
 
-use crate::alone::hash_alone;
 use crate::block::compress;
+use crate::blocks::hash_blocks;
 use crate::constants::INITIAL_HASH;
 use crate::lanes::{digest_of, hash_in, put_hash};
 use crate::message::{block_at, block_count, put_four, tail_of};
@@ -234,7 +234,7 @@ impl<const N: usize> Work<N> {
         let message = message_at(messages, self.which[lane]);
         let mut state = hash_in(&self.state, lane);
         let left = self.count[lane] - self.at[lane];
-        hash_alone(&mut state, message, &self.tails[lane], self.at[lane], left);
+        hash_blocks(&mut state, message, &self.tails[lane], self.at[lane], left);
         digest_of(&state)
     }
 
