@@ -1,13 +1,20 @@
 //! Blobs in memory.
-ghost use Rattle.std.specs.Prelude.{◌≡◌, option_copied, OnOk, OnErr};
+ghost use Rattle.std.specs.Prelude.{◌≡◌, ◌<◌, ◌^◌, length, option_copied, OnOk, OnErr};
 ghost use Rattle.std.specs.FinMap as finite;
+ghost use Rattle.std.specs.BTreeMap.Range.{entries_between};
+ghost use Rattle.std.specs.Map.Iter.{ShowsInOrder, deref_pair};
+ghost use Rattle.std.specs.declared.ops.Bound.TheVariants.{Unbounded};
+ghost use Rattle.blobref.specs.Blobref.{ref_cmp};
 
 use blobref::{NoMemory, Octets, Ref};
 use std::alloc::Global;
 use std::collections::BTreeMap;
+use std::collections::btree_map::Range;
 use std::marker::Model;
+use std::ops::Bound;
 
-/// Bytes under refs. A contract sees it as the map.
+/// Bytes under refs, any bytes under any ref. A contract sees it as the map. A look-up and a change cost the logarithm
+/// of the number of refs.
 #[derive(Drop)]
 pub struct BlobMap {
     blobs: BTreeMap<Ref, Octets>,
@@ -49,5 +56,30 @@ impl BlobMap {
     {
         self.blobs.insert(*r, bytes)?;
         Ok(())
+    }
+
+    /// Takes a ref out with its bytes, and says whether it was there. It takes no memory.
+    pub fn remove(&mut self, r: &Ref) -> bool
+        ensures there { result ≡ finite.contains_key self.old r.now }
+        ensures removed { self.new ≡ finite.remove self.old r.now }
+    {
+        self.blobs.remove(r).is_some()
+    }
+
+    /// The refs from a start on with their bytes, ascending; all of them from `Bound::Unbounded` on. It takes no memory,
+    /// and a whole walk costs as much as there are refs in it.
+    pub fn range_from(&self, start: Bound<Ref>) -> Range<'_, Ref, Octets>
+        ensures between { result ≡ entries_between ref_cmp start Unbounded (finite.entries self.now) }
+        ensures runs { ShowsInOrder (deref_pair {K = Ref} {X = Octets}) }
+    {
+        self.blobs.range((start, Bound::Unbounded))
+    }
+
+    /// How many refs there are.
+    pub fn len(&self) -> usize
+        ensures is { result ≡ length (finite.entries self.now) }
+        ensures small { result < 2 ^ 63 }
+    {
+        self.blobs.len()
     }
 }
