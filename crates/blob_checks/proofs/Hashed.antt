@@ -1,17 +1,18 @@
 -- Blobs that are hashed together.
-use Rattle.std.proofs.Common.{◌≡◌, ℕ, ◌+◌, ◌≤◌, ◌<◌, Bool, true, false, not, nat_eq, List, [], ◌++◌, length, map, take, slice_index_or, slice_set, refl, sym, ap, subst, ◌∙◌, arith, inl, inr}
-use Rattle.std.proofs.lemmas.List.{get_or-map, get_or-set_other, get_or-set_same, get_or-take, get_or_append_left, length-map, length-take, length-take-le, map-set, take-map, take_all, take_min}
-use Rattle.std.proofs.lemmas.List.Elements.{All-more}
+use Rattle.std.proofs.Common.{◌≡◌, ℕ, ◌+◌, ◌≤◌, ◌<◌, Bool, true, false, not, nat_eq, List, [], ◌++◌, length, map, min, take, drop, slice_index_or, slice_set, sym, ap, subst, ◌∙◌, arith, inl, inr}
+use Rattle.std.proofs.Math.Bool.{not-not}
+use Rattle.std.proofs.lemmas.List.{get_or-map, get_or-set_other, get_or-set_same, get_or-take, get_or_append_left, length-map, length-take, length-take-le, map-set, take-map, take_min}
+use Rattle.std.proofs.lemmas.List.Sums.{prefix_len-drop_all, prefix_len-drop_no, prefix_len-drop_yes, prefix_len-le-length, prefix_len_passes}
 use Rattle.std.proofs.lemmas.Bool.{cases_eq}
 use Rattle.std.specs.Borrow.{Bor}
 use Rattle.std.specs.Cmp.Lexicographic.{pointwise, same_text}
-use Rattle.std.specs.List.{All}
+use Rattle.std.specs.List.{All, prefix_len}
 use Rattle.sha2.specs.Sha256.{sha224}
-use Rattle.blobref.specs.Blobref.{sha224_name, spelled}
+use Rattle.blobref.specs.Blobref.{ref_of, sha224_name, spelled}
 use Rattle.edge_base.specs.Shelf.{Blob}
 use Rattle.sha_lanes.specs.Message.{message_at, texts}
 use Rattle.sha_lanes.proofs.Turns.{length-texts}
-use Rattle.blob_checks.specs.Checks.{bytes_at, IsNamed}
+use Rattle.blob_checks.specs.Checks.{bytes_at, IsNamed, is_named}
 
 -- the bytes of the blob at a place
 pub bytes_there : (blobs : List Blob) (i : ℕ) (d : Blob) → i < length blobs → (slice_index_or blobs i d).1 ≡ bytes_at blobs i
@@ -50,23 +51,40 @@ digests_known blobs messages count digests rest long most is filled i less =
     get_or_append_left digests rest [] i (omega (arith, l, less)) ∙ ap (λ l. slice_index_or l i []) is
     ∙ get_or-map sha224 ts i [] [] (omega (arith, n, less)) ∙ ap sha224 (same ∙ filled i less)
 
--- a blob more whose ref is spelled by its digest
-pub named_more : (blobs : List Blob) (i : ℕ) (d : Blob) (digest : List ℕ) → i < length blobs → digest ≡ sha224 (bytes_at blobs i)
-    → (slice_index_or blobs i d).0 ≡ spelled sha224_name digest → All IsNamed (take i blobs) → All IsNamed (take (i + 1) blobs)
-named_more blobs i d digest less known same before =
-    All-more IsNamed blobs i d less before (same ∙ ap (spelled sha224_name) (known ∙ ap sha224 (sym (bytes_there blobs i d less))))
+-- whether a blob's ref is its own, by a comparison with what its digest spells
+pub is_told : (blobs : List Blob) (i : ℕ) (d : Blob) (digest r : List ℕ) (other : Bool) → i < length blobs → digest ≡ sha224 (bytes_at blobs i)
+    → r ≡ spelled sha224_name digest → other ≡ not (pointwise nat_eq (slice_index_or blobs i d).0 r) → is_named (slice_index_or blobs i d) ≡ not other
+is_told blobs i d digest r other less known spells test =
+    let own : ref_of (slice_index_or blobs i d).1 ≡ r = ap ref_of (bytes_there blobs i d less) ∙ sym (spells ∙ ap (spelled sha224_name) known) in
+    ap (pointwise nat_eq (slice_index_or blobs i d).0) own ∙ sym (not-not (pointwise nat_eq (slice_index_or blobs i d).0 r)) ∙ ap not (sym test)
 
--- all of the first ones
-pub named_all : (most i : ℕ) (blobs : List Blob) → length (take most blobs) ≤ i → All IsNamed (take i (take most blobs)) → All IsNamed (take (length (take most blobs)) blobs)
-named_all most i blobs past named =
-    let all : take i (take most blobs) ≡ take most blobs = take_all i (take most blobs) past in
-    let same : take (length (take most blobs)) blobs ≡ take most blobs = ap (λ (n : ℕ). take n blobs) (length-take most blobs) ∙ take_min most blobs in
-    subst (All IsNamed) (all ∙ sym same) named
+-- no more than there are
+pub capped : (most n : ℕ) (blobs : List Blob) → n ≡ min most (length blobs) → take n blobs ≡ take most blobs
+capped most n blobs is = ap (λ (k : ℕ). take k blobs) is ∙ take_min most blobs
 
--- two texts that were compared
-pub same_ref : (a b : List ℕ) (other : Bool) → other ≡ not (pointwise nat_eq a b) → other ≡ false → a ≡ b
-same_ref a b other test same = same_text a b (alike (pointwise nat_eq a b) (sym test ∙ same))
-  where
-    alike : (t : Bool) → not t ≡ false → true ≡ t
-    alike true h = refl
-    alike false h = absurd (cc h)
+-- as many are left to count
+abbrev pub AreCounted : List Blob → ℕ → Type 0
+AreCounted blobs i = i + prefix_len is_named (drop i blobs) ≡ prefix_len is_named blobs
+
+-- one more is its own
+pub counted_more : (blobs : List Blob) (i : ℕ) (d : Blob) → i < length blobs → is_named (slice_index_or blobs i d) ≡ true → AreCounted blobs i → AreCounted blobs (i + 1)
+counted_more blobs i d less is counted = omega (arith, counted, prefix_len-drop_yes is_named blobs i d less is)
+
+-- one that isn't
+pub counted_here : (blobs : List Blob) (i : ℕ) (d : Blob) → i < length blobs → is_named (slice_index_or blobs i d) ≡ false → AreCounted blobs i → i ≡ prefix_len is_named blobs
+counted_here blobs i d less is counted = omega (arith, counted, prefix_len-drop_no is_named blobs i d less is)
+
+-- all are
+pub counted_all : (blobs : List Blob) (i : ℕ) → i ≡ length blobs → AreCounted blobs i → length blobs ≡ prefix_len is_named blobs
+counted_all blobs i all counted = omega (arith, all, counted, prefix_len-drop_all is_named blobs i (omega (arith, all)))
+
+-- the first of some blobs, up to the first that isn't
+pub counted_named : (most n : ℕ) (blobs : List Blob) → n ≡ prefix_len is_named (take most blobs) → All IsNamed (take n blobs)
+counted_named most n blobs is k d less =
+    let front = take most blobs in
+    let bound : n ≤ length front = omega (arith, is, prefix_len-le-length is_named front) in
+    let below : k < n = omega (arith, less, length-take n blobs) in
+    let passes : is_named (slice_index_or front k d) ≡ true = prefix_len_passes is_named front k d (omega (arith, below, is)) in
+    let same : slice_index_or front k d ≡ slice_index_or (take n blobs) k d =
+    get_or-take most blobs k d (omega (arith, below, bound, length-take most blobs)) ∙ sym (get_or-take n blobs k d below) in
+    subst IsNamed same (same_text (slice_index_or front k d).0 (ref_of (slice_index_or front k d).1) (sym passes))

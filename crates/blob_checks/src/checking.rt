@@ -1,9 +1,9 @@
 //! Digests of blobs, by lanes.
 ghost use Rattle.std.specs.Prelude.{◌≡◌, ◌≤◌, ◌<◌, ℕ, [], All, length, nat_eq, not, take, slice_index_or};
-ghost use Rattle.std.specs.List.{starts_with};
+ghost use Rattle.std.specs.List.{prefix_len, starts_with};
 ghost use Rattle.sha2.specs.Sha256.{sha224};
 ghost use Rattle.blobref.specs.Blobref.{ref_like, sha1_name};
-ghost use Rattle.blob_checks.specs.Checks.{IsNamed, bytes_at};
+ghost use Rattle.blob_checks.specs.Checks.{IsNamed, is_named, bytes_at};
 
 use blobref::{Octets, Ref};
 use sha_lanes::{sha224, sha224_all};
@@ -12,7 +12,7 @@ use sha_lanes::{sha224, sha224_all};
 pub const COUNT: usize = 64;
 
 /// How many bytes these had better have together at most: so much is read at a time of what is checked.
-pub const BYTES: u64 = 4_194_304;
+pub const BYTES: u64 = 8_388_608;
 
 /// Whether blobs of such a ref are checked together. Those of older refs, which name a SHA-1, are checked one by one.
 pub fn has_lanes(r: &Ref) -> bool
@@ -33,10 +33,11 @@ pub fn ref_like(r: &Ref, bytes: &[u8]) -> Ref
     }
 }
 
-/// How many blobs stand before the first one whose ref isn't the SHA-224 of its bytes, of at most `COUNT`. They are
-/// hashed together, four or more of them in about half the time of one after the other.
+/// How many blobs come before the first one whose ref isn't the SHA-224 of its bytes, of the first `COUNT`. These are
+/// hashed together, up to eight at a time, which takes less time than one after the other.
 pub fn own_count(blobs: &[(Ref, Octets)]) -> usize
-    ensures { All IsNamed (take result blobs.now) }
+    ensures count { result ≡ prefix_len is_named (take 64 blobs.now) }
+    ensures named { All IsNamed (take result blobs.now) }
 {
     let blobs = &blobs[..blobs.len().min(COUNT)];
     let digests = digests_of(blobs);
