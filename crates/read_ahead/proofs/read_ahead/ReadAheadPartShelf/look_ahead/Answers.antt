@@ -14,4 +14,4 @@ invariant_of-self g c =
     subst (All (IsHeld (content_of g.D.Disk new))) (sym (with_items_is c.truncate.new.self c.reverse.new.self (c.reverse.ensures.len ∙ c.as_mut_slice.ensures.len)))
     (kept_ahead (content_of g.D.Disk old) (content_of g.D.Disk new) c.read_blobs-blobs.result.items c.deref.result.now c.truncate.new.self.items c.as_mut_slice.result.now c.reverse.new.self c.own_count-own.result
     (content_read g.D.Disk old new c.read_blobs-blobs.ensures.stays) c.deref.ensures.value c.truncate.ensures.items c.as_mut_slice.ensures.value
-    c.read_blobs-blobs.ensures.stand c.own_count-own.ensures c.reverse.ensures.permutation)
+    c.read_blobs-blobs.ensures.stand c.own_count-own.ensures.named c.reverse.ensures.permutation)
