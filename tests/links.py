@@ -2,8 +2,8 @@
 
 Relative links lead to files that are there, and their anchors to headings, by GitHub's rule for anchors. Lines outside
 code and tables have at most 120 characters. What docs/top.md quotes stands in the file that is linked before it. The
-names in docs/proved.md stand in the crates that it names, crates/README.md says what crates.txt says, and each script
-has a row on the page of its folder.
+names in docs/proved.md stand in the crates that it names, crates/README.md has the table that crates_table.py makes of
+crates.txt and docs/gate.md, and each script has a row on the page of its folder.
 """
 
 import collections
@@ -12,7 +12,9 @@ import os
 import pathlib
 import re
 
+import crates_table
 import harness
+from budget import lines_of_crates
 from harness import check, compare
 
 TOP = pathlib.Path(__file__).resolve().parent.parent
@@ -25,7 +27,7 @@ CODE, TABLE, HEADING, TEXT = "code", "table", "heading", "text"
 SPAN = re.compile(r"(?<!`)(`+)(?!`)(.+?)(?<!`)\1(?!`)", re.S)
 LINK = re.compile(r"\[[^\[\]]*\]\(([^()\s]+)\)")
 NAME = re.compile(r"[A-Za-z_]\w*(?:::\w+)*")
-ROW_OF_A_CRATE = re.compile(r"\| `(\w+)`( \*)? \| [^|]+ \| ([^|]*)\|")
+CRATES = frozenset(lines_of_crates())
 
 
 # Pages
@@ -169,7 +171,7 @@ def names_in(block):
 
 
 def crates_named(block):
-    return {name.split("::")[0] for name in names_in(block)} & set(CRATES)
+    return {name.split("::")[0] for name in names_in(block)} & CRATES
 
 
 def check_names(page, block):
@@ -200,52 +202,22 @@ def words_of(crate):
 
 # Crates and scripts
 
-def read_crates():
-    """The crates of crates.txt, each with its heading and the crates that its line names."""
-    found, heading = {}, ""
-    for line in (TOP / "crates.txt").read_text(encoding="utf-8").splitlines():
-        if line.startswith("#"):
-            heading = line.strip("# ")
-        elif line.strip():
-            name, _, used = line.partition(":")
-            found[name.strip()] = (heading, used.split())
-    return {name: (heading, [word for word in used if word in found]) for name, (heading, used) in found.items()}
-
-
-CRATES = read_crates()
-
-
-@functools.cache
-def below(crate):
-    used = CRATES[crate][1]
-    return frozenset(used).union(*map(below, used))
-
-
-def stands_on(crate):
-    """Those crates of its line on which none of the others stands."""
-    used = CRATES[crate][1]
-    return [name for name in used if not any(name in below(other) for other in used)]
-
-
 def crates(program):
-    """The rows of crates/README.md."""
-    page = page_at(TOP / "crates" / "README.md")
-    rows, heading = {}, ""
-    for line, kind in zip(page.lines, page.kinds):
-        if kind == HEADING:
-            heading = line.strip("# ")
-        elif row := ROW_OF_A_CRATE.match(line):
-            rows[row[1]] = (heading, bool(row[2]), re.findall(r"\w+", row[3]))
-    whole = [lambda: compare(page.name, "crates", sorted(CRATES), sorted(rows))]
-    return whole + [functools.partial(check_row, page, name, rows.get(name)) for name in CRATES]
+    """The table of crates/README.md is the one that is due, and has one row for each crate, with what is written by hand."""
+    text = crates_table.PAGE.read_text(encoding="utf-8")
+    what = "how its table differs from what tests/crates_table.py --write makes"
+    folders = {path.name for path in (TOP / "crates").iterdir() if path.is_dir()}
+    whole = [
+        lambda: compare("crates.txt", "its crates", sorted(folders), sorted(CRATES)),
+        lambda: compare("crates/README.md", what, [], crates_table.differences(text)),
+    ]
+    return whole + [functools.partial(check_row, text, name) for name in sorted(CRATES)]
 
 
-def check_row(page, name, row):
-    in_program = name == "perkeep_cli" or name in below("perkeep_cli")
-    check(f"{page.name}: {name} has no row", row is not None)
-    compare(f"{page.name}: {name}", "heading", CRATES[name][0], row[0])
-    compare(f"{page.name}: {name}", "is no part of the program", not in_program, row[1])
-    compare(f"{page.name}: {name}", "stands on", sorted(stands_on(name)), sorted(row[2]))
+def check_row(text, name):
+    rows = [row for row in map(crates_table.ROW.match, text.splitlines()) if row and row[1] == name]
+    compare(f"crates/README.md: {name}", "its rows", 1, len(rows))
+    check(f"crates/README.md: {name} has an empty cell", rows[0][2] and rows[0][3])
 
 
 def scripts(program):
