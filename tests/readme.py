@@ -14,6 +14,7 @@ import shutil
 import signal
 import subprocess
 
+import crates_table
 import harness
 from harness import LeftOut, check, compare
 from serving import PORTS
@@ -103,11 +104,10 @@ def size(program):
     return [lambda: check(f"README.md has more than {MOST_BYTES} bytes", README.stat().st_size <= MOST_BYTES)]
 
 
-def crates(program):
-    """The README has a line for each crate."""
-    known = sorted(path.name for path in (TOP / "crates").iterdir() if path.is_dir())
-    lines = re.findall(r"^- `(\w+)`: .", README.read_text(), re.MULTILINE)
-    return [lambda: compare("README.md", "its crates", known, sorted(lines))]
+def layers(program):
+    """The README has a line for each layer, in their order."""
+    lines = re.findall(r"^- \*\*(.+)\*\*: .", README.read_text(), re.MULTILINE)
+    return [lambda: compare("README.md", "its layers", list(crates_table.layers()), lines)]
 
 
 ROW = re.compile(r"^\| [^|]* \| ([^|]*) \| (?:`(\w+)`, )?`([\w/]+\.rt)` \|", re.MULTILINE)
@@ -130,4 +130,4 @@ def limit_stands(told, name, path):
 
 
 if __name__ == "__main__":
-    harness.main("readme.sh", [session, guide, size, crates, limits])
+    harness.main("readme.sh", [session, guide, size, layers, limits])
