@@ -1,6 +1,6 @@
 """Times `serve` of two programs, an older one and the one of now, and prints how the one of now compares, as a table.
 
-    serve_older.py PROGRAM OLDER HTTP_LOAD FOLDER
+    serve_older.py PROGRAM OLDER HTTP_LOAD FOLDER [--any-level]
 
 Each is measured nine times, the two in turn, and the medians count: of processor time, and of wall for uploads one by one, which wait for
 the disk. A part above 1 is faster than the older one.
@@ -9,6 +9,7 @@ the disk. A part above 1 is faster than the older one.
 import statistics
 import sys
 
+from levels import ANY_LEVEL, tell_levels
 from serve import BLOBS, UPLOADS, Bench, Served, gets, heading, row, small_blobs, upload
 
 ROUNDS = 9
@@ -31,7 +32,8 @@ class Two:
         row(what, f"{now:.2f} s", f"{older:.2f} s", f"{older / now:.2f}")
 
 
-def main(program, older, http_load, folder):
+def main(program, older, http_load, folder, *options):
+    tell_levels(program, older, ANY_LEVEL in options)
     two = Two([program, older], http_load, folder)
     blobs = small_blobs(GETS)
     requests, size = gets(blobs), sum(map(len, blobs))
