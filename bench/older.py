@@ -1,70 +1,267 @@
-"""Times scans, `search-pack` and the index of two builds, an older one and the one of now, and prints how they compare.
+"""Times commands, servers and yardsticks of two builds, an older one and the one of now, and prints how they compare, as a table.
 
-    older.py LAB OLDER_LAB PROGRAM OLDER_PROGRAM FOLDER
+    older.py PROGRAM OLDER FOLDER [--labs LAB OLDER_LAB] [--rows NAME ..] [--size small] [--any-level]
 
-Each job is run nine times by both, in turn, and the medians of processor time count. A part above 1 is faster than the
-older one. Ends with status 1 where the two answer otherwise.
+Each row is measured nine times by both, in turn, and the medians count: of processor time, and of wall. A part above 1 is faster than the
+older one. Ends with status 1 where the two answer otherwise in some row, or one of them fails; the other rows are measured all the same.
 """
 
+import argparse
+import functools
+import hashlib
 import os
 import pathlib
+import random
+import shutil
 import statistics
 import subprocess
 import sys
 import tempfile
+import time
+from typing import NamedTuple
+
+from compare import MIB
+from levels import ANY_LEVEL, tell_levels
+# Before the tests' modules, whose folder these put in front of this one.
+from serve import TICKS_A_SECOND, small_blobs, ticks
+from store import write_store
+
+import harness
+from costs import HEADERS, ask
+from http_inputs import blob_target, get
+from make_pack import KEYRING, START
+from reference import pack_name, ref_of
+from serving import HOST, Server
+from writing import file_blobs, load_blobs
 
 ROUNDS = 9
-# Each kind of pack that make_pack.py writes, and what is timed over it: by the lab, or by the program.
-JOBS = {
-    "small-blobs": [("scan, small blobs", "lab", ["scan"])],
-    "large-blobs": [("scan, large blobs", "lab", ["scan"])],
-    "store": [
-        ("search-pack", "program", ["search-pack", "tag", "t0"]),
-        ("inserted in order", "lab", ["insert", "KEY", "tag", "t0"]),
-        ("inserted, the last first", "lab", ["insert-backwards", "KEY", "tag", "t0"]),
-        ("filled at once", "lab", ["fill", "KEY", "tag", "t0"]),
-    ],
-}
 
 
-def processor(words, folder):
-    """Runs a program over the folder's pack; answers its processor seconds and what it printed."""
-    with open(folder / "pack", "rb") as source, tempfile.TemporaryFile() as sink:
-        child = subprocess.Popen(words, cwd=folder, stdin=source, stdout=sink)
+class Failed(Exception):
+    """Why a row can't be told."""
+
+
+class Took(NamedTuple):
+    processor: float
+    wall: float
+
+
+class Build:
+    """A program, and the one of crates/lab that was built with it, where there is one."""
+
+    def __init__(self, program, lab, folder):
+        self.program, self.lab = program, lab
+        self.served = harness.Program(program, folder)
+
+
+class Store:
+    """A store of some blobs, which is written here: its folder, its first and its last blob."""
+
+    def __init__(self, folder, blobs):
+        self.folder, self.pack = folder, folder / pack_name(0)
+        self.first = self.last = None
+        write_store(folder, map(self.note, blobs))
+        (folder / "keyring").write_bytes(KEYRING)
+
+    def note(self, blob):
+        self.first, self.last = self.first or blob, blob
+        return blob
+
+
+# Stores, each of so many blobs
+
+def large_blobs(count):
+    noise = random.Random(1)
+    return (noise.randbytes(MIB) for _ in range(count))
+
+
+def notes(count):
+    return load_blobs(count, START)
+
+
+def file(count):
+    return file_blobs("input", list(large_blobs(count)))
+
+
+# What is measured: functions of a build and a store, which answer what it took, and what has to be the same of both
+
+def ran(words, source=os.devnull, sink=None, folder=None):
+    """Runs a program to its end, over a file and in a folder; what it writes is answered where no other sink is named."""
+    with open(source, "rb") as read, open(sink, "wb") if sink else tempfile.TemporaryFile() as out:
+        begun = time.monotonic()
+        child = subprocess.Popen([*map(str, words)], stdin=read, stdout=out, cwd=folder)
         _, status, usage = os.wait4(child.pid, 0)
+        wall = time.monotonic() - begun
         child.returncode = os.waitstatus_to_exitcode(status)
-        sink.seek(0)
-        return usage.ru_utime + usage.ru_stime, (child.returncode, sink.read())
+        if child.returncode != 0:
+            raise Failed(f"{words[0]} {words[1]}: status {child.returncode}")
+        return Took(usage.ru_utime + usage.ru_stime, wall), None if sink else answer_in(out)
 
 
-def compare(what, now, older, folder):
-    """Runs both in turn, and prints a row."""
-    seconds = {0: [], 1: []}
+def answer_in(out):
+    out.seek(0)
+    return hashlib.file_digest(out, "sha224").hexdigest()
+
+
+def command(line, of="program"):
+    """How a command is measured, whose input is the store's first pack. It runs where the keyring is that `search-pack` takes."""
+    def measure(build, store):
+        key = (store.folder / "keyring").read_text()
+        words = [key if word == "KEY" else word.format(store=store.folder) for word in line.split()]
+        return ran([getattr(build, of), *words], store.pack, folder=store.folder)
+
+    measure.of = of
+    return measure
+
+
+def lab(line):
+    return command(line, "lab")
+
+
+def start(build, store):
+    """A server's start: until it has answered a GET, which it does once it has read the store and made its index."""
+    begun = time.monotonic()
+    with Server(build.served, store.folder) as server:
+        ask(server, "the first GET", get(blob_target(ref_of(store.first)), *HEADERS), store.first)
+        wall = time.monotonic() - begun
+        return Took(ticks(server.process.pid) / TICKS_A_SECOND, wall), None
+
+
+def put_file(build, store):
+    """A file of the first pack's bytes, into a new store."""
+    new = build.served.new_path()
+    try:
+        return ran([build.program, "put-file", new, "input"], store.pack)
+    finally:
+        shutil.rmtree(new, ignore_errors=True)
+
+
+def get_file(build, store):
+    words = build.program, "get-file", store.folder, ref_of(store.last)
+    return ran(words, sink=os.devnull)[0], what_it_writes(words)
+
+
+@functools.cache
+def what_it_writes(words):
+    return ran(words)[1]
+
+
+def copy(name):
+    """A copy of a store to an empty one, by a command and a server: the processor time is that of both, as long as they run."""
+    def measure(build, store):
+        new = build.served.new_path()
+        new.mkdir()
+        own, served = (store.folder, new) if name == "push" else (new, store.folder)
+        try:
+            with Server(build.served, served) as server:
+                took, answer = ran([build.program, name, own, f"{HOST}:{server.port}"])
+                return took._replace(processor=took.processor + ticks(server.process.pid) / TICKS_A_SECOND), answer
+        finally:
+            shutil.rmtree(new)
+
+    return measure
+
+
+LIST, SEARCH = "list {store} --limit=4194304", "search {store} --attr=tag --value=t0"
+SEARCH_PACK, ASKED = "search-pack tag t0", "KEY tag t0"
+# The rows, by the stores that they are measured over: which blobs these have, how many, and how many at the size `small`.
+ROWS = {
+    "1 GiB of 1 MiB blobs": (large_blobs, 1_024, 8, {
+        "list-large": command(LIST),
+        "search-large": command(SEARCH),
+        "salvage-large": command("salvage {store}"),
+        "search-pack-large": command(SEARCH_PACK),
+        "start-large": start,
+        "scan-large": lab("scan"),
+    }),
+    "100,000 blobs of 300 bytes": (small_blobs, 100_000, 1_000, {
+        "list-small": command(LIST),
+        "salvage-small": command("salvage {store}"),
+        "start-small": start,
+        "scan-small": lab("scan"),
+    }),
+    "100,000 blobs of notes": (notes, 100_000, 1_000, {
+        "list-notes": command(LIST),
+        "search-notes": command(SEARCH),
+        "search-pack-notes": command(SEARCH_PACK),
+        "start-notes": start,
+        "insert": lab(f"insert {ASKED}"),
+        "insert-backwards": lab(f"insert-backwards {ASKED}"),
+        "fill": lab(f"fill {ASKED}"),
+    }),
+    "a file of 256 MiB": (file, 256, 4, {"put-file": put_file, "get-file": get_file}),
+    "10,000 blobs of 300 bytes": (small_blobs, 10_000, 100, {"push": copy("push"), "pull": copy("pull")}),
+}
+NAMES = [name for *_, rows in ROWS.values() for name in rows]
+
+
+# The table
+
+def row(what, *columns):
+    print(f"{what:20}" + "".join(f"{column:>13}" for column in columns), flush=True)
+
+
+def columns_of(now, older):
+    return f"{now:.3f} s", f"{older:.3f} s", f"{older / now:.2f}" if now else ""
+
+
+def compare(name, measure, builds, store):
+    """Measures both in turn, and prints their row."""
+    took = [], []
     for number in range(ROUNDS):
         answers = []
         for which in (0, 1) if number % 2 else (1, 0):
-            took, answer = processor((now, older)[which], folder)
-            seconds[which].append(took)
+            seconds, answer = measure(builds[which], store)
+            took[which].append(seconds)
             answers.append(answer)
-        if answers[0] != answers[1] or answers[0][0] != 0:
-            sys.exit(f"{what}: the two answer otherwise, or fail")
-    one, other = (statistics.median(seconds[which]) for which in (0, 1))
-    print(f"{what:28} {one:8.2f} s {other:12.2f} s {other / one:9.2f}", flush=True)
+        if answers[0] != answers[1]:
+            raise Failed("the two answer otherwise")
+    now, older = (Took(*map(statistics.median, zip(*seconds))) for seconds in took)
+    row(name, *columns_of(now.processor, older.processor), *columns_of(now.wall, older.wall))
 
 
-def main(lab, older_lab, program, older_program, folder):
-    folder = pathlib.Path(folder)
-    builds = {"lab": (lab, older_lab), "program": (program, older_program)}
-    maker = pathlib.Path(__file__).with_name("make_pack.py")
-    print(f"{'medians of nine':28} {'of now':>10} {'of the older':>14} {'part':>9}")
-    for kind, jobs in JOBS.items():
-        subprocess.run([sys.executable, maker, kind, folder], check=True)
-        key = folder / "keyring"
-        for what, which, words in jobs:
-            words = [key.read_text() if word == "KEY" else word for word in words]
-            now, older = ([path, *words] for path in builds[which])
-            compare(what, now, older, folder)
+def compare_all(builds, folder, chosen, is_small):
+    """Prints the rows that are chosen; answers whether all of them could be told."""
+    all_told = True
+    for number, (what, (blobs, count, few, rows)) in enumerate(ROWS.items()):
+        rows = {name: measure for name, measure in rows.items() if name in chosen}
+        if not rows:
+            continue
+        print(f"over {what}{', but few of them' if is_small else ''}:", flush=True)
+        store = Store(folder / f"store-{number}", blobs(few if is_small else count))
+        for name, measure in rows.items():
+            try:
+                compare(name, measure, builds, store)
+            except (Exception, SystemExit) as why:
+                print(f"{name}: {why}", flush=True)
+                all_told = False
+        shutil.rmtree(store.folder)
+    return all_told
+
+
+def needs_lab(name):
+    return any(getattr(rows.get(name), "of", "") == "lab" for *_, rows in ROWS.values())
+
+
+def main():
+    parser = argparse.ArgumentParser(usage=__doc__.splitlines()[2].strip())
+    parser.add_argument("program")
+    parser.add_argument("older")
+    parser.add_argument("folder", type=pathlib.Path)
+    parser.add_argument("--labs", nargs=2, default=[None, None])
+    parser.add_argument("--rows", nargs="+", choices=NAMES, default=[])
+    parser.add_argument("--size", choices=["full", "small"], default="full")
+    parser.add_argument(ANY_LEVEL, action="store_true")
+    given = parser.parse_args()
+    if not given.labs[0] and any(map(needs_lab, given.rows)):
+        parser.error("a row needs the two programs of crates/lab")
+    for pair in filter(all, ((given.program, given.older), given.labs)):
+        tell_levels(*pair, given.any_level)
+    builds = [Build(*both, given.folder) for both in zip((given.program, given.older), given.labs)]
+    chosen = given.rows or [name for name in NAMES if given.labs[0] or not needs_lab(name)]
+    row("medians of nine", "processor", "of the older", "part", "wall", "of the older", "part")
+    sys.exit(0 if compare_all(builds, given.folder, chosen, given.size == "small") else 1)
 
 
 if __name__ == "__main__":
-    main(*sys.argv[1:])
+    main()
