@@ -1,5 +1,5 @@
 //! Blobs under their refs, in memory.
-ghost use Rattle.std.specs.Prelude.{◌≡◌, ◌≤◌, ◌<◌, ◌^◌, length, OnOk, OnErr, IfOk, IfSome, option_copied, is_some};
+ghost use Rattle.std.specs.Prelude.{◌≡◌, ◌≤◌, length, OnOk, OnErr, IfOk, IfSome, option_copied};
 ghost use Rattle.std.specs.FinMap as finite;
 ghost use Rattle.blobref.specs.Blobref.{IsOwnRef};
 ghost use Rattle.edge_base.specs.Shelf.{max_blob, with_blob};
@@ -7,92 +7,16 @@ ghost use Rattle.peer_base.specs.Blobs.{AreHeld, listed};
 ghost use Rattle.peer_base.specs.Memory.{page_from, bound_of};
 
 use blobref::{Listing, NoMemory, Octets, Ref};
+use edge_base::BlobMap;
 use std::alloc::Global;
-use std::collections::BTreeMap;
 use std::marker::Model;
 use std::ops::Bound;
-
-// Blobs under refs. A contract sees it as the map.
-#[derive(Drop)]
-struct Held {
-    blobs: BTreeMap<Ref, Octets>,
-}
-
-impl Model for Held {
-    ghost use Rattle.std.specs.FinMap as finite;
-    ghost use Rattle.std.specs.Coded.{coded_ℕ, coded_list};
-    ghost use Rattle.edge_base.specs.Shelf.{Blobs};
-
-    ghost Value = { Blobs };
-
-    ghost coded = { finite.code (coded_list coded_ℕ) (coded_list coded_ℕ) };
-
-    ghost view = { λ h. finite.from_entries h.blobs.entries };
-}
-
-impl Held {
-    fn empty(alloc: Global) -> Held
-        ensures { result ≡ finite.empty }
-    {
-        Held {
-            blobs: BTreeMap::new(alloc),
-        }
-    }
-
-    fn get(&self, r: &Ref) -> Option<&Octets>
-        ensures { option_copied result ≡ finite.get self.now r.now }
-    {
-        self.blobs.get(r)
-    }
-
-    // Where there is no memory nothing changes.
-    fn insert(&mut self, r: &Ref, bytes: Octets) -> Result<(), NoMemory>
-        ensures ok { OnOk result (self.new ≡ finite.insert self.old r.now bytes) }
-        ensures err { OnErr result (self.new ≡ self.old) }
-    {
-        self.blobs.insert(*r, bytes)?;
-        Ok(())
-    }
-
-    // The first refs from a start on, with the sizes of their blobs.
-    fn list(&self, alloc: Global, start: Bound<Ref>, limit: usize) -> Result<Listing, NoMemory>
-        ensures { IfOk result (λ page. page ≡ page_from start limit self.now) }
-    {
-        list_blobs(alloc, &self.blobs, start, limit)
-    }
-
-    // A law: their count is a u64.
-    fn is_few(&self)
-        ensures { length (finite.entries self.now) < 2 ^ 64 }
-    {
-        let _len = self.blobs.len();
-    }
-}
-
-// The same by the tree of the blobs.
-fn list_blobs(
-    alloc: Global,
-    blobs: &BTreeMap<Ref, Octets>,
-    start: Bound<Ref>,
-    limit: usize,
-) -> Result<Listing, NoMemory>
-    ensures { IfOk result (λ page. page ≡ page_from start limit (finite.from_entries blobs.now.entries)) }
-{
-    let mut listing = Listing::empty(alloc);
-    for (r, bytes) in blobs.range((start, Bound::Unbounded)) {
-        if listing.len() == limit {
-            break;
-        }
-        listing.push((*r, bytes.as_slice().len() as u64))?;
-    }
-    Ok(listing)
-}
 
 // Blobs under refs of their own, none too long. A contract sees it as the map.
 #[derive(Drop)]
 pub(crate) struct Rack {
     alloc: Global,
-    held: Held,
+    held: BlobMap,
 }
 
 impl Model for Rack {
@@ -117,7 +41,7 @@ impl Rack {
     {
         Rack {
             alloc,
-            held: Held::empty(alloc),
+            held: BlobMap::empty(alloc),
         }
     }
 
@@ -151,15 +75,34 @@ impl Rack {
     pub(crate) fn list(&self, after: Option<&Ref>, limit: usize) -> Result<Listing, NoMemory>
         ensures { IfOk result (λ page. page ≡ listed (option_copied after.entry) limit self.now) }
     {
-        self.held.list(self.alloc, start_of(after), limit)
+        list_blobs(self.alloc, &self.held, start_of(after), limit)
     }
 
     // A law: they are what a peer may hold.
     pub(crate) fn are_held(&self)
         ensures { AreHeld self.now }
     {
-        self.held.is_few();
+        let _len = self.held.len();
     }
+}
+
+// The first refs from a start on, with the sizes of their blobs.
+fn list_blobs(
+    alloc: Global,
+    blobs: &BlobMap,
+    start: Bound<Ref>,
+    limit: usize,
+) -> Result<Listing, NoMemory>
+    ensures { IfOk result (λ page. page ≡ page_from start limit blobs.now) }
+{
+    let mut listing = Listing::empty(alloc);
+    for (r, bytes) in blobs.range_from(start) {
+        if listing.len() == limit {
+            break;
+        }
+        listing.push((*r, bytes.as_slice().len() as u64))?;
+    }
+    Ok(listing)
 }
 
 // What a list begins with.

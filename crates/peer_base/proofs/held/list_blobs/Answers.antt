@@ -5,11 +5,10 @@ use Rattle.peer_base.proofs.held.list_blobs.Goals as goal
 
 pub loop-r-init : goal.loop-r-init
 loop-r-init c =
-    let es = c.args.blobs.now.entries in
     let range = c.into_iter-r-iterator.ensures.into_iter_gives in
     rw (range, c.empty-listing.ensures) (record {
       within = omega arith;
-      page = (let none : c.args.limit - 0 ≡ c.args.limit = omega arith in ap (λ k. take k (map sized c.range-r-items.result)) none) ∙ ap (λ l. take c.args.limit (map sized l)) (c.range-r-items.ensures.between tt) ∙ page_begins es c.args.start c.args.limit c.range-r-items.ensures.ordered;
+      page = (let none : c.args.limit - 0 ≡ c.args.limit = omega arith in ap (λ k. take k (map sized c.range_from-r-items.result)) none) ∙ ap (λ l. take c.args.limit (map sized l)) c.range_from-r-items.ensures.between ∙ page_begins c.args.blobs.now c.args.start c.args.limit;
     })
 
 pub loop-r-preserved : goal.loop-r-preserved
