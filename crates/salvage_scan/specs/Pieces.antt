@@ -80,6 +80,10 @@ fed s = s.at + length s.held
 abbrev pub longest : ℕ
 longest = 16777372
 
+-- the most bytes that the next piece should have, and that are hashed together
+abbrev pub longest_piece : ℕ
+longest_piece = 8388608
+
 -- where exactly these bytes are still to come, this is still to be found, and this is the first place that is broken
 abbrev pub still_found : Scanning → List ℕ → List Finding
 still_found s bytes = salvage_past s.at 0 (s.held ++ bytes)

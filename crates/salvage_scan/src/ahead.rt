@@ -11,7 +11,7 @@ use sha_lanes::sha224_all;
 const RECORDS: usize = 64;
 
 /// How many bytes the blobs behind them have at most.
-pub(crate) const BYTES: usize = 4_194_304;
+pub(crate) const BYTES: usize = 8_388_608;
 
 // After how many blobs it is tried again, where fewer than two records stood one behind another.
 const PAUSE: usize = 16;
@@ -65,7 +65,7 @@ impl Lookout {
     }
 
     /// The same at a place behind a blob, from where it looks ahead if no record is left: so what is hashed in vain are
-    /// at most 4 MiB for each blob that is found, and no blob is hashed twice.
+    /// at most 8 MiB for each blob that is found, and no blob is hashed twice.
     pub(crate) fn renew(&mut self, bytes: &[u8], at: usize)
         requires at { at ≤ length bytes.now }
         requires known { AreKnown bytes.now self.old.records }

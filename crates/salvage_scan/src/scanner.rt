@@ -1,6 +1,6 @@
 //! Goes through a pack that comes in pieces.
 ghost use Rattle.std.specs.Prelude.{◌≡◌, ◌+◌, ◌≤◌, ◌<◌, ◌^◌, ◌++◌, [], length, drop, true, false, All, IfOk, OnOk, OnErr};
-ghost use Rattle.salvage_scan.specs.Pieces.{fresh, fed, is_open, ScanRun, Waits, Tells, Ends, LiesNear, Keeps, IsKept, LiesKept, kept_at};
+ghost use Rattle.salvage_scan.specs.Pieces.{fresh, fed, is_open, ScanRun, Waits, Tells, Ends, LiesNear, Keeps, IsKept, LiesKept, kept_at, longest_piece};
 
 use crate::ahead::BYTES;
 use crate::found::{Clean, Found, FoundList};
@@ -109,7 +109,7 @@ impl Scanner {
     /// the pieces are.
     pub fn room(&self) -> usize
         ensures some { 0 < result }
-        ensures most { result ≤ 4194304 }
+        ensures most { result ≤ longest_piece }
     {
         room_for(self.wants)
     }
@@ -167,7 +167,7 @@ impl Scanner {
 // How many bytes the next piece should have, where so many are wanted for the record that waits.
 fn room_for(wants: usize) -> usize
     ensures some { 0 < result }
-    ensures most { result ≤ 4194304 }
+    ensures most { result ≤ longest_piece }
 {
     if wants > SHORT && wants <= BYTES {
         BYTES
