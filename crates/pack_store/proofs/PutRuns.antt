@@ -180,6 +180,7 @@ module _ {D : Type 0} (g : Ghosts D) (limits : Limits)
     own = tt;
     crash = stays_keeps g counts_now only_now s.disk new.disk still.stays;
     still = λ _. still.stays;
+    same_rows = λ _. ap (λ t. t.rows) still.value;
     held = tt;
     stands = λ h. record {
       limited = ap (λ t. t.limits) still.value ∙ h.limited;
@@ -207,6 +208,7 @@ module _ {D : Type 0} (g : Ghosts D) (limits : Limits)
         own = (own, tt);
         crash = crash;
         still = λ e. absurd (cc e);
+        same_rows = λ e. absurd (cc e);
         held = (held, tt);
         stands = λ h. stored_stands g limits s new r bytes own puts_last h small n a l;
         packs = λ h. told_one limits (g.packs s.disk) (g.packs new.disk) (r, bytes) (stored_packs g limits s new r bytes own puts_last h small n a l);
@@ -216,6 +218,7 @@ module _ {D : Type 0} (g : Ghosts D) (limits : Limits)
         own = (own, tt);
         crash = crash;
         still = λ e. absurd (cc e);
+        same_rows = λ e. absurd (cc e);
         held = (held, tt);
         stands = λ h. subst (Stands g limits) (sym l) h;
         packs = λ h. told_one limits (g.packs s.disk) (g.packs new.disk) (r, bytes) (stood_packs g limits s new r bytes own puts_last h n a l);

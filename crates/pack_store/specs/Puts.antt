@@ -87,6 +87,7 @@ pub record PutsBlobs {D : Type 0} (g : Ghosts D) (limits : Limits) (old : Archiv
   pub own : HaveOwnRefs blobs
   pub crash : KeepsAll g old.disk new.disk
   pub still : blobs ≡ [] → Stays g old.disk new.disk
+  pub same_rows : blobs ≡ [] → new.rows ≡ old.rows
   pub held : HoldAll (g.images new.disk) blobs
   pub stands : Stands g limits old → Stands g limits new
   pub packs : Stands g limits old → Tells (g.packs old.disk) (g.packs new.disk) (PutsAll limits blobs)

@@ -108,6 +108,7 @@ module _ {D : Type 0} (g : Ghosts D) (limits : Limits)
     own = tt;
     crash = keeps_itself g counts_now only_now s.disk;
     still = λ _. stays_itself g counts_now only_now s.disk;
+    same_rows = λ _. refl;
     held = tt;
     stands = λ h. h;
     packs = λ _. told_nothing limits (g.packs s.disk);
@@ -120,6 +121,7 @@ module _ {D : Type 0} (g : Ghosts D) (limits : Limits)
     own = HaveOwnRefs-append first second p.own q.own;
     crash = keeps_then g counts_now only_now a.disk b.disk c.disk p.crash q.crash;
     still = λ e. stays_then g counts_now only_now a.disk b.disk c.disk (p.still (no_first first second e)) (q.still (no_second first second e));
+    same_rows = λ e. q.same_rows (no_second first second e) ∙ p.same_rows (no_first first second e);
     held = hold_join (g.images c.disk) first second (hold_on (g.images b.disk) (g.images c.disk) (held_after g counts_now only_now b.disk c.disk q.crash) first p.held) q.held;
     stands = λ h. q.stands (p.stands h);
     packs = λ h. told_join (g.packs a.disk) (g.packs b.disk) (g.packs c.disk) (PutsAll limits first) (PutsAll limits second) (PutsAll limits (first ++ second)) (p.packs h) (q.packs (p.stands h))

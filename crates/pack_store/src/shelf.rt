@@ -2,7 +2,7 @@
 ghost use Rattle.std.specs.Prelude.{◌≡◌};
 ghost use Rattle.pack_store.specs.Packs.{KeepsAll};
 ghost use Rattle.pack_store.specs.Puts.{HasNoRoom};
-ghost use Rattle.pack_store.specs.StoreShelf.{content_of, PutsStore, ContentStands};
+ghost use Rattle.pack_store.specs.StoreShelf.{content_of, PutsStore, FetchesStore, ContentStands};
 ghost use Rattle.pack_store.specs.RunLaws.{store_puts_nothing, store_puts_then, store_follows_then};
 
 use crate::opened_laws::puts_last;
@@ -14,7 +14,8 @@ use pack_format::MAX_SIZE;
 
 /// It tells its arrivals where its disk tells its packs. A run of its calls is one after which a crash leaves what
 /// every image held before. One that puts blobs also leaves them in every image, and puts them into the packs in their
-/// order (`docs/store.md`).
+/// order (`docs/store.md`); one that puts none leaves the arrivals as they are. A blob that is fetched is absent
+/// exactly where its ref hasn't arrived, whether the disk tells or not.
 impl<D: Disk> Shelf for Store<D> {
     ghost content = { λ s. content_of D.Disk s };
 
@@ -25,6 +26,8 @@ impl<D: Disk> Shelf for Store<D> {
     ghost follows = { λ a b. KeepsAll D.Disk a.disk b.disk };
 
     ghost puts = { λ a blobs b. PutsStore D.Disk a blobs b };
+
+    ghost fetches = { λ a r answer b. FetchesStore D.Disk a r answer b };
 
     ghost puts_nothing = { λ s. store_puts_nothing _ D.counts_now D.only_now s };
 

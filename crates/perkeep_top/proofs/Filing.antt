@@ -20,7 +20,7 @@ use Rattle.pack_disk.specs.Packs.{Packs}
 use Rattle.pack_store.specs.Archive.{Archive}
 use Rattle.pack_store.specs.Packs.{KeepsAll}
 use Rattle.pack_store.specs.Puts.{Stands, PutsBlobs, HasNoRoom}
-use Rattle.pack_store.specs.StoreShelf.{content_of, PutsStore}
+use Rattle.pack_store.specs.StoreShelf.{content_of, PutsStore, FetchesStore}
 use Rattle.perkeep_lines.specs.Outputs.{ref_line}
 use Rattle.top_frame.specs.declared.status.InputFault.TheVariants.{TooLong}
 use Rattle.top_frame.specs.declared.status.Status.{Status}
@@ -41,6 +41,7 @@ shelf_of g = record {
   fills = λ s blob blobs pack. HasNoRoom g s.limits s blob blobs pack;
   follows = λ a b. KeepsAll g a.disk b.disk;
   puts = λ a blobs b. PutsStore g a blobs b;
+  fetches = λ a r answer b. FetchesStore g a r answer b;
 }
 
 -- what a source has left, where it tells
