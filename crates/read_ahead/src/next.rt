@@ -42,7 +42,7 @@ fn asked_blob(part: &Part, count: u64) -> Option<Ref> {
     }
 }
 
-/// The blobs of the first of these refs, as they stand in the store, as long as they have at most 4 MiB together. Their
+/// The blobs of the first of these refs, as they stand in the store, as long as they have at most 8 MiB together. Their
 /// digests aren't looked at. It ends before one that can't be had.
 pub(crate) fn read_blobs<D: Disk>(
     alloc: Global,

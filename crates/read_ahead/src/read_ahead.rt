@@ -18,7 +18,7 @@ use std::alloc::Global;
 use std::marker::Model;
 
 /// A store that reads the blobs which are asked next several at a time, and checks them together (`docs/files.md`). It
-/// answers as the store does, and a contract sees the store. It holds up to 64 blobs, of at most 4 MiB together.
+/// answers as the store does, and a contract sees the store. It holds up to 64 blobs, of at most 8 MiB together.
 #[derive(Drop)]
 pub struct ReadAhead<D: Disk> {
     alloc: Global,

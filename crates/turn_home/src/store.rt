@@ -72,7 +72,7 @@ pub struct TurnStore<D: Disk> {
 
 /// What one actor knows of a `TurnStore`: the history of the store that it has seen, the turns that it drew, and how
 /// many blobs arrived in that history. The faults that it has seen were counted since the store came behind the lock,
-/// and where the disk tells, it has seen no damage. It holds what it read ahead, fewer than 64 blobs of at most 4 MiB
+/// and where the disk tells, it has seen no damage. It holds what it read ahead, fewer than 64 blobs of at most 8 MiB
 /// together, for as long as they may be asked for next.
 #[derive(Drop)]
 pub struct StoreSeat<D: Disk> {

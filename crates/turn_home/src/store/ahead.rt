@@ -6,7 +6,7 @@ use blobref::{Octets, Ref};
 use std::alloc::Global;
 use std::collections::VecDeque;
 
-/// The blobs that a seat read ahead of the numbers that it was asked for: fewer than 64, of at most 4 MiB together.
+/// The blobs that a seat read ahead of the numbers that it was asked for: fewer than 64, of at most 8 MiB together.
 #[derive(Drop)]
 pub struct Ahead {
     // The number that was asked for last.
