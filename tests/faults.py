@@ -93,7 +93,7 @@ def each_byte_is_read_once(program):
         for number, content in packs.items():
             got = [result_of(calls[place]) for place in places(calls, READS, store.path / pack_name(number))]
             compare(words[0], f"bytes that are read of pack {number}", len(content), sum(got))
-            check(f"{words[0]}: a read of {max(got)} bytes", max(got) <= 4_194_304)
+            check(f"{words[0]}: a read of {max(got)} bytes", max(got) <= 8_388_608)
 
 
 def result_of(call):

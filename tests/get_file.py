@@ -448,11 +448,11 @@ class Asked(NamedTuple):
 
 
 def reading_ahead(program):
-    """No blob is read more often than it is asked, and up to 64 of 4 MiB together before the first is written."""
+    """No blob is read more often than it is asked, and up to 64 of 8 MiB together before the first is written."""
     need_strace(program)
     random = chance("reading ahead")
     small, (large, *more), (huge, *others) = (
-        [random.randbytes(length) for _ in range(count)] for length, count in ((3_000, 100), (1 << 20, 6), (3 << 20, 2))
+        [random.randbytes(length) for _ in range(count)] for length, count in ((3_000, 100), (1 << 20, 10), (5 << 20, 2))
     )
     a, b, c, d, *_ = whole = [part(3_000, ref_of(blob)) for blob in small]
     tree, row = bytes_blob([b, c]), bytes_blob(whole[:10])
@@ -467,7 +467,7 @@ def reading_ahead(program):
         Asked("an absent blob", small, [a, b, part(1, NOWHERE), d], 2, 2, 3),
         Asked("older names", small, [part(3_000, older_ref_of(blob)) for blob in small[:4]], 1, 4, name_of=older_ref_of),
     ]
-    for what, blobs, ahead in [("of 1 MiB", [large, *more], 4), ("of 3 MiB", [huge, *others], 1)]:
+    for what, blobs, ahead in [("of 1 MiB", [large, *more], 8), ("of 5 MiB", [huge, *others], 1)]:
         parts = [part(len(blob), ref_of(blob)) for blob in blobs]
         asked.append(Asked(f"blobs {what}", blobs, parts, ahead, len(blobs)))
     return [lambda one=one: one.check(program) for one in asked]

@@ -236,7 +236,7 @@ def broken_sources(program):
             store.check_files(what)
         for size in (0, 10, BYTES_OF_A_CHUNK - 1):
             breaks_off(store, content_of(size))
-    for size in (BYTES_OF_A_CHUNK, BYTES_OF_A_CHUNK + 1, 2_500_000):
+    for size in (BYTES_OF_A_CHUNK, BYTES_OF_A_CHUNK + 1, 2_500_000, 9_500_000):
         breaks_off(Files(program, {0: pack(b"abc")}), content_of(size))
 
 

@@ -104,7 +104,7 @@ def salvage_of_full_pack(length, number):
 
 # Records behind one another, whose blobs are hashed several at a time
 
-# How many records of which lengths: the blobs of at most 64 headers are hashed together, and at most 4 MiB of them.
+# How many records of which lengths: the blobs of at most 64 headers are hashed together, and at most 8 MiB of them.
 BATCHES = {
     "short": (150, [(0, 400)]),
     "of some length": (75, [(5_000, 60_000)]),
