@@ -27,7 +27,7 @@ use Rattle.pack_store.specs.Archive.{Archive}
 use Rattle.pack_disk.specs.declared.disk.Disk.{Ghosts}
 use Rattle.peer_base.specs.Blobs.{AreHeld, IsPage, listed, sized, sizes_of}
 use Rattle.peer_base.proofs.Pages.{same_refs, sorted_take, short_take, all_beyond}
-use Rattle.peer_base.proofs.Racks.{no_more}
+use Rattle.store_peer.proofs.Counts.{no_more}
 
 -- ---- a page
 
