@@ -3,6 +3,7 @@ pub mod Sizes
 pub mod Source
 pub mod Filling
 pub mod Drafting
+pub mod Named
 pub mod Together
 pub mod Chunks
 pub mod Kept

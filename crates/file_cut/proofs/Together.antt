@@ -1,5 +1,5 @@
 -- The chunks of a piece are put one after the other.
-use Rattle.std.proofs.Common.{◌≡◌, ◌≤◌, ◌<◌, ◌+◌, ◌*◌, ℕ, zero, suc, List, [], ◌∷◌, ◌++◌, take, drop, length, slice_index_or, refl, sym, ap, subst, ◌∙◌, append_assoc, append-nil, arith, length-append}
+use Rattle.std.proofs.Common.{◌≡◌, ◌≤◌, ◌<◌, ◌+◌, ◌*◌, ℕ, List, [], ◌∷◌, ◌++◌, take, drop, length, refl, sym, ap, subst, ◌∙◌, append_assoc, append-nil, arith, length-append}
 use Rattle.std.proofs.Math.Nat.{suc-mul}
 use Rattle.std.proofs.lemmas.List.{drop-drop, length-take}
 use Rattle.std.proofs.lemmas.List.Concat.{flat_map-append}
@@ -16,14 +16,6 @@ pub behind_one : (size : ℕ) (bytes : List ℕ) (i : ℕ) → drop size (drop (
 behind_one size bytes i =
     let sum : i * size + size ≡ (i + 1) * size = omega (arith, suc-mul i size) in
     drop-drop size (i * size) bytes ∙ ap (λ (n : ℕ). drop n bytes) sum
-
--- one of four
-pub one_of_four : (f : ℕ → List ℕ) (i : ℕ) → i < 4 → slice_index_or (f 0 ∷ f 1 ∷ f 2 ∷ f 3 ∷ []) i [] ≡ f i
-one_of_four f zero less = refl
-one_of_four f (suc zero) less = refl
-one_of_four f (suc (suc zero)) less = refl
-one_of_four f (suc (suc (suc zero))) less = refl
-one_of_four f (suc (suc (suc (suc i)))) less = absurd (omega (arith, less))
 
 -- chunks in the middle of others
 amid : (chunks done : List (List ℕ)) (chunk : List ℕ) (rest more whole : List (List ℕ)) → done ++ chunk ∷ rest ≡ whole

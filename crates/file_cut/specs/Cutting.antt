@@ -26,6 +26,10 @@ chunk_size = 1048576
 unfoldable pub run_size : ℕ
 run_size = 4096
 
+-- how many chunks are read, hashed and put together
+abbrev pub together : ℕ
+together = 8
+
 -- the part that is a blob, and the one that is a run of blobs
 abbrev pub blob_part : List ℕ → Part
 blob_part bytes = record { size = length bytes; offset = 0; origin = Blob (ref_of bytes) }

@@ -1,8 +1,8 @@
 //! The chunks of a piece, which are named together and put one after the other.
 ghost use Rattle.std.specs.Prelude.{◌≡◌, ◌≤◌, ◌<◌, ◌*◌, ℕ, List, ◌++◌, length, slice_index_or, [], IfErr, OnOk};
-ghost use Rattle.blobref.specs.Blobref.{ref_of};
+ghost use Rattle.sha2.specs.Sha256.{sha224};
 ghost use Rattle.edge_base.specs.Shelf.{max_blob};
-ghost use Rattle.file_cut.specs.Cutting.{cut, below_file, chunk_at};
+ghost use Rattle.file_cut.specs.Cutting.{cut, below_file, chunk_at, together};
 ghost use Rattle.file_cut.specs.Drafts.{IsCut, IsPut, HasRoom};
 
 use crate::draft::{Draft, put_next};
@@ -12,37 +12,30 @@ use sha_lanes::sha224_all;
 use std::alloc::Global;
 
 /// How many chunks a piece has at most.
-pub(crate) const TOGETHER: usize = 4;
+pub(crate) const TOGETHER: usize = 8;
 
 // The chunk of this number, and nothing past the last one.
 fn chunk_at(bytes: &[u8], size: usize, i: usize) -> &[u8]
     requires size { size ≤ max_blob }
-    requires few { i < 4 }
+    requires few { i < together }
     ensures { result.now ≡ chunk_at size bytes.now i }
 {
     let rest = &bytes[(i * size).min(bytes.len())..];
     &rest[..size.min(rest.len())]
 }
 
-// The refs of the chunks, in their order, and past the last one that of nothing. They are hashed together.
-fn refs_of(bytes: &[u8], size: usize) -> [Ref; TOGETHER]
+// The digests of the chunks, in their order, and past the last one that of nothing. They are hashed together.
+fn digests_of(bytes: &[u8], size: usize) -> [[u8; 28]; TOGETHER]
     requires { size ≤ max_blob }
-    ensures { (i : ℕ) → i < 4 → slice_index_or result i [] ≡ ref_of (chunk_at size bytes.now i) }
+    ensures { (i : ℕ) → i < together → slice_index_or result i [] ≡ sha224 (chunk_at size bytes.now i) }
 {
-    let chunks = [
-        chunk_at(bytes, size, 0),
-        chunk_at(bytes, size, 1),
-        chunk_at(bytes, size, 2),
-        chunk_at(bytes, size, 3),
-    ];
+    let mut chunks: [&[u8]; TOGETHER] = [&[]; TOGETHER];
+    'chunks: for i in 0..TOGETHER {
+        chunks[i] = chunk_at(bytes, size, i);
+    }
     let mut digests = [[0; 28]; TOGETHER];
     sha224_all(&chunks, &mut digests);
-    [
-        Ref::from_digest(digests[0]),
-        Ref::from_digest(digests[1]),
-        Ref::from_digest(digests[2]),
-        Ref::from_digest(digests[3]),
-    ]
+    digests
 }
 
 /// Puts the chunks of a piece, each once the run before it is closed where it is full. After a refusal a front of the
@@ -59,7 +52,7 @@ pub(crate) fn put_piece<B: Shelf>(
     requires fits { size ≤ max_blob }
     requires full { 0 < full }
     requires short { full ≤ 4096 }
-    requires few { length bytes.now ≤ 4 * size }
+    requires few { length bytes.now ≤ together * size }
     requires room { HasRoom B.Shelf full shelf.old draft.old (length bytes.now) }
     ensures ok { OnOk result ((start : B) (chunks : List (List ℕ)) → IsPut B.Shelf full start shelf.old draft.old chunks
         → IsPut B.Shelf full start shelf.new draft.new (chunks ++ cut size bytes.now)) }
@@ -67,13 +60,13 @@ pub(crate) fn put_piece<B: Shelf>(
         → IsPut B.Shelf full start shelf.old draft.old chunks
         → IsCut B.Shelf start (below_file full (chunks ++ (cut size bytes.now ++ more))) shelf.new fault) }
 {
-    let refs = refs_of(bytes, size);
+    let digests = digests_of(bytes, size);
     'chunks: for i in 0..TOGETHER {
         let chunk = chunk_at(bytes, size, i);
         if chunk.is_empty() {
             return Ok(());
         }
-        let r = refs[i];
+        let r = Ref::from_digest(digests[i]);
         put_next(alloc, shelf, draft, &r, chunk, full)?;
     }
     Ok(())

@@ -3,7 +3,7 @@ ghost use Rattle.std.specs.Prelude.{◌≡◌, ◌≤◌, ◌<◌, ◌*◌, ℕ,
 ghost use Rattle.blobref.specs.Blobref.{ref_of};
 ghost use Rattle.edge_base.specs.Edge.{SourceGaveAll};
 ghost use Rattle.file_cut.specs.declared.fault.CutFault.TheVariants as fault;
-ghost use Rattle.file_cut.specs.Cutting.{cut, below_file, blobs_from, own_from};
+ghost use Rattle.file_cut.specs.Cutting.{cut, below_file, blobs_from, own_from, together};
 ghost use Rattle.file_cut.specs.Drafts.{IsPut, Puts};
 ghost use Rattle.file_cut.specs.Source.{ReadsBack};
 ghost use Rattle.file_cut.specs.Writing.{AreSizes, Unwritten, Written, NotWritten, unput, longest_name};
@@ -40,8 +40,8 @@ pub const LONGEST_NAME: usize = 4_096;
 /// What was written reads back: where no two of the blobs share a ref, nor one of them with another blob of the shelf,
 /// the bytes of the file at the answered ref are all that the source had left.
 ///
-/// It holds four chunks, and at most 8,192 parts. Four are read before the first of them is put, so after `ReadFault` up
-/// to three whole ones that were read weren't put.
+/// It holds eight chunks, and at most 8,192 parts. Eight are read before the first of them is put, so after `ReadFault`
+/// up to seven whole ones that were read weren't put.
 pub fn write_file<S: Source, B: Shelf>(
     alloc: Global,
     name: &str,
@@ -73,7 +73,7 @@ fn zeros(alloc: Global, len: usize) -> Result<Vec<u8>, AllocError>
     vec![in alloc; 0; len]
 }
 
-// Writes a file with chunks of such a size, of which the buffer has room for four, runs of so many, and at most so many
+// Writes a file with chunks of such a size, of which the buffer has room for eight, runs of so many, and at most so many
 // bytes.
 fn write_cut<S: Source, B: Shelf>(
     alloc: Global,
@@ -86,7 +86,7 @@ fn write_cut<S: Source, B: Shelf>(
     most: u64,
 ) -> Result<Ref, CutFault>
     requires sizes { AreSizes size full most }
-    requires room { length buf.old ≡ 4 * size }
+    requires room { length buf.old ≡ together * size }
     requires named { length name.now ≤ longest_name }
     ensures ok { IfOk result (λ r. (bytes : List ℕ) × SourceGaveAll (S.left source.old) (S.left source.new) bytes
         × (length bytes ≤ most)
@@ -104,7 +104,7 @@ fn write_cut<S: Source, B: Shelf>(
     }
 }
 
-// Puts the chunks of a source, once four are read, or as many as there are.
+// Puts the chunks of a source, once eight are read, or as many as there are.
 fn put_chunks<S: Source, B: Shelf>(
     alloc: Global,
     source: &mut S,
@@ -115,7 +115,7 @@ fn put_chunks<S: Source, B: Shelf>(
     most: u64,
 ) -> Result<Draft, CutFault>
     requires sizes { AreSizes size full most }
-    requires room { length buf.old ≡ 4 * size }
+    requires room { length buf.old ≡ together * size }
     ensures ok { IfOk result (λ draft. (bytes : List ℕ) × SourceGaveAll (S.left source.old) (S.left source.new) bytes
         × (length bytes ≤ most) × IsPut B.Shelf full shelf.old shelf.new draft (cut size bytes)) }
     ensures err { IfErr result (λ fault. Unwritten S.Source B.Shelf most

@@ -2,6 +2,8 @@ use Rattle.std.proofs.Common.{◌≡◌, ◌≤◌, ◌*◌, List, ℕ, drop, su
 use Rattle.std.proofs.lemmas.Result.{err_from_is_err_and}
 use Rattle.std.proofs.Math.Nat.{mul-le-mul_right}
 use Rattle.std.proofs.lemmas.List.{drop_all}
+use Rattle.file_cut.specs.Cutting.{together}
+use Rattle.file_cut.proofs.Named.{named_by}
 use Rattle.file_cut.proofs.Together.{AreTaken, behind_one, none_taken, all_taken, none_left, one_taken, one_refused, taken_short}
 use Rattle.file_cut.proofs.group.put_piece.Goals as goal
 
@@ -35,11 +37,16 @@ returns-in_err-put_next-clause-err g c =
 
 pub returns-clause-ok : goal.returns-clause-ok
 returns-clause-ok g c =
-    let done : 4 ≤ c.chunks.i = omega arith in
-    let past : 4 * c.args.size ≤ c.chunks.i * c.args.size = mul-le-mul_right c.args.size done in
+    let done : together ≤ c.chunks.i = omega arith in
+    let past : together * c.args.size ≤ c.chunks.i * c.args.size = mul-le-mul_right c.args.size done in
     all_taken g.B.Shelf c.args.size c.args.full c.requires.some c.args.shelf.now c.chunks.shelf c.args.draft.now c.chunks.draft c.args.bytes.now
     _ c.chunks.invariant (drop_all (c.chunks.i * c.args.size) c.args.bytes.now (omega (arith, past, c.requires.few)))
 
 pub put_next-requires-clause-short : goal.put_next-requires-clause-short
 put_next-requires-clause-short g c =
     taken_short g.B.Shelf c.args.size c.args.full c.requires.some c.requires.short c.args.shelf.now c.chunks.shelf c.args.draft.now c.chunks.draft c.args.bytes.now _ c.requires.room c.chunks.invariant
+
+pub put_next-requires-clause-named : goal.put_next-requires-clause-named
+put_next-requires-clause-named g c =
+    named_by c.args.size c.args.bytes.now _ c.chunk_at-chunk.result.now c.from_digest-r.result c.chunks.i
+    (c.digests_of-digests.ensures c.chunks.i (omega arith)) c.chunk_at-chunk.ensures c.from_digest-r.ensures

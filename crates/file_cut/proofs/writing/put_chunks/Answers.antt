@@ -1,5 +1,6 @@
 use Rattle.std.proofs.Common.{◌≡◌, ◌≤◌, ◌<◌, ◌*◌, ◌-◌, [], List, ℕ, take, length, IfSome, refl, subst, ◌∙◌, arith}
 use Rattle.std.proofs.lemmas.List.{length-take-le}
+use Rattle.file_cut.specs.Cutting.{together}
 use Rattle.file_cut.proofs.Drafting.{put_none}
 use Rattle.file_cut.proofs.Chunks.{so_far_none, has_room, not_read, too_long, not_put, last_put, next_put, SoFar}
 use Rattle.file_cut.proofs.writing.put_chunks.Goals as goal
@@ -33,12 +34,12 @@ returns-in-Err-clause-err g c =
     let n = c.in-Ok.n in
     let buf = c.read_piece.new.buf in
     let size = c.args.size in
-    let same : length buf ≡ 4 * size = c.read_piece.auto.buf ∙ c.pieces.invariant.same ∙ c.requires.room in
+    let same : length buf ≡ together * size = c.read_piece.auto.buf ∙ c.pieces.invariant.same ∙ c.requires.room in
     let bound : n ≤ length buf = omega (arith, c.in-Ok.ensures.bound, c.read_piece.auto.buf) in
     let long : length (take n buf) ≡ n = length-take-le n buf bound in
-    let end : length (take n buf) < 4 * size → IfSome (g.S.Source.left c.read_piece.new.source) (λ (l : List ℕ). l ≡ []) =
+    let end : length (take n buf) < together * size → IfSome (g.S.Source.left c.read_piece.new.source) (λ (l : List ℕ). l ≡ []) =
     (λ less. c.in-Ok.ensures.end (omega (arith, less, long, same, c.read_piece.auto.buf))) in
-    not_put g.S.Source g.B.Shelf size c.args.full c.args.most c.requires.sizes.some c.requires.sizes.room 4 c.args.source.now c.pieces.source c.read_piece.new.source
+    not_put g.S.Source g.B.Shelf size c.args.full c.args.most c.requires.sizes.some c.requires.sizes.room together c.args.source.now c.pieces.source c.read_piece.new.source
     c.args.shelf.now c.pieces.shelf c.put_piece.new.shelf c.pieces.draft c.pieces.left (take n buf) c.in-Err.fault c.unput.result c.pieces.invariant.so c.in-Ok.ensures.bytes
     (omega (arith, long, bound, same)) end (λ chunks more put. c.in-Err.ensures.err c.args.shelf.now chunks more put) c.unput.ensures
 
@@ -63,7 +64,7 @@ pieces-preserved g c =
     record {
       so = subst (λ (k : ℕ). SoFar g.S.Source g.B.Shelf size c.args.full c.args.most c.args.source.now c.read_piece.new.source
           c.args.shelf.now c.put_piece.new.shelf c.put_piece.new.draft (c.pieces.left - k)) long
-          (next_put g.S.Source g.B.Shelf size c.args.full c.args.most c.requires.sizes.some c.requires.sizes.room 4 c.args.source.now c.pieces.source c.read_piece.new.source
+          (next_put g.S.Source g.B.Shelf size c.args.full c.args.most c.requires.sizes.some c.requires.sizes.room together c.args.source.now c.pieces.source c.read_piece.new.source
           c.args.shelf.now c.pieces.shelf c.put_piece.new.shelf c.pieces.draft c.put_piece.new.draft c.pieces.left (take n buf) c.pieces.invariant.so c.in-Ok.ensures.bytes
           (omega (arith, c.if-n-buf.false, long, bound, same, c.requires.room)) (omega (arith, c.if-n-left.false, long))
           (λ chunks put. c.in_default-put_piece.ensures.ok c.args.shelf.now chunks put));
