@@ -17,7 +17,7 @@ use std::alloc::Global;
 
 // The most bytes that one read asks for, where nothing else is said. That many are read where records of some length
 // follow one another, and 65,536 elsewhere (`Scanner::room`).
-pub(crate) const PIECE: usize = 4_194_304;
+pub(crate) const PIECE: usize = 8_388_608;
 
 // Whether a pack is clean, and how many bytes it has.
 #[derive(Clone, Copy)]
