@@ -18,7 +18,7 @@ use std::alloc::Global;
 use std::collections::BTreeSet;
 
 // The most bytes that one read of a pack asks for, where its records are long.
-const PACK_PIECE: usize = 4_194_304;
+const PACK_PIECE: usize = 8_388_608;
 
 /// The facts of these blobs, each ref at its first. `NoMemory` comes only where no memory is left.
 pub(crate) fn facts_of(alloc: Global, blobs: &[Octets]) -> Result<FactList, NoMemory>

@@ -17,7 +17,7 @@ use std::collections::BTreeSet;
 
 /// The facts of the blobs that are salvaged from the bytes that a source has left, at most so many, each ref once: the
 /// first finding of a ref counts, and later ones are passed over (`docs/formats/packs.md`, `docs/formats/schema.md`).
-/// The bytes are read in pieces, of up to 4 MiB where records of some length follow one another, so that several are hashed
+/// The bytes are read in pieces, of up to 8 MiB where records of some length follow one another, so that several are hashed
 /// together. Beside the facts it takes memory for one record and two pieces.
 ///
 /// `TooLong` comes only where more than `limit` bytes were left, and where that is so `Ok` never comes; the source
