@@ -19,7 +19,7 @@ use std::alloc::Global;
 use std::collections::VecDeque;
 
 /// The blob of a number, counted from 0, and behind it those of the next numbers, at most so many together; none exactly
-/// where no more than that many arrived. They have at most 4 MiB together, unless the first one alone has more.
+/// where no more than that many arrived. They have at most 8 MiB together, unless the first one alone has more.
 ///
 /// The first one is read as by `find_number`, and `check_all` makes of it what is answered in the end. Whatever fails at
 /// another one ends the list, and adds no more to the history than that the disk's count rose.
