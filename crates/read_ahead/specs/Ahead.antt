@@ -1,15 +1,20 @@
 -- Blobs that are read ahead of what asks for them (docs/files.md).
-use Rattle.std.specs.Prelude.{◌≡◌, Option, Some}
+use Rattle.std.specs.Prelude.{◌≡◌, ◌≢◌, None, Some}
 use Rattle.std.specs.Option.{ForSome}
 use Rattle.std.specs.FinMap.{get}
 use Rattle.blobref.specs.Blobref.{IsOwnRef}
-use Rattle.edge_base.specs.Shelf.{Blob, Blobs}
+use Rattle.edge_base.specs.Shelf.{Blob}
+use Rattle.pack_disk.specs.declared.disk.Disk.{Ghosts}
+use Rattle.pack_store.specs.Archive.{Archive}
+use Rattle.pack_store.specs.Rows.{number_of}
+use Rattle.pack_store.specs.StoreShelf.{content_of}
 
--- where it is told what is held, these bytes stand under the ref
-abbrev pub StandsUnder : Option Blobs → Blob → Type 0
-StandsUnder told blob = ForSome told (λ held. Some blob.1 ≡ get held blob.0)
+-- the ref has arrived, and where it is told what is held these bytes stand under it
+pub record StandsUnder {D : Type 0} (g : Ghosts D) (store : Archive D) (blob : Blob) : Type 0 where
+  pub arrived : number_of blob.0 store.rows ≢ None
+  pub bytes : ForSome (content_of g store) (λ held. Some blob.1 ≡ get held blob.0)
 
 -- a blob that is held under its own ref
-pub record IsHeld (told : Option Blobs) (blob : Blob) : Type 0 where
+pub record IsHeld {D : Type 0} (g : Ghosts D) (store : Archive D) (blob : Blob) : Type 0 where
   pub own : IsOwnRef blob.0 blob.1
-  pub stands : StandsUnder told blob
+  pub stands : StandsUnder g store blob

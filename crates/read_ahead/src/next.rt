@@ -1,7 +1,6 @@
 //! Which blobs are asked next, and what stands under their refs.
 ghost use Rattle.std.specs.Prelude.{◌≡◌, ◌≤◌, All, IfSome};
 ghost use Rattle.pack_store.specs.Reading.{StaysStill};
-ghost use Rattle.pack_store.specs.StoreShelf.{content_of};
 ghost use Rattle.read_ahead.specs.Ahead.{StandsUnder};
 
 use blob_checks::{BYTES, COUNT, has_lanes};
@@ -49,7 +48,7 @@ pub(crate) fn read_blobs<D: Disk>(
     store: &mut Store<D>,
     refs: &[Ref],
 ) -> Vec<(Ref, Octets)>
-    ensures stand { All (StandsUnder (content_of D.Disk store.old)) result.items }
+    ensures stand { All (StandsUnder D.Disk store.old) result.items }
     ensures stays { StaysStill D.Disk store.old store.new }
     ensures later { D.faults store.old.disk ≤ D.faults store.new.disk }
 {
@@ -69,7 +68,7 @@ pub(crate) fn read_blobs<D: Disk>(
 
 // The bytes that stand under a ref of a SHA-224, where they fit.
 fn read_blob<D: Disk>(store: &mut Store<D>, r: &Ref, room: u64) -> Option<Octets>
-    ensures stands { IfSome result (λ bytes. StandsUnder (content_of D.Disk store.old) (r.now, bytes)) }
+    ensures stands { IfSome result (λ bytes. StandsUnder D.Disk store.old (r.now, bytes)) }
     ensures stays { StaysStill D.Disk store.old store.new }
     ensures later { D.faults store.old.disk ≤ D.faults store.new.disk }
 {

@@ -2,7 +2,7 @@
 ghost use Rattle.std.specs.Prelude.{◌≡◌, ◌≤◌, IfSome};
 ghost use Rattle.pack_store.specs.Packs.{KeepsAll};
 ghost use Rattle.pack_store.specs.Puts.{HasNoRoom};
-ghost use Rattle.pack_store.specs.StoreShelf.{content_of, PutsStore};
+ghost use Rattle.pack_store.specs.StoreShelf.{content_of, PutsStore, FetchesStore};
 ghost use Rattle.pack_store.specs.RunLaws.{store_puts_nothing, store_puts_then, store_follows_then};
 ghost use Rattle.read_ahead.specs.Ahead.{IsHeld};
 
@@ -30,14 +30,13 @@ pub struct ReadAhead<D: Disk> {
 impl<D: Disk> Model for ReadAhead<D> {
     ghost use Rattle.std.specs.Prelude.{All};
     ghost use Rattle.pack_store.specs.Archive.{Archive};
-    ghost use Rattle.pack_store.specs.StoreShelf.{content_of};
     ghost use Rattle.read_ahead.specs.Ahead.{IsHeld};
 
     ghost Value = { Archive D };
 
     ghost view = { λ a. a.store };
 
-    ghost invariant = { λ a. All (IsHeld (content_of D.Disk a.store)) a.ahead.items };
+    ghost invariant = { λ a. All (IsHeld D.Disk a.store) a.ahead.items };
 }
 
 impl<D: Disk> ReadAhead<D> {
@@ -61,7 +60,7 @@ impl<D: Disk> ReadAhead<D> {
 
     // The bytes of the blob that is next, where it has this ref. Where it hasn't, none is next any more.
     fn take_next(&mut self, r: &Ref) -> Option<Octets>
-        ensures held { IfSome result (λ bytes. IsHeld (content_of D.Disk self.old) (r.now, bytes)) }
+        ensures held { IfSome result (λ bytes. IsHeld D.Disk self.old (r.now, bytes)) }
         ensures same { self.new ≡ self.old }
     {
         let (next, bytes) = self.ahead.pop()?;
@@ -84,6 +83,8 @@ impl<D: Disk> Shelf for ReadAhead<D> {
     ghost follows = { λ a b. KeepsAll D.Disk a.disk b.disk };
 
     ghost puts = { λ a blobs b. PutsStore D.Disk a blobs b };
+
+    ghost fetches = { λ a r answer b. FetchesStore D.Disk a r answer b };
 
     ghost puts_nothing = { λ a. store_puts_nothing _ D.counts_now D.only_now a };
 
