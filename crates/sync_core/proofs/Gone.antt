@@ -1,5 +1,5 @@
 -- Blobs that are copied one after another.
-use Rattle.std.proofs.Common.{◌≡◌, ◌+◌, drop-cons, add-one, inl, inr, Ok, Err, ℕ, zero, suc, ◌≤◌, ◌<◌, true, Option, None, Some, List, [], ◌∷◌, ◌++◌, length, drop, get_or, refl, sym, ap, subst, ◌∙◌, arith, append_assoc}
+use Rattle.std.proofs.Common.{◌≡◌, inl, inr, Ok, Err, ℕ, zero, suc, ◌≤◌, true, Option, None, Some, List, [], ◌∷◌, ◌++◌, refl, sym, ap, subst, ◌∙◌, arith, append_assoc}
 use Rattle.std.proofs.lemmas.List.{map-append}
 use Rattle.std.specs.List.{All}
 use Rattle.std.specs.Option.{ForSome, is_some}
@@ -7,30 +7,25 @@ use Rattle.std.specs.FinMap.{get, contains_key}
 use Rattle.edge_base.specs.Edge.{FaultsRose}
 use Rattle.edge_base.specs.Shelf.{Blob, Blobs, Keeps}
 use Rattle.edge_base.specs.ShelfLaws.{Keeps-then}
-use Rattle.peer_base.specs.Causes.{ListCause, FetchCause, PutLeaves, MayKeep}
+use Rattle.peer_base.specs.Causes.{FetchCause, PutLeaves, MayKeep}
 use Rattle.peer_base.specs.Order.{refs_of}
 use Rattle.peer_base.specs.declared.peer.Peer.{Ghosts}
 use Rattle.peer_base.specs.declared.peer.PeerFault.{PeerFault}
 use Rattle.peer_base.specs.declared.peer.PeerFault.TheVariants as fault
 use Rattle.sync_core.specs.declared.syncing.SyncFault.{SyncFault}
 use Rattle.sync_core.specs.declared.syncing.SyncFault.TheVariants.{Source, Target, Gone}
-use Rattle.sync_core.specs.Answers.{Fetched, SourceAnswered, TargetAnswered}
-use Rattle.sync_core.specs.Causes.{ListFault, SourceFault, TargetFault}
+use Rattle.listed_pages.specs.Answers.{Fetched, SourceAnswered, TargetAnswered}
+use Rattle.listed_pages.specs.Causes.{ListFault}
+use Rattle.listed_pages.proofs.Runs.{Laws, source_answered_on, target_answered_on, fetched_on}
+use Rattle.sync_core.specs.Causes.{SourceFault, TargetFault}
 use Rattle.sync_core.specs.Copying.{StandIn, AreThere, Copies, PutsBut, StopCause, Stopped, CopiesRefs, CopiesFront}
-use Rattle.sync_core.proofs.Runs.{Laws, source_answered_on, target_answered_on, fetched_on}
+use Rattle.sync_core.specs.Turns.{StopsCopying}
+use Rattle.sync_core.proofs.Taking.{put_none, put_more, each_then, each_one, stops_one, stops_more}
 
 -- ---- causes
 
 rose_on : (a b c : ℕ) → a ≤ b → FaultsRose b c → FaultsRose a c
 rose_on a b c le rose = omega (arith, le, rose)
-
-pub list_fault : (told : Option Blobs) (before now : ℕ) (T : Type 0) (e : PeerFault) → ListCause {T = T} told before now (Err e) → ListFault told before now e
-list_fault told before now T fault.Failed w = w
-list_fault told before now T fault.BadReply w = w
-list_fault told before now T (fault.Refused status) w = w
-list_fault told before now T (fault.Damaged want is) w = w
-list_fault told before now T (fault.Full blobs pack) w = w
-list_fault told before now T fault.NoMemory w = w
 
 pub listing_fault : (told : Option Blobs) (before now : ℕ) (e : PeerFault) → ListFault told before now e → SourceFault told before now e
 listing_fault told before now fault.Failed w = w
@@ -96,9 +91,6 @@ given_none (Some held) = refl
 pub given_same : (told now : Option Blobs) → now ≡ told → Keeps told now []
 given_same told now same = same ∙ given_none told
 
-pub drop_first : (refs : List (List ℕ)) (i : ℕ) (r : List ℕ) → i < length refs → r ≡ get_or refs i r → drop i refs ≡ r ∷ drop (i + 1) refs
-drop_first refs i r within is = drop-cons refs i r within ∙ (λ j. sym is j ∷ drop (sym (add-one i) j) refs)
-
 -- ---- copies
 
 module _ {A B : Type 0} (g : Ghosts A) (h : Ghosts B) (la : Laws g) (lb : Laws h) where
@@ -112,7 +104,7 @@ module _ {A B : Type 0} (g : Ghosts A) (h : Ghosts B) (la : Laws g) (lb : Laws h
     put = lb.puts_then a b c xs ys p.put q.put;
   }
 
-  puts_but : (a b c : B) (xs ys : List Blob) (e : SyncFault) → h.puts a xs b → PutsBut g h b c ys e → PutsBut g h a c (xs ++ ys) e
+  pub puts_but : (a b c : B) (xs ys : List Blob) (e : SyncFault) → h.puts a xs b → PutsBut g h b c ys e → PutsBut g h a c (xs ++ ys) e
   puts_but a b c xs ys (Source f) p q = lb.puts_then a b c xs ys p q
   puts_but a b c xs ys (Target fault.Failed) p q = tt
   puts_but a b c xs ys (Target fault.BadReply) p q = lb.puts_then a b c xs ys p q
@@ -122,7 +114,7 @@ module _ {A B : Type 0} (g : Ghosts A) (h : Ghosts B) (la : Laws g) (lb : Laws h
   puts_but a b c xs ys (Target fault.NoMemory) p q = lb.puts_then a b c xs ys p q
   puts_but a b c xs ys (Gone r) p q = lb.puts_then a b c xs ys p q
 
-  stops_on : (source between now : A) (a b c : B) (xs next : List Blob) (e : SyncFault) → g.content between ≡ g.content source → g.faults source ≤ g.faults between → h.faults a ≤ h.faults b
+  pub stops_on : (source between now : A) (a b c : B) (xs next : List Blob) (e : SyncFault) → g.content between ≡ g.content source → g.faults source ≤ g.faults between → h.faults a ≤ h.faults b
       → g.puts source [] between → Keeps (h.content a) (h.content b) xs → h.puts a xs b → StopCause g h between now b c next e → StopCause g h source now a c next e
   stops_on source between now a b c xs next (Source f) same le lower nothing given put w = (
     source_later (g.content between) (g.content source) (g.faults source) (g.faults between) (g.faults now) f same le w.0,
@@ -146,14 +138,18 @@ module _ {A B : Type 0} (g : Ghosts A) (h : Ghosts B) (la : Laws g) (lb : Laws h
 
   -- ---- one blob
 
-  pub gone_away : (source now : A) (target : B) (r : List ℕ) → Fetched g source now r (Ok None) → AreThere (g.content source) (r ∷ []) → ForSome (g.content source) (λ held. None ≡ get held r)
+  pub gone_away : (source now : A) (target : B) (r : List ℕ) → Fetched g source now r (Ok None) → g.fetches source r (Ok None) now → AreThere (g.content source) (r ∷ []) → ForSome (g.content source) (λ held. None ≡ get held r)
       → CopiesFront g h source now target target (r ∷ []) (Gone r)
-  gone_away source now target r answered there none = record {
+  gone_away source now target r answered call there none = record {
     gone = [];
     next = [];
     rest = r ∷ [];
     front = refl;
     stopped = record { stand = none_stand (g.content source); given = given_none (h.content target); put = lb.puts_nothing target; why = (untold (g.content source) there none, answered) };
+    done = [];
+    tried = [];
+    put = put_none;
+    stops = stops_one g h source now target target r [] (Gone r) (call, refl, refl, refl);
   }
     where
       untold : (told : Option Blobs) → AreThere told (r ∷ []) → ForSome told (λ held. None ≡ get held r) → told ≡ None
@@ -163,66 +159,86 @@ module _ {A B : Type 0} (g : Ghosts A) (h : Ghosts B) (la : Laws g) (lb : Laws h
           no_ref : contains_key held r ≡ true → None ≡ get held r → ⊥
           no_ref e n = absurd (cc (e, ap is_some n))
 
-  pub not_fetched : (source now : A) (target : B) (r : List ℕ) (f : PeerFault) → SourceFault (g.content source) (g.faults source) (g.faults now) f → SourceAnswered g source now f
+  pub not_fetched : (source now : A) (target : B) (r : List ℕ) (f : PeerFault) → SourceFault (g.content source) (g.faults source) (g.faults now) f → SourceAnswered g source now f → g.fetches source r (Err f) now
       → CopiesFront g h source now target target (r ∷ []) (Source f)
-  not_fetched source now target r f w answered = record {
+  not_fetched source now target r f w answered call = record {
     gone = [];
     next = [];
     rest = r ∷ [];
     front = refl;
     stopped = record { stand = none_stand (g.content source); given = given_none (h.content target); put = lb.puts_nothing target; why = (w, answered) };
+    done = [];
+    tried = [];
+    put = put_none;
+    stops = stops_one g h source now target target r [] (Source f) (call, refl, refl);
   }
 
-  pub one_copied : (source : A) (a b : B) (r bytes : List ℕ) → ForSome (g.content source) (λ held. Some bytes ≡ get held r) → Keeps (h.content a) (h.content b) ((r, bytes) ∷ [])
-      → h.puts a ((r, bytes) ∷ []) b → CopiesRefs g h source a b (r ∷ [])
-  one_copied source a b r bytes found kept put = ((r, bytes) ∷ [], refl, record { stand = stand_one (g.content source) r bytes found; given = kept; put = put })
+  pub one_copied : (source now : A) (a b : B) (r bytes : List ℕ) → ForSome (g.content source) (λ held. Some bytes ≡ get held r) → Keeps (h.content a) (h.content b) ((r, bytes) ∷ [])
+      → h.puts a ((r, bytes) ∷ []) b → g.fetches source r (Ok (Some bytes)) now → h.keeps a (r, bytes) (Ok tt) b → CopiesRefs g h source now a b (r ∷ [])
+  one_copied source now a b r bytes found kept put fetched keeps =
+      ((r, bytes) ∷ [], refl, record { stand = stand_one (g.content source) r bytes found; given = kept; put = put }, each_one g h source now a b r bytes fetched keeps)
 
-  module _ (source now : A) (a b : B) (r bytes : List ℕ) (found : ForSome (g.content source) (λ held. Some bytes ≡ get held r)) where
+  module _ (source now : A) (a b : B) (r bytes : List ℕ) (found : ForSome (g.content source) (λ held. Some bytes ≡ get held r)) (fetched : g.fetches source r (Ok (Some bytes)) now) where
     -- nothing was put, and the blob is the next one
     tried : (f : PeerFault) → h.content b ≡ h.content a → PutsBut g h a b [] (Target f) → TargetFault (h.content a) (h.fills b) (h.faults a) (h.faults b) ((r, bytes) ∷ []) f → TargetAnswered h a b f
-        → CopiesFront g h source now a b (r ∷ []) (Target f)
-    tried f same put w answered = record {
+        → h.keeps a (r, bytes) (Err f) b → CopiesFront g h source now a b (r ∷ []) (Target f)
+    tried f same put w answered call = record {
       gone = [];
       next = (r, bytes) ∷ [];
       rest = [];
       front = refl;
       stopped = record { stand = stand_one (g.content source) r bytes found; given = given_same (h.content a) (h.content b) same; put = put; why = (w, answered) };
+      done = [];
+      tried = (r, bytes) ∷ [];
+      put = record { also = []; gone_are = refl; tried_is = refl };
+      stops = stops_one g h source now a b r ((r, bytes) ∷ []) (Target f) (bytes, fetched, call, refl);
     }
 
     -- it was put all the same
     done : (f : PeerFault) → Keeps (h.content a) (h.content b) ((r, bytes) ∷ []) → PutsBut g h a b ((r, bytes) ∷ []) (Target f)
-        → TargetFault (h.content a) (h.fills b) (h.faults a) (h.faults b) [] f → TargetAnswered h a b f → CopiesFront g h source now a b (r ∷ []) (Target f)
-    done f kept put w answered = record {
+        → TargetFault (h.content a) (h.fills b) (h.faults a) (h.faults b) [] f → TargetAnswered h a b f → h.keeps a (r, bytes) (Err f) b → CopiesFront g h source now a b (r ∷ []) (Target f)
+    done f kept put w answered call = record {
       gone = (r, bytes) ∷ [];
       next = [];
       rest = [];
       front = refl;
       stopped = record { stand = stand_one (g.content source) r bytes found; given = kept; put = put; why = (w, answered) };
+      done = [];
+      tried = (r, bytes) ∷ [];
+      put = record { also = (r, bytes) ∷ []; gone_are = refl; tried_is = refl };
+      stops = stops_one g h source now a b r ((r, bytes) ∷ []) (Target f) (bytes, fetched, call, refl);
     }
 
     pub not_put : (f : PeerFault) → MayKeep (h.content a) (h.content b) (r, bytes)
         → PutLeaves {T = Unit {0}} (λ blobs. h.puts a blobs b) (h.fills b (r, bytes)) (h.content a) (h.content b) (h.faults a) (h.faults b) (r, bytes) (Err f) → TargetAnswered h a b f
-        → CopiesFront g h source now a b (r ∷ []) (Target f)
-    not_put fault.Failed (inl same) w answered = tried fault.Failed same tt w answered
-    not_put fault.Failed (inr kept) w answered = done fault.Failed kept tt w answered
-    not_put fault.BadReply may (none, inl w) answered = tried fault.BadReply w.1 w.0 none answered
-    not_put fault.BadReply may (none, inr w) answered = done fault.BadReply w.1 w.0 none answered
-    not_put (fault.Refused status) may (none, inl w) answered = tried (fault.Refused status) w.1 w.0 none answered
-    not_put (fault.Refused status) may (none, inr w) answered = done (fault.Refused status) w.1 w.0 none answered
-    not_put (fault.Damaged want is) may w answered = absurd w
-    not_put (fault.Full blobs pack) may w answered = tried (fault.Full blobs pack) w.1 w.0 w.2 answered
-    not_put fault.NoMemory may (inl w) answered = tried fault.NoMemory w.1 w.0 tt answered
-    not_put fault.NoMemory may (inr w) answered = done fault.NoMemory w.1 w.0 tt answered
+        → h.keeps a (r, bytes) (Err f) b → CopiesFront g h source now a b (r ∷ []) (Target f)
+    not_put fault.Failed (inl same) w answered call = tried fault.Failed same tt w answered call
+    not_put fault.Failed (inr kept) w answered call = done fault.Failed kept tt w answered call
+    not_put fault.BadReply may (none, inl w) answered call = tried fault.BadReply w.1 w.0 none answered call
+    not_put fault.BadReply may (none, inr w) answered call = done fault.BadReply w.1 w.0 none answered call
+    not_put (fault.Refused status) may (none, inl w) answered call = tried (fault.Refused status) w.1 w.0 none answered call
+    not_put (fault.Refused status) may (none, inr w) answered call = done (fault.Refused status) w.1 w.0 none answered call
+    not_put (fault.Damaged want is) may w answered call = absurd w
+    not_put (fault.Full blobs pack) may w answered call = tried (fault.Full blobs pack) w.1 w.0 w.2 answered call
+    not_put fault.NoMemory may (inl w) answered call = tried fault.NoMemory w.1 w.0 tt answered call
+    not_put fault.NoMemory may (inr w) answered call = done fault.NoMemory w.1 w.0 tt answered call
 
   -- ---- the blobs of some refs
 
-  pub refs_more : (source between : A) (a b c : B) (first second : List (List ℕ)) → g.content between ≡ g.content source → CopiesRefs g h source a b first → CopiesRefs g h between b c second
-      → CopiesRefs g h source a c (first ++ second)
-  refs_more source between a b c first second same p q =
-      (p.0 ++ q.0, map-append (λ (e : Blob). e.0) p.0 q.0 ∙ (λ i. p.1 i ++ q.1 i), copies_then source between a b c p.0 q.0 same p.2 q.2)
+  pub refs_none : (source : A) (target : B) → CopiesRefs g h source source target target []
+  refs_none source target = ([], refl, copies_none source target, (refl, refl))
+
+  pub refs_more : (source between now : A) (a b c : B) (first second : List (List ℕ)) → g.content between ≡ g.content source → CopiesRefs g h source between a b first → CopiesRefs g h between now b c second
+      → CopiesRefs g h source now a c (first ++ second)
+  refs_more source between now a b c first second same p q = (
+    p.0 ++ q.0,
+    map-append (λ (e : Blob). e.0) p.0 q.0 ∙ (λ i. p.1 i ++ q.1 i),
+    copies_then source between a b c p.0 q.0 same p.2 q.2,
+    each_then g h source between now a b c p.0 q.0 p.3 q.3,
+  )
 
   pub front_more : (source between now : A) (a b c : B) (first second rest : List (List ℕ)) (e : SyncFault) → g.content between ≡ g.content source → g.faults source ≤ g.faults between
-      → h.faults a ≤ h.faults b → g.puts source [] between → CopiesRefs g h source a b first → CopiesFront g h between now b c second e → CopiesFront g h source now a c (first ++ (second ++ rest)) e
+      → h.faults a ≤ h.faults b → g.puts source [] between → CopiesRefs g h source between a b first → CopiesFront g h between now b c second e → CopiesFront g h source now a c (first ++ (second ++ rest)) e
   front_more source between now a b c first second rest e same le lower nothing p q = record {
     gone = p.0 ++ q.gone;
     next = q.next;
@@ -232,4 +248,9 @@ module _ {A B : Type 0} (g : Ghosts A) (h : Ghosts B) (la : Laws g) (lb : Laws h
         ∙ sym (append_assoc (refs_of p.0) (refs_of (q.gone ++ q.next)) (q.rest ++ rest))
         ∙ ap (λ l. l ++ (q.rest ++ rest)) (sym (map-append (λ (e : Blob). e.0) p.0 (q.gone ++ q.next)) ∙ ap refs_of (sym (append_assoc p.0 q.gone q.next)));
     stopped = stopped_then source between now a b c p.0 q.gone q.next e same le lower nothing p.2 q.stopped;
+    done = p.0 ++ q.done;
+    tried = q.tried;
+    put = put_more p.0 q.gone q.next q.done q.tried q.put;
+    stops = subst (λ l. StopsCopying g h source now a c (l ++ (second ++ rest)) (p.0 ++ q.done) q.tried e) p.1
+        (stops_more g h source between now a b c p.0 q.done q.tried second rest e p.3 q.stops);
   }

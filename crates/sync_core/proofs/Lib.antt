@@ -1,8 +1,4 @@
-mod Room
-mod Runs
-mod Gone
-mod Lacks
-mod Lasts
-mod Merge
+pub mod Gone
+pub mod Taking
 mod Standing
 mod Paging

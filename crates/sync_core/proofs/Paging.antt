@@ -1,5 +1,5 @@
 -- A sync between two pages, and how it goes on and ends.
-use Rattle.std.proofs.Common.{◌≡◌, ℕ, zero, suc, ◌+◌, ◌-◌, ◌^◌, ◌≤◌, ◌<◌, min, Bool, cond, not, true, false, Option, None, Some, List, [], ◌∷◌, ◌++◌, length, take, filter, refl, sym, ap, subst, ◌∙◌, arith, length-append}
+use Rattle.std.proofs.Common.{◌≡◌, Ok, Err, ℕ, zero, suc, ◌+◌, ◌-◌, ◌^◌, ◌≤◌, ◌<◌, min, Bool, cond, not, true, false, Option, None, Some, List, [], ◌∷◌, ◌++◌, length, take, filter, refl, sym, ap, subst, ◌∙◌, arith, length-append}
 use Rattle.std.proofs.lemmas.List.{append-nil, length-map}
 use Rattle.std.specs.List.{All}
 use Rattle.std.specs.Option.{ForSome, option_map, is_some}
@@ -15,12 +15,17 @@ use Rattle.peer_base.specs.declared.peer.PeerFault.TheVariants as fault
 use Rattle.sync_core.specs.declared.syncing.SyncFault.{SyncFault}
 use Rattle.sync_core.specs.declared.syncing.SyncFault.TheVariants.{Source, Target}
 use Rattle.sync_core.specs.declared.syncing.Synced.{Synced}
-use Rattle.sync_core.specs.Causes.{ListFault, SourceFault, TargetFault}
-use Rattle.sync_core.specs.Copying.{lacking, StandIn, AreThere, IsPartOf, Copies, PutsBut, CopiesRefs, CopiesFront, CopiesPage, CopiesSome}
+use Rattle.listed_pages.specs.Answers.{IsReached, SourceAnswered, TargetAnswered}
+use Rattle.listed_pages.specs.Causes.{ListFault}
+use Rattle.listed_pages.specs.Pages.{Page, refs_off, IsPartOf, ListsUpTo, StopsListing, AsksOnce}
+use Rattle.listed_pages.proofs.Chains.{no_entries}
+use Rattle.listed_pages.proofs.Runs.{Laws}
+use Rattle.sync_core.specs.Causes.{SourceFault, TargetFault}
+use Rattle.sync_core.specs.Copying.{lacking, StandIn, AreThere, Copies, PutsBut, CopiesRefs, CopiesFront, CopiesPage, CopiesSome, Stopped}
+use Rattle.sync_core.specs.Turns.{Turn, refs_listed, blobs_gone, TakesTurns, StopsCopying, StopsAt, at_page, at_beside, at_blob, at_end}
 use Rattle.sync_core.specs.Syncing.{ForBoth, IsSynced, IsStopped}
-use Rattle.sync_core.specs.Answers.{IsReached, SourceAnswered, TargetAnswered}
-use Rattle.sync_core.proofs.Runs.{Laws}
 use Rattle.sync_core.proofs.Gone.{none_stand, given_same, copies_then, stopped_then}
+use Rattle.sync_core.proofs.Taking.{put_none, put_whole, put_on, gone_one, AreCounted, counted_none, counted_more, turns_one}
 use Rattle.sync_core.proofs.Standing.{page_copied, front_copied, all_copied, some_copied, entries_stand, all_filter, all_take}
 
 -- the blobs up to a ref were copied, and are counted
@@ -30,9 +35,13 @@ pub record IsUpTo (after : Option (List ℕ)) (copied already : ℕ) (gone : Lis
   pub all_are : copied + already ≡ length (up_to after (entries from))
 
 module _ {A B : Type 0} (g : Ghosts A) (h : Ghosts B) where
-  pub record IsFar (source : A) (old now : B) (after : Option (List ℕ)) (copied already : ℕ) : Type 0 where
+  pub record IsFar (source before : A) (old now : B) (after : Option (List ℕ)) (copied already : ℕ) : Type 0 where
     pub gone : List Blob
     pub copies : Copies g h source old now gone
+    pub turns : List Turn
+    pub takes : TakesTurns g h source old None turns before now after
+    pub gone_are : gone ≡ blobs_gone turns
+    pub counted : AreCounted (refs_listed turns) gone copied already
     pub is : ForBoth g h source old (IsUpTo after copied already gone)
 
 given_of : (before now : Option Blobs) (gone : List Blob) (to : Blobs) → Keeps before now gone → before ≡ Some to → now ≡ Some (with_blobs to gone)
@@ -42,17 +51,44 @@ given_of before now gone to given is = given ∙ ap (option_map (λ held. with_b
 exact : (a b n : ℕ) → n ≡ a + b → n < 2 ^ 64 → min (a + b) (2 ^ 64 - 1) ≡ a + b
 exact a b n is low = omega (arith, is, low)
 
+module _ {A B : Type 0} (g : Ghosts A) (h : Ghosts B) where
+  -- the target didn't list
+  unlisted_stop : (source : A) (old now : B) (f : PeerFault) → h.content now ≡ h.content old → h.puts old [] now → ListFault (h.content old) (h.faults old) (h.faults now) f → TargetAnswered h old now f
+      → Stopped g h source source old now [] [] (Target f)
+  unlisted_stop source old now f same nothing why answered = record { stand = none_stand (g.content source); given = given_same (h.content old) (h.content now) same; put = but f; why = (on f why, answered) }
+    where
+      but : (f : PeerFault) → PutsBut g h old now [] (Target f)
+      but fault.Failed = tt
+      but fault.BadReply = nothing
+      but (fault.Refused status) = nothing
+      but (fault.Damaged want is) = nothing
+      but (fault.Full blobs pack) = nothing
+      but fault.NoMemory = nothing
+
+      on : (f : PeerFault) → ListFault (h.content old) (h.faults old) (h.faults now) f → TargetFault (h.content old) (h.fills now) (h.faults old) (h.faults now) [] f
+      on fault.Failed w = w
+      on fault.BadReply w = w
+      on (fault.Refused status) w = w
+      on (fault.Damaged want is) w = w
+      on (fault.Full blobs pack) w = absurd w
+      on fault.NoMemory w = w
+
 module _ {A B : Type 0} (g : Ghosts A) (h : Ghosts B) (la : Laws g) (lb : Laws h)
     (source : A) (old : B) (few : ForSome (g.content source) AreHeld) where
   -- one page more
-  pub far_more : (between : A) (now next : B) (after : Option (List ℕ)) (page : List (List ℕ × ℕ)) (last : List ℕ) (copied already count copied_now already_now : ℕ)
-      → g.content between ≡ g.content source → IsPage after 1000 page → ForSome (g.content source) (λ from. page ≡ listed after 1000 from) → last_ref page ≡ Some last
-      → IsFar g h source old now after copied already → CopiesPage g h between now next page count
+  pub far_more : (before between source_next : A) (now next : B) (after : Option (List ℕ)) (page : List (List ℕ × ℕ)) (last : List ℕ) (copied already count copied_now already_now : ℕ)
+      → g.lists before after 1000 (Ok page) between → g.content between ≡ g.content source → IsPage after 1000 page → ForSome (g.content source) (λ from. page ≡ listed after 1000 from) → last_ref page ≡ Some last
+      → IsFar g h source before old now after copied already → CopiesPage g h between source_next now next after last page count
       → copied_now ≡ min (copied + count) (2 ^ 64 - 1) → already_now ≡ min (already + (length page - count)) (2 ^ 64 - 1) → count ≤ length page
-      → IsFar g h source old next (Some last) copied_now already_now
-  far_more between now next after page last copied already count copied_now already_now same shape page_is is_last far more copied_is already_is within = record {
+      → IsFar g h source source_next old next (Some last) copied_now already_now
+  far_more before between source_next now next after page last copied already count copied_now already_now call same shape page_is is_last far more copied_is already_is within = record {
     gone = far.gone ++ more.gone;
     copies = copies_then g h la lb source between old now next far.gone more.gone same far.copies more.copies;
+    turns = far.turns ++ (record { page = page; beside = more.beside; gone = more.gone }) ∷ [];
+    takes = turns_one g h source before source_next old now next None after far.turns (record { page = page; beside = more.beside; gone = more.gone }) last far.takes
+        (record { listed = between; call = call; last_is = is_last; takes = more.takes });
+    gone_are = ap (λ l. l ++ more.gone) far.gone_are ∙ sym (gone_one far.turns (record { page = page; beside = more.beside; gone = more.gone }));
+    counted = counted_more far.turns page more.beside far.gone more.gone copied already count copied_now already_now far.counted more.count_is within copied_is already_is;
     is = λ from told to held.
         let was = far.is from told to held in
         let es = entries from in
@@ -75,21 +111,42 @@ module _ {A B : Type 0} (g : Ghosts A) (h : Ghosts B) (la : Laws g) (lb : Laws h
         };
   }
 
-  -- nothing follows
-  pub far_end : (now : B) (after : Option (List ℕ)) (page : List (List ℕ × ℕ)) (done : Synced)
-      → IsPage after 1000 page → ForSome (g.content source) (λ from. page ≡ listed after 1000 from) → None ≡ last_ref page
-      → IsFar g h source old now after done.copied done.already → IsReached h old now → IsSynced g h source old now done
-  far_end now after page done shape page_is none far reached = record {
+  -- nothing follows, and the target was asked for its refs if it wasn't before
+  pub far_end : (before source_now : A) (now next : B) (after : Option (List ℕ)) (page : List (List ℕ × ℕ)) (done : Synced)
+      → g.lists before after 1000 (Ok page) source_now → IsPage after 1000 page → ForSome (g.content source) (λ from. page ≡ listed after 1000 from) → None ≡ last_ref page
+      → h.content next ≡ h.content now → h.puts now [] next → AsksOnce h (is_some after) now next
+      → IsFar g h source before old now after done.copied done.already → IsReached h old next → IsSynced g h source source_now old next done
+  far_end before source_now now next after page done call shape page_is none same put_nothing asks far reached = record {
     gone = far.gone;
-    copies = far.copies;
+    copies = copies_now;
+    did = record {
+      turns = far.turns;
+      takes = record {
+        before = before;
+        between = now;
+        end = after;
+        takes = far.takes;
+        nothing_follows = subst (λ (p : Page). g.lists before after 1000 (Ok p) source_now) (no_entries page none) call;
+        asks = asks;
+      };
+      gone_are = far.gone_are;
+      counts = far.counted.counts;
+    };
     all = λ from told to held. whole from told to held;
-    union = λ from told to held. given_of (h.content old) (h.content now) far.gone to far.copies.given held ∙ ap (λ l. Some (with_blobs to l)) (whole from told to held);
+    union = λ from told to held. given_of (h.content old) (h.content next) far.gone to copies_now.given held ∙ ap (λ l. Some (with_blobs to l)) (whole from told to held);
     copied_is = λ from told to held. (far.is from told to held).copied_is ∙ ap (λ (l : List Blob). length l) (whole from told to held);
     already_is = λ from told to held.
         (far.is from told to held).all_are ∙ ap (λ (l : List Blob). length l) (page_none after 1000 (entries from) (omega arith) (empty from (page_is from told)));
     reached = reached;
   }
     where
+      copies_now : Copies g h source old next far.gone
+      copies_now = record {
+        stand = far.copies.stand;
+        given = same ∙ far.copies.given;
+        put = subst (λ l. h.puts old l next) (append-nil far.gone) (lb.puts_then old now next far.gone [] far.copies.put put_nothing);
+      }
+
       whole : (from : Blobs) → g.content source ≡ Some from → (to : Blobs) → h.content old ≡ Some to → far.gone ≡ lacking from to
       whole from told to held = all_copied from to after 1000 page far.gone shape (page_is from told) (far.is from told to held).gone_is (omega arith) none
 
@@ -108,45 +165,67 @@ module _ {A B : Type 0} (g : Ghosts A) (h : Ghosts B) (la : Laws g) (lb : Laws h
       empty : (from : Blobs) → page ≡ listed after 1000 from → take 1000 (beyond after (entries from)) ≡ []
       empty from is = none_left (take 1000 (beyond after (entries from))) (no_last (refs_of (take 1000 (beyond after (entries from)))) (none ∙ ap last_of (ap refs_of is ∙ listed_refs after 1000 from)))
 
-  -- the target was asked for its refs, and nothing else was done
-  pub far_listed : (now next : B) (after : Option (List ℕ)) (copied already : ℕ) → h.content next ≡ h.content now → h.puts now [] next → IsFar g h source old now after copied already → IsFar g h source old next after copied already
-  far_listed now next after copied already same nothing far = record {
-    gone = far.gone;
-    copies = record {
-      stand = far.copies.stand;
-      given = same ∙ far.copies.given;
-      put = subst (λ l. h.puts old l next) (append-nil far.gone) (lb.puts_then old now next far.gone [] far.copies.put nothing);
-    };
-    is = far.is;
-  }
-
   -- the page wasn't copied whole
-  pub far_stopped : (between source_now : A) (now next : B) (after : Option (List ℕ)) (page : List (List ℕ × ℕ)) (copied already : ℕ) (e : SyncFault)
+  pub far_stopped : (before between source_now : A) (now next : B) (after : Option (List ℕ)) (page : List (List ℕ × ℕ)) (last : List ℕ) (copied already : ℕ) (e : SyncFault) → g.lists before after 1000 (Ok page) between
       → g.content between ≡ g.content source → g.faults source ≤ g.faults between → h.faults old ≤ h.faults now → g.puts source [] between → IsPage after 1000 page
-      → ForSome (g.content source) (λ from. page ≡ listed after 1000 from) → IsFar g h source old now after copied already → CopiesSome g h between source_now now next page e → IsStopped g h source source_now old next e
-  far_stopped between source_now now next after page copied already e same le lower nothing shape page_is far some = record {
+      → ForSome (g.content source) (λ from. page ≡ listed after 1000 from) → IsFar g h source before old now after copied already → CopiesSome g h between source_now now next after last page e
+      → IsStopped g h source source_now old next e
+  far_stopped before between source_now now next after page last copied already e call same le lower nothing shape page_is far some = record {
     gone = far.gone ++ some.gone;
     next = some.next;
     stopped = stopped_then g h la lb source between source_now old now next far.gone some.gone some.next e same le lower nothing far.copies some.stopped;
+    did = record {
+      turns = far.turns;
+      before = before;
+      between = now;
+      end = after;
+      takes = far.takes;
+      done = some.done;
+      tried = some.tried;
+      stops = some.stops before call;
+      put = put_on (blobs_gone far.turns) far.gone some.gone some.next some.done some.tried far.gone_are some.put;
+    };
     front = λ from told to held.
         let are = some.are (with_blobs to far.gone) (given_of (h.content old) (h.content now) far.gone to far.copies.given held) in
         front_copied from to after 1000 page far.gone shape (page_is from told) (far.is from told to held).gone_is some.gone some.next are.0 (some.stopped.stand from (same ∙ told)) are.1;
   }
 
-  -- the next page wasn't listed
-  pub far_unlisted : (source_now : A) (now : B) (after : Option (List ℕ)) (copied already : ℕ) (f : PeerFault) → SourceFault (g.content source) (g.faults source) (g.faults source_now) f → SourceAnswered g source source_now f
-      → IsFar g h source old now after copied already → IsStopped g h source source_now old now (Source f)
-  far_unlisted source_now now after copied already f why answered far = record {
+  -- no page is at hand: nothing more was copied
+  far_alone : (before source_now : A) (now next : B) (after : Option (List ℕ)) (copied already : ℕ) (e : SyncFault) → (far : IsFar g h source before old now after copied already)
+      → Stopped g h source source_now old next far.gone [] e → StopsAt g h before source_now now next after e [] [] → IsStopped g h source source_now old next e
+  far_alone before source_now now next after copied already e far stopped stops = record {
     gone = far.gone;
     next = [];
-    stopped = record {
-      stand = subst (StandIn (g.content source)) (sym (append-nil far.gone)) far.copies.stand;
-      given = far.copies.given;
-      put = far.copies.put;
-      why = (why, answered);
-    };
+    stopped = stopped;
+    did = record { turns = far.turns; before = before; between = now; end = after; takes = far.takes; done = []; tried = []; stops = stops; put = put_whole far.gone (blobs_gone far.turns) far.gone_are };
     front = λ from told to held. some_copied from to after far.gone (far.is from told to held).gone_is;
   }
+
+  -- the next page wasn't listed
+  pub far_unlisted : (before source_now : A) (now : B) (after : Option (List ℕ)) (copied already : ℕ) (f : PeerFault) → SourceFault (g.content source) (g.faults source) (g.faults source_now) f → SourceAnswered g source source_now f
+      → g.lists before after 1000 (Err f) source_now → IsFar g h source before old now after copied already → IsStopped g h source source_now old now (Source f)
+  far_unlisted before source_now now after copied already f why answered call far =
+      far_alone before source_now now now after copied already (Source f) far (record {
+        stand = subst (StandIn (g.content source)) (sym (append-nil far.gone)) far.copies.stand;
+        given = far.copies.given;
+        put = far.copies.put;
+        why = (why, answered);
+      }) (at_page f call refl)
+
+  -- nothing follows, and the target, which wasn't asked before, didn't list its refs
+  pub far_unasked : (before source_now : A) (now next : B) (after : Option (List ℕ)) (page : List (List ℕ × ℕ)) (copied already : ℕ) (f : PeerFault) → g.lists before after 1000 (Ok page) source_now → None ≡ last_ref page
+      → g.content source_now ≡ g.content source → g.faults source ≤ g.faults source_now → h.faults old ≤ h.faults now → g.puts source [] source_now
+      → is_some after ≡ false → h.lists now None 1000 (Err f) next → h.content next ≡ h.content now → h.puts now [] next → ListFault (h.content now) (h.faults now) (h.faults next) f → TargetAnswered h now next f
+      → IsFar g h source before old now after copied already → IsStopped g h source source_now old next (Target f)
+  far_unasked before source_now now next after page copied already f call none same le lower nothing first asked told_same put_nothing why answered far =
+      far_alone before source_now now next after copied already (Target f) far
+      (subst (λ l. Stopped g h source source_now old next l [] (Target f)) (append-nil far.gone) (stopped_then g h la lb source source_now source_now old now next far.gone [] [] (Target f) same le lower nothing far.copies
+      (unlisted_stop g h source_now now next f told_same put_nothing why answered)))
+      (at_end f (no_after after first) (subst (λ (p : Page). g.lists before after 1000 (Ok p) source_now) (no_entries page none) call) asked)
+    where
+      no_after : (o : Option (List ℕ)) → is_some o ≡ false → o ≡ None
+      no_after None is = refl
+      no_after (Some r) is = absurd (cc is)
 
 -- ---- one page
 
@@ -190,61 +269,62 @@ page_there from after page is held told =
 
 module _ {A B : Type 0} (g : Ghosts A) (h : Ghosts B) where
   -- what the target lacks wasn't found
-  pub unlisted : (source : A) (old now : B) (page : List (List ℕ × ℕ)) (f : PeerFault) → h.content now ≡ h.content old → h.puts old [] now → ListFault (h.content old) (h.faults old) (h.faults now) f → TargetAnswered h old now f
-      → CopiesSome g h source source old now page (Target f)
-  unlisted source old now page f same nothing why answered = record {
+  pub unlisted : (source : A) (old now : B) (after : Option (List ℕ)) (last : List ℕ) (page : List (List ℕ × ℕ)) (f : PeerFault) → last_ref page ≡ Some last → h.content now ≡ h.content old → h.puts old [] now
+      → ListFault (h.content old) (h.faults old) (h.faults now) f → TargetAnswered h old now f → StopsListing h old after now f → CopiesSome g h source source old now after last page (Target f)
+  unlisted source old now after last page f is_last same nothing why answered stops = record {
     gone = [];
     next = [];
-    stopped = record { stand = none_stand (g.content source); given = given_same (h.content old) (h.content now) same; put = but f; why = (on f why, answered) };
+    stopped = unlisted_stop g h source old now f same nothing why answered;
     are = λ held told. (filter (λ r. not (contains_key held r)) (refs_of page), refl);
+    done = [];
+    tried = [];
+    put = put_none;
+    stops = λ before call. at_beside f page last call is_last stops;
   }
-    where
-      but : (f : PeerFault) → PutsBut g h old now [] (Target f)
-      but fault.Failed = tt
-      but fault.BadReply = nothing
-      but (fault.Refused status) = nothing
-      but (fault.Damaged want is) = nothing
-      but (fault.Full blobs pack) = nothing
-      but fault.NoMemory = nothing
-
-      on : (f : PeerFault) → ListFault (h.content old) (h.faults old) (h.faults now) f → TargetFault (h.content old) (h.fills now) (h.faults old) (h.faults now) [] f
-      on fault.Failed w = w
-      on fault.BadReply w = w
-      on (fault.Refused status) w = w
-      on (fault.Damaged want is) w = w
-      on (fault.Full blobs pack) w = absurd w
-      on fault.NoMemory w = w
 
 module _ {A B : Type 0} (g : Ghosts A) (h : Ghosts B) (la : Laws g) (lb : Laws h) where
   -- the listing of the target changes nothing
   listed_only : (source : A) (old now : B) → h.content now ≡ h.content old → h.puts old [] now → Copies g h source old now []
   listed_only source old now same nothing = record { stand = none_stand (g.content source); given = given_same (h.content old) (h.content now) same; put = nothing }
 
-  pub page_done : (source : A) (old now next : B) (page : List (List ℕ × ℕ)) (refs : List (List ℕ)) (count : ℕ) → h.content now ≡ h.content old → h.puts old [] now
-      → ForSome (h.content old) (λ held. refs ≡ filter (λ r. not (contains_key held r)) (refs_of page)) → count ≡ length refs → CopiesRefs g h source now next refs → CopiesPage g h source old next page count
-  page_done source old now next page refs count same nothing lacking_is count_is p = record {
+  pub page_done : (source source_now : A) (old now next : B) (after : Option (List ℕ)) (last : List ℕ) (page : Page) (beside : List Page) (refs : List (List ℕ)) (count : ℕ) → h.content now ≡ h.content old → h.puts old [] now
+      → ForSome (h.content old) (λ held. refs ≡ filter (λ r. not (contains_key held r)) (refs_of page)) → ListsUpTo h old after last beside now → refs ≡ refs_off beside page → count ≡ length refs
+      → CopiesRefs g h source source_now now next refs → CopiesPage g h source source_now old next after last page count
+  page_done source source_now old now next after last page beside refs count same nothing lacking_is lists off count_is p = record {
     gone = p.0;
     copies = copies_then g h la lb source source old now next [] p.0 refl (listed_only source old now same nothing) p.2;
     count_is = count_is ∙ ap (λ (l : List (List ℕ)). length l) (sym p.1) ∙ length-map p.0 (λ (e : Blob). e.0);
     are = λ held told. p.1 ∙ lacking_is held told;
+    beside = beside;
+    takes = record { asked = now; beside = lists; lacking = p.1 ∙ off; copies = p.3 };
   }
 
-  pub page_stopped : (source source_now : A) (old now next : B) (page : List (List ℕ × ℕ)) (refs : List (List ℕ)) (e : SyncFault) → h.content now ≡ h.content old → h.faults old ≤ h.faults now → h.puts old [] now
-      → ForSome (h.content old) (λ held. refs ≡ filter (λ r. not (contains_key held r)) (refs_of page)) → CopiesFront g h source source_now now next refs e → CopiesSome g h source source_now old next page e
-  page_stopped source source_now old now next page refs e same lower nothing lacking_is q = record {
+  pub page_stopped : (source source_now : A) (old now next : B) (after : Option (List ℕ)) (last : List ℕ) (page : Page) (beside : List Page) (refs : List (List ℕ)) (e : SyncFault) → last_ref page ≡ Some last
+      → h.content now ≡ h.content old → h.faults old ≤ h.faults now → h.puts old [] now
+      → ForSome (h.content old) (λ held. refs ≡ filter (λ r. not (contains_key held r)) (refs_of page)) → ListsUpTo h old after last beside now → refs ≡ refs_off beside page
+      → CopiesFront g h source source_now now next refs e → CopiesSome g h source source_now old next after last page e
+  page_stopped source source_now old now next after last page beside refs e is_last same lower nothing lacking_is lists off q = record {
     gone = q.gone;
     next = q.next;
     stopped = stopped_then g h la lb source source source_now old now next [] q.gone q.next e refl (omega arith) lower (la.puts_nothing source) (listed_only source old now same nothing) q.stopped;
     are = λ held told. (q.rest, sym (lacking_is held told) ∙ q.front);
+    done = q.done;
+    tried = q.tried;
+    put = q.put;
+    stops = λ before call. at_blob e page beside last source now q.done q.tried call is_last lists (subst (λ l. StopsCopying g h source source_now now next l q.done q.tried e) off q.stops);
   }
 
 -- ---- the start
 
 module _ {A B : Type 0} (g : Ghosts A) (h : Ghosts B) (la : Laws g) (lb : Laws h) where
-  pub far_start : (source : A) (target : B) → IsFar g h source target target None 0 0
+  pub far_start : (source : A) (target : B) → IsFar g h source source target target None 0 0
   far_start source target = record {
     gone = [];
     copies = record { stand = none_stand (g.content source); given = given_same (h.content target) (h.content target) refl; put = lb.puts_nothing target };
+    turns = [];
+    takes = (refl, refl, refl);
+    gone_are = refl;
+    counted = counted_none;
     is = λ from told to held.
         let none : up_to None (entries from) ≡ [] = up_to_none (entries from) in
         record {

@@ -5,15 +5,6 @@ use Rattle.edge_base.specs.Shelf.{Blob, Blobs}
 use Rattle.peer_base.specs.declared.peer.PeerFault.{PeerFault}
 use Rattle.peer_base.specs.declared.peer.PeerFault.TheVariants as fault
 
--- a peer didn't list its refs
-abbrev pub ListFault : Option Blobs → (before now : ℕ) → PeerFault → Type 0
-ListFault told before now fault.Failed = FaultsRose before now
-ListFault told before now fault.BadReply = told ≡ None
-ListFault told before now (fault.Refused status) = told ≡ None
-ListFault told before now (fault.Damaged want is) = ⊥
-ListFault told before now (fault.Full blobs pack) = ⊥
-ListFault told before now fault.NoMemory = Unit {0}
-
 -- the peer that is copied from didn't list, or didn't give a blob
 abbrev pub SourceFault : Option Blobs → (before now : ℕ) → PeerFault → Type 0
 SourceFault told before now fault.Failed = FaultsRose before now

@@ -1,5 +1,5 @@
 -- Blobs that are copied from one peer to another.
-use Rattle.std.specs.Prelude.{◌≡◌, ℕ, Bool, true, not, List, ◌++◌, length, filter, All, Option, None, Some, Ok}
+use Rattle.std.specs.Prelude.{◌≡◌, ℕ, true, not, List, ◌++◌, length, filter, All, Option, None, Some, Ok}
 use Rattle.std.specs.Option.{ForSome}
 use Rattle.std.specs.FinMap.{entries, get, contains_key}
 use Rattle.edge_base.specs.Shelf.{Blob, Blobs, Keeps, with_blobs}
@@ -8,8 +8,10 @@ use Rattle.peer_base.specs.declared.peer.Peer.{Ghosts}
 use Rattle.peer_base.specs.declared.peer.PeerFault.TheVariants as fault
 use Rattle.sync_core.specs.declared.syncing.SyncFault.{SyncFault}
 use Rattle.sync_core.specs.declared.syncing.SyncFault.TheVariants.{Source, Target, Gone}
-use Rattle.sync_core.specs.Answers.{Fetched, SourceAnswered, TargetAnswered}
+use Rattle.listed_pages.specs.Answers.{Fetched, SourceAnswered, TargetAnswered}
+use Rattle.listed_pages.specs.Pages.{Page}
 use Rattle.sync_core.specs.Causes.{SourceFault, TargetFault}
+use Rattle.sync_core.specs.Turns.{CopiesEach, TakesPage, StopsCopying, StopsAt, ArePut}
 
 -- the blobs of one map whose refs the other lacks, in the order of refs
 abbrev pub lacking : Blobs → Blobs → List Blob
@@ -26,10 +28,6 @@ StandIn from blobs = ForSome from (λ held. All (λ (blob : Blob). get held blob
 -- these refs stand where it is copied from, if that is told
 abbrev pub AreThere : Option Blobs → List (List ℕ) → Type 0
 AreThere from refs = ForSome from (λ held. All (λ (r : List ℕ). contains_key held r ≡ true) refs)
-
--- these are some of those, in their order
-abbrev pub IsPartOf : List (List ℕ) → List (List ℕ) → Type 0
-IsPartOf all some = (test : List ℕ → Bool) × (some ≡ filter test all)
 
 module _ {A B : Type 0} (g : Ghosts A) (h : Ghosts B) where
   -- these blobs were copied, and nothing else was put
@@ -60,8 +58,8 @@ module _ {A B : Type 0} (g : Ghosts A) (h : Ghosts B) where
 
   -- ---- the blobs of some refs
 
-  abbrev pub CopiesRefs : A → B → B → List (List ℕ) → Type 0
-  CopiesRefs source old new refs = (gone : List Blob) × (refs_of gone ≡ refs) × Copies source old new gone
+  abbrev pub CopiesRefs : A → A → B → B → List (List ℕ) → Type 0
+  CopiesRefs source source_now old new refs = (gone : List Blob) × (refs_of gone ≡ refs) × Copies source old new gone × CopiesEach g h source old gone source_now new
 
   pub record CopiesFront (source source_now : A) (old new : B) (refs : List (List ℕ)) (e : SyncFault) : Type 0 where
     pub gone : List Blob
@@ -69,17 +67,28 @@ module _ {A B : Type 0} (g : Ghosts A) (h : Ghosts B) where
     pub rest : List (List ℕ)
     pub front : refs ≡ refs_of (gone ++ next) ++ rest
     pub stopped : Stopped source source_now old new gone next e
+    pub done : List Blob
+    pub tried : List Blob
+    pub put : ArePut gone next done tried
+    pub stops : StopsCopying g h source source_now old new refs done tried e
 
   -- ---- the blobs of a page that the target lacks
 
-  pub record CopiesPage (source : A) (old new : B) (page : List (List ℕ × ℕ)) (count : ℕ) : Type 0 where
+  pub record CopiesPage (source source_now : A) (old new : B) (after : Option (List ℕ)) (last : List ℕ) (page : Page) (count : ℕ) : Type 0 where
     pub gone : List Blob
     pub copies : Copies source old new gone
     pub count_is : count ≡ length gone
     pub are : ForSome (h.content old) (λ held. refs_of gone ≡ filter (λ r. not (contains_key held r)) (refs_of page))
+    pub beside : List Page
+    pub takes : TakesPage g h source source_now old new after last (record { page = page; beside = beside; gone = gone })
 
-  pub record CopiesSome (source source_now : A) (old new : B) (page : List (List ℕ × ℕ)) (e : SyncFault) : Type 0 where
+  -- where the page was listed by a call before it
+  pub record CopiesSome (source source_now : A) (old new : B) (after : Option (List ℕ)) (last : List ℕ) (page : Page) (e : SyncFault) : Type 0 where
     pub gone : List Blob
     pub next : List Blob
     pub stopped : Stopped source source_now old new gone next e
     pub are : ForSome (h.content old) (λ held. (rest : List (List ℕ)) × (filter (λ r. not (contains_key held r)) (refs_of page) ≡ refs_of (gone ++ next) ++ rest))
+    pub done : List Blob
+    pub tried : List Blob
+    pub put : ArePut gone next done tried
+    pub stops : (before : A) → g.lists before after 1000 (Ok page) source → StopsAt g h before source_now old new after e done tried

@@ -1,5 +1,4 @@
-pub mod Answers
 pub mod Causes
 pub mod Copying
-pub mod Merging
 pub mod Syncing
+pub mod Turns

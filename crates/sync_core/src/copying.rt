@@ -14,7 +14,7 @@ pub(crate) fn copy_all<A: Peer, B: Peer>(
 ) -> Result<(), SyncFault>
     requires { AreThere (A.content source.old) refs.now }
     ensures told { A.content source.new ≡ A.content source.old }
-    ensures ok { OnOk result (CopiesRefs A.Peer B.Peer source.old target.old target.new refs.now) }
+    ensures ok { OnOk result (CopiesRefs A.Peer B.Peer source.old source.new target.old target.new refs.now) }
     ensures err { IfErr result (CopiesFront A.Peer B.Peer source.old source.new target.old target.new refs.now) }
     ensures source_later { A.faults source.old ≤ A.faults source.new }
     ensures target_later { B.faults target.old ≤ B.faults target.new }
@@ -34,7 +34,7 @@ pub(crate) fn copy_all<A: Peer, B: Peer>(
 fn copy_one<A: Peer, B: Peer>(source: &mut A, target: &mut B, r: &Ref) -> Result<(), SyncFault>
     requires { AreThere (A.content source.old) (r.now ∷ []) }
     ensures told { A.content source.new ≡ A.content source.old }
-    ensures ok { OnOk result (CopiesRefs A.Peer B.Peer source.old target.old target.new (r.now ∷ [])) }
+    ensures ok { OnOk result (CopiesRefs A.Peer B.Peer source.old source.new target.old target.new (r.now ∷ [])) }
     ensures err { IfErr result (CopiesFront A.Peer B.Peer source.old source.new target.old target.new (r.now ∷ [])) }
     ensures source_later { A.faults source.old ≤ A.faults source.new }
     ensures target_later { B.faults target.old ≤ B.faults target.new }

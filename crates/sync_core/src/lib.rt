@@ -2,8 +2,6 @@
 #![tactic(auto)]
 
 mod copying;
-mod lacking;
-mod pages;
 mod syncing;
 
 pub use syncing::{SyncFault, Synced, sync};

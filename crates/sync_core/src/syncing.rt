@@ -2,14 +2,13 @@
 ghost use Rattle.std.specs.Prelude.{◌≡◌, ◌≤◌, [], ℕ, ◌+◌, ◌-◌, ◌^◌, min, length, Some, IfOk, IfErr, option_copied};
 ghost use Rattle.peer_base.specs.Blobs.{IsPage};
 ghost use Rattle.peer_base.specs.Order.{last_ref, refs_of};
-ghost use Rattle.sync_core.specs.Answers.{IsReached};
+ghost use Rattle.listed_pages.specs.Answers.{IsReached};
 ghost use Rattle.sync_core.specs.Copying.{AreThere, CopiesPage, CopiesSome};
 ghost use Rattle.sync_core.specs.Syncing.{IsSynced, IsStopped};
 
 use crate::copying::copy_all;
-use crate::lacking::{ask_once, lacking_of};
-use crate::pages::{PAGE, last_ref};
 use blobref::{Listing, Ref};
+use listed_pages::{PAGE, ask_once, lacking_of, last_ref};
 use peer_base::{Peer, PeerFault};
 use std::alloc::Global;
 
@@ -31,14 +30,21 @@ pub enum SyncFault {
     Gone { r: Ref },
 }
 
-/// Copies each blob of the source whose ref the target lacks, in the order of refs. Where both tell what they hold, the
-/// target then holds what it held and these blobs, and how many there are is counted; after an error it holds what it
-/// held and a front of them. What the source holds stays as it is.
+/// Copies each blob of the source whose ref the target lacks, in the order of refs. What the source holds stays as it is.
 ///
+/// At `Ok`, whether or not the two tell what they hold: the source listed pages, each after the last ref of the one
+/// before, and then an empty one. Beside each page the target listed its own, up to the page's last ref. Each ref that
+/// isn't on these was fetched and put, and is counted as `copied`; each other one counts as `already`. A count stays at
+/// the last value of its type. The target was reached: where the source has no refs, it is asked for its own once.
+///
+/// After an error the same holds of the pages before the one at hand, and of the first refs of that one. The error is
+/// what the call answered that came next, `Gone` a `None` for a ref that the source had listed, or want of memory.
 /// `Failed` comes only where that peer's count of faults rose, `Full` only of a target that has no room for the next
 /// blob, `BadReply`, `Refused` and `Damaged` never of a peer that tells what it holds, and `Gone` never where the source
-/// does. Each of these is what a call of that peer answered, `Gone` a `None` for a ref. At `Ok` the target was reached:
-/// where there is nothing to copy it is asked for its refs once.
+/// does.
+///
+/// Where both tell what they hold, the target then holds what it held and the blobs that it lacked; after an error it
+/// holds what it held and a front of them.
 ///
 /// It asks for pages of 1,000 refs of both, for each blob that is lacking once, and gives it once. It takes the memory
 /// of a page of each, of some refs and of a blob, and the time of one walk over both listings.
@@ -48,7 +54,7 @@ pub fn sync<A: Peer, B: Peer>(
     target: &mut B,
 ) -> Result<Synced, SyncFault>
     ensures told { A.content source.new ≡ A.content source.old }
-    ensures ok { IfOk result (IsSynced A.Peer B.Peer source.old target.old target.new) }
+    ensures ok { IfOk result (IsSynced A.Peer B.Peer source.old source.new target.old target.new) }
     ensures err { IfErr result (IsStopped A.Peer B.Peer source.old source.new target.old target.new) }
     ensures source_later { A.faults source.old ≤ A.faults source.new }
     ensures target_later { B.faults target.old ≤ B.faults target.new }
@@ -101,10 +107,12 @@ fn copy_page<A: Peer, B: Peer>(
     requires there { AreThere (A.content source.old) (refs_of page.now) }
     requires last { last_ref page.now ≡ Some last.now }
     ensures told { A.content source.new ≡ A.content source.old }
-    ensures ok { IfOk result (CopiesPage A.Peer B.Peer source.old target.old target.new page.now) }
+    ensures ok { IfOk result (CopiesPage A.Peer B.Peer source.old source.new target.old target.new
+        (option_copied after.entry) last.now page.now) }
     ensures few { IfOk result (λ n. n ≤ length page.now) }
     ensures reached { IfOk result (λ n. IsReached B.Peer target.old target.new) }
-    ensures err { IfErr result (CopiesSome A.Peer B.Peer source.old source.new target.old target.new page.now) }
+    ensures err { IfErr result (CopiesSome A.Peer B.Peer source.old source.new target.old target.new
+        (option_copied after.entry) last.now page.now) }
     ensures source_later { A.faults source.old ≤ A.faults source.new }
     ensures target_later { B.faults target.old ≤ B.faults target.new }
     ensures nothing { A.puts source.old [] source.new }

@@ -1,8 +1,9 @@
 use Rattle.std.proofs.Common.{◌+◌, ◌∙◌, [], ◌∷◌, ◌++◌, refl, sym, subst, ap, take, drop, arith}
 use Rattle.std.proofs.lemmas.List.{take_more, take-append-drop}
 use Rattle.sync_core.specs.Copying.{CopiesRefs, CopiesFront}
-use Rattle.sync_core.proofs.Runs.{laws}
-use Rattle.sync_core.proofs.Gone.{copies_none, refs_more, front_more, drop_first}
+use Rattle.listed_pages.proofs.Lasts.{drop_first}
+use Rattle.listed_pages.proofs.Runs.{laws}
+use Rattle.sync_core.proofs.Gone.{refs_none, refs_more, front_more}
 use Rattle.sync_core.proofs.copying.copy_all.Goals as goal
 
 pub loop-r-init : goal.loop-r-init
@@ -11,7 +12,7 @@ loop-r-init g c =
     let lb = (laws g.B.Peer g.met.B.Peer.puts_nothing g.met.B.Peer.puts_then g.met.B.Peer.puts_follows g.met.B.Peer.follows_then) in
     record {
       told = refl;
-      copied = ([], refl, copies_none g.A.Peer g.B.Peer la lb c.args.source.now c.args.target.now);
+      copied = refs_none g.A.Peer g.B.Peer la lb c.args.source.now c.args.target.now;
       source_later = omega arith;
       target_later = omega arith;
       nothing = g.met.A.Peer.puts_nothing c.args.source.now;
@@ -42,9 +43,9 @@ loop-r-preserved g c =
     let r = c.r-item.result in
     record {
       told = c.in-Ok.ensures.told ∙ c.loop-r.invariant.told;
-      copied = subst (CopiesRefs g.A.Peer g.B.Peer c.args.source.now c.args.target.now c.copy_one.new.target)
+      copied = subst (CopiesRefs g.A.Peer g.B.Peer c.args.source.now c.copy_one.new.source c.args.target.now c.copy_one.new.target)
           (ap (λ x. take i refs ++ x ∷ []) c.r-item.is ∙ sym (take_more refs i r c.loop-r-test.true))
-          (refs_more g.A.Peer g.B.Peer la lb c.args.source.now c.loop-r.source c.args.target.now c.loop-r.target c.copy_one.new.target
+          (refs_more g.A.Peer g.B.Peer la lb c.args.source.now c.loop-r.source c.copy_one.new.source c.args.target.now c.loop-r.target c.copy_one.new.target
           (take i refs) (r ∷ []) c.loop-r.invariant.told c.loop-r.invariant.copied c.in-Ok.ensures.ok);
       source_later = omega (arith, c.loop-r.invariant.source_later, c.in-Ok.ensures.source_later);
       target_later = omega (arith, c.loop-r.invariant.target_later, c.in-Ok.ensures.target_later);

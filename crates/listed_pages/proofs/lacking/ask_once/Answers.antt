@@ -1,6 +1,6 @@
 use Rattle.std.proofs.Common.{inl, inr, None, Ok, Err}
-use Rattle.sync_core.proofs.Runs.{laws, listed_once}
-use Rattle.sync_core.proofs.lacking.ask_once.Goals as goal
+use Rattle.listed_pages.proofs.Runs.{laws, listed_once}
+use Rattle.listed_pages.proofs.lacking.ask_once.Goals as goal
 
 pub returns-in-Ok-clause-reached : goal.returns-in-Ok-clause-reached
 returns-in-Ok-clause-reached g c = λ asked.

@@ -12,9 +12,9 @@ use Rattle.std.proofs.lemmas.List.Kept.{IsStrictlySortedBy-filter}
 use Rattle.blobref.specs.Blobref.{ref_cmp}
 use Rattle.peer_base.specs.Order.{refs_of, is_among}
 use Rattle.peer_base.proofs.Pages.{first, second, yes, less, not_before_itself}
-use Rattle.sync_core.specs.Copying.{IsPartOf}
-use Rattle.sync_core.specs.Merging.{is_before, unless_first}
-use Rattle.sync_core.proofs.Lacks.{lack}
+use Rattle.listed_pages.specs.Pages.{IsPartOf}
+use Rattle.listed_pages.specs.Merging.{is_before, unless_first}
+use Rattle.listed_pages.proofs.Lacks.{lack}
 
 abbrev Page : Type 0
 Page = List (List ℕ × ℕ)

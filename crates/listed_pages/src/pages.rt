@@ -4,16 +4,16 @@ ghost use Rattle.std.specs.FinMap.{is_sorted};
 ghost use Rattle.std.specs.List.Sorted.{IsStrictlySortedBy};
 ghost use Rattle.blobref.specs.Blobref.{is_blobref, is_after, ref_cmp};
 ghost use Rattle.peer_base.specs.Order.{refs_of, last_ref, is_among};
-ghost use Rattle.sync_core.specs.Merging.{is_before, begins_with, unless_first};
+ghost use Rattle.listed_pages.specs.Merging.{is_before, begins_with, unless_first};
 
 use blobref::{NoMemory, Ref};
 use std::alloc::Global;
 
 /// How many refs are asked at a time.
-pub(crate) const PAGE: usize = 1000;
+pub const PAGE: usize = 1000;
 
-/// The last ref.
-pub(crate) fn last_ref(page: &[(Ref, u64)]) -> Option<Ref>
+/// The last ref of a page, and `None` where it is empty.
+pub fn last_ref(page: &[(Ref, u64)]) -> Option<Ref>
     ensures last { result ≡ last_ref page.now }
     ensures form { IfSome result (λ r. is_blobref r ≡ true) }
 {

@@ -15,7 +15,7 @@ use Rattle.peer_base.proofs.Pages.{first, second, less, last_more, below_last, l
 
 -- ---- filters
 
-filter_same : {X : Type 0} (p q : X → Bool) (xs : List X) → ((x : X) → p x ≡ q x) → filter p xs ≡ filter q xs
+pub filter_same : {X : Type 0} (p q : X → Bool) (xs : List X) → ((x : X) → p x ≡ q x) → filter p xs ≡ filter q xs
 filter_same p q [] same = refl
 filter_same p q (x ∷ xs) same = (λ i. cond (same x i) (x ∷ filter_same p q xs same i) (filter_same p q xs same i))
 
@@ -26,7 +26,7 @@ filter_twice p q (x ∷ xs) = elim (p x) as (λ b. filter q (cond b (x ∷ filte
   | false ↦ filter_twice p q xs
 ]
 
-not_or : (a b : Bool) → (not a && not b) ≡ not (a || b)
+pub not_or : (a b : Bool) → (not a && not b) ≡ not (a || b)
 not_or true b = refl
 not_or false b = refl
 

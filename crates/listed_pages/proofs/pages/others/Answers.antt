@@ -2,10 +2,10 @@ use Rattle.std.proofs.Common.{◌∙◌, ◌+◌, sym, drop, length, arith, subs
 use Rattle.std.specs.List.{take_while}
 use Rattle.std.specs.FinMap.{is_sorted}
 use Rattle.blobref.specs.Blobref.{ref_cmp}
-use Rattle.sync_core.specs.Merging.{is_before}
-use Rattle.sync_core.proofs.Gone.{drop_first}
-use Rattle.sync_core.proofs.Merge.{merge_step, merge_ends, above_at, sorted_drop}
-use Rattle.sync_core.proofs.pages.others.Goals as goal
+use Rattle.listed_pages.specs.Merging.{is_before}
+use Rattle.listed_pages.proofs.Lasts.{drop_first}
+use Rattle.listed_pages.proofs.Merge.{merge_step, merge_ends, above_at, sorted_drop}
+use Rattle.listed_pages.proofs.pages.others.Goals as goal
 
 pub loop-r-preserved : goal.loop-r-preserved
 loop-r-preserved c =

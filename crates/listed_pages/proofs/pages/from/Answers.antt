@@ -1,6 +1,6 @@
 use Rattle.std.proofs.Common.{◌∙◌, ◌-◌, length, drop, ap, arith}
 use Rattle.std.proofs.lemmas.List.{length-drop, take_all}
-use Rattle.sync_core.proofs.pages.from.Goals as goal
+use Rattle.listed_pages.proofs.pages.from.Goals as goal
 
 pub returns : goal.returns
 returns c =

@@ -1,21 +1,24 @@
 //! Which refs of a page a peer lacks.
-ghost use Rattle.std.specs.Prelude.{◌≡◌, ◌≤◌, [], false, not, filter, length, Some, IfOk, IfErr, OnOk, option_copied};
+ghost use Rattle.std.specs.Prelude.{◌≡◌, ◌≤◌, [], ℕ, List, false, not, filter, Some, None, Err, IfOk, IfErr, OnOk, option_copied};
 ghost use Rattle.std.specs.Option.{ForSome};
 ghost use Rattle.std.specs.FinMap.{contains_key};
 ghost use Rattle.peer_base.specs.Blobs.{IsPage};
 ghost use Rattle.peer_base.specs.Order.{refs_of, last_ref};
-ghost use Rattle.sync_core.specs.Answers.{IsReached, TargetAnswered};
-ghost use Rattle.sync_core.specs.Causes.{ListFault};
-ghost use Rattle.sync_core.specs.Copying.{IsPartOf};
+ghost use Rattle.listed_pages.specs.Answers.{IsReached, TargetAnswered};
+ghost use Rattle.listed_pages.specs.Causes.{ListFault};
+ghost use Rattle.listed_pages.specs.Pages.{Page, refs_off, ListsUpTo, StopsListing, AsksOnce};
 
 use crate::pages::{PAGE, last_ref, others, reaches, refs_of};
 use blobref::{Listing, Ref};
 use peer_base::{Peer, PeerFault};
 use std::alloc::Global;
 
-/// The refs of a page, behind a ref, that the target lacks, where it tells what it holds. Its listing is asked from the
-/// same ref on, up to the page's last one.
-pub(crate) fn lacking_of<B: Peer>(
+/// The refs of a page that another peer doesn't list, in their order: those that it lacks, where it tells what it holds.
+///
+/// `after` is the ref that the page follows, and `last` the page's last one. The target is asked for pages of 1,000 refs
+/// after that ref, one after the other, up to `last`. A fault is what one of these calls answered, or want of memory.
+/// Nothing is put. It takes the memory of a page and of the refs, and the time of one walk over both.
+pub fn lacking_of<B: Peer>(
     alloc: Global,
     target: &mut B,
     after: Option<&Ref>,
@@ -26,7 +29,10 @@ pub(crate) fn lacking_of<B: Peer>(
     requires last { last_ref page.now ≡ Some last.now }
     ensures lacking { IfOk result (λ refs. ForSome (B.content target.old)
         (λ held. refs.items ≡ filter (λ r. not (contains_key held r)) (refs_of page.now))) }
-    ensures some { IfOk result (λ refs. IsPartOf (refs_of page.now) refs.items) }
+    ensures listed { IfOk result (λ refs. (pages : List Page)
+        × ListsUpTo B.Peer target.old (option_copied after.entry) last.now pages target.new
+        × (refs.items ≡ refs_off pages page.now)) }
+    ensures stopped { IfErr result (StopsListing B.Peer target.old (option_copied after.entry) target.new) }
     ensures reached { IfOk result (λ refs. IsReached B.Peer target.old target.new) }
     ensures told { B.content target.new ≡ B.content target.old }
     ensures cause { IfErr result (ListFault (B.content target.old) (B.faults target.old) (B.faults target.new)) }
@@ -59,8 +65,10 @@ pub(crate) fn lacking_of<B: Peer>(
     }
 }
 
-/// Asks a target for its refs that wasn't asked yet, since there was nothing to copy.
-pub(crate) fn ask_once<B: Peer>(target: &mut B, asked: bool) -> Result<(), PeerFault>
+/// Asks a peer for its first page of 1,000 refs, unless it was asked before. A fault is what it answered. Nothing is put.
+pub fn ask_once<B: Peer>(target: &mut B, asked: bool) -> Result<(), PeerFault>
+    ensures once { OnOk result (AsksOnce B.Peer asked target.old target.new) }
+    ensures stopped { IfErr result (λ e. (asked ≡ false) × B.lists target.old None 1000 (Err e) target.new) }
     ensures reached { OnOk result (asked ≡ false → IsReached B.Peer target.old target.new) }
     ensures told { B.content target.new ≡ B.content target.old }
     ensures cause { IfErr result (ListFault (B.content target.old) (B.faults target.old) (B.faults target.new)) }
