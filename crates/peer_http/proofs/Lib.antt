@@ -2,3 +2,4 @@ pub mod Bodies
 pub mod Pages
 pub mod Replied
 pub mod Asked
+pub mod Dialed

@@ -1,6 +1,7 @@
 -- A connection to a peer.
-use Rattle.std.specs.Prelude.{ℕ, ◌+◌, ◌-◌, ◌^◌, min, List, Option, Result, Ok, Err}
+use Rattle.std.specs.Prelude.{ℕ, ◌+◌, ◌-◌, ◌^◌, min, List, [], Option, Result, Ok, Err}
 use Rattle.edge_base.specs.Edge.{SinkTook, SinkTookFront}
+use Rattle.http_wire.specs.declared.body.Body.TheVariants as body
 use Rattle.http_wire.specs.Wires.{WireView}
 use Rattle.peer_http.specs.declared.replies.Reply.{Reply}
 use Rattle.peer_http.specs.declared.gathering.ReplyFault.{ReplyFault}
@@ -12,6 +13,10 @@ pub record LinkView (S K : Type 0) : Type 0 where
   pub wire : WireView
   pub source : S
   pub sink : K
+
+-- a connection of which nothing was read
+abbrev pub unread : {S K : Type 0} → S → K → LinkView S K
+unread source sink = record { wire = record { flow = record { bytes = []; taken = 0 }; head = []; begun = 0; body = body.Done }; source = source; sink = sink }
 
 -- both counts of faults as one; at the last value of its type it stays
 abbrev pub both : ℕ → ℕ → ℕ

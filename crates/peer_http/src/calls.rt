@@ -4,9 +4,7 @@ ghost use Rattle.blobref.specs.Blobref.{IsOwnRef};
 ghost use Rattle.edge_base.specs.Shelf.{max_blob};
 ghost use Rattle.peer_base.specs.Blobs.{IsPage};
 ghost use Rattle.peer_base.specs.Causes.{ListCause, FetchCause};
-ghost use Rattle.peer_requests.specs.Requests.{list_request, fetch_request, IsUpload};
-ghost use Rattle.peer_http.specs.Answers.{list_answer, fetch_answer, put_answer};
-ghost use Rattle.peer_http.specs.Calls.{IsCall, peer_fault};
+ghost use Rattle.peer_http.specs.Calls.{ListsOver, FetchesOver, KeepsOver, peer_fault};
 ghost use Rattle.peer_http.specs.Links.{both};
 
 use crate::answers::{fetch_answer, list_answer, put_answer};
@@ -30,10 +28,7 @@ pub(crate) fn list<S: Source, K: Sink>(
     after: Option<&Ref>,
     limit: usize,
 ) -> Result<Listing, PeerFault>
-    ensures is { IsCall 1048576 (S.left link.old.source) (S.left link.new.source) (K.written link.old.sink)
-        (K.written link.new.sink) link.old.wire link.new.wire
-        (λ request. request ≡ list_request (option_copied after.entry) limit)
-        (list_answer (option_copied after.entry) limit) result }
+    ensures is { ListsOver S.left K.written link.old (option_copied after.entry) limit result link.new }
     ensures page { IfOk result (IsPage (option_copied after.entry) limit) }
     ensures cause { ListCause None (both (S.faults link.old.source) (K.faults link.old.sink))
         (both (S.faults link.new.source) (K.faults link.new.sink)) result }
@@ -54,9 +49,7 @@ pub(crate) fn fetch<S: Source, K: Sink>(
     request: &mut Vec<u8>,
     r: &Ref,
 ) -> Result<Option<Octets>, PeerFault>
-    ensures is { IsCall 16777216 (S.left link.old.source) (S.left link.new.source) (K.written link.old.sink)
-        (K.written link.new.sink) link.old.wire link.new.wire (λ request. request ≡ fetch_request r.now)
-        (fetch_answer r.now) result }
+    ensures is { FetchesOver S.left K.written link.old r.now result link.new }
     ensures named { IfOk result (λ found. IfSome found (λ bytes. IsOwnRef r.now bytes)) }
     ensures small { IfOk result (λ found. IfSome found (λ bytes. length bytes ≤ max_blob)) }
     ensures cause { FetchCause None (both (S.faults link.old.source) (K.faults link.old.sink))
@@ -80,9 +73,7 @@ pub(crate) fn put<S: Source, K: Sink>(
     bytes: &[u8],
 ) -> Result<(), PeerFault>
     requires { length bytes.now ≤ max_blob }
-    ensures is { IsCall 1048576 (S.left link.old.source) (S.left link.new.source) (K.written link.old.sink)
-        (K.written link.new.sink) link.old.wire link.new.wire (λ request. IsUpload r.now bytes.now request)
-        (put_answer r.now (length bytes.now)) result }
+    ensures is { KeepsOver S.left K.written link.old (r.now, bytes.now) result link.new }
     ensures cause { ListCause None (both (S.faults link.old.source) (K.faults link.old.sink))
         (both (S.faults link.new.source) (K.faults link.new.sink)) result }
     ensures later { both (S.faults link.old.source) (K.faults link.old.sink)

@@ -1,8 +1,7 @@
 //! A connection to a peer.
-ghost use Rattle.std.specs.Prelude.{◌≡◌, ◌<◌, ◌≤◌, [], length, IfOk, IsErrOf};
+ghost use Rattle.std.specs.Prelude.{◌≡◌, ◌<◌, ◌≤◌, length, IfOk, IsErrOf};
 ghost use Rattle.edge_base.specs.Edge.{FaultsRose};
-ghost use Rattle.peer_http.specs.Links.{Asks, both};
-ghost use Rattle.http_wire.specs.declared.body.Body.TheVariants as body;
+ghost use Rattle.peer_http.specs.Links.{Asks, both, unread};
 
 use crate::gathering::ReplyFault;
 use crate::replies::{Reply, read_reply};
@@ -40,16 +39,7 @@ impl<S: Source, K: Sink> Model for Link<S, K> {
 impl<S: Source + Drop, K: Sink + Drop> Link<S, K> {
     /// A connection of which nothing was read. Where there is no memory its ends are dropped.
     pub(crate) fn make(alloc: Global, source: S, sink: K) -> Result<Link<S, K>, NoMemory>
-        ensures { IfOk result (λ link. link ≡ record {
-          wire = record {
-            flow = record { bytes = []; taken = 0 };
-            head = [];
-            begun = 0;
-            body = body.Done;
-          };
-          source = source;
-          sink = sink;
-        }) }
+        ensures { IfOk result (λ link. link ≡ unread source sink) }
     {
         let wire = Wire::make(alloc)?;
         let space = zeros(alloc)?;

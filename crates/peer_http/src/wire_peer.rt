@@ -1,10 +1,7 @@
 //! A peer over HTTP.
-ghost use Rattle.std.specs.Prelude.{◌≡◌, None, IfOk, [], length};
-ghost use Rattle.http_wire.specs.declared.body.Body.TheVariants as body;
-ghost use Rattle.peer_requests.specs.Requests.{list_request, fetch_request, IsUpload};
-ghost use Rattle.peer_http.specs.Answers.{list_answer, fetch_answer, put_answer};
-ghost use Rattle.peer_http.specs.Calls.{IsCall};
-ghost use Rattle.peer_http.specs.Links.{both};
+ghost use Rattle.std.specs.Prelude.{◌≡◌, None, IfOk};
+ghost use Rattle.peer_http.specs.Calls.{ListsOver, FetchesOver, KeepsOver};
+ghost use Rattle.peer_http.specs.Links.{both, unread};
 
 use crate::calls;
 use crate::link::Link;
@@ -35,16 +32,7 @@ impl<S: Source + Drop, K: Sink + Drop> WirePeer<S, K> {
     /// The peer at the other end of a connection, of which nothing was read. It fails for want of memory
     /// alone, and its ends are dropped then.
     pub fn make(alloc: Global, source: S, sink: K) -> Result<WirePeer<S, K>, NoMemory>
-        ensures { IfOk result (λ peer. peer ≡ record {
-          wire = record {
-            flow = record { bytes = []; taken = 0 };
-            head = [];
-            begun = 0;
-            body = body.Done;
-          };
-          source = source;
-          sink = sink;
-        }) }
+        ensures { IfOk result (λ peer. peer ≡ unread source sink) }
     {
         let link = Link::make(alloc, source, sink)?;
         Ok(WirePeer {
@@ -69,16 +57,11 @@ impl<S: Source, K: Sink> Peer for WirePeer<S, K> {
 
     ghost puts = { λ a blobs b. Unit {0} };
 
-    ghost lists = { λ a after limit answer b. IsCall 1048576 (S.left a.source) (S.left b.source) (K.written a.sink)
-        (K.written b.sink) a.wire b.wire (λ request. request ≡ list_request after limit)
-        (list_answer after limit) answer };
+    ghost lists = { λ a after limit answer b. ListsOver S.left K.written a after limit answer b };
 
-    ghost fetches = { λ a r answer b. IsCall 16777216 (S.left a.source) (S.left b.source) (K.written a.sink)
-        (K.written b.sink) a.wire b.wire (λ request. request ≡ fetch_request r) (fetch_answer r) answer };
+    ghost fetches = { λ a r answer b. FetchesOver S.left K.written a r answer b };
 
-    ghost keeps = { λ a blob answer b. IsCall 1048576 (S.left a.source) (S.left b.source) (K.written a.sink)
-        (K.written b.sink) a.wire b.wire (λ request. IsUpload blob.0 blob.1 request)
-        (put_answer blob.0 (length blob.1)) answer };
+    ghost keeps = { λ a blob answer b. KeepsOver S.left K.written a blob answer b };
 
     ghost puts_nothing = { λ p. tt };
 
