@@ -1,13 +1,13 @@
 """The launcher ./perkeep: when it builds, what it says, and what it runs.
 
-Each check has a small tree with the launcher and the crates.txt of the repository, and a toolchain `rt` that only
-says that it builds: its program tells from which text of a source it was made. Nothing is proved here.
+Each check has a small tree with the launcher and the crates.txt of the repository, and a toolchain that only says that
+it builds: its program tells from which text of a source it was made, and for which level. Nothing is proved here.
 """
 
+import fcntl
 import itertools
 import os
 import pathlib
-import re
 import shutil
 import signal
 import subprocess
@@ -17,59 +17,50 @@ import harness
 from harness import SECONDS, check, compare
 
 TOP = pathlib.Path(__file__).resolve().parent.parent
-# The call by which the toolchain builds the program.
-BUILDS = "perkeep_cli run -- list . --limit=0"
 # Crates that the program doesn't stand on.
 APART = ("lab", "store_tests", "index_tests")
+# The files that each crate of a tree has; what the gate reads of a program beside; and what a build leaves out, which
+# only some crates have.
+PARTS = ("src/lib.rt", "specs/Lib.antt", "proofs/store/put.antt")
+OF_A_PROGRAM = ("args", "stdin", "stdout", "status", "data/keyring")
+LEFT_OUT = ("must-fail/edit.edit", "out/rlib/kept", "README.md")
+WITH_MORE = ("blobref", "pack_store", "perkeep_cli")
+# The flags of /proc/cpuinfo of a processor of the level x86-64-v2, and those that x86-64-v3 has beside these.
+OLDER = "fpu sse sse2 pni ssse3 cx16 sse4_1 sse4_2 popcnt lahf_lm"
+NEWER = "xsave avx f16c movbe abm bmi1 avx2 bmi2 fma"
 
 RT = r"""#!/usr/bin/env bash
 # version 1
 set -u
 fake=$(dirname "$0")
-# Says that a crate is proved, and leaves what the toolchain leaves of a library. It may stop there.
-prove() {
-  echo "library blobref: modules loaded=1 checked=0"
-  echo "crate $1: modules loaded=1 checked=1"
-  echo "logic=proved functions=1 native=nat,char,string"
-  [ "$1" = perkeep_cli ] || : >"../$1/out/rlib/stamp"
-  [ ! -e "$fake/stops" ] || [ "$1" != "$(<"$fake/stops")" ] || sleep 100
-}
-[ "$1" = version ] || echo "${PWD##*/} $*" >>"$fake/calls"
 case $1 in
   version) sed -n 's/^# version/a toolchain/p' "$0" ;;
-  all)
-    echo "only=0 proved=0"
-    for name in $(<"$fake/order"); do
-      echo "== $name"
-      if [ -e "$fake/breaks" ] && [ "$name" = "$(<"$fake/breaks")" ]; then
-        printf 'error: not this one\n== summary\n%s: failed (1)\n' "$name"
-        exit 1
-      fi
-      [ -e "../$name/out/rlib/stamp" ] || prove "$name"
-    done
-    printf '== summary\nblobref: ok\n'
-    ;;
-  run)
-    echo "rt: perkeep_words: begins with what a check kept elsewhere" >&2
-    text=$(cat ../pack_store/src/lib.rt)
-    for name in $(<"$fake/order"); do
-      [ -e "../$name/out/rlib/stamp" ] || prove "$name" >&2
-    done
+  doc) echo "$fake/kit/START-HERE.md" ;;
+  ci)
+    echo "$*" >>"$fake/calls"
+    echo "${RT_JOBS:-none}" >"$fake/jobs"
+    pwd >"$fake/room"
+    find . | LC_ALL=C sort >"$fake/files"
+    cp crates.txt HANDLES "$fake/kit"
+    text=$(cat crates/pack_store/src/lib.rt)
+    python3 "$fake/prove.py" "$fake" || exit
     [ ! -e "$fake/seconds" ] || sleep "$(cat "$fake/seconds")"
     [ ! -e "$fake/meanwhile" ] || bash "$fake/meanwhile"
-    [ ! -e "$fake/does_nothing" ] || exit 4
     if [ -e "$fake/fails" ]; then
       echo "rt: not proved, for a reason" >&2
       exit "$(cat "$fake/fails")"
     fi
-    printf '#!/usr/bin/env bash\n[ "$*" != "list . --limit=0" ] || exit 4\necho "%s: $*"\ncat\necho "of the program" >&2\nexit 3\n' \
-      "$text" >out/perkeep_cli
-    chmod +x out/perkeep_cli
-    [ ! -e "$fake/makes_nothing" ] || rm out/perkeep_cli
+    mkdir -p crates/perkeep_cli/out
+    bash "$fake/make_program" "x86-64-v2" "$text" crates/perkeep_cli/out/perkeep_cli
+    [ ! -e "$fake/makes_nothing" ] || rm crates/perkeep_cli/out/perkeep_cli
+    [ ! -e "$fake/makes_what_does_not_start" ] || echo 'exit 127' >crates/perkeep_cli/out/perkeep_cli
+    echo "rt: perkeep_cli ran, and wrote what its file stdout has"
+    if [ -e "$fake/counts_a_failure" ]; then echo "5 passed, 1 failed"; else echo "6 passed, 0 failed"; fi
+    [ ! -e "$fake/ends_before_all_is_told" ] || echo "rt: and then"
     [ ! -e "$fake/fails_late" ] || exit 1
-    exit 4
     ;;
   try)
+    echo "${PWD##*/} $*" >>"$fake/calls"
     shift
     while [ "$1" != -- ]; do
       [ "$1" = --data ] && cp "${2#keyring=}" "$fake/keyring" || exit 2
@@ -85,6 +76,95 @@ case $1 in
     exit "$(<"$fake/ends")"
     ;;
 esac
+"""
+
+# What the toolchain says of each crate of a room. What it has proved it keeps, by the bytes of the crate's files. It
+# may stop at a crate, or find that one isn't proved.
+PROVE = r"""
+import hashlib
+import pathlib
+import sys
+import time
+
+fake = pathlib.Path(sys.argv[1])
+stops, breaks = ((fake / name).read_text() if (fake / name).exists() else "" for name in ("stops", "breaks"))
+kept = fake / "kept"
+kept.mkdir(exist_ok=True)
+broken = ""
+for line in pathlib.Path("crates.txt").read_text().splitlines():
+    name = line.split(":")[0].split()[0]
+    files = sorted(it for it in pathlib.Path("crates", name).rglob("*") if it.is_file())
+    key = hashlib.sha256(repr((line, [(str(it), it.read_bytes()) for it in files])).encode()).hexdigest()
+    if broken:
+        print(f"rt: {name} NOT PROVED: its library {broken} failed", flush=True)
+    elif (kept / key).exists():
+        print(f"rt: {name} is kept: an earlier run on this machine proved the same files", flush=True)
+    elif name == breaks:
+        broken = name
+        print(f"== {name}\nerror: not this one\nfn {name}::f: proved\nlogic=not-proved\nrt: {name} NOT PROVED", flush=True)
+    else:
+        print(f"== {name}: its tests\nrt: {name}: its tests are proved\n== {name}\nfn {name}::f: proved\nlogic=proved")
+        (kept / key).touch()
+        print(f"rt: {name} proved", flush=True)
+    if name == stops:
+        time.sleep(100)
+if broken:
+    print("5 passed, 1 failed")
+sys.exit(1 if broken else 0)
+"""
+
+MAKE_PROGRAM = r"""
+printf '#!/usr/bin/env bash
+# %s
+[ "$*" != "list . --limit=0" ] || exit 4
+[ "${1:-}" != lacks ] || exit 127
+echo "%s: $*"
+cat
+echo "of the program" >&2
+exit 3
+' "$1" "$2" >"$3"
+chmod +x "$3"
+"""
+
+# The prover and the linker, which a build for another level than the gate's calls itself.
+RATTLE = r"""#!/usr/bin/env bash
+set -u
+kit=$(dirname "$(dirname "$0")")
+fake=$(dirname "$kit")
+echo "rattle $1" >>"$fake/calls"
+printf '%s\n' "$@" >"$fake/words"
+[ ! -e "$fake/is_killed" ] || { rm "$fake/is_killed"; kill -9 $$; }
+while [ $# -gt 0 ]; do
+  case $1 in
+    --cpu=*) level=${1#--cpu=} ;;
+    -o) object=$2 ;;
+  esac
+  shift
+done
+echo "fn perkeep_cli::main: proved"
+[ ! -e "$fake/stops_late" ] || sleep 100
+line="logic=proved functions=1 axioms=2 target=x86_64-unknown-linux-gnu cpu=$level threads=malloc,syscall"
+line+=" main=Threads+Wait+Net may-wait=2 sum=dac8 native=nat,char,string"
+line+=" logic-built=trusted libraries-built=trusted statements=trusted"
+if [ -e "$fake/verdict" ]; then line=$(sed "$(<"$fake/verdict")" <<<"$line"); fi
+echo "$line"
+[ ! -e "$fake/rattle_fails" ] || exit 1
+bash "$fake/make_program" "$level" "$(cat ../pack_store/src/lib.rt)" "$object"
+"""
+LINK = r"""#!/usr/bin/env bash
+set -u
+fake=$(dirname "$(dirname "$(dirname "$0")")")
+echo "rattle-link" >>"$fake/calls"
+[ ! -e "$fake/link_fails" ] || exit 1
+while [ "$1" != -o ]; do shift; done
+cp "$3" "$2"
+[ ! -e "$fake/makes_what_does_not_start" ] || echo 'exit 127' >"$2"
+"""
+# The only file of which the launcher asks `grep` is /proc/cpuinfo, but for what a run of the sources says.
+GREP = r"""#!/usr/bin/env bash
+fake=$(dirname "$0")
+if [ "${!#}" != /proc/cpuinfo ]; then exec REAL "$@"; fi
+[ -e "$fake/flags" ] && printf 'flags\t\t: %s\n' "$(<"$fake/flags")"
 """
 
 
@@ -108,22 +188,32 @@ def crates_below(name="perkeep_cli"):
 
 
 class Tree:
-    """A repository with little in it, and its toolchain."""
+    """A repository with little in it, and its toolchain, on a machine whose processor is of the level x86-64-v2."""
 
     def __init__(self, program):
         self.top = program.new_path()
         self.fake = self.top / "fake"
-        self.fake.mkdir(parents=True)
+        self.scratch = self.top / "scratch"
+        self.scratch.mkdir(parents=True)
+        self.fake.mkdir()
         for name in ("perkeep", "crates.txt"):
             shutil.copy2(TOP / name, self.top / name)
         for name in [*crates_below(), *APART]:
-            for file in ("src/lib.rt", "specs/Lib.antt", "proofs/store/put.antt", "must-fail/edit.edit", "args", "out/rlib/kept"):
+            for file in (*PARTS, *LEFT_OUT) if name in WITH_MORE else PARTS:
                 self.write(f"crates/{name}/{file}", f"{file} of {name}")
+        for file in OF_A_PROGRAM:
+            self.write(f"crates/perkeep_cli/{file}", f"{file} of the program")
         for file in ("docs/page.md", "tests/test.sh", "README.md"):
             self.write(file, "text")
+        self.write("HANDLES", "Handles allowed: Threads, Wait, Net.\n")
         self.write("crates/pack_store/src/lib.rt", "text 1")
-        self.write("fake/order", "\n".join(crates_below()))
+        self.write("fake/prove.py", PROVE)
+        self.write("fake/make_program", MAKE_PROGRAM)
+        self.write("fake/flags", OLDER)
         self.tool("rt", RT)
+        self.tool("kit/bin/rattle", RATTLE)
+        self.tool("kit/bin/rattle-link", LINK)
+        self.tool("grep", GREP.replace("REAL", shutil.which("grep")))
 
     def tool(self, name, text):
         self.write(f"fake/{name}", text)
@@ -135,8 +225,9 @@ class Tree:
 
     def start(self, *words, launcher=None, folder=None, **settings):
         """Starts the launcher in a group of processes of its own."""
-        none_set = {"PERKEEP_BUILD": "", "PERKEEP_JOBS": "", "PERKEEP_TRY": ""}
-        environment = {**os.environ, "PATH": f"{self.fake}:{os.environ['PATH']}", **none_set, **settings}
+        none_set = {"PERKEEP_BUILD": "", "PERKEEP_CPU": "", "PERKEEP_JOBS": "", "PERKEEP_TRY": "", "RT_JOBS": ""}
+        places = {"PATH": f"{self.fake}:{os.environ['PATH']}", "TMPDIR": str(self.scratch)}
+        environment = {**os.environ, **places, **none_set, **settings}
         streams = {"stdin": subprocess.PIPE, "stdout": subprocess.PIPE, "stderr": subprocess.PIPE}
         how = {"cwd": folder or self.top, "env": environment, "text": True, "start_new_session": True}
         return subprocess.Popen([launcher or self.top / "perkeep", *words], **how, **streams)
@@ -154,28 +245,38 @@ class Tree:
     def text(self):
         return (self.top / "crates/pack_store/src/lib.rt").read_text()
 
-    def is_current(self):
-        process = self.start("put", PERKEEP_BUILD="check")
+    def build(self, what, **settings):
+        """Has the program built, where it isn't current, which has to succeed; answers what was said."""
+        process = self.start(PERKEEP_BUILD="only", **settings)
+        out, err = process.communicate("", timeout=SECONDS)
+        compare(what, "exit status and standard output", (0, ""), (process.returncode, out))
+        return err
+
+    def level(self):
+        """The level that the built program is for."""
+        return (self.top / PROGRAM).read_text().splitlines()[1].removeprefix("# ")
+
+    def rooms(self):
+        """The folders that stand where builds make theirs."""
+        return sorted(it.name for it in self.scratch.iterdir())
+
+    def is_current(self, **settings):
+        process = self.start("put", PERKEEP_BUILD="check", **settings)
         out, err = process.communicate("", timeout=SECONDS)
         compare("a check", "what it says", ("", ""), (out, err))
         return {0: True, 1: False}[process.returncode]
 
     def calls(self):
-        """The calls of the toolchain, each with the name of the folder that it was made in."""
+        """The calls of the toolchain that build or run something."""
         calls = self.fake / "calls"
         return calls.read_text().splitlines() if calls.exists() else []
 
     def builds(self):
-        return self.calls().count(BUILDS)
+        return self.calls().count("ci")
 
     def has_tried(self):
         """Whether the sources were run."""
         return any(" try " in call for call in self.calls())
-
-    def prove(self, names):
-        """Leaves what the toolchain leaves of libraries that it has proved."""
-        for name in names:
-            self.write(f"crates/{name}/out/rlib/stamp", "")
 
 
 def built(program):
@@ -225,8 +326,8 @@ def apart(program):
     for name in APART:
         tree.write(f"crates/{name}/src/lib.rt", "another text")
         tree.write(f"crates/{name}/proofs/another.antt", "another text")
-    for name in crates_below():
-        for file in ("must-fail/edit.edit", "must-fail/another.edit", "args", "stdin", "out/rlib/kept", "out/other"):
+    for name in WITH_MORE:
+        for file in (*LEFT_OUT, *OF_A_PROGRAM, "must-fail/another.edit", "data/another", "out/another"):
             tree.write(f"crates/{name}/{file}", "another text")
     for file in ("docs/page.md", "docs/other.md", "tests/test.sh", "README.md"):
         tree.write(file, "another text")
@@ -271,6 +372,7 @@ def without_toolchain(program):
     tree = Tree(program)
     (tree.fake / "rt").unlink()
     fails("no toolchain", tree, PATH="/usr/bin:/bin")
+    compare("no toolchain", "rooms", [], tree.rooms())
 
 
 # What makes another build needed
@@ -284,6 +386,7 @@ EDITS = {
     "a file of another name": lambda tree: (tree.top / "crates/blobref/src/lib.rt").rename(tree.top / "crates/blobref/src/other.rt"),
     "a text of the same length and time": lambda tree: same_length_and_time(tree, "crates/blobref/src/lib.rt"),
     "the line of a crate": lambda tree: lengthen_line(tree, "pack_format", "hex"),
+    "what handles are allowed": lambda tree: tree.write("HANDLES", "Handles allowed: Threads, Wait.\n"),
     "another toolchain": lambda tree: tree.tool("rt", RT.replace("version 1", "version 2")),
     "a program that is gone": lambda tree: (tree.top / PROGRAM).unlink(),
     "another program": lambda tree: (tree.top / PROGRAM).write_text("#!/bin/sh\necho another\n"),
@@ -335,7 +438,7 @@ def makes_stale(program, what, edit):
 # Builds that fail, and several launchers
 
 def builds(program):
-    checks = (failed_build, not_believed, changed_meanwhile, two_at_once, two_failures)
+    checks = (failed_build, not_believed, changed_meanwhile, two_at_once, two_failures, beside_a_gate)
     return [lambda check=check: check(program) for check in checks]
 
 
@@ -350,24 +453,28 @@ def fails(what, tree, why=None, **settings):
 
 def failed_build(program):
     """A build that fails ends the start, whatever was built before, until one is good."""
-    for status in (1, 137):
-        tree = built(program)
-        tree.write("crates/pack_store/src/lib.rt", "text 2")
+    tree = built(program)
+    for builds, status in [(4, 1), (7, 137)]:
+        tree.write("crates/pack_store/src/lib.rt", f"text of status {status}")
         tree.write("fake/fails", f"{status}")
         for _ in range(2):
             fails(f"a build that ends with status {status}", tree, "rt: not proved, for a reason")
+            compare(f"a build that ends with status {status}", "rooms", [], tree.rooms())
         (tree.fake / "fails").unlink()
         tree.run("a build that is good again")
-        compare("a build that is good again", "builds", 4, tree.builds())
+        compare("a build that is good again", "builds", builds, tree.builds())
 
 
 def not_believed(program):
     """A program is run only where the toolchain has made it and says that all is well."""
-    for what in ("does_nothing", "makes_nothing", "fails_late"):
-        tree = built(program)
-        tree.write("crates/pack_store/src/lib.rt", "text 2")
+    ways = ("makes_nothing", "counts_a_failure", "ends_before_all_is_told", "fails_late", "makes_what_does_not_start")
+    tree = built(program)
+    tree.write("crates/pack_store/src/lib.rt", "text 2")
+    for what in ways:
         tree.write(f"fake/{what}", "")
         fails(f"a toolchain that {what.replace('_', ' ')}", tree)
+        (tree.fake / what).unlink()
+    tree.run("a toolchain that does none of this")
 
 
 def changed_meanwhile(program):
@@ -401,123 +508,419 @@ def two_failures(program):
         compare("several launchers, a build that fails", "exit status", 70, process.returncode)
 
 
-# How it builds, and what it says of that
+def beside_a_gate(program):
+    """A build waits for what is at work on the program's crate, as the toolchain's commands do: a gate empties `out`."""
+    tree = Tree(program)
+    folder = os.open(tree.top / "crates/perkeep_cli", os.O_RDONLY)
+    fcntl.flock(folder, fcntl.LOCK_EX)
+    process = tree.start(PERKEEP_BUILD="only")
+    told = f"perkeep: waiting for what is at work in {tree.top}/crates/perkeep_cli\n"
+    compare("a build beside a gate", "what it says", told, process.stderr.readline())
+    compare("a build beside a gate", "calls", [], tree.calls())
+    shutil.rmtree(tree.top / "crates/perkeep_cli/out")
+    os.close(folder)
+    process.communicate(timeout=SECONDS)
+    compare("a build beside a gate", "exit status", 0, process.returncode)
+    compare("a build beside a gate", "current", True, tree.is_current())
+    check("a build holds on to the crate", can_lock(tree.top / "crates/perkeep_cli"))
 
-def progress(program):
-    checks = (side_by_side, one_by_one, some_proved_before, reckoned_lanes, first_call_fails, interrupted, edited)
+
+def can_lock(path):
+    folder = os.open(path, os.O_RDONLY)
+    try:
+        fcntl.flock(folder, fcntl.LOCK_EX | fcntl.LOCK_NB)
+        return True
+    except BlockingIOError:
+        return False
+    finally:
+        os.close(folder)
+
+
+# Where it builds
+
+def rooms(program):
+    checks = (what_is_copied, lost_rooms, full_disk)
     return [lambda check=check: check(program) for check in checks]
 
 
-def beginning(lacking):
-    """How what is said of a build begins that proves so many crates for the first time."""
-    told = f"perkeep: building the program: {lacking} of its {len(crates_below())} crates are to be proved, in about "
-    return told, " min (PERKEEP_TRY=1 runs it unproved, in two)", "perkeep: reading the sources"
+def what_is_copied(program):
+    """The program's crates alone, with what the gate reads of them, as a repository that isn't below this one."""
+    tree = Tree(program)
+    tree.build("a build")
+    room = pathlib.Path((tree.fake / "room").read_text().strip())
+    compare("the room", "the folder that it is in", tree.scratch, room.parent)
+    compare("the room", "rooms that are left", [], tree.rooms())
+    names = crates_below()
+    files = {f"./crates/{name}/{file}" for name in names for file in PARTS}
+    files |= {f"./crates/perkeep_cli/{file}" for file in OF_A_PROGRAM} | {"./crates.txt", "./HANDLES", "./.git"}
+    folders = {str(above) for file in files for above in pathlib.Path(file).parents}
+    wanted = files | {f"./{folder}" for folder in folders - {"."}} | {"."}
+    found = set((tree.fake / "files").read_text().splitlines())
+    compare("the room", "what lacks", set(), wanted - found)
+    compare("the room", "what is there beside", set(), found - wanted)
+    listed = (tree.fake / "kit/crates.txt").read_text().splitlines()
+    compare("the room's crates.txt", "its crates", names, [line.split(":")[0].split()[0] for line in listed])
+    whole = (tree.top / "crates.txt").read_text().splitlines()
+    compare("the room's crates.txt", "lines that are others", [], [line for line in listed if line not in whole])
+    compare("the room's HANDLES", "text", (tree.top / "HANDLES").read_text(), (tree.fake / "kit/HANDLES").read_text())
 
 
-def compare_progress(what, lacking, proved, said):
+def lost_rooms(program):
+    """What a launcher left that was killed is removed, and what another one works in stays."""
+    tree = Tree(program)
+    ended = subprocess.Popen(["true"])
+    ended.wait()
+    lost, taken = (tree.scratch / f"perkeep-room-{number}-abcdef" for number in (ended.pid, os.getpid()))
+    for room in (lost, taken):
+        (room / "crates").mkdir(parents=True)
+    tree.build("a build after one that was killed")
+    compare("a build after one that was killed", "rooms", [taken.name], tree.rooms())
+
+
+def full_disk(program):
+    """Where the disk is nearly full it is said that nothing of what is proved will be kept."""
+    tree = Tree(program)
+    for free, is_told in [(4_999, True), (5_000, False), (0, True)]:
+        (tree.top / PROGRAM).unlink(missing_ok=True)
+        tree.tool("df", f"#!/bin/sh\nprintf 'Avail\\n90000\\n{free}\\n'\n")
+        told = f"perkeep: the disk has {free} MB free, and rt wants 3000; below 5000 it keeps nothing of what it proves"
+        said = tree.build(f"{free} MB free")
+        compare(f"{free} MB free", "whether it is said", is_told, f"{told}, so a build that is interrupted" in said)
+
+
+# For which level it builds
+
+def levels(program):
+    checks = (machines, calls_for_a_level, by_hand, by_hand_as_it_is, moved_folder, moved_by_hand, beyond, lacking)
+    return [lambda check=check: check(program) for check in (*checks, no_verdicts)]
+
+
+def machines(program):
+    """The program is built for x86-64-v3 where the processor has every feature of it, else for x86-64-v2."""
+    tree = Tree(program)
+    tree.build("an older processor")
+    compare("an older processor", "level", "x86-64-v2", tree.level())
+    flags = f"{OLDER} {NEWER}".split()
+    named = [flag for flag in flags if flag not in ("fpu", "sse", "sse2", "pni")]
+    for lacking in named:
+        tree.write("fake/flags", " ".join(flag for flag in flags if flag != lacking) + f" {lacking}x x{lacking}")
+        compare(f"a processor without {lacking}", "whether the program is for it", True, tree.is_current())
+    (tree.fake / "flags").unlink()
+    compare("a processor of which nothing is known", "whether the program is for it", True, tree.is_current())
+    for order in (flags, flags[::-1]):
+        tree.write("fake/flags", " ".join(order))
+        compare("a newer processor", "whether the older program is for it", False, tree.is_current())
+    tree.run("a newer processor", "get", "x")
+    compare("a newer processor", "level", "x86-64-v3", tree.level())
+    compare("a newer processor", "current", True, tree.is_current())
+
+
+def newer(program):
+    """A tree on a newer machine."""
+    tree = Tree(program)
+    tree.write("fake/flags", f"{OLDER} {NEWER}")
+    return tree
+
+
+def calls_for_a_level(program):
+    """For another level than the gate's the program's own crate alone is proved again, over what the gate left."""
+    tree = newer(program)
+    lengthen_line(tree, "perkeep_cli", "hex")
+    said = tree.build("a build for x86-64-v3")
+    compare("a build for x86-64-v3", "calls", ["ci", "rattle build", "rattle-link"], tree.calls())
+    told = "perkeep: proving perkeep_cli for x86-64-v3, in some minutes"
+    compare("a build for x86-64-v3", "what is said last", told, said.splitlines()[-1])
+    kit, room = tree.fake / "kit", (tree.fake / "room").read_text().strip()
+    words = (tree.fake / "words").read_text().splitlines()
+    lines = (tree.top / "crates.txt").read_text().splitlines()
+    used = next(line for line in lines if line.startswith("perkeep_cli:")).split()[1:-1]
+    below = [name for name in crates_below() if name != "perkeep_cli"]
+    pairs = [("--extern", f"std={kit}/rlibs/std.rlib"), ("--extern", f"hex={kit}/rlibs/hex.rlib")]
+    pairs += [("--extern", f"{name}={room}/crates/{name}/out/rlib/{name}.rlib") for name in used]
+    folders = [f"{kit}/rlibs", *[f"{room}/crates/{name}/out/rlib" for name in below]]
+    pairs += [("-L", f"dependency={folder}") for folder in folders]
+    found = list(zip(words, words[1:]))
+    compare("the prover's words", "libraries", sorted(pairs), sorted(pair for pair in found if pair[0] in ("--extern", "-L")))
+    check(f"the prover's words: {words}", "--cpu=x86-64-v3" in words and not [word for word in words if "incremental" in word])
+    log = (tree.top / "crates/perkeep_cli/out/launcher.log").read_text()
+    check(f"the log: {log}", "cpu=x86-64-v3 threads=" in log)
+
+
+def by_hand(program):
+    """A level that is asked for holds until another one is, whatever else changes."""
+    tree = newer(program)
+    compare("a level by hand", "current", False, tree.is_current(PERKEEP_CPU="x86-64-v2"))
+    tree.run("a level by hand", PERKEEP_CPU="x86-64-v2")
+    compare("a level by hand", "calls", ["ci"], tree.calls())
+    compare("a plain start then", "what it says", "", tree.run("a plain start then"))
+    tree.write("crates/pack_store/src/lib.rt", "text 2")
+    tree.write("fake/fails", "1")
+    fails("a build that fails", tree)
+    (tree.fake / "fails").unlink()
+    tree.run("an edit")
+    compare("an edit", "level", "x86-64-v2", tree.level())
+    for level in ("x86-64", "x86-64-v3"):
+        compare(f"a look at {level}", "current", False, tree.is_current(PERKEEP_CPU=level))
+        compare(f"a look at {level}", "current without it", True, tree.is_current())
+        tree.run(level, PERKEEP_CPU=level)
+        compare(level, "level", level, tree.level())
+        compare(level, "current without it", True, tree.is_current())
+    tree.write("fake/flags", OLDER)
+    tree.run("this machine's own, by hand", PERKEEP_CPU="native")
+    compare("this machine's own, by hand", "level", "x86-64-v2", tree.level())
+    tree.write("fake/flags", f"{OLDER} {NEWER}")
+    compare("another machine's", "current", False, tree.is_current())
+
+
+def by_hand_as_it_is(program):
+    """Also a level that the program was built for already, without a word."""
+    tree = built(program)
+    compare("a level that it has", "what it says", "", tree.build("a level that it has", PERKEEP_CPU="x86-64-v2"))
+    tree.write("fake/flags", f"{OLDER} {NEWER}")
+    compare("a level that it has", "current on a newer machine", True, tree.is_current())
+    compare("a level that it has", "builds", 1, tree.builds())
+
+
+def moved_folder(program):
+    """On an older machine the program is built again, though no file has changed."""
+    tree = newer(program)
+    tree.run("a newer machine")
+    compare("a newer machine", "what it then says", "", tree.run("a newer machine"))
+    tree.write("fake/flags", OLDER)
+    compare("an older machine", "current", False, tree.is_current())
+    said = tree.run("an older machine").splitlines()
+    check(f"an older machine: {said}", said[0].startswith("perkeep: building the program for x86-64-v2: "))
+    compare("an older machine", "level and what is said beside", ("x86-64-v2", []), (tree.level(), said[1:]))
+
+
+LACKS = "perkeep: this processor lacks what x86-64-v3 has; PERKEEP_CPU=x86-64-v2 ./perkeep builds the program for it\n"
+
+
+def moved_by_hand(program):
+    """Where the level was asked for it is said what can be done, and nothing is removed."""
+    tree = newer(program)
+    tree.run("x86-64-v3 by hand", PERKEEP_CPU="x86-64-v3")
+    tree.write("fake/flags", OLDER)
+    refuses("x86-64-v3 by hand, moved", tree, LACKS)
+    compare("x86-64-v3 by hand, moved", "current", False, tree.is_current())
+    tree.write("fake/flags", f"{OLDER} {NEWER}")
+    compare("x86-64-v3 by hand, moved back", "what it says", "", tree.run("x86-64-v3 by hand, moved back"))
+    tree.write("fake/flags", OLDER)
+    tree.run("x86-64-v3 by hand, moved, and another by hand", PERKEEP_CPU="x86-64-v2")
+    compare("x86-64-v3 by hand, moved, and another by hand", "what it then says", "", tree.run("a plain start then"))
+
+
+def refuses(what, tree, why, **settings):
+    """Nothing is built or run, for a reason that is told."""
+    before = tree.calls()
+    for build in ("", "only"):
+        process = tree.start("get", "x", PERKEEP_BUILD=build, **settings)
+        compare(what, "output and errors", ("", why), process.communicate("", timeout=SECONDS))
+        compare(what, "exit status", 70, process.returncode)
+    compare(what, "calls", before, tree.calls())
+
+
+def beyond(program):
+    """A level that this machine can't run isn't built, and isn't kept; nor is what is no level."""
+    tree = built(program)
+    refuses("x86-64-v3 here", tree, LACKS, PERKEEP_CPU="x86-64-v3")
+    compare("a plain start then", "what it says", "", tree.run("a plain start then"))
+    for level in ("x86-64-v4", "v3", "x86-64-v", "x86-64-v33", " x86-64-v3", "0"):
+        why = "perkeep: PERKEEP_CPU is x86-64, x86-64-v2, x86-64-v3 or native\n"
+        refuses(f"PERKEEP_CPU={level}", tree, why, PERKEEP_CPU=level)
+    compare("a plain start then", "what it says", "", tree.run("a plain start then"))
+
+
+def lacking(program):
+    """A program that says at its start that the processor isn't one for it isn't believed; as any other status of it, its
+    127 is else handed on."""
+    tree = newer(program)
+    process = tree.start("lacks", PERKEEP_CPU="x86-64-v3")
+    process.communicate("", timeout=SECONDS)
+    compare("a program that ends with 127", "exit status", 127, process.returncode)
+    tree.write("fake/makes_what_does_not_start", "")
+    (tree.top / PROGRAM).unlink()
+    for level in ("x86-64", "x86-64-v2", "x86-64-v3"):
+        told = "the program doesn't start here, by status 127, which says that the processor lacks what "
+        told += f"{level} has; PERKEEP_CPU=x86-64-v2 ./perkeep builds one for others\n"
+        fails(f"a program for {level} that doesn't start", tree, told, PERKEEP_CPU=level)
+
+
+# What the prover may say of the program's crate, by edits of a good line, which no program is built from.
+NO_VERDICTS = [
+    ("not proved", "s/=proved.*/=not-proved/"),
+    ("another level", "s/cpu=[^ ]*/cpu=x86-64-v2/"),
+    ("no level", "s/ cpu=[^ ]*//"),
+    ("a handle that isn't allowed", "s/main=[^ ]*/main=Threads+Wait+Net+Processes/"),
+    ("a handle that none may have", "s/main=[^ ]*/main=Abort/"),
+    ("a function that may abort", "s/may-wait=2/may-abort=1 may-wait=2/"),
+    ("C of its own", "s/ axioms/ foreign=f axioms/"),
+    ("a contract that says nothing", "s/may-wait=2/may-wait=2 hides=1/"),
+    ("kept work", "s/$/ incremental=trusted/"),
+    ("a line more", "s/$/\\nerror: and then/"),
+    ("a word at the front", "s/^/ /"),
+]
+
+
+def no_verdicts(program):
+    tree = newer(program)
+    for what, edit in NO_VERDICTS:
+        tree.write("fake/verdict", edit)
+        fails(f"a verdict with {what}", tree, "perkeep: the gate passes no such line\n")
+    compare("all of these", "calls", len(NO_VERDICTS) * ["ci", "rattle build"], tree.calls())
+    (tree.fake / "verdict").unlink()
+    tree.run("a good verdict")
+
+
+# What it says while it builds
+
+def progress(program):
+    checks = [from_nothing, some_kept, lanes, not_proved, level_fails, killed_once, edited]
+    checks += [lambda program, ending=ending: interrupted(program, *ending) for ending in ENDINGS]
+    return [lambda check=check: check(program) for check in checks]
+
+
+def beginning(level="x86-64-v2"):
+    """What is said first of a build."""
+    told = f"perkeep: building the program for {level}: what of its {len(crates_below())} crates isn't proved on this machine"
+    return f"{told} is proved now, all of it in an hour on four processors (PERKEEP_TRY=1 runs it unproved, in two minutes)"
+
+
+def compare_progress(what, proved, said, level="x86-64-v2"):
     """What is said of a build; `proved` are the crates that it proves in their order, with how many then are."""
-    first, second, *lines = said.splitlines()
-    before, behind, reading = beginning(lacking)
-    check(f"{what}: it begins with {first}", first.startswith(before) and first.endswith(behind))
-    minutes = first[len(before) : -len(behind)]
-    check(f"{what}: about {minutes} minutes", minutes.isdigit() and int(minutes) > 0)
     count = len(crates_below())
     told = [f"perkeep: proved {name} ({done} of {count}, 0 min)" for name, done in proved]
-    compare(what, "what is said", [reading, *told], [second, *lines])
+    compare(what, "what is said", [beginning(level), *told], said.splitlines())
 
 
 def counted(names, start=1):
     return [(name, done) for done, name in enumerate(names, start)]
 
 
-def side_by_side(program):
+def from_nothing(program):
     tree = Tree(program)
-    said = tree.run("crates side by side", PERKEEP_JOBS="3")
-    compare("crates side by side", "calls", ["perkeep_cli all check --jobs 3", BUILDS], tree.calls())
-    compare_progress("crates side by side", len(crates_below()), counted(crates_below()), said)
+    compare_progress("a build from nothing", counted(crates_below()), tree.build("a build from nothing"))
 
 
-def one_by_one(program):
-    for jobs in ("0", "1", "2", "02"):
-        tree = Tree(program)
-        said = tree.run(f"{jobs} jobs", PERKEEP_JOBS=jobs)
-        compare(f"{jobs} jobs", "calls", [BUILDS], tree.calls())
-        compare_progress(f"{jobs} jobs", len(crates_below()), counted(crates_below()), said)
-
-
-def some_proved_before(program):
-    """Crates that are proved already are counted, and nothing else is said of them."""
+def some_kept(program):
+    """Crates that are kept are counted, and nothing else is said of them."""
     names = crates_below()
-    before = [*names[:7], *names[10:20:2], *names[-4:-1]]
-    for jobs in ("2", "3"):
-        tree = Tree(program)
-        tree.prove(before)
-        said = tree.run(f"{jobs} jobs, some proved", PERKEEP_JOBS=jobs)
-        proved = [(name, done) for name, done in counted(names) if name not in before]
-        compare_progress(f"{jobs} jobs, some proved", len(names) - len(before), proved, said)
+    tree = built(program)
+    changed = [names[3], names[17], names[-1]]
+    for name in changed:
+        tree.write(f"crates/{name}/src/lib.rt", "another text")
+    proved = [(name, done) for name, done in counted(names) if name in changed]
+    compare_progress("a build of some crates", proved, tree.build("a build of some crates"))
+    (tree.top / PROGRAM).unlink()
+    compare_progress("a build of what is kept", [], tree.build("a build of what is kept"))
 
 
-def reckoned_lanes(program):
-    """Two more than there are processors, and no more than there is memory for."""
-    for processors in (1, 1_000_000):
-        tree = Tree(program)
-        tree.tool("nproc", f"#!/bin/sh\necho {processors}\n")
-        rooms = [memory_rooms()]
-        tree.run(f"{processors} processors")
-        rooms.append(memory_rooms())
-        wanted = range(min(processors + 2, min(rooms) - 1), min(processors + 2, max(rooms) + 1) + 1)
-        calls = [f"perkeep_cli all check --jobs {lanes}" if lanes >= 3 else BUILDS for lanes in wanted]
-        check(f"{processors} processors: {tree.calls()}", tree.calls()[0] in calls)
+def lanes(program):
+    """PERKEEP_JOBS says how many crates are proved side by side, and else the toolchain chooses."""
+    tree = Tree(program)
+    for jobs, wanted in [("", "none"), ("0", "none"), ("x", "none"), ("3", "3"), ("012", "12")]:
+        (tree.top / PROGRAM).unlink(missing_ok=True)
+        tree.build(f"PERKEEP_JOBS={jobs}", PERKEEP_JOBS=jobs)
+        compare(f"PERKEEP_JOBS={jobs}", "jobs", wanted, (tree.fake / "jobs").read_text().strip())
 
 
-def memory_rooms():
-    """How many crates the free memory has room for, at 1.8 GB each."""
-    found = re.search(r"MemAvailable: +(\d+) kB", pathlib.Path("/proc/meminfo").read_text())
-    return int(found[1]) * 1024 // 1_800_000_000
-
-
-def first_call_fails(program):
-    """What isn't proved side by side is tried once more, one by one. That says what is wrong, if anything."""
+def not_proved(program):
+    """It is said at once which crate isn't proved, and at the end why; what was proved before it isn't proved again."""
     names = crates_below()
-    calls = ["perkeep_cli all check --jobs 4", BUILDS]
     tree = Tree(program)
     tree.write("fake/breaks", names[20])
-    said = tree.run("a first call that fails", PERKEEP_JOBS="4")
-    compare("a first call that fails", "calls", calls, tree.calls())
-    compare_progress("a first call that fails", len(names), counted(names), said)
-    tree = Tree(program)
-    tree.write("fake/breaks", names[20])
-    tree.write("fake/fails", "1")
-    fails("two calls that fail", tree, "rt: not proved, for a reason", PERKEEP_JOBS="4")
-    compare("two calls that fail", "calls", calls, tree.calls())
+    process = tree.start()
+    out, said = process.communicate("", timeout=SECONDS)
+    compare("a crate that isn't proved", "exit status and standard output", (70, ""), (process.returncode, out))
+    count = len(names)
+    told = [f"perkeep: proved {name} ({done} of {count}, 0 min)" for name, done in counted(names[:20])]
+    told += [f"perkeep: {names[20]} NOT PROVED", f"== {names[20]}", "error: not this one", "logic=not-proved"]
+    told += [f"rt: {names[20]} NOT PROVED", "perkeep: the program could not be built"]
+    compare("a crate that isn't proved", "what is said", [beginning(), *told], said.splitlines())
+    (tree.fake / "breaks").unlink()
+    said = tree.build("a crate that is proved then")
+    compare_progress("a crate that is proved then", counted(names[20:], 21), said)
 
 
-def interrupted(program):
-    """A build that is interrupted ends at once, and the next one goes on where it was."""
+def level_fails(program):
+    tree = newer(program)
+    for what in ("rattle_fails", "link_fails"):
+        tree.write(f"fake/{what}", "")
+        fails(what, tree)
+        compare(what, "rooms", [], tree.rooms())
+        (tree.fake / what).unlink()
+    tree.run("a level that is built then")
+
+
+def killed_once(program):
+    """A proof that is killed, most likely for memory, is tried once more with less."""
+    tree = newer(program)
+    tree.write("fake/is_killed", "")
+    tree.build("a proof that is killed")
+    compare("a proof that is killed", "calls", ["ci", "rattle build", "rattle build", "rattle-link"], tree.calls())
+    compare("a proof that is killed", "its words then", ["--jobs", "1"], (tree.fake / "words").read_text().splitlines()[-2:])
+
+
+# Ways to end a build: the signal, whether all of the launcher's group gets it, and what the launcher then ends with.
+ENDINGS = [
+    (signal.SIGINT, True, 130),
+    (signal.SIGTERM, False, 143),
+    (signal.SIGHUP, False, 129),
+]
+
+
+def interrupted(program, sign, is_for_group, status):
+    """A build that is interrupted ends at once and leaves nothing that runs and no room; the next one goes on where it
+    was."""
     names = crates_below()
-    for jobs, calls in [("2", [BUILDS]), ("5", ["perkeep_cli all check --jobs 5"])]:
-        what = f"an interrupted build with {jobs} jobs"
-        tree = Tree(program)
-        tree.write("fake/stops", names[9])
-        process = tree.start(PERKEEP_JOBS=jobs)
-        said = "".join(iter(process.stderr.readline, f"perkeep: proved {names[9]} (10 of {len(names)}, 0 min)\n"))
-        compare_progress(what, len(names), counted(names[:9]), said)
-        os.killpg(process.pid, signal.SIGINT)
-        compare(what, "what it says then", ("", ""), process.communicate(timeout=SECONDS))
-        check(f"{what}: exit status {process.returncode}", process.returncode in (-signal.SIGINT, 128 + signal.SIGINT))
-        compare(what, "calls", calls, tree.calls())
-        compare(what, "current", False, tree.is_current())
-        (tree.fake / "stops").unlink()
-        compare_progress(what, len(names) - 10, counted(names[10:], 11), tree.run(what, PERKEEP_JOBS=jobs))
+    what = f"a build that gets {sign.name}"
+    tree = newer(program)
+    tree.write("fake/stops", names[9])
+    process = tree.start()
+    said = "".join(iter(process.stderr.readline, f"perkeep: proved {names[9]} (10 of {len(names)}, 0 min)\n"))
+    compare_progress(what, counted(names[:9]), said, "x86-64-v3")
+    ends_at_once(what, tree, process, sign, is_for_group, status)
+    (tree.fake / "stops").unlink()
+    tree.write("fake/stops_late", "")
+    process = tree.start()
+    said = "".join(iter(process.stderr.readline, "perkeep: proving perkeep_cli for x86-64-v3, in some minutes\n"))
+    compare_progress(what, counted(names[10:], 11), said, "x86-64-v3")
+    ends_at_once(what, tree, process, sign, is_for_group, status)
+    (tree.fake / "stops_late").unlink()
+    tree.run(what)
+
+
+def ends_at_once(what, tree, process, sign, is_for_group, status):
+    room = (tree.fake / "room").read_text().strip()
+    compare(what, "rooms before", [pathlib.Path(room).name], tree.rooms())
+    (os.killpg if is_for_group else os.kill)(process.pid, sign)
+    start = time.monotonic()
+    compare(what, "what it says then", ("", ""), process.communicate(timeout=SECONDS))
+    check(f"{what}: it takes {time.monotonic() - start:.1f} seconds", time.monotonic() - start < 20)
+    compare(what, "exit status", status, process.returncode)
+    compare(what, "rooms", [], tree.rooms())
+    compare(what, "what still runs", [], running_in(room))
+    compare(what, "current", False, tree.is_current())
+
+
+def running_in(folder):
+    """The processes whose working folder was below a folder."""
+    found = []
+    for process in pathlib.Path("/proc").glob("[0-9]*"):
+        try:
+            if os.readlink(process / "cwd").startswith(folder):
+                found.append((process / "cmdline").read_text())
+        except OSError:
+            pass
+    return found
 
 
 def edited(program):
-    """Where all crates were proved before nobody can tell how long the build takes."""
+    """After an edit the crates that changed are proved alone."""
     tree = built(program)
     tree.write("crates/pack_store/src/lib.rt", "text 2")
-    told = f"perkeep: building the program: what has changed in its {len(crates_below())} crates is proved again"
-    said = tree.run("an edit", PERKEEP_JOBS="2").splitlines()
-    compare("an edit", "what is said", [told, "perkeep: reading the sources"], said[:2])
+    done = crates_below().index("pack_store") + 1
+    compare_progress("an edit", [("pack_store", done)], tree.build("an edit"))
 
 
 # Running the sources
@@ -715,4 +1118,4 @@ def asked_for(program):
 if __name__ == "__main__":
     # Who was started in the background ignores interrupts, and what it starts would ignore them, too.
     signal.signal(signal.SIGINT, signal.default_int_handler)
-    harness.main("launcher.sh", [starts, stale, builds, progress, tries])
+    harness.main("launcher.sh", [starts, stale, builds, rooms, levels, progress, tries])
