@@ -1,0 +1,66 @@
+#!/usr/bin/env bash
+# What the launcher's builds take: the time, the processors' time and the most disk, of
+#
+#   - a first build, on a machine that has kept nothing of what is proved
+#   - a build for x86-64-v2 after it (which differs from it where the processor is of the level x86-64-v3)
+#   - `rt ci`, which then has to prove none of the program's crates again
+#   - a build after that, as a user's after .ci/run
+#
+# Builds what is committed here, in a clone, by a copy of the kit whose folders are links, since a kit keeps beside
+# itself what passed; what this machine has kept is neither read nor changed. Ends with status 1 where something fails,
+# or a crate of the program is proved a second time. Wants 20 GB in TMPDIR or /tmp.
+set -eu -o pipefail
+cd "$(dirname "$0")/.."
+folder=$(mktemp -d)
+trap 'kill %% 2>/dev/null; rm -rf "$folder"' EXIT
+TIMEFORMAT='%R %U %S'
+copy_kit() {
+  local kit part
+  kit=$(rt doc)
+  kit=${kit%/*}
+  mkdir -p "$folder/kit/rattle/bin" "$folder/tmp"
+  for part in "$kit"/* "$kit"/bin/*; do
+    case ${part#"$kit"/} in
+      bin) ;;
+      bin/rt | bin/*.py) cp -p "$part" "$folder/kit/rattle/bin" ;;
+      *) ln -s "$part" "$folder/kit/rattle/${part#"$kit"/}" ;;
+    esac
+  done
+  export PATH=$folder/kit/rattle/bin:$PATH TMPDIR=$folder/tmp
+}
+
+# Runs a command in the clone, and prints what it took.
+measure() {
+  local what=$1 status=0
+  shift
+  echo 0 >"$folder/most"
+  watch_disk &
+  (cd "$folder/clone" && time "$@" >"$folder/said" 2>&1) 2>"$folder/took" || status=$?
+  kill %%
+  wait
+  awk -v what="$what" -v most="$(cat "$folder/most")" '
+    { printf "%s: %.1f min, %.1f processor minutes, at most %.1f GB\n", what, $1 / 60, ($2 + $3) / 60, most / 1e6 }
+  ' "$folder/took"
+  [ "$status" -eq 0 ] || { tail -n 20 "$folder/said" >&2; exit 1; }
+}
+
+# Notes the most kB that the clone, its scratch folders and what is kept have taken, a file of several names once.
+watch_disk() {
+  local now
+  while sleep 5; do
+    now=$(du -sck "$folder/clone" "$folder/tmp" "$folder/kit" 2>/dev/null | awk 'END { print $1 }') || true
+    [ "$now" -le "$(cat "$folder/most")" ] || echo "$now" >"$folder/most"
+  done
+}
+
+copy_kit
+git clone -q . "$folder/clone"
+export PERKEEP_BUILD=only
+measure "a first build" ./perkeep
+proved=$(sed -n 's/^perkeep: proved \([a-z_]*\) .*/\1/p' "$folder/said")
+PERKEEP_CPU=x86-64-v2 measure "a build for x86-64-v2 after it" ./perkeep
+measure "rt ci after these" rt ci
+for name in $proved; do
+  if grep -qx "rt: $name proved" "$folder/said"; then echo "rt ci has proved $name again" >&2 && exit 1; fi
+done
+measure "a build after that" ./perkeep
