@@ -1,6 +1,6 @@
 //! A server at an address as a peer (`docs/sync.md`): a part of the program's edge.
 #![tactic(auto)]
 
-mod dialed_peer;
+mod address_dialer;
 
-pub use dialed_peer::DialedPeer;
+pub use address_dialer::{AddressDialer, DialedPeer, peer_at};

@@ -14,7 +14,7 @@ use crate::keys::read_keyring;
 use crate::serving::serve;
 use crate::streams::Closed;
 use blobref::{NoMemory, Text};
-use edge_dial::DialedPeer;
+use edge_dial::peer_at;
 use edge_os::{ReadSource, WriteSink};
 use folder_disk::{Access, FolderDisk};
 use perkeep_top::{Status, run};
@@ -71,7 +71,7 @@ fn ending_of<R: Threads + Wait + Sync>(rt: &HostRuntime, threads: &R) -> Ending 
         Access::Read
     };
     let disk = FolderDisk::new(rt, folder, access);
-    let mut peer = DialedPeer::new(rt, address_named(&words));
+    let mut peer = peer_at(rt, address_named(&words));
     let mut source = ReadSource::new(rt.stdin());
     let mut sink = WriteSink::new(rt.stdout());
     let mut clock = SystemClock::new(rt);
