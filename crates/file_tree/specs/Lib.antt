@@ -1,4 +1,5 @@
 pub mod Walk
+pub mod Fetching
 pub mod Reading
 pub mod Bytes
 pub mod Laws

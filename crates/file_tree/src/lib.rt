@@ -9,6 +9,9 @@ mod reading;
 mod zeros;
 
 pub use fault::FileFault;
-pub use laws::sound_files_are_read;
+pub use laws::{
+    fetched_blobs_are_one_map, fetched_files_are_walked, refusals_are_answered,
+    sound_files_are_read,
+};
 pub use part_shelf::PartShelf;
 pub use reading::read_file;

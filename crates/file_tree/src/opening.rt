@@ -1,13 +1,12 @@
 //! Blobs that a file needs.
 ghost use Rattle.std.specs.Prelude.{◌≡◌, ◌≤◌, ◌<◌, ℕ, length, IfOk, IfSome, Ok, Err};
-ghost use Rattle.std.specs.Option.{ForSome, ok_or};
-ghost use Rattle.std.specs.FinMap.{get};
+ghost use Rattle.std.specs.Option.{ok_or};
 ghost use Rattle.schema_fact.specs.Validity.{IsValidKind};
 ghost use Rattle.schema_fact.specs.Limits.{total_size, MeetsLimits};
 ghost use Rattle.claim_model.specs.Trees.{tree_parts};
 ghost use Rattle.file_tree.specs.declared.fault.FileFault.TheVariants.{Absent};
 ghost use Rattle.file_tree.specs.Walk.{opened_blob, opened_tree, opened_file, file_parts};
-ghost use Rattle.file_tree.specs.Reading.{Finds, IsCausedByShelf, Rests};
+ghost use Rattle.file_tree.specs.Reading.{IsOpening, IsCausedByShelf, Rests};
 
 use crate::fault::FileFault;
 use blobref::{Octets, Ref};
@@ -18,7 +17,7 @@ use std::alloc::Global;
 
 /// A blob that should have so many bytes.
 pub(crate) fn open_blob<B: Shelf>(shelf: &mut B, r: &Ref, end: u64) -> Result<Octets, FileFault>
-    ensures found { ForSome (B.content shelf.old) (λ held. Finds (opened_blob (get held r.now) r.now end) result) }
+    ensures opens { IsOpening B.Shelf shelf.old shelf.new r.now (λ found. opened_blob found r.now end) result }
     ensures long { IfOk result (λ bytes. end ≤ length bytes) }
     ensures cause { IsCausedByShelf B.Shelf shelf.old shelf.new result }
     ensures rests { Rests B.Shelf shelf.old shelf.new }
@@ -42,7 +41,7 @@ pub(crate) fn open_tree<B: Shelf>(
     r: &Ref,
     end: u64,
 ) -> Result<PartList, FileFault>
-    ensures found { ForSome (B.content shelf.old) (λ held. Finds (opened_tree (get held r.now) r.now end) result) }
+    ensures opens { IsOpening B.Shelf shelf.old shelf.new r.now (λ found. opened_tree found r.now end) result }
     ensures valid { IfOk result (λ parts. MeetsLimits parts) }
     ensures cause { IsCausedByShelf B.Shelf shelf.old shelf.new result }
     ensures rests { Rests B.Shelf shelf.old shelf.new }
@@ -69,7 +68,7 @@ pub(crate) fn open_file<B: Shelf>(
     shelf: &mut B,
     r: &Ref,
 ) -> Result<PartList, FileFault>
-    ensures found { ForSome (B.content shelf.old) (λ held. Finds (opened_file (get held r.now) r.now) result) }
+    ensures opens { IsOpening B.Shelf shelf.old shelf.new r.now (λ found. opened_file found r.now) result }
     ensures valid { IfOk result (λ parts. MeetsLimits parts) }
     ensures cause { IsCausedByShelf B.Shelf shelf.old shelf.new result }
     ensures rests { Rests B.Shelf shelf.old shelf.new }
@@ -84,7 +83,7 @@ pub(crate) fn open_file<B: Shelf>(
 
 // The bytes of a blob.
 fn fetched<B: Shelf>(shelf: &mut B, r: &Ref) -> Result<Octets, FileFault>
-    ensures found { ForSome (B.content shelf.old) (λ held. Finds (ok_or (get held r.now) (Absent r.now)) result) }
+    ensures opens { IsOpening B.Shelf shelf.old shelf.new r.now (λ found. ok_or found (Absent r.now)) result }
     ensures cause { IsCausedByShelf B.Shelf shelf.old shelf.new result }
     ensures rests { Rests B.Shelf shelf.old shelf.new }
 {

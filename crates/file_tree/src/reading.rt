@@ -1,11 +1,10 @@
 //! A file is read to a sink, part by part, in the order of its bytes.
-ghost use Rattle.std.specs.Prelude.{◌≡◌, ◌≤◌, ◌<◌, ◌+◌, ◌-◌, ℕ, length, take, drop, replicate, All, Option, IfOk};
+ghost use Rattle.std.specs.Prelude.{◌≡◌, ◌≤◌, ◌<◌, ◌+◌, ◌-◌, ℕ, length, take, drop, replicate, All, IfOk};
 ghost use Rattle.std.specs.Option.{ForSome};
-ghost use Rattle.std.specs.FinMap.{get};
-ghost use Rattle.edge_base.specs.Shelf.{Blobs};
 ghost use Rattle.schema_fact.specs.Limits.{IsShortPart};
-ghost use Rattle.file_tree.specs.Walk.{walk, walk_parts, part_read, if_asked, all_of, once, opened_blob};
-ghost use Rattle.file_tree.specs.Reading.{GivesSome, TookSome, Gives, IsCaused, IsCausedByShelf, IsCausedBySink, Rests};
+ghost use Rattle.file_tree.specs.Walk.{walk, all_of, opened_blob};
+ghost use Rattle.file_tree.specs.Fetching.{PartsRead, PartRead, IfAsked, Opens, Writes};
+ghost use Rattle.file_tree.specs.Reading.{HasReadFile, HasRead, GivesSome, Gives, IsCaused, IsCausedBySink, Rests};
 
 use crate::fault::FileFault;
 use crate::opening::{open_blob, open_file, open_tree, total_size};
@@ -36,6 +35,7 @@ pub fn read_file<B: PartShelf, K: Sink>(
     shelf: &mut B,
     sink: &mut K,
 ) -> Result<u64, FileFault>
+    ensures reads { HasReadFile B.Shelf shelf.old shelf.new (K.written sink.old) (K.written sink.new) r.now result }
     ensures gives { GivesSome (B.content shelf.old) (λ held. walk held r.now) result
         (K.written sink.old) (K.written sink.new) }
     ensures number { IfOk result (λ n. ForSome (B.content shelf.old) (λ held. n ≡ length (walk held r.now).bytes)) }
@@ -61,10 +61,8 @@ fn read_parts<B: PartShelf, K: Sink>(
     depth: u32,
 ) -> Result<(), FileFault>
     requires { All IsShortPart parts.now }
-    ensures gives { ForSome (B.content shelf.old) (λ held. Gives
-        (walk_parts (part_read held depth) parts.now from count) result
-        (K.written sink.old) (K.written sink.new)) }
-    ensures some { TookSome (K.written sink.old) (K.written sink.new) }
+    ensures reads { HasRead B.Shelf shelf.old shelf.new (K.written sink.old) (K.written sink.new)
+        (PartsRead (PartRead depth) parts.now from count) result }
     ensures cause { IsCaused B.Shelf K.Sink shelf.old shelf.new sink.old sink.new result }
     ensures rests { Rests B.Shelf shelf.old shelf.new }
     ensures later { K.faults sink.old ≤ K.faults sink.new }
@@ -94,10 +92,8 @@ fn read_asked<B: PartShelf, K: Sink>(
 ) -> Result<(), FileFault>
     requires short { IsShortPart part.now }
     requires within { count ≤ part.now.size - from }
-    ensures gives { ForSome (B.content shelf.old) (λ held. Gives
-        (if_asked count (part_read held depth part.now from)) result
-        (K.written sink.old) (K.written sink.new)) }
-    ensures some { TookSome (K.written sink.old) (K.written sink.new) }
+    ensures reads { HasRead B.Shelf shelf.old shelf.new (K.written sink.old) (K.written sink.new)
+        (IfAsked count (PartRead depth part.now from)) result }
     ensures cause { IsCaused B.Shelf K.Sink shelf.old shelf.new sink.old sink.new result }
     ensures rests { Rests B.Shelf shelf.old shelf.new }
     ensures later { K.faults sink.old ≤ K.faults sink.new }
@@ -120,9 +116,8 @@ fn read_part<B: PartShelf, K: Sink>(
 ) -> Result<(), FileFault>
     requires short { IsShortPart part.now }
     requires within { from + count ≤ part.now.size }
-    ensures gives { ForSome (B.content shelf.old) (λ held. Gives (part_read held depth part.now from count) result
-        (K.written sink.old) (K.written sink.new)) }
-    ensures some { TookSome (K.written sink.old) (K.written sink.new) }
+    ensures reads { HasRead B.Shelf shelf.old shelf.new (K.written sink.old) (K.written sink.new)
+        (PartRead depth part.now from count) result }
     ensures cause { IsCaused B.Shelf K.Sink shelf.old shelf.new sink.old sink.new result }
     ensures rests { Rests B.Shelf shelf.old shelf.new }
     ensures later { K.faults sink.old ≤ K.faults sink.new }
@@ -166,10 +161,8 @@ fn read_blob<B: Shelf, K: Sink>(
     count: u64,
 ) -> Result<(), FileFault>
     requires { at + count ≤ end }
-    ensures gives { ForSome (B.content shelf.old) (λ held.
-        Gives (once (opened_blob (get held r.now) r.now end) (λ bytes. all_of (take count (drop at bytes)))) result
-        (K.written sink.old) (K.written sink.new)) }
-    ensures some { TookSome (K.written sink.old) (K.written sink.new) }
+    ensures reads { HasRead B.Shelf shelf.old shelf.new (K.written sink.old) (K.written sink.new)
+        (Opens r.now (λ found. opened_blob found r.now end) (λ bytes. Writes (take count (drop at bytes)))) result }
     ensures cause { IsCaused B.Shelf K.Sink shelf.old shelf.new sink.old sink.new result }
     ensures rests { Rests B.Shelf shelf.old shelf.new }
     ensures later { K.faults sink.old ≤ K.faults sink.new }
