@@ -12,7 +12,7 @@
 set -eu -o pipefail
 cd "$(dirname "$0")/.."
 folder=$(mktemp -d)
-trap 'kill %% 2>/dev/null; rm -rf "$folder"' EXIT
+trap 'kill %% 2>/dev/null || true; rm -rf "$folder"' EXIT
 TIMEFORMAT='%R %U %S'
 copy_kit() {
   local kit part
