@@ -15,7 +15,7 @@ use Rattle.top_frame.specs.declared.status.InputFault.{InputFault}
 use Rattle.top_frame.specs.declared.status.Status.{Status}
 use Rattle.top_frame.specs.declared.status.Status.TheVariants as status
 use Rattle.top_frame.specs.Complete.{IsFitInput, IsCalm, IsTold, IsToldTo, IsValid, EndsWell}
-use Rattle.top_frame.specs.Frame.{Input, Exchange, Meaning, Ends, EndsEarly, StopsFull, Unusable, said_badly, read_too_much, read_wrongly, found_unfit, WhileReading, ReadsTooMuch, WhenRead, WhileExchanging, WhilePushing, WhereUntold, PeerReplied, PeerAnswered, reads_nothing, reads_first, reads_later, no_peer, pulls, pushes}
+use Rattle.top_frame.specs.Frame.{Input, Exchange, Meaning, Ends, EndsEarly, StopsFull, Unusable, said_badly, read_too_much, read_wrongly, found_unfit, WhileReading, ReadsTooMuch, WhenRead, WhileExchanging, WhilePushing, WhereUntold, StoreReplied, StoreAnswered, PeerReplied, PeerAnswered, reads_nothing, reads_first, reads_later, no_peer, pulls, pushes}
 use Rattle.top_frame.specs.Limits.{limits}
 use Rattle.top_frame.specs.Outside.{Outside, World}
 use Rattle.peer_base.specs.declared.peer.PeerFault.TheVariants as peer_fault
@@ -87,9 +87,9 @@ module _ {D P S K C R : Type 0} (o : Outside D P S K C R) (m : Meaning) (old new
   while pulls Why never tells w = never tells w.why.why
   while pushes Why never tells w = never tells w.why.why
 
-  both_tell : (Answered : Type 0) → IsTold o old new → WhereUntold o m old new Answered → ⊥
-  both_tell Answered tells (inl none) = some_none (o.disk.packs old.disk) held v.tells none
-  both_tell Answered tells (inr none) = tells.tells none.0
+  both_tell : (Stored Answered : Type 0) → IsTold o old new → WhereUntold o m old new Stored Answered → ⊥
+  both_tell Stored Answered tells (inl none) = some_none (o.disk.packs old.disk) held v.tells none.0
+  both_tell Stored Answered tells (inr none) = tells.tells none.0
 
   never_full : (x : Exchange) (blobs pack : ℕ) → IsToldTo o old new x → WhilePushing o m old new x blobs pack → ⊥
   never_full no_peer blobs pack tells w = w
@@ -118,7 +118,7 @@ module _ {D P S K C R : Type 0} (o : Outside D P S K C R) (m : Meaning) (old new
   ends_well (status.BadInput fault) e = absurd (usable fault e.ends)
   ends_well (status.Absent r) e = absurd (not_refused (status.Absent r) e.ends)
   ends_well status.Peer e = absurd (while m.exchange (FaultsRose (o.peer.faults old.peer) (o.peer.faults new.peer)) (λ tells rose. calm.peer rose) v.peer e.ends)
-  ends_well (status.BadReply why) e = absurd (while m.exchange (WhereUntold o m old new (PeerReplied o m old new why)) (both_tell (PeerReplied o m old new why)) v.peer e.ends)
+  ends_well (status.BadReply why) e = absurd (while m.exchange (WhereUntold o m old new (StoreReplied o m old new why) (PeerReplied o m old new why)) (both_tell (StoreReplied o m old new why) (PeerReplied o m old new why)) v.peer e.ends)
   ends_well (status.Full blobs pack) e = absurd (full e.ends)
     where
       full : EndsEarly o m old new (λ given bytes gone rest. StopsFull o m old new blobs pack rest) ⊎ WhilePushing o m old new m.exchange blobs pack → ⊥
@@ -126,6 +126,6 @@ module _ {D P S K C R : Type 0} (o : Outside D P S K C R) (m : Meaning) (old new
       full (inr w) = never_full m.exchange blobs pack v.peer w
   ends_well (status.Damaged want is) e = absurd (damaged e.ends)
     where
-      damaged : EndsEarly o m old new (λ given bytes gone rest. m.Refuses given (o.disk.packs old.disk) bytes gone (status.Damaged want is)) ⊎ WhileExchanging o m old new m.exchange ((is ≢ want) × WhereUntold o m old new (PeerAnswered o m old new (peer_fault.Damaged want is))) → ⊥
+      damaged : EndsEarly o m old new (λ given bytes gone rest. m.Refuses given (o.disk.packs old.disk) bytes gone (status.Damaged want is)) ⊎ WhileExchanging o m old new m.exchange ((is ≢ want) × WhereUntold o m old new (StoreAnswered o m old new (peer_fault.Damaged want is)) (PeerAnswered o m old new (peer_fault.Damaged want is))) → ⊥
       damaged (inl w) = not_refused (status.Damaged want is) w
-      damaged (inr w) = while m.exchange ((is ≢ want) × WhereUntold o m old new (PeerAnswered o m old new (peer_fault.Damaged want is))) (λ tells w. both_tell (PeerAnswered o m old new (peer_fault.Damaged want is)) tells w.1) v.peer w
+      damaged (inr w) = while m.exchange ((is ≢ want) × WhereUntold o m old new (StoreAnswered o m old new (peer_fault.Damaged want is)) (PeerAnswered o m old new (peer_fault.Damaged want is))) (λ tells w. both_tell (StoreAnswered o m old new (peer_fault.Damaged want is)) (PeerAnswered o m old new (peer_fault.Damaged want is)) tells w.1) v.peer w

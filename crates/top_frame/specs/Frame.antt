@@ -11,12 +11,14 @@ use Rattle.edge_base.specs.declared.edge.Source.{Ghosts as SourceGhosts}
 use Rattle.pack_disk.specs.Packs.{Packs}
 use Rattle.pack_disk.specs.Disk.{Tells}
 use Rattle.pack_disk.specs.Runs.{Stays}
+use Rattle.pack_store.specs.Archive.{Archive}
 use Rattle.pack_store.specs.Packs.{KeepsAll}
 use Rattle.pack_store.specs.Puts.{PutsAll, HoldAll, IsFull, IsAtLimit, blobs_of}
 use Rattle.peer_base.specs.declared.peer.PeerFault.{PeerFault}
 use Rattle.peer_base.specs.declared.peer.PeerFault.TheVariants as peer_fault
-use Rattle.sync_core.specs.Answers.{Listed, Fetched, Put, IsReached}
+use Rattle.listed_pages.specs.Answers.{Listed, Fetched, Put, IsReached}
 use Rattle.sync_core.specs.Copying.{lacking, copied, StandIn}
+use Rattle.sync_core.specs.Turns.{SyncsAll}
 use Rattle.top_frame.specs.declared.status.ReplyFault.{ReplyFault}
 use Rattle.top_frame.specs.declared.status.ReplyFault.TheVariants as reply
 use Rattle.top_frame.specs.declared.status.InputFault.{InputFault}
@@ -24,6 +26,7 @@ use Rattle.top_frame.specs.declared.status.Status.{Status}
 use Rattle.top_frame.specs.declared.status.Status.TheVariants as status
 use Rattle.top_frame.specs.Limits.{limits}
 use Rattle.top_frame.specs.Outside.{Outside, World}
+use Rattle.top_frame.specs.Stores.{peer_of, Answers, Replies}
 
 -- ---- what a command means
 
@@ -168,8 +171,18 @@ module _ {D P S K C R : Type 0} (o : Outside D P S K C R) (m : Meaning) (old new
   abbrev pub AreCounted : Given → Blobs → Blobs → Type 0
   AreCounted given from to = (given.lacked ≡ length (lacking from to)) × (given.lacked + given.had ≡ length (entries from))
 
-  -- The peer's blobs that the store lacked were pulled, and nothing was put to the peer.
+  -- The store of the disk was opened, and asked, and what it then had is the disk now.
+  pub record IsOpened (store store_now : Archive D) : Type 0 where
+    pub opened : Stays o.disk old.disk store.disk
+    pub now : store_now.disk ≡ new.disk
+
+  -- The peer's blobs that the store lacked were pulled, and nothing was put to the peer. Told or not, these are the blobs whose refs were on the
+  -- peer's pages and not on the store's, and these and the other refs are counted.
   pub record PullsAll (given : Given) : Type 0 where
+    pub store : Archive D
+    pub store_now : Archive D
+    pub opens : IsOpened store store_now
+    pub did : SyncsAll o.peer (peer_of o.disk) old.peer new.peer store store_now given.pulled given.lacked given.had
     pub stand : StandIn (o.peer.content old.peer) given.pulled
     pub alone : o.peer.puts old.peer [] new.peer
     pub all : WhereBothTell (λ here there. given.pulled ≡ lacking there here)
@@ -180,9 +193,14 @@ module _ {D P S K C R : Type 0} (o : Outside D P S K C R) (m : Meaning) (old new
     pub alone : o.peer.puts old.peer [] new.peer
     pub all : WhereBothTell (λ here there. given.pulled ≡ lacking there here)
 
-  -- The store's blobs that the peer lacked, and nothing else, were put to the peer, which was reached.
+  -- The store's blobs that the peer lacked, and nothing else, were put to the peer, which was reached. Told or not, these are the blobs whose
+  -- refs were on the store's pages and not on the peer's, and these and the other refs are counted.
   pub record PushesAll (given : Given) : Type 0 where
     pub sent : List Blob
+    pub store : Archive D
+    pub store_now : Archive D
+    pub opens : IsOpened store store_now
+    pub did : SyncsAll (peer_of o.disk) o.peer store store_now old.peer new.peer sent given.lacked given.had
     pub stand : StandIn (option_map blobs_of told) sent
     pub put : o.peer.puts old.peer sent new.peer
     pub kept : Keeps (o.peer.content old.peer) (o.peer.content new.peer) sent
@@ -211,18 +229,29 @@ module _ {D P S K C R : Type 0} (o : Outside D P S K C R) (m : Meaning) (old new
 
   -- a call of the peer answered with this fault
   abbrev pub PeerAnswered : PeerFault → Type 0
-  PeerAnswered e = Listed o.peer old.peer new.peer (Err e)
-      ⊎ (((r : List ℕ) × Fetched o.peer old.peer new.peer r (Err e)) ⊎ ((blob : Blob) × Put o.peer old.peer new.peer blob (Err e)))
+  PeerAnswered e = Answers o.peer old.peer new.peer e
 
   -- its reply can't be used
   abbrev pub PeerReplied : ReplyFault → Type 0
-  PeerReplied reply.Grammar = PeerAnswered peer_fault.BadReply
-  PeerReplied (reply.Refused number) = PeerAnswered (peer_fault.Refused number)
-  PeerReplied (reply.Gone r) = Fetched o.peer old.peer new.peer r (Ok None)
+  PeerReplied why = Replies o.peer old.peer new.peer why
 
-  -- one of the two doesn't tell what it holds: the disk, or else the peer, which answered so
-  abbrev pub WhereUntold : Type 0 → Type 0
-  WhereUntold Answered = (told ≡ None) ⊎ ((o.peer.content old.peer ≡ None) × Answered)
+  -- a call of the store that was opened answered with this fault
+  pub record StoreAnswered (e : PeerFault) : Type 0 where
+    pub store : Archive D
+    pub store_now : Archive D
+    pub opens : IsOpened store store_now
+    pub answers : Answers (peer_of o.disk) store store_now e
+
+  -- or so that a peer's reply couldn't be used
+  pub record StoreReplied (why : ReplyFault) : Type 0 where
+    pub store : Archive D
+    pub store_now : Archive D
+    pub opens : IsOpened store store_now
+    pub replies : Replies (peer_of o.disk) store store_now why
+
+  -- One of the two doesn't tell what it holds, and a call of that one answered so: the disk, whose store did, or else the peer.
+  abbrev pub WhereUntold : (Stored Answered : Type 0) → Type 0
+  WhereUntold Stored Answered = ((told ≡ None) × Stored) ⊎ ((o.peer.content old.peer ≡ None) × Answered)
 
   -- ---- how it ends
 
@@ -346,11 +375,11 @@ module _ {D P S K C R : Type 0} (o : Outside D P S K C R) (m : Meaning) (old new
   EndsBy status.HandFault = RefusedEarly WhileDrawing
   EndsBy status.Disk = RefusedLate (λ given bytes. FaultsRose (o.disk.faults old.disk) (o.disk.faults new.disk))
   EndsBy status.Peer = WhileExchanging m.exchange (FaultsRose (o.peer.faults old.peer) (o.peer.faults new.peer))
-  EndsBy (status.BadReply why) = WhileExchanging m.exchange (WhereUntold (PeerReplied why))
+  EndsBy (status.BadReply why) = WhileExchanging m.exchange (WhereUntold (StoreReplied why) (PeerReplied why))
   EndsBy (status.Full blobs pack) = EndsEarly (λ given bytes gone rest. StopsFull blobs pack rest) ⊎ WhilePushing m.exchange blobs pack
   EndsBy (status.Absent r) = EndsEarly (λ given bytes gone rest. m.Refuses given told bytes gone (status.Absent r))
   EndsBy (status.Damaged want is) = EndsEarly (λ given bytes gone rest. m.Refuses given told bytes gone (status.Damaged want is))
-      ⊎ WhileExchanging m.exchange ((is ≢ want) × WhereUntold (PeerAnswered (peer_fault.Damaged want is)))
+      ⊎ WhileExchanging m.exchange ((is ≢ want) × WhereUntold (StoreAnswered (peer_fault.Damaged want is)) (PeerAnswered (peer_fault.Damaged want is)))
   EndsBy status.BadWords = ⊥
 
   pub record Ends (answer : Status) : Type 0 where

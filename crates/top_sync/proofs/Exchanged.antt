@@ -11,32 +11,32 @@ use Rattle.pack_disk.specs.Runs.{Stays}
 use Rattle.pack_disk.specs.declared.disk.Disk.{Ghosts as DiskGhosts}
 use Rattle.pack_store.specs.Archive.{Archive}
 use Rattle.pack_store.specs.Packs.{KeepsAll}
-use Rattle.pack_store.specs.Puts.{Stands, PutsAll, HoldAll, HasNoRoom, blobs_of}
-use Rattle.pack_store.specs.Reading.{page, StaysStill}
-use Rattle.pack_store.specs.StoreShelf.{content_of, PutsStore, ContentStands}
+use Rattle.pack_store.specs.Puts.{Stands, PutsAll, HoldAll, blobs_of}
+use Rattle.pack_store.specs.StoreShelf.{content_of, ContentStands}
 use Rattle.pack_store.proofs.Runs.{told_nothing}
 use Rattle.peer_base.specs.declared.peer.Peer.{Ghosts as PeerGhosts}
+use Rattle.peer_base.specs.declared.peer.PeerFault.{PeerFault}
+use Rattle.peer_base.specs.declared.peer.PeerFault.TheVariants as peer_fault
+use Rattle.listed_pages.specs.Answers.{SourceAnswered, TargetAnswered}
 use Rattle.sync_core.specs.Copying.{StandIn}
 use Rattle.top_frame.specs.declared.status.Status.{Status}
 use Rattle.top_frame.specs.declared.status.Status.TheVariants as status
 use Rattle.top_frame.specs.Frame.{Exchange, no_peer, pulls, Given, Meaning, IsQuiet, Always, Exchanges, ExchangesSome, Finishes, RefusedLate, EndsEarly, EndsBy}
 use Rattle.top_frame.specs.Limits.{limits}
 use Rattle.top_frame.specs.Outside.{Outside, World, world}
+use Rattle.top_frame.specs.Stores.{Answers}
 use Rattle.top_frame.specs.Steps.{Finds, NeverRefuses, Writes}
 use Rattle.top_sync.specs.Meanings.{exchanging, copied_line}
 
--- a store as a peer
-abbrev pub peer_of : {D : Type 0} → DiskGhosts D → PeerGhosts (Archive D)
-peer_of g = record {
-  content = λ p. content_of g p;
-  faults = λ p. g.faults p.disk;
-  fills = λ p blob blobs pack. HasNoRoom g p.limits p blob blobs pack;
-  follows = λ a b. KeepsAll g a.disk b.disk;
-  puts = λ a blobs b. PutsStore g a blobs b;
-  lists = λ a after limit answer b. IfOk answer (λ p. p ≡ page after limit a.rows) × (b ≡ a);
-  fetches = λ a r answer b. StaysStill g a b;
-  keeps = λ a blob answer b. KeepsAll g a.disk b.disk;
-}
+-- what a call of a peer that is copied from, or to, answered
+pub from_source : {A : Type 0} (g : PeerGhosts A) (old new : A) (e : PeerFault) → SourceAnswered g old new e → Answers g old new e
+from_source g old new e (inl listed) = inl listed
+from_source g old new e (inr fetched) = inr (inl fetched)
+
+pub from_target : {A : Type 0} (g : PeerGhosts A) (old new : A) (e : PeerFault) → (e ≡ peer_fault.NoMemory → ⊥) → TargetAnswered g old new e → Answers g old new e
+from_target g old new e never (inl memory) = absurd (never memory)
+from_target g old new e never (inr (inl listed)) = inl listed
+from_target g old new e never (inr (inr put)) = inr (inr put)
 
 -- what it holds is what the packs of its disk hold
 pub holds : {D : Type 0} (g : DiskGhosts D) (old : D) (s : Archive D) → Stays g old s.disk → Stands g limits s → ContentStands g → content_of g s ≡ option_map blobs_of (g.packs old)

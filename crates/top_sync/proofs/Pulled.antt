@@ -11,24 +11,25 @@ use Rattle.pack_store.specs.Packs.{KeepsAll}
 use Rattle.pack_store.specs.Puts.{Stands, PutsAll, PutsBlobs, HasNoRoom, blobs_of}
 use Rattle.pack_store.specs.StoreShelf.{content_of, PutsStore, ContentStands}
 use Rattle.pack_store.proofs.Moments.{keeps_then, stays_keeps}
-use Rattle.peer_base.specs.declared.peer.PeerFault.{PeerFault}
 use Rattle.peer_base.specs.declared.peer.PeerFault.TheVariants as peer_fault
 use Rattle.sync_core.specs.declared.syncing.SyncFault.{SyncFault}
 use Rattle.sync_core.specs.declared.syncing.SyncFault.TheVariants as sync
 use Rattle.sync_core.specs.declared.syncing.Synced.{Synced}
-use Rattle.sync_core.specs.Answers.{SourceAnswered}
 use Rattle.sync_core.specs.Causes.{FirstIs}
 use Rattle.sync_core.specs.Copying.{lacking}
 use Rattle.sync_core.specs.Syncing.{ForBoth, IsStopped, IsSynced}
+use Rattle.top_frame.specs.declared.status.ReplyFault.{ReplyFault}
+use Rattle.top_frame.specs.declared.status.ReplyFault.TheVariants as reply
 use Rattle.top_frame.specs.declared.status.Status.{Status}
 use Rattle.top_frame.specs.declared.status.Status.TheVariants as status
 use Rattle.top_frame.specs.Faults.{pull_status}
-use Rattle.top_frame.specs.Frame.{pulls, Given, IsQuiet, Always, PullsAll, PullsSome, PeerAnswered, EndsEarly, StopsFull, EndsBy, Ends}
+use Rattle.top_frame.specs.Frame.{pulls, Given, IsQuiet, Always, IsOpened, StoreReplied, PullsAll, PullsSome, EndsEarly, StopsFull, EndsBy, Ends}
 use Rattle.top_frame.specs.Limits.{limits}
 use Rattle.top_frame.specs.Outside.{Outside, World}
+use Rattle.top_frame.specs.Stores.{peer_of, Replies}
 use Rattle.top_frame.specs.Steps.{Finds, NeverRefuses, Writes}
 use Rattle.top_sync.specs.Meanings.{pull_meaning, copied_line}
-use Rattle.top_sync.proofs.Exchanged.{peer_of, holds, later_rose, untold, given_of, now_at, always, late, stops, written, unopened}
+use Rattle.top_sync.proofs.Exchanged.{from_source, from_target, holds, later_rose, untold, given_of, now_at, always, late, stops, written, unopened}
 
 abbrev its_blobs : Given → List Blob
 its_blobs given = given.pulled
@@ -111,9 +112,11 @@ module _ {D P S K C R : Type 0} (o : Outside D P S K C R)
 
     -- ---- the sync stopped
 
-    answered : (e : PeerFault) → SourceAnswered o.peer old.peer p1 e → PeerAnswered o pull_meaning old (here s1.disk p1 old.sink) e
-    answered e (inl listed) = inl listed
-    answered e (inr fetched) = inr (inl fetched)
+    asked : (k : K) → IsOpened o pull_meaning old (here s1.disk p1 k) s0 s1
+    asked k = record { opened = opened; now = refl }
+
+    stored_replies : (why : ReplyFault) → Replies (peer_of o.disk) s0 s1 why → StoreReplied o pull_meaning old (here s1.disk p1 old.sink) why
+    stored_replies why replies = record { store = s0; store_now = s1; opens = asked old.sink; replies = replies }
 
     module _ (gone next : List Blob) (front : ForBoth o.peer (peer_of o.disk) old.peer s0 (λ from to. (rest : List Blob) × (lacking from to ≡ (gone ++ next) ++ rest))) where
       abbrev given : Given
@@ -145,18 +148,22 @@ module _ {D P S K C R : Type 0} (o : Outside D P S K C R)
 
     pull_why : (f : SyncFault) → IsStopped o.peer (peer_of o.disk) old.peer p1 s0 s1 f → EndsBy o pull_meaning old (here s1.disk p1 old.sink) (pull_status f)
     pull_why (sync.Source peer_fault.Failed) w = stopped w.gone w.next w.front w.stopped.put (λ rest. w.stopped.why.0)
-    pull_why (sync.Source peer_fault.BadReply) w = stopped w.gone w.next w.front w.stopped.put (λ rest. inr (w.stopped.why.0, answered peer_fault.BadReply w.stopped.why.1))
+    pull_why (sync.Source peer_fault.BadReply) w = stopped w.gone w.next w.front w.stopped.put (λ rest. inr (w.stopped.why.0, from_source o.peer old.peer p1 peer_fault.BadReply w.stopped.why.1))
     pull_why (sync.Source (peer_fault.Refused number)) w =
-        stopped w.gone w.next w.front w.stopped.put (λ rest. inr (w.stopped.why.0, answered (peer_fault.Refused number) w.stopped.why.1))
+        stopped w.gone w.next w.front w.stopped.put (λ rest. inr (w.stopped.why.0, from_source o.peer old.peer p1 (peer_fault.Refused number) w.stopped.why.1))
     pull_why (sync.Source (peer_fault.Damaged want is)) w =
-        inr (stopped w.gone w.next w.front w.stopped.put (λ rest. (w.stopped.why.0.0, inr (w.stopped.why.0.1, answered (peer_fault.Damaged want is) w.stopped.why.1))))
+        inr (stopped w.gone w.next w.front w.stopped.put (λ rest. (w.stopped.why.0.0, inr (w.stopped.why.0.1, from_source o.peer old.peer p1 (peer_fault.Damaged want is) w.stopped.why.1))))
     pull_why (sync.Source (peer_fault.Full count pack)) w = absurd w.stopped.why.0
     pull_why (sync.Source peer_fault.NoMemory) w = inr (stopped w.gone w.next w.front w.stopped.put (λ rest. tt))
     pull_why (sync.Target peer_fault.Failed) w =
         late o old pulls its_blobs s1.disk p1 (given w.gone w.next w.front) refl (some w.gone w.next w.front)
         (later_rose (o.disk.faults old.disk) (o.disk.faults s0.disk) (o.disk.faults s1.disk) opened_later w.stopped.why.0)
-    pull_why (sync.Target peer_fault.BadReply) w = stopped w.gone w.next w.front w.stopped.put (λ rest. inl (untold told (content_of o.disk s0) stored w.stopped.why.0))
-    pull_why (sync.Target (peer_fault.Refused number)) w = stopped w.gone w.next w.front w.stopped.put (λ rest. inl (untold told (content_of o.disk s0) stored w.stopped.why.0))
+    pull_why (sync.Target peer_fault.BadReply) w =
+        stopped w.gone w.next w.front w.stopped.put
+        (λ rest. inl (untold told (content_of o.disk s0) stored w.stopped.why.0, stored_replies reply.Grammar (from_target (peer_of o.disk) s0 s1 peer_fault.BadReply (λ e. cc e) w.stopped.why.1)))
+    pull_why (sync.Target (peer_fault.Refused number)) w =
+        stopped w.gone w.next w.front w.stopped.put
+        (λ rest. inl (untold told (content_of o.disk s0) stored w.stopped.why.0, stored_replies (reply.Refused number) (from_target (peer_of o.disk) s0 s1 (peer_fault.Refused number) (λ e. cc e) w.stopped.why.1)))
     pull_why (sync.Target (peer_fault.Damaged want is)) w = absurd w.stopped.why.0
     pull_why (sync.Target (peer_fault.Full count pack)) w = full w.gone w.next w.front count pack w.stopped.put w.next refl w.stopped.why.0
     pull_why (sync.Target peer_fault.NoMemory) w = inr (stopped w.gone w.next w.front w.stopped.put (λ rest. tt))
@@ -167,12 +174,16 @@ module _ {D P S K C R : Type 0} (o : Outside D P S K C R)
 
     -- ---- the sync was done
 
-    module _ (done : Synced) (w : IsSynced o.peer (peer_of o.disk) old.peer s0 s1 done) where
+    module _ (done : Synced) (w : IsSynced o.peer (peer_of o.disk) old.peer p1 s0 s1 done) where
       abbrev pulled : Given
       pulled = given_of w.gone done.copied done.already
 
       all : (k : K) → PullsAll o pull_meaning old (here s1.disk p1 k) pulled
       all k = record {
+        store = s0;
+        store_now = s1;
+        opens = asked k;
+        did = w.did;
         stand = w.copies.stand;
         alone = alone;
         all = λ held e from f. w.all from f (blobs_of held) (in_packs held e);

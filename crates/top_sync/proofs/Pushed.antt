@@ -15,19 +15,21 @@ use Rattle.peer_base.specs.declared.peer.PeerFault.TheVariants as peer_fault
 use Rattle.sync_core.specs.declared.syncing.SyncFault.{SyncFault}
 use Rattle.sync_core.specs.declared.syncing.SyncFault.TheVariants as sync
 use Rattle.sync_core.specs.declared.syncing.Synced.{Synced}
-use Rattle.sync_core.specs.Answers.{TargetAnswered}
 use Rattle.sync_core.specs.Causes.{FirstIs}
 use Rattle.sync_core.specs.Copying.{lacking, StandIn}
 use Rattle.sync_core.specs.Syncing.{IsStopped, IsSynced}
+use Rattle.top_frame.specs.declared.status.ReplyFault.{ReplyFault}
+use Rattle.top_frame.specs.declared.status.ReplyFault.TheVariants as reply
 use Rattle.top_frame.specs.declared.status.Status.{Status}
 use Rattle.top_frame.specs.declared.status.Status.TheVariants as status
 use Rattle.top_frame.specs.Faults.{push_status}
-use Rattle.top_frame.specs.Frame.{pushes, Given, Always, PushesAll, PushesSome, PeerAnswered, EndsEarly, EndsBy, Ends}
+use Rattle.top_frame.specs.Frame.{pushes, Given, Always, IsOpened, StoreAnswered, StoreReplied, PushesAll, PushesSome, EndsEarly, EndsBy, Ends}
 use Rattle.top_frame.specs.Limits.{limits}
 use Rattle.top_frame.specs.Outside.{Outside, World}
+use Rattle.top_frame.specs.Stores.{peer_of, Answers, Replies}
 use Rattle.top_frame.specs.Steps.{Finds, NeverRefuses, Writes}
 use Rattle.top_sync.specs.Meanings.{push_meaning, copied_line}
-use Rattle.top_sync.proofs.Exchanged.{peer_of, holds, later_rose, untold, none_stand, front_stands, kept_none, given_of, now_at, always, late, stops, written, put_none, unopened}
+use Rattle.top_sync.proofs.Exchanged.{from_source, from_target, holds, later_rose, untold, none_stand, front_stands, kept_none, given_of, now_at, always, late, stops, written, put_none, unopened}
 
 abbrev no_blobs : Given → List Blob
 no_blobs given = []
@@ -101,10 +103,14 @@ module _ {D P S K C R : Type 0} (o : Outside D P S K C R)
     known (sync.Source e) w = inl w.stopped.put
     known (sync.Gone r) w = inl w.stopped.put
 
-    answered : (e : PeerFault) → (e ≡ peer_fault.NoMemory → ⊥) → TargetAnswered o.peer old.peer p1 e → PeerAnswered o push_meaning old (here s1.disk p1 old.sink) e
-    answered e never (inl memory) = absurd (never memory)
-    answered e never (inr (inl listed)) = inl listed
-    answered e never (inr (inr put)) = inr (inr put)
+    asked : (k : K) → IsOpened o push_meaning old (here s1.disk p1 k) s0 s1
+    asked k = record { opened = opened; now = refl }
+
+    stored_replies : (why : ReplyFault) → Replies (peer_of o.disk) s0 s1 why → StoreReplied o push_meaning old (here s1.disk p1 old.sink) why
+    stored_replies why replies = record { store = s0; store_now = s1; opens = asked old.sink; replies = replies }
+
+    stored_answers : (e : PeerFault) → Answers (peer_of o.disk) s0 s1 e → StoreAnswered o push_meaning old (here s1.disk p1 old.sink) e
+    stored_answers e answers = record { store = s0; store_now = s1; opens = asked old.sink; answers = answers }
 
     first_fills : (count pack : ℕ) (next : List Blob) → FirstIs (λ blob. o.peer.fills p1 blob count pack) next → (blob : Blob) × o.peer.fills p1 blob count pack
     first_fills count pack [] w = absurd w
@@ -126,35 +132,46 @@ module _ {D P S K C R : Type 0} (o : Outside D P S K C R)
     push_why : (f : SyncFault) → IsStopped (peer_of o.disk) o.peer s0 s1 old.peer p1 f → EndsBy o push_meaning old (here s1.disk p1 old.sink) (push_status f)
     push_why (sync.Source peer_fault.Failed) w = late o old pushes no_blobs s1.disk p1 pushed refl (some (sync.Source peer_fault.Failed) w)
         (later_rose (o.disk.faults old.disk) (o.disk.faults s0.disk) (o.disk.faults s1.disk) opened_later w.stopped.why.0)
-    push_why (sync.Source peer_fault.BadReply) w = stopped (sync.Source peer_fault.BadReply) w (inl (untold told (content_of o.disk s0) stored w.stopped.why.0))
-    push_why (sync.Source (peer_fault.Refused number)) w = stopped (sync.Source (peer_fault.Refused number)) w (inl (untold told (content_of o.disk s0) stored w.stopped.why.0))
+    push_why (sync.Source peer_fault.BadReply) w =
+        stopped (sync.Source peer_fault.BadReply) w
+        (inl (untold told (content_of o.disk s0) stored w.stopped.why.0, stored_replies reply.Grammar (from_source (peer_of o.disk) s0 s1 peer_fault.BadReply w.stopped.why.1)))
+    push_why (sync.Source (peer_fault.Refused number)) w =
+        stopped (sync.Source (peer_fault.Refused number)) w
+        (inl (untold told (content_of o.disk s0) stored w.stopped.why.0, stored_replies (reply.Refused number) (from_source (peer_of o.disk) s0 s1 (peer_fault.Refused number) w.stopped.why.1)))
     push_why (sync.Source (peer_fault.Damaged want is)) w =
-        inr (stopped (sync.Source (peer_fault.Damaged want is)) w (w.stopped.why.0.0, inl (untold told (content_of o.disk s0) stored w.stopped.why.0.1)))
+        inr (stopped (sync.Source (peer_fault.Damaged want is)) w (
+          w.stopped.why.0.0,
+          inl (untold told (content_of o.disk s0) stored w.stopped.why.0.1, stored_answers (peer_fault.Damaged want is) (from_source (peer_of o.disk) s0 s1 (peer_fault.Damaged want is) w.stopped.why.1)),
+        ))
     push_why (sync.Source (peer_fault.Full count pack)) w = absurd w.stopped.why.0
     push_why (sync.Source peer_fault.NoMemory) w = inr (stopped (sync.Source peer_fault.NoMemory) w tt)
     push_why (sync.Target peer_fault.Failed) w = stopped (sync.Target peer_fault.Failed) w w.stopped.why.0
     push_why (sync.Target peer_fault.BadReply) w =
-        stopped (sync.Target peer_fault.BadReply) w (inr (w.stopped.why.0, answered peer_fault.BadReply (λ e. cc e) w.stopped.why.1))
+        stopped (sync.Target peer_fault.BadReply) w (inr (w.stopped.why.0, from_target o.peer old.peer p1 peer_fault.BadReply (λ e. cc e) w.stopped.why.1))
     push_why (sync.Target (peer_fault.Refused number)) w =
-        stopped (sync.Target (peer_fault.Refused number)) w (inr (w.stopped.why.0, answered (peer_fault.Refused number) (λ e. cc e) w.stopped.why.1))
+        stopped (sync.Target (peer_fault.Refused number)) w (inr (w.stopped.why.0, from_target o.peer old.peer p1 (peer_fault.Refused number) (λ e. cc e) w.stopped.why.1))
     push_why (sync.Target (peer_fault.Damaged want is)) w = absurd w.stopped.why.0
     push_why (sync.Target (peer_fault.Full count pack)) w =
         inr (stopped (sync.Target (peer_fault.Full count pack)) w (first_fills count pack w.next w.stopped.why.0))
     push_why (sync.Target peer_fault.NoMemory) w = inr (stopped (sync.Target peer_fault.NoMemory) w tt)
-    push_why (sync.Gone r) w = stopped (sync.Gone r) w (inl (untold told (content_of o.disk s0) stored w.stopped.why.0))
+    push_why (sync.Gone r) w = stopped (sync.Gone r) w (inl (untold told (content_of o.disk s0) stored w.stopped.why.0, stored_replies (reply.Gone r) w.stopped.why.1))
 
     pub push_refused : (f : SyncFault) → IsStopped (peer_of o.disk) o.peer s0 s1 old.peer p1 f → Ends o push_meaning old (here s1.disk p1 old.sink) (push_status f)
     push_refused f w = record { always = always_so old.sink (omega arith); ends = push_why f w }
 
     -- ---- the sync was done
 
-    module _ (done : Synced) (w : IsSynced (peer_of o.disk) o.peer s0 old.peer p1 done) where
+    module _ (done : Synced) (w : IsSynced (peer_of o.disk) o.peer s0 s1 old.peer p1 done) where
       stand : StandIn (option_map blobs_of told) w.gone
       stand = subst (λ from. StandIn from w.gone) stored w.copies.stand
 
       all : (k : K) → PushesAll o push_meaning old (here s1.disk p1 k) (given_of [] done.copied done.already)
       all k = record {
         sent = w.gone;
+        store = s0;
+        store_now = s1;
+        opens = asked k;
+        did = w.did;
         stand = stand;
         put = w.copies.put;
         kept = w.copies.given;

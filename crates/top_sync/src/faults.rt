@@ -6,8 +6,9 @@ use peer_base::PeerFault;
 use sync_core::SyncFault;
 use top_frame::{ReplyFault, Status};
 
-/// Why the store wasn't copied to a peer.
-pub(crate) fn push_status(fault: SyncFault) -> Status
+/// The status of a sync that copied a store to a peer and stopped at this fault: `Disk` where the store failed, `Peer`
+/// where the peer did, `BadReply` where an answer can't be used or a listed ref isn't there, and else the fault's own.
+pub fn push_status(fault: SyncFault) -> Status
     ensures { result ≡ push_status fault }
 {
     match fault {
@@ -17,8 +18,9 @@ pub(crate) fn push_status(fault: SyncFault) -> Status
     }
 }
 
-/// Why a peer wasn't copied to the store.
-pub(crate) fn pull_status(fault: SyncFault) -> Status
+/// The status of a sync that copied a peer to a store and stopped at this fault: `Peer` where the peer failed, `Disk`
+/// where the store did, and else as that of a push.
+pub fn pull_status(fault: SyncFault) -> Status
     ensures { result ≡ pull_status fault }
 {
     match fault {

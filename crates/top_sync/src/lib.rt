@@ -6,5 +6,6 @@ mod lines;
 mod pulling;
 mod pushing;
 
+pub use faults::{pull_status, push_status};
 pub use pulling::pull;
 pub use pushing::push;
