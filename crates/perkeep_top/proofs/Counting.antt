@@ -135,7 +135,7 @@ module _ {D P S K C R : Type 0} (o : Outside D P S K C R) (keys : Keys) (accepte
           },
         )
 
-    asked_stored : (called : CommandName) (parts : List Part) → IsRight (called, parts) → AreTexts (texts_at None parts) → Ends o (meaning_of keys (command_at called parts)) old new Done → StoresAsked o keys old new (command_at called parts)
+    asked_stored : (called : CommandName) (parts : List Part) → IsRight (called, parts) → AreTexts (texts_at None parts) → Ends o (meaning_of o.disk old.disk keys (command_at called parts)) old new Done → StoresAsked o keys old new (command_at called parts)
     asked_stored called.Permanode parts right texts ends =
         permanode_stored (text_of (codes "key") parts) (option_is_key (called.Permanode, parts) (codes "key") right (refl, refl)) ends
     asked_stored called.Claim parts right texts ends =
@@ -161,6 +161,6 @@ module _ {D P S K C R : Type 0} (o : Outside D P S K C R) (keys : Keys) (accepte
   pub notes_count : StoredNotesCount o keys
   notes_count words asked old new utf8 is runs =
       let line = asked_is words asked is in
-      let ends : Ends o (meaning_of keys asked) old new Done = subst (λ c. Runs o keys c old new Done) is runs in
+      let ends : Ends o (meaning_of o.disk old.disk keys asked) old new Done = subst (λ c. Runs o keys c old new Done) is runs in
       subst (λ (a : Command). StoresAsked o keys old new a) line.is
-      (asked_stored old new line.line.0 line.line.1 line.right (line.texts utf8) (subst (λ (a : Command). Ends o (meaning_of keys a) old new Done) (sym line.is) ends))
+      (asked_stored old new line.line.0 line.line.1 line.right (line.texts utf8) (subst (λ (a : Command). Ends o (meaning_of o.disk old.disk keys a) old new Done) (sym line.is) ends))

@@ -8,19 +8,16 @@ use Rattle.edge_base.specs.Edge.{SourceGave, SourceGaveAll, FaultsRose}
 use Rattle.edge_base.specs.Shelf.{Blob, named}
 use Rattle.edge_base.specs.declared.answers.PutFault.{PutFault}
 use Rattle.edge_base.specs.declared.answers.PutFault.TheVariants as put
-use Rattle.edge_base.specs.declared.shelf.Shelf.{Ghosts as ShelfGhosts}
 use Rattle.file_cut.specs.Cutting.{file_blobs, own_blob, below_file, run_size, chunk_size, cut as cut_up}
 use Rattle.file_cut.specs.Drafts.{IsCut, FirstIs}
 use Rattle.file_cut.specs.Writing.{Written, NotWritten, longest_name, longest_file}
 use Rattle.file_cut.specs.declared.fault.CutFault.{CutFault}
 use Rattle.file_cut.specs.declared.fault.CutFault.TheVariants as cut
 use Rattle.pack_disk.specs.Runs.{Stays}
-use Rattle.pack_disk.specs.declared.disk.Disk.{Ghosts as DiskGhosts}
 use Rattle.pack_disk.specs.Packs.{Packs}
 use Rattle.pack_store.specs.Archive.{Archive}
-use Rattle.pack_store.specs.Packs.{KeepsAll}
 use Rattle.pack_store.specs.Puts.{Stands, PutsBlobs, HasNoRoom}
-use Rattle.pack_store.specs.StoreShelf.{content_of, PutsStore, FetchesStore}
+use Rattle.pack_store.specs.StoreShelf.{PutsStore}
 use Rattle.perkeep_lines.specs.Outputs.{ref_line}
 use Rattle.top_frame.specs.declared.status.InputFault.TheVariants.{TooLong}
 use Rattle.top_frame.specs.declared.status.Status.{Status}
@@ -29,20 +26,10 @@ use Rattle.top_frame.specs.Faults.{put_status, cut_status}
 use Rattle.top_frame.specs.Frame.{Ends, Given, GaveSome, IsQuiet, StopsFull, IsTooMany, read_too_much}
 use Rattle.top_frame.specs.Limits.{limits}
 use Rattle.top_frame.specs.Outside.{Outside, World, world}
+use Rattle.perkeep_top.specs.GetFile.{store_shelf}
 use Rattle.perkeep_top.specs.PutFile.{put_file_meaning, bad_name}
 use Rattle.top_frame.specs.Steps.{Finds, NeverRefuses, Writes}
 use Rattle.top_frame.proofs.Ending.{Begun, begun, Far, Has, given_input, later_rose, always_then, far_start, far_asked, far_puts, refused, failed, no_memory, full, stops, finished}
-
--- a store as a shelf
-abbrev pub shelf_of : {D : Type 0} → DiskGhosts D → ShelfGhosts (Archive D)
-shelf_of g = record {
-  content = λ s. content_of g s;
-  faults = λ s. g.faults s.disk;
-  fills = λ s blob blobs pack. HasNoRoom g s.limits s blob blobs pack;
-  follows = λ a b. KeepsAll g a.disk b.disk;
-  puts = λ a blobs b. PutsStore g a blobs b;
-  fetches = λ a r answer b. FetchesStore g a r answer b;
-}
 
 -- what a source has left, where it tells
 abbrev left_of : Option (List ℕ) → List ℕ
@@ -123,7 +110,7 @@ module _ {D P S K C R : Type 0} (o : Outside D P S K C R)
         subst (λ l. HasNoRoom o.disk l last (ref_of next, next) count pack) (own.same_limits ∙ stands.limited) w (own.stands stands)
 
     -- the store refused a blob
-    not_kept : (input : List ℕ) → GaveSome (o.source.left b.source) (o.source.left t) input → (e : PutFault) → IsCut (shelf_of o.disk) first (file_blobs name input) last e → Ends o (put_file_meaning name) b here (put_status e)
+    not_kept : (input : List ℕ) → GaveSome (o.source.left b.source) (o.source.left t) input → (e : PutFault) → IsCut (store_shelf o.disk) first (file_blobs name input) last e → Ends o (put_file_meaning name) b here (put_status e)
     not_kept input read (put.TooBig size) w = absurd w.why
     not_kept input read (put.BadDigest said is) w = absurd w.why
     not_kept input read (put.Full count pack) w =
@@ -137,7 +124,7 @@ module _ {D P S K C R : Type 0} (o : Outside D P S K C R)
     not_kept input read put.NoMemory w = no_memory run here (named w.put) [] (far_of (named w.put) w.why w.later) (given_input input) (named w.rest) (has_of t input read) (named_in (file_blobs name input) w.put w.rest w.front) refl
 
     -- the input wasn't put whole
-    pub not_filed : (fault : CutFault) → NotWritten o.source (shelf_of o.disk) name b.source t first last fault → Ends o (put_file_meaning name) b here (cut_status fault)
+    pub not_filed : (fault : CutFault) → NotWritten o.source (store_shelf o.disk) name b.source t first last fault → Ends o (put_file_meaning name) b here (cut_status fault)
     not_filed (cut.NameTooLong len) w = absurd (short_name name fit w.1)
     not_filed cut.ReadFault w =
         let u = w.1 in
@@ -160,7 +147,7 @@ module _ {D P S K C R : Type 0} (o : Outside D P S K C R)
     not_filed (cut.Put e) w = not_kept w.1.input w.1.read e w.1.why
     not_filed cut.NoMemory w = not_kept w.1.input w.1.read put.NoMemory w.1.why
 
-    module _ (r : List ℕ) (w : Written o.source (shelf_of o.disk) name b.source t first last r) where
+    module _ (r : List ℕ) (w : Written o.source (store_shelf o.disk) name b.source t first last r) where
       abbrev given : Given
       given = given_input w.0
 

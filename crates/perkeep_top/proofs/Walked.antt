@@ -1,14 +1,14 @@
 -- How `get-file` ends, from what reading the file gave.
-use Rattle.std.proofs.Common.{◌≡◌, ℕ, ◌≤◌, List, [], ◌++◌, Option, None, Some, Result, Ok, Err, option_map, refl, sym, ap, subst, ◌∙◌, arith}
+use Rattle.std.proofs.Common.{◌≡◌, true, ℕ, ◌≤◌, List, [], ◌++◌, Option, None, Some, Result, Ok, Err, option_map, refl, sym, ap, subst, ◌∙◌, arith}
 use Rattle.std.proofs.lemmas.List.{append-nil}
 use Rattle.std.specs.Option.{ForSome}
 use Rattle.edge_base.specs.Edge.{SinkTook}
 use Rattle.edge_base.specs.declared.answers.GetFault.TheVariants as getting
-use Rattle.edge_base.specs.Shelf.{Blobs}
 use Rattle.file_tree.specs.declared.fault.FileFault.{FileFault}
 use Rattle.file_tree.specs.declared.fault.FileFault.TheVariants as file
-use Rattle.file_tree.specs.Reading.{GivesSome, FaultCause}
-use Rattle.file_tree.specs.Walk.{Read, walk}
+use Rattle.file_tree.specs.Fetching.{FileRead, is_of_walk, BeginsAs}
+use Rattle.file_tree.specs.Reading.{HasRead, FaultCause}
+use Rattle.file_tree.proofs.Found.{read_told}
 use Rattle.pack_disk.specs.Packs.{Packs}
 use Rattle.pack_disk.specs.Runs.{Stays}
 use Rattle.pack_store.specs.Archive.{Archive}
@@ -18,7 +18,7 @@ use Rattle.top_frame.specs.declared.status.InputFault.TheVariants.{NotAFile, Sho
 use Rattle.top_frame.specs.declared.status.Status.TheVariants as status
 use Rattle.top_frame.specs.Faults.{file_status}
 use Rattle.top_frame.specs.Frame.{Ends}
-use Rattle.perkeep_top.specs.GetFile.{get_file_meaning, walk_of, BeginsFile, StopsFile}
+use Rattle.perkeep_top.specs.GetFile.{get_file_meaning, walk_of, BeginsFile, StopsFile, RefusesAs, IsRead, store_shelf}
 use Rattle.top_frame.specs.Limits.{limits}
 use Rattle.top_frame.specs.Outside.{Outside, World, world}
 use Rattle.top_frame.proofs.Ending.{Begun, Far, Has, nothing_given, later_rose, far_start, far_asked, far_puts, failed, no_memory, not_written, absent, unfit, damaged, done}
@@ -40,7 +40,7 @@ module _ {D P S K C R : Type 0} (o : Outside D P S K C R)
   stands = subst (Stands o.disk limits) (sym same) store_stands
 
   abbrev run : Begun D P S K C R
-  run = record { o = o; counts_now = counts_now; only_now = only_now; m = get_file_meaning r; fit = refl; alone = refl; b = b }
+  run = record { o = o; counts_now = counts_now; only_now = only_now; m = get_file_meaning o.disk b.disk r; fit = refl; alone = refl; b = b }
 
   abbrev here : World D P S K C R
   here = world new.disk b.peer b.source k b.clock b.dice
@@ -59,53 +59,53 @@ module _ {D P S K C R : Type 0} (o : Outside D P S K C R)
   content_told : content_of o.disk old ≡ option_map blobs_of told
   content_told = tells old (subst (λ l. Stands o.disk l old) (sym stands.limited) stands) ∙ ap (option_map blobs_of) opened.told
 
-  module _ {T : Type 0} (result : Result T FileFault) (g : GivesSome (content_of o.disk old) (λ (held : Blobs). walk held r) result (o.sink.written b.sink) (o.sink.written k)) where
-    is_told : ForSome told (λ held. g.read ≡ walk_of r held)
-    is_told held e = g.is (blobs_of held) (content_told ∙ ap (option_map blobs_of) e)
+  module _ {T : Type 0} (result : Result T FileFault) (h : HasRead (store_shelf o.disk) old new (o.sink.written b.sink) (o.sink.written k) (FileRead r) result) where
+    begins : ForSome told (λ held. BeginsAs h.read (walk_of r held))
+    begins held e = read_told (store_shelf o.disk) old new (o.sink.written b.sink) (o.sink.written k) r result h (blobs_of held) (content_told ∙ ap (option_map blobs_of) e)
 
-    is_front : (front rest : List ℕ) → g.read.bytes ≡ front ++ rest → BeginsFile r told front
-    is_front front rest cut held e = (rest, ap (λ (x : Read). x.bytes) (sym (is_told held e)) ∙ cut)
+    -- exactly these bytes were written
+    so_far : Far run here [] h.read.bytes
+    so_far = far h.read.bytes h.took
 
-    ends_as : (stop : Option FileFault) → g.read.stop ≡ stop → ForSome told (λ held. walk_of r held ≡ record { bytes = g.read.bytes; stop = stop })
-    ends_as stop is held e = sym (is_told held e) ∙ ap (λ s. record { bytes = g.read.bytes; stop = s }) is
+    part : BeginsFile r told h.read.bytes
+    part held e = (begins held e).front
 
-  pub walked : {T : Type 0} (x : T) → GivesSome {T = T} (content_of o.disk old) (λ (held : Blobs). walk held r) (Ok x) (o.sink.written b.sink) (o.sink.written k) → Ends o (get_file_meaning r) b here status.Done
-  walked x g =
-      let e = g.gives.exact refl in
-      let so = far g.read.bytes e.1 in
-      done run here [] g.read.bytes so.at.always so.packs so.held nothing_given has.drawn (refl, refl) refl (ends_as (Ok x) g None e.0) refl status.Done e.1
+    ends_as : (stop : Option FileFault) → h.read.stop ≡ stop → is_of_walk stop ≡ true → ForSome told (λ held. walk_of r held ≡ record { bytes = h.read.bytes; stop = stop })
+    ends_as stop is whole held e = sym ((begins held e).same (ap is_of_walk is ∙ whole)) ∙ ap (λ s. record { bytes = h.read.bytes; stop = s }) is
 
-  module _ {T : Type 0} (fault : FileFault) (g : GivesSome {T = T} (content_of o.disk old) (λ (held : Blobs). walk held r) (Err fault) (o.sink.written b.sink) (o.sink.written k)) where
-    abbrev front : List ℕ
-    front = g.gives.front.0
+    is_read : (stop : Option FileFault) → h.read.stop ≡ stop → IsRead o.disk b.disk r h.read.bytes stop
+    is_read stop is = record {
+      store = old;
+      left = new;
+      stays = opened;
+      stands = stands;
+      fetches = h.fetches;
+      fetched = h.fetched;
+      is = subst (λ (s : Option FileFault). FileRead r h.fetches (record { bytes = h.read.bytes; stop = s })) is h.is;
+    }
 
-    so_far : Far run here [] front
-    so_far = far front g.gives.front.3
+    refuses : (fault : FileFault) → h.read.stop ≡ Some fault → is_of_walk (Some fault) ≡ true → RefusesAs o.disk b.disk r told h.read.bytes fault
+    refuses fault is whole = (ends_as (Some fault) is whole, is_read (Some fault) is)
 
-    part : BeginsFile r told front
-    part = is_front {T = T} (Err fault) g front g.gives.front.1 g.gives.front.2
+  pub walked : {T : Type 0} (x : T) → HasRead (store_shelf o.disk) old new (o.sink.written b.sink) (o.sink.written k) (FileRead r) (Ok x) → Ends o (get_file_meaning o.disk b.disk r) b here status.Done
+  walked x h =
+      let so = so_far (Ok x) h in
+      done run here [] h.read.bytes so.at.always so.packs so.held nothing_given has.drawn (refl, refl) refl (ends_as (Ok x) h None h.why refl, is_read (Ok x) h None h.why) refl status.Done h.took
 
-    -- all bytes before the refusal
-    whole : BeginsFile r told g.read.bytes
-    whole = is_front {T = T} (Err fault) g g.read.bytes [] (sym (append-nil g.read.bytes))
-
-    why_so : g.read.stop ≡ Some fault → StopsFile r told g.read.bytes fault
-    why_so is = ends_as {T = T} (Err fault) g (Some fault) is
-
-  pub not_walked : {T : Type 0} (fault : FileFault) → GivesSome {T = T} (content_of o.disk old) (λ (held : Blobs). walk held r) (Err fault) (o.sink.written b.sink) (o.sink.written k)
-      → FaultCause (content_of o.disk old) (o.disk.faults old.disk) (o.disk.faults new.disk) (o.sink.faults b.sink) (o.sink.faults k) fault → Ends o (get_file_meaning r) b here (file_status fault)
-  not_walked {T = T} (file.Absent q) g w = let e = g.gives.exact refl in
-      absent run here [] g.read.bytes (far g.read.bytes e.1) nothing_given [] has refl (whole {T = T} (file.Absent q) g) q (why_so {T = T} (file.Absent q) g e.0)
-  not_walked {T = T} (file.NotAFile q) g w = let e = g.gives.exact refl in
-      unfit run here [] g.read.bytes (far g.read.bytes e.1) nothing_given [] has refl (whole {T = T} (file.NotAFile q) g) (NotAFile q) (why_so {T = T} (file.NotAFile q) g e.0)
-  not_walked {T = T} (file.Short q had wants) g w = let e = g.gives.exact refl in
-      unfit run here [] g.read.bytes (far g.read.bytes e.1) nothing_given [] has refl (whole {T = T} (file.Short q had wants) g) (Short q had wants) (why_so {T = T} (file.Short q had wants) g e.0)
-  not_walked {T = T} (file.Deep q) g w = let e = g.gives.exact refl in
-      unfit run here [] g.read.bytes (far g.read.bytes e.1) nothing_given [] has refl (whole {T = T} (file.Deep q) g) (Deep q) (why_so {T = T} (file.Deep q) g e.0)
-  not_walked {T = T} file.WriteFault g w = not_written run here [] (front {T = T} file.WriteFault g) (so_far {T = T} file.WriteFault g) nothing_given [] has refl (part {T = T} file.WriteFault g) refl w
-  not_walked {T = T} (file.Get getting.Disk) g w = failed run here (front {T = T} (file.Get getting.Disk) g) (so_far {T = T} (file.Get getting.Disk) g).at nothing_given has (part {T = T} (file.Get getting.Disk) g)
-      (later_rose (o.disk.faults b.disk) (o.disk.faults old.disk) (o.disk.faults new.disk) opened_later w)
-  not_walked {T = T} (file.Get (getting.Damaged want is)) g w = damaged run here [] (front {T = T} (file.Get (getting.Damaged want is)) g) (so_far {T = T} (file.Get (getting.Damaged want is)) g) nothing_given [] has refl
-      (part {T = T} (file.Get (getting.Damaged want is)) g) want is (w.0, none_within blobs_of told (sym content_told ∙ w.1))
-  not_walked {T = T} (file.Get getting.NoMemory) g w = absurd w
-  not_walked {T = T} file.NoMemory g w = no_memory run here [] (front {T = T} file.NoMemory g) (so_far {T = T} file.NoMemory g) nothing_given [] has refl (part {T = T} file.NoMemory g)
+  pub not_walked : {T : Type 0} (fault : FileFault) → HasRead {T = T} (store_shelf o.disk) old new (o.sink.written b.sink) (o.sink.written k) (FileRead r) (Err fault)
+      → FaultCause (content_of o.disk old) (o.disk.faults old.disk) (o.disk.faults new.disk) (o.sink.faults b.sink) (o.sink.faults k) fault → Ends o (get_file_meaning o.disk b.disk r) b here (file_status fault)
+  not_walked {T = T} fault h w = by fault (so_far {T = T} (Err fault) h) (part {T = T} (Err fault) h) (refuses {T = T} (Err fault) h) (is_read {T = T} (Err fault) h (Some fault) h.why) h.why w
+    where
+      by : (fault : FileFault) → Far run here [] h.read.bytes → BeginsFile r told h.read.bytes → ((fault : FileFault) → h.read.stop ≡ Some fault → is_of_walk (Some fault) ≡ true → RefusesAs o.disk b.disk r told h.read.bytes fault)
+          → IsRead o.disk b.disk r h.read.bytes (Some fault) → h.read.stop ≡ Some fault
+          → FaultCause (content_of o.disk old) (o.disk.faults old.disk) (o.disk.faults new.disk) (o.sink.faults b.sink) (o.sink.faults k) fault → Ends o (get_file_meaning o.disk b.disk r) b here (file_status fault)
+      by (file.Absent q) so part refuses is why w = absent run here [] h.read.bytes so nothing_given [] has refl part q (refuses (file.Absent q) why refl)
+      by (file.NotAFile q) so part refuses is why w = unfit run here [] h.read.bytes so nothing_given [] has refl part (NotAFile q) (refuses (file.NotAFile q) why refl)
+      by (file.Short q had wants) so part refuses is why w = unfit run here [] h.read.bytes so nothing_given [] has refl part (Short q had wants) (refuses (file.Short q had wants) why refl)
+      by (file.Deep q) so part refuses is why w = unfit run here [] h.read.bytes so nothing_given [] has refl part (Deep q) (refuses (file.Deep q) why refl)
+      by file.WriteFault so part refuses is why w = not_written run here [] h.read.bytes so nothing_given [] has refl part refl w
+      by (file.Get getting.Disk) so part refuses is why w = failed run here h.read.bytes so.at nothing_given has part (later_rose (o.disk.faults b.disk) (o.disk.faults old.disk) (o.disk.faults new.disk) opened_later w)
+      by (file.Get (getting.Damaged want other)) so part refuses is why w =
+          damaged run here [] h.read.bytes so nothing_given [] has refl part want other ((w.0, none_within blobs_of told (sym content_told ∙ w.1)), is)
+      by (file.Get getting.NoMemory) so part refuses is why w = absurd w
+      by file.NoMemory so part refuses is why w = no_memory run here [] h.read.bytes so nothing_given [] has refl part

@@ -4,6 +4,7 @@ use Rattle.perkeep_words.specs.Reading.{LineSeen, command_at}
 use Rattle.perkeep_words.specs.Table.{writes_of}
 use Rattle.perkeep_words.specs.declared.kinds.TextFault.{TextFault}
 use Rattle.perkeep_words.specs.declared.kinds.TextFault.TheVariants as text
+use Rattle.pack_disk.specs.declared.disk.Disk.{Ghosts as DiskGhosts}
 use Rattle.schema_fact.specs.declared.kinds.What.TheVariants.{Delete}
 use Rattle.perkeep_words.specs.declared.reading.Command.{Command}
 use Rattle.perkeep_words.specs.declared.reading.Command.TheVariants as command
@@ -27,25 +28,25 @@ use Rattle.perkeep_top.specs.Search.{search_meaning, search_pack_meaning}
 use Rattle.perkeep_top.specs.Stat.{stat_meaning}
 use Rattle.top_sync.specs.Meanings.{push_meaning, pull_meaning}
 
--- what each command means, under the keys that accept these signatures
-abbrev pub meaning_of : Keys → Command → Meaning
-meaning_of keys (command.Put dir) = put_meaning
-meaning_of keys (command.Get dir r) = get_meaning r
-meaning_of keys (command.Stat dir r) = stat_meaning r
-meaning_of keys (command.List dir after limit) = list_meaning after limit
-meaning_of keys (command.Search dir attr value at) = search_meaning keys.accepts attr value at
-meaning_of keys (command.Salvage dir) = salvage_meaning
-meaning_of keys (command.Permanode dir name) = permanode_meaning keys name
-meaning_of keys (command.Claim dir kind r attr value name) = claim_meaning keys name (what_of kind r attr value)
-meaning_of keys (command.Multi dir name) = multi_meaning keys name
-meaning_of keys (command.Delete dir r name) = claim_meaning keys name (Delete r)
-meaning_of keys (command.PutFile dir name) = put_file_meaning name
-meaning_of keys (command.GetFile dir r) = get_file_meaning r
-meaning_of keys (command.Push dir addr) = push_meaning
-meaning_of keys (command.Pull dir addr) = pull_meaning
-meaning_of keys (command.Query dir) = query_meaning keys.accepts
-meaning_of keys (command.SearchPack attr value) = search_pack_meaning keys.accepts attr value
-meaning_of keys (command.Load count start) = load_meaning keys.accepts count start
+-- what each command means on this disk, under the keys that accept these signatures
+abbrev pub meaning_of : {D : Type 0} → DiskGhosts D → D → Keys → Command → Meaning
+meaning_of g disk keys (command.Put dir) = put_meaning
+meaning_of g disk keys (command.Get dir r) = get_meaning r
+meaning_of g disk keys (command.Stat dir r) = stat_meaning r
+meaning_of g disk keys (command.List dir after limit) = list_meaning after limit
+meaning_of g disk keys (command.Search dir attr value at) = search_meaning keys.accepts attr value at
+meaning_of g disk keys (command.Salvage dir) = salvage_meaning
+meaning_of g disk keys (command.Permanode dir name) = permanode_meaning keys name
+meaning_of g disk keys (command.Claim dir kind r attr value name) = claim_meaning keys name (what_of kind r attr value)
+meaning_of g disk keys (command.Multi dir name) = multi_meaning keys name
+meaning_of g disk keys (command.Delete dir r name) = claim_meaning keys name (Delete r)
+meaning_of g disk keys (command.PutFile dir name) = put_file_meaning name
+meaning_of g disk keys (command.GetFile dir r) = get_file_meaning g disk r
+meaning_of g disk keys (command.Push dir addr) = push_meaning
+meaning_of g disk keys (command.Pull dir addr) = pull_meaning
+meaning_of g disk keys (command.Query dir) = query_meaning keys.accepts
+meaning_of g disk keys (command.SearchPack attr value) = search_pack_meaning keys.accepts attr value
+meaning_of g disk keys (command.Load count start) = load_meaning keys.accepts count start
 
 -- what is wrong with a text, as a fault of the input
 abbrev pub input_fault : TextFault → InputFault
@@ -58,8 +59,8 @@ input_fault text.BadName = BadName
 abbrev pub Runs : {D P S K C R : Type 0} → Outside D P S K C R → Keys → Option (Result Command TextFault) → World D P S K C R → World D P S K C R → Status → Type 0
 Runs o keys None old new answer = (answer ≡ BadWords) × (new ≡ old)
 Runs o keys (Some (Err fault)) old new answer = (answer ≡ BadInput (input_fault fault)) × (new ≡ old)
-Runs o keys (Some (Ok asked)) old new answer = Ends o (meaning_of keys asked) old new answer
+Runs o keys (Some (Ok asked)) old new answer = Ends o (meaning_of o.disk old.disk keys asked) old new answer
 
 -- a command whose line is said not to write puts nothing
-abbrev pub ReadersPutNothing : Type 0
-ReadersPutNothing = (keys : Keys) (line : LineSeen) → writes_of line.0 ≡ false → IsQuiet (meaning_of keys (command_at line.0 line.1))
+abbrev pub ReadersPutNothing : {D : Type 0} → DiskGhosts D → Type 0
+ReadersPutNothing {D} g = (disk : D) (keys : Keys) (line : LineSeen) → writes_of line.0 ≡ false → IsQuiet (meaning_of g disk keys (command_at line.0 line.1))

@@ -11,5 +11,5 @@ use Rattle.top_frame.specs.Outside.{Outside, World}
 
 abbrev pub ValidRunsEndWell : {D P S K C R : Type 0} → Outside D P S K C R → Keys → Type 0
 ValidRunsEndWell {D} {P} {S} {K} {C} {R} o keys = (words : List (List ℕ)) (asked : Command) (old new : World D P S K C R) (held : Packs) (answer : Status)
-    → command_of words ≡ Some (Ok asked) → IsValid o old new (meaning_of keys asked) held → IsCalm o old new → Runs o keys (command_of words) old new answer
+    → command_of words ≡ Some (Ok asked) → IsValid o old new (meaning_of o.disk old.disk keys asked) held → IsCalm o old new → Runs o keys (command_of words) old new answer
     → EndsWell answer

@@ -98,8 +98,8 @@ fn run_command<D: Disk, P: Peer, S: Source, K: Sink, C: Clock, R: Dice, V: Signe
     environment: Environment<'_, P, S, K, C, R, V>,
 ) -> (D, Status)
     ensures { Ends (outside D.Disk P.Peer S.Source K.Sink C.Clock R.Dice)
-        (meaning_of (keys_of (V.holds environment.entry.keys.now) (V.seals environment.entry.keys.now)
-        (V.accepts environment.entry.keys.now)) command.now)
+        (meaning_of D.Disk disk (keys_of (V.holds environment.entry.keys.now)
+        (V.seals environment.entry.keys.now) (V.accepts environment.entry.keys.now)) command.now)
         (world_before disk environment.entry) (world_after result.0 environment.exit) result.1 }
 {
     match command {
@@ -155,6 +155,6 @@ fn run_command<D: Disk, P: Peer, S: Source, K: Sink, C: Clock, R: Dice, V: Signe
 
 /// The law that a command whose line is said not to write (`Line::writes`) puts nothing: so who runs it needs no lock
 /// on the store.
-pub fn readers_put_nothing()
-    ensures { ReadersPutNothing }
+pub fn readers_put_nothing<D: Disk>()
+    ensures { ReadersPutNothing D.Disk }
 {}

@@ -21,7 +21,7 @@ pub(crate) fn get_file<D: Disk, P: Peer, S: Source, K: Sink, C: Clock, R: Dice, 
     disk: D,
     environment: Environment<'_, P, S, K, C, R, V>,
 ) -> (D, Status)
-    ensures { Ends (outside D.Disk P.Peer S.Source K.Sink C.Clock R.Dice) (get_file_meaning r.now)
+    ensures { Ends (outside D.Disk P.Peer S.Source K.Sink C.Clock R.Dice) (get_file_meaning D.Disk disk r.now)
         (world_before disk environment.entry)
         (world_after result.0 environment.exit) result.1 }
 {

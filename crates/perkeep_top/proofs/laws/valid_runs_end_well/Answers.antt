@@ -10,4 +10,4 @@ returns g c =
     let o = outside g.D.Disk g.P.Peer g.S.Source g.K.Sink g.C.Clock g.R.Dice in
     let keys = keys_of (g.V.Signer.holds c.args._keys.now) (g.V.Signer.seals c.args._keys.now) (g.V.Verifier.accepts c.args._keys.now) in
     λ words asked old new held answer is valid calm runs.
-    ends_well o (meaning_of keys asked) old new held valid calm answer (subst (λ c. Runs o keys c old new answer) is runs)
+    ends_well o (meaning_of o.disk old.disk keys asked) old new held valid calm answer (subst (λ c. Runs o keys c old new answer) is runs)
