@@ -13,7 +13,7 @@ from connections import Reply, json_text
 from harness import LeftOut, check, compare
 from http_inputs import blob_target, get, upload
 from reference import pack_name, ref_of
-from serving import Server, Talk, blob_reply, store_of, stored
+from serving import Server, Talk, blob_reply, store_of, stored, wait_for
 
 MIB = 1 << 20
 ROOM = 4 * MIB
@@ -119,11 +119,13 @@ def leaves_nothing(program, disk):
     with disk.serve(program) as server:
         disk.fill(what, server)
         fails(what, server, disk.blob(MIB))
-        before = (open_files(server), disk.packs(), disk.free())
+        before, is_open = (disk.packs(), disk.free()), open_files(server)
         blob = disk.blob(64 * 1024)
         for _ in range(FAILURES):
             fails(what, server, blob)
-        compare(what, "open files, packs and room", before, (open_files(server), disk.packs(), disk.free()))
+        # An indexer may have a pack open for a moment.
+        wait_for(f"{what}: no more files open than before", lambda: open_files(server) <= is_open)
+        compare(what, "packs and room", before, (disk.packs(), disk.free()))
         small = disk.blob(100)
         puts(f"behind {what}", server, small)
         with contextlib.ExitStack() as held:
