@@ -1,7 +1,9 @@
 -- What is known of a call over ends that are made at the first one.
-use Rattle.std.proofs.Common.{◌≡◌, ℕ, List, [], Option, None, Some, Result, Ok, Err, IfOk, IfSome, sym, ap, subst, ◌∙◌}
+use Rattle.std.proofs.Common.{◌≡◌, ℕ, List, [], Option, None, Some, Result, Ok, Err, IfOk, IfSome, sym, ap, subst}
 use Rattle.blobref.specs.declared.memory.NoMemory.{NoMemory}
+use Rattle.edge_base.specs.Edge.{FaultsRose}
 use Rattle.peer_base.specs.declared.peer.PeerFault.{PeerFault}
+use Rattle.peer_base.specs.declared.peer.PeerFault.TheVariants as fault
 use Rattle.peer_http.specs.Dialing.{OnDemand, Takes, IsDialed, count_after}
 use Rattle.peer_http.specs.Links.{LinkView, unread}
 
@@ -23,18 +25,17 @@ new_ends {D} {S} {K} gives written old inside dialer_now source sink (Ok link) i
     subst (λ (o : OnDemand D S K). Takes gives written o.dialer o.link dialer_now (Ok link)) is
     (subst (λ (l : Option (LinkView S K)). Takes gives written inside.dialer l dialer_now (Ok link)) (sym none) (source, sink, (gave, unasked), made))
 
--- a call over the connection that was taken, which is put back and counted
-pub dialed : {D S K T : Type 0} (gives : D → Result (S × K) NoMemory → D → Type 0) (written : K → Option (List ℕ))
-    (Calls : LinkView S K → Result T PeerFault → LinkView S K → Type 0) (old mid inside : OnDemand D S K) (asked link_now : LinkView S K)
-    (given answer : Result T PeerFault) (faults_now : ℕ)
-    → Takes gives written old.dialer old.link mid.dialer (Ok asked) → mid.faults ≡ old.faults → inside ≡ mid → Calls asked given link_now
-    → answer ≡ given → faults_now ≡ count_after given inside.faults
-    → IsDialed gives written Calls old answer (record { dialer = inside.dialer; link = Some link_now; faults = faults_now })
-dialed {D} {S} {K} {T} gives written Calls old mid inside asked link_now given answer faults_now takes same is called e count = record {
-  asks = (
-    asked,
-    subst (λ (d : D). Takes gives written old.dialer old.link d (Ok asked)) (sym (ap (λ (o : OnDemand D S K). o.dialer) is)) takes,
-    subst (λ (a : Result T PeerFault). Calls asked a link_now) (sym e) called,
-  );
-  counted = count ∙ ap (λ (n : ℕ). count_after given n) (ap (λ (o : OnDemand D S K). o.faults) is ∙ same) ∙ ap (λ (a : Result T PeerFault). count_after a old.faults) (sym e);
-}
+-- a call over the connection that was taken, which was put back and counted
+pub dialed : {D S K T : Type 0} (gives : D → Result (S × K) NoMemory → D → Type 0) (written : K → Option (List ℕ)) (faults : LinkView S K → ℕ)
+    (Calls : LinkView S K → Result T PeerFault → LinkView S K → Type 0) (old mid new : OnDemand D S K) (asked link_now : LinkView S K) (given answer : Result T PeerFault)
+    → Takes gives written old.dialer old.link mid.dialer (Ok asked) → mid.faults ≡ old.faults → Calls asked given link_now
+    → (given ≡ Err fault.Failed → FaultsRose (faults asked) (faults link_now)) → answer ≡ given
+    → new ≡ record { dialer = mid.dialer; link = Some link_now; faults = count_after given mid.faults } → IsDialed gives written faults Calls old answer new
+dialed {D} {S} {K} {T} gives written faults Calls old mid new asked link_now given answer takes same called failed e is =
+    subst (λ (o : OnDemand D S K). IsDialed gives written faults Calls old answer o) (sym is) (subst (λ (a : Result T PeerFault). IsDialed gives written faults Calls old a back) (sym e) (record {
+      asks = (asked, takes, called, failed);
+      counted = ap (λ (n : ℕ). count_after given n) same;
+    }))
+  where
+    back : OnDemand D S K
+    back = record { dialer = mid.dialer; link = Some link_now; faults = count_after given mid.faults }

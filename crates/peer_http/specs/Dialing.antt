@@ -1,7 +1,7 @@
 -- A peer whose connection is made at its first call.
 use Rattle.std.specs.Prelude.{◌≡◌, ℕ, List, [], Option, None, Some, Result, Ok, Err, IfSome}
 use Rattle.blobref.specs.declared.memory.NoMemory.{NoMemory}
-use Rattle.edge_base.specs.Edge.{one_more}
+use Rattle.edge_base.specs.Edge.{one_more, FaultsRose}
 use Rattle.peer_base.specs.declared.peer.PeerFault.{PeerFault}
 use Rattle.peer_base.specs.declared.peer.PeerFault.TheVariants as fault
 use Rattle.peer_http.specs.Links.{LinkView, unread}
@@ -30,16 +30,18 @@ abbrev pub count_after : {T : Type 0} → Result T PeerFault → ℕ → ℕ
 count_after (Err fault.Failed) count = one_more count
 count_after answer count = count
 
--- What a call is of the dialer and the connection: it was a call over the connection that was asked, or there was no memory for one. `Calls`
--- is what it is over a connection, by that before, the answer, and that after it.
+-- What a call is of the dialer and the connection: it was a call over the connection that was asked, whose count of faults rose where it failed,
+-- or there was no memory for one. `Calls` is what it is over a connection, by that before, the answer, and that after it.
 abbrev pub AsksBy : {D S K T : Type 0} → (gives : D → Result (S × K) NoMemory → D → Type 0) → (written : K → Option (List ℕ))
-    → (Calls : LinkView S K → Result T PeerFault → LinkView S K → Type 0) → (dialer : D) → Option (LinkView S K) → Result T PeerFault → (dialer_now : D)
+    → (faults : LinkView S K → ℕ) → (Calls : LinkView S K → Result T PeerFault → LinkView S K → Type 0) → (dialer : D) → Option (LinkView S K) → Result T PeerFault → (dialer_now : D)
     → Option (LinkView S K) → Type 0
-AsksBy {D} {S} {K} gives written Calls dialer link answer dialer_now (Some link_now) = (asked : LinkView S K) × Takes gives written dialer link dialer_now (Ok asked) × Calls asked answer link_now
-AsksBy gives written Calls dialer link answer dialer_now None = (answer ≡ Err fault.NoMemory) × ((error : NoMemory) × Takes gives written dialer link dialer_now (Err error))
+AsksBy {D} {S} {K} gives written faults Calls dialer link answer dialer_now (Some link_now) =
+    (asked : LinkView S K) × Takes gives written dialer link dialer_now (Ok asked) × Calls asked answer link_now
+    × (answer ≡ Err fault.Failed → FaultsRose (faults asked) (faults link_now))
+AsksBy gives written faults Calls dialer link answer dialer_now None = (answer ≡ Err fault.NoMemory) × ((error : NoMemory) × Takes gives written dialer link dialer_now (Err error))
 
 -- and of the count of faults
 pub record IsDialed {D S K T : Type 0} (gives : D → Result (S × K) NoMemory → D → Type 0) (written : K → Option (List ℕ))
-    (Calls : LinkView S K → Result T PeerFault → LinkView S K → Type 0) (old : OnDemand D S K) (answer : Result T PeerFault) (new : OnDemand D S K) : Type 0 where
-  pub asks : AsksBy gives written Calls old.dialer old.link answer new.dialer new.link
+    (faults : LinkView S K → ℕ) (Calls : LinkView S K → Result T PeerFault → LinkView S K → Type 0) (old : OnDemand D S K) (answer : Result T PeerFault) (new : OnDemand D S K) : Type 0 where
+  pub asks : AsksBy gives written faults Calls old.dialer old.link answer new.dialer new.link
   pub counted : new.faults ≡ count_after answer old.faults

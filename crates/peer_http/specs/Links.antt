@@ -22,6 +22,10 @@ unread source sink = record { wire = record { flow = record { bytes = []; taken 
 abbrev pub both : ℕ → ℕ → ℕ
 both first second = min (first + second) (2 ^ 64 - 1)
 
+-- the count of a connection
+abbrev pub link_faults : {S K : Type 0} → (S → ℕ) → (K → ℕ) → LinkView S K → ℕ
+link_faults first second link = both (first link.source) (second link.sink)
+
 -- what a request leaves, by the bytes left in the source, those that the sink holds, and the reader: it was written, and then a reply was
 -- read, or what came was none; or the way failed, or there was no memory
 abbrev pub Asks : ℕ → (left left_now written written_now : Option (List ℕ)) → (old new : WireView) → List ℕ → Result Reply ReplyFault → Type 0

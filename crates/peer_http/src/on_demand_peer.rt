@@ -1,9 +1,10 @@
 //! A peer whose connection is made at its first call.
-ghost use Rattle.std.specs.Prelude.{◌≡◌, ◌≤◌, None, length, IsErrOf};
+ghost use Rattle.std.specs.Prelude.{◌≡◌, ◌≤◌, Some, None, length, IsErrOf};
 ghost use Rattle.edge_base.specs.Edge.{FaultsRose};
 ghost use Rattle.peer_base.specs.declared.peer.PeerFault.TheVariants as fault;
 ghost use Rattle.peer_http.specs.Calls.{ListsOver, FetchesOver, KeepsOver};
 ghost use Rattle.peer_http.specs.Dialing.{Takes, IsDialed, count_after};
+ghost use Rattle.peer_http.specs.Links.{link_faults};
 
 use crate::dialer::Dialer;
 use crate::wire_peer::WirePeer;
@@ -12,9 +13,9 @@ use peer_base::{Peer, PeerFault};
 use std::alloc::Global;
 use std::marker::Model;
 
-/// A peer over HTTP that is asked over ends of its dialer's (`docs/sync.md`). It takes these, and the memory of a
-/// [`WirePeer`], at its first call, and then keeps them. A contract sees the dialer, the connection, where there is one
-/// so far, and how many calls have failed.
+/// A peer over HTTP that gets its ends from a dialer (`docs/sync.md`). It takes these, and the memory of a [`WirePeer`],
+/// at its first call, and keeps them. A contract sees the dialer, the connection, where there is one so far, and how
+/// many calls have failed.
 #[derive(Drop)]
 pub struct OnDemandPeer<D: Dialer> {
     alloc: Global,
@@ -58,10 +59,33 @@ impl<D: Dialer> OnDemandPeer<D> {
             }
         }
     }
+
+    // Puts the peer that was asked back. A failure is counted.
+    fn give_back<T: Drop>(
+        &mut self,
+        peer: WirePeer<D::In, D::Out>,
+        answer: Result<T, PeerFault>,
+    ) -> Result<T, PeerFault>
+        ensures same { result ≡ answer }
+        ensures back { self.new ≡ record {
+          dialer = self.old.dialer;
+          link = Some peer;
+          faults = count_after answer self.old.faults;
+        } }
+        ensures later { self.old.faults ≤ self.new.faults }
+        ensures rose { IsErrOf result fault.Failed → FaultsRose self.old.faults self.new.faults }
+    {
+        self.peer = Some(peer);
+        if matches!(answer, Err(PeerFault::Failed)) {
+            self.faults = self.faults.saturating_add(1);
+        }
+        answer
+    }
 }
 
-/// Each call is one of a [`WirePeer`], over the ends that the first call took; one for which there is no memory answers
-/// `NoMemory`, has asked nothing, and leaves it unconnected. It doesn't tell what it holds, and never is full.
+/// Each call is one of a [`WirePeer`] over the ends that it has. Where it has none so far it takes new ones; if there is
+/// no memory for them the call answers `NoMemory`, has asked nothing, and the next one tries again. Each `Failed`, which
+/// is a fault of an end, and nothing else, counts one. It doesn't tell what it holds, and never is full.
 impl<D: Dialer> Peer for OnDemandPeer<D> {
     ghost content = { λ p. None };
 
@@ -73,13 +97,13 @@ impl<D: Dialer> Peer for OnDemandPeer<D> {
 
     ghost puts = { λ a blobs b. Unit {0} };
 
-    ghost lists = { λ a after limit answer b. IsDialed D.gives D.Out.written
+    ghost lists = { λ a after limit answer b. IsDialed D.gives D.Out.written (link_faults D.In.faults D.Out.faults)
         (λ link given link_now. ListsOver D.In.left D.Out.written link after limit given link_now) a answer b };
 
-    ghost fetches = { λ a r answer b. IsDialed D.gives D.Out.written
+    ghost fetches = { λ a r answer b. IsDialed D.gives D.Out.written (link_faults D.In.faults D.Out.faults)
         (λ link given link_now. FetchesOver D.In.left D.Out.written link r given link_now) a answer b };
 
-    ghost keeps = { λ a blob answer b. IsDialed D.gives D.Out.written
+    ghost keeps = { λ a blob answer b. IsDialed D.gives D.Out.written (link_faults D.In.faults D.Out.faults)
         (λ link given link_now. KeepsOver D.In.left D.Out.written link blob given link_now) a answer b };
 
     ghost puts_nothing = { λ p. tt };
@@ -95,38 +119,22 @@ impl<D: Dialer> Peer for OnDemandPeer<D> {
     fn list(&mut self, after: Option<&Ref>, limit: usize) -> Result<Listing, PeerFault> {
         let mut peer = self.take()?;
         let listed = peer.list(after, limit);
-        self.peer = Some(peer);
-        counted(listed, &mut self.faults)
+        self.give_back(peer, listed)
     }
 
     fn fetch(&mut self, r: &Ref) -> Result<Option<Octets>, PeerFault> {
         let mut peer = self.take()?;
         let fetched = peer.fetch(r);
-        self.peer = Some(peer);
-        counted(fetched, &mut self.faults)
+        self.give_back(peer, fetched)
     }
 
     fn put(&mut self, r: &Ref, bytes: &[u8]) -> Result<(), PeerFault> {
         let mut peer = self.take()?;
         let done = peer.put(r, bytes);
-        self.peer = Some(peer);
-        counted(done, &mut self.faults)
+        self.give_back(peer, done)
     }
 
     fn faults(&self) -> u64 {
         self.faults
     }
-}
-
-// What a call gave, where a failure is counted. At the last value of its type the count stays.
-fn counted<T: Drop>(done: Result<T, PeerFault>, faults: &mut u64) -> Result<T, PeerFault>
-    ensures same { result ≡ done }
-    ensures counted { faults.new ≡ count_after done faults.old }
-    ensures later { faults.old ≤ faults.new }
-    ensures rose { IsErrOf result fault.Failed → FaultsRose faults.old faults.new }
-{
-    if matches!(done, Err(PeerFault::Failed)) {
-        *faults = faults.saturating_add(1);
-    }
-    done
 }
