@@ -33,7 +33,7 @@ from harness import check, compare, compare_ending, without
 from http_inputs import ABC, FORM, OLDER_ABC, PROBE, blob_part, blob_target, form, get, post, stat, upload
 from reference import older_ref_of, ref_of
 from serving import ABC_REPLY, HOST, PORTS, SECONDS_OF_WAITING, SOON, TAKEN, Exchange, Server, Talk
-from serving import blob_reply, compare_texts, is_listened_to, store_of, stored, wait_for
+from serving import blob_reply, compare_texts, is_listened_to, store_of, stored
 from stores import CLEAN, TORN, Store, look
 from writers import Locked
 from writing import pack
@@ -94,6 +94,13 @@ def serves_line(program, line):
     compare_ending(line, 0, process.returncode, err)
     compare(line, "standard output", b"", out)
     check(f"{line}: the folder isn't there", folder.is_dir())
+
+
+def wait_for(what, is_so, seconds=SOON):
+    until = time.monotonic() + seconds
+    while not is_so():
+        check(f"{what}: not within {seconds} seconds", time.monotonic() < until)
+        time.sleep(0.002)
 
 
 # What starts and what ends a server

@@ -13,7 +13,7 @@ from connections import Reply, json_text
 from harness import LeftOut, check, compare
 from http_inputs import blob_target, get, upload
 from reference import pack_name, ref_of
-from serving import Server, Talk, blob_reply, store_of, stored, wait_for
+from serving import Server, Talk, blob_reply, store_of, stored
 
 MIB = 1 << 20
 ROOM = 4 * MIB
@@ -95,8 +95,10 @@ class SmallDisk:
         return b"%08d" % self.blobs + bytes(size - 8)
 
     def fill(self, what, server):
-        """Leaves little room: a small blob fits, and one of 64 KiB doesn't."""
-        puts(what, server, self.blob(self.free() - 32 * 1024))
+        """Leaves little room: a small blob fits, and one of 64 KiB doesn't. The blob that fills it is read back."""
+        blob = self.blob(self.free() - 32 * 1024)
+        puts(what, server, blob)
+        finds(what, server, blob)
 
 
 def gives_room_back(program, disk):
@@ -114,18 +116,19 @@ def gives_room_back(program, disk):
 
 
 def leaves_nothing(program, disk):
-    """Uploads that fail leave no open file, no file and no room taken, and no worker ends."""
+    """Uploads that fail leave no open file, no file and no room taken, and no worker ends.
+
+    A server has a pack open twice from the first read on, whether a client or an indexer reads first.
+    """
     what = f"{FAILURES} uploads that fail"
     with disk.serve(program) as server:
         disk.fill(what, server)
         fails(what, server, disk.blob(MIB))
-        before, is_open = (disk.packs(), disk.free()), open_files(server)
+        before = (open_files(server), disk.packs(), disk.free())
         blob = disk.blob(64 * 1024)
         for _ in range(FAILURES):
             fails(what, server, blob)
-        # An indexer may have a pack open for a moment.
-        wait_for(f"{what}: no more files open than before", lambda: open_files(server) <= is_open)
-        compare(what, "packs and room", before, (disk.packs(), disk.free()))
+        compare(what, "open files, packs and room", before, (open_files(server), disk.packs(), disk.free()))
         small = disk.blob(100)
         puts(f"behind {what}", server, small)
         with contextlib.ExitStack() as held:

@@ -17,7 +17,7 @@ import harness
 import reference
 from door import heard
 from connections import OCTETS, Connection, Reply, entry, json_text
-from harness import Difference, check, compare, compare_ending
+from harness import Difference, compare, compare_ending
 from inputs import KEYRING
 from reference import ref_of
 from stores import Store
@@ -68,13 +68,6 @@ def is_listened_to(port):
     """Whether some program listens at a port of 127.0.0.1, by the system's table, which begins with the listeners."""
     with open("/proc/net/tcp") as table:
         return f" 0100007F:{port:04X} 00000000:0000 0A " in table.read(PIECE)
-
-
-def wait_for(what, is_so, seconds=SOON):
-    until = time.monotonic() + seconds
-    while not is_so():
-        check(f"{what}: not within {seconds} seconds", time.monotonic() < until)
-        time.sleep(0.002)
 
 
 # Servers
