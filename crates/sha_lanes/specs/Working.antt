@@ -11,7 +11,7 @@ use Rattle.sha_lanes.specs.Schedules.{HasBlock}
 abbrev pub IsLane : List (List ℕ) → List ℕ → List ℕ → ℕ → ℕ → ℕ → Type 0
 IsLane ts h tail which at count = which < length ts
     → (count ≡ block_count (length (message_at ts which)))
-    × IsTail tail (message_at ts which)
+    × IsTail tail (message_at ts which) 0
     × IsHashedTo h (message_at ts which) at
 
 -- each lane is at work on its message, and i blocks further than it says
@@ -32,14 +32,14 @@ AreWithin n w = (j : ℕ) → j < n → slice_index w.at j ≤ slice_index w.cou
 
 -- the block of a lane's message that is i blocks further than the lane is
 abbrev pub IsBlockAt : (n : ℕ) → List (List ℕ) → Work n → ℕ → List ℕ → ℕ → Type 0
-IsBlockAt n ts w i block j = IsTail (slice_index_or w.tails j []) (message_at ts (slice_index w.which j))
+IsBlockAt n ts w i block j = IsTail (slice_index_or w.tails j []) (message_at ts (slice_index w.which j)) 0
     → slice_index w.at j + i < block_count (length (message_at ts (slice_index w.which j)))
     → block ≡ block_of (message_at ts (slice_index w.which j)) (slice_index w.at j + i)
 
 -- each of the first m lanes of the words has the block of its message that is i blocks further than the lane is
 abbrev pub HaveBlocks : (n : ℕ) → List (List ℕ) → Work n → ℕ → List (List ℕ) → ℕ → Type 0
 HaveBlocks n ts w i words m = (j : ℕ) → j < m
-    → IsTail (slice_index_or w.tails j []) (message_at ts (slice_index w.which j))
+    → IsTail (slice_index_or w.tails j []) (message_at ts (slice_index w.which j)) 0
     → slice_index w.at j + i < block_count (length (message_at ts (slice_index w.which j)))
     → HasBlock words j (block_of (message_at ts (slice_index w.which j)) (slice_index w.at j + i))
 

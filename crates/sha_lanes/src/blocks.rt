@@ -2,8 +2,9 @@
 ghost use Rattle.std.specs.Prelude.{◌≡◌, ℕ, List, ◌+◌, ◌/◌, ◌%◌, ◌<◌, ◌≤◌, ◌^◌, length};
 ghost use Rattle.sha2.specs.Sha256.{hash_after};
 ghost use Rattle.sha_lanes.specs.Hashing.{IsHashAfter};
+ghost use Rattle.sha_lanes.specs.Message.{padded_rest};
 
-use crate::message::{block_at, line_of, put_line};
+use crate::message::{block_at, block_count, line_of, put_line, tail_of};
 use crate::rounds::compress;
 use crate::schedule::schedule_of;
 
@@ -80,4 +81,16 @@ pub fn compress_blocks(state: &mut [u32; 8], blocks: &[u8])
 {
     // A tail of which no block is hashed.
     hash_blocks(state, blocks, &[0; 128], 0, blocks.len() / 64);
+}
+
+/// Runs the compression function of SHA-256 over the rest of a message and the padding of the whole message (FIPS 180-4,
+/// 5.1.1), and leaves in `state` the hash value of the message. `before` bytes, which are whole blocks, are before the
+/// rest, and `state` is the hash value after them. It takes no memory, some 8 kB of stack, and the time of `sha224` for
+/// the rest.
+pub fn compress_rest(state: &mut [u32; 8], rest: &[u8], before: usize)
+    requires whole { before % 64 ≡ 0 }
+    ensures { state.new ≡ hash_after state.old (padded_rest before rest.now) (length (padded_rest before rest.now) / 64) }
+{
+    let tail = tail_of(rest, before);
+    hash_blocks(state, rest, &tail, 0, block_count(rest.len()));
 }

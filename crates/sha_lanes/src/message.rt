@@ -1,5 +1,5 @@
 //! A message, block by block, with its padding (FIPS 180-4, 5.1.1 and 5.2.1).
-ghost use Rattle.std.specs.Prelude.{◌≡◌, ℕ, ◌+◌, ◌<◌, ◌≤◌, length, slice_index};
+ghost use Rattle.std.specs.Prelude.{◌≡◌, ℕ, ◌+◌, ◌%◌, ◌<◌, ◌≤◌, length, slice_index};
 ghost use Rattle.sha2.specs.Sha256.{word_at};
 ghost use Rattle.sha_lanes.specs.Lanes.{AreRows, lane_at};
 ghost use Rattle.sha_lanes.specs.Message.{IsTail, block_count, block_in, whole_blocks, with_tail};
@@ -13,17 +13,20 @@ pub(crate) fn block_count(len: usize) -> usize
     if len % 64 < 56 { whole + 1 } else { whole + 2 }
 }
 
-/// The blocks that a message has after its whole ones, with the padding in them.
-pub(crate) fn tail_of(message: &[u8]) -> [u8; 128]
-    ensures { IsTail result message.now }
+/// The blocks that the rest of a message has after its whole ones, with the padding in them. So many bytes are before
+/// the rest.
+pub(crate) fn tail_of(rest: &[u8], before: usize) -> [u8; 128]
+    requires { before % 64 ≡ 0 }
+    ensures { IsTail result rest.now before }
 {
-    let whole = message.len() / 64;
-    let rest = &message[64 * whole..];
+    let whole = rest.len() / 64;
+    let last = &rest[64 * whole..];
     let mut tail = [0u8; 128];
-    tail[..rest.len()].copy_from_slice(rest);
-    tail[rest.len()] = 0x80;
-    let end = 64 * (block_count(message.len()) - whole);
-    let bits = (message.len() as u64).wrapping_mul(8);
+    tail[..last.len()].copy_from_slice(last);
+    tail[last.len()] = 0x80;
+    let end = 64 * (block_count(rest.len()) - whole);
+    // The padding has the length of the whole message.
+    let bits = (before.wrapping_add(rest.len()) as u64).wrapping_mul(8);
     tail[end - 8..end].copy_from_slice(&bits.to_be_bytes());
     tail
 }

@@ -92,7 +92,7 @@ impl<const N: usize> Work<N> {
         if which < messages.len() {
             let message = message_at(messages, which);
             self.count[lane] = block_count(message.len());
-            self.tails[lane] = tail_of(message);
+            self.tails[lane] = tail_of(message, 0);
             put_hash(&mut self.state, lane, &INITIAL_HASH);
         } else {
             self.count[lane] = usize::MAX;
