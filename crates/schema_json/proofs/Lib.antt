@@ -6,3 +6,4 @@ pub mod Signed
 pub mod Changes
 pub mod KeyBlobs
 pub mod ValidFacts
+pub mod WrittenSignature

@@ -1,5 +1,5 @@
 //! Signed blobs.
-ghost use Rattle.std.specs.Prelude.{◌≡◌, ◌<◌, ◌++◌, length, IfOk, option_map};
+ghost use Rattle.std.specs.Prelude.{◌≡◌, ◌<◌, ◌++◌, length, IfOk, IfSome, Some, option_map};
 ghost use Rattle.serde_json.specs.View.{view};
 ghost use Rattle.schema_json.specs.Signing.{is_signature, signature_in, has_one_key, signature_of, signature_after, object_of, signed_at, signed_in};
 ghost use Rattle.std.specs.List.{list_all};
@@ -56,12 +56,24 @@ fn object_of(alloc: Global, payload: &[u8]) -> Result<Option<Value>, NoMemory>
     json_in(alloc, &text)
 }
 
-// The signature of the object that the rest of a blob is with a brace before it.
+// The signature of the object that the rest of a blob is with a brace before it. It is read as JSON only where it hasn't
+// the form in which signatures are written.
 fn signature_after(alloc: Global, rest: &[u8]) -> Result<Option<[u8; 32]>, NoMemory>
     ensures { IfOk result (λ sig. sig ≡ signature_after rest.now) }
 {
+    if let Some(sig) = written_signature(rest) {
+        return Ok(Some(sig));
+    }
     let text = joined(alloc, b"{", rest)?;
     Ok(json_in(alloc, &text)?.and_then(|value| signature_of(&value)))
+}
+
+// The signature of the rest of a blob that has the form in which signatures are written.
+fn written_signature(rest: &[u8]) -> Option<[u8; 32]>
+    ensures { IfSome result (λ sig. signature_after rest.now ≡ Some sig) }
+{
+    let text = rest.strip_prefix(b"\"camliSig\":\"")?;
+    signature_in(text.strip_suffix(b"\"}\n")?)
 }
 
 fn signature_of(value: &Value) -> Option<[u8; 32]>
