@@ -3,4 +3,4 @@
 
 mod answering;
 
-pub use answering::answer_over;
+pub use answering::{answer_over, last_answer_over};

@@ -10,7 +10,7 @@ use answer_text::search_text;
 use blobref::{NoMemory, Octets, RefList};
 use claim_index::FactList;
 use claim_verify::Verifier;
-use fact_search::answer_over;
+use fact_search::last_answer_over;
 use schema_date::When;
 use search_query::Query;
 use std::alloc::Global;
@@ -33,7 +33,8 @@ pub fn search_line<V: Verifier>(
 }
 
 /// The line that answers a query over facts (`docs/search.md`). It takes the time of making an index of the facts, and
-/// then that of a search (`fact_search::answer_over`). `NoMemory` comes only where no memory is left.
+/// then that of a search. It is for commands, which end with the line: the memory of the index is given back as the
+/// process ends (`fact_search::last_answer_over`). `NoMemory` comes only where no memory is left.
 pub fn query_line<V: Verifier>(
     alloc: Global,
     facts: FactList,
@@ -43,7 +44,7 @@ pub fn query_line<V: Verifier>(
     requires valid { AreValid facts }
     ensures { IfOk result (λ line. line ≡ query_line (from_entries facts) (V.accepts keys.now) query.now) }
 {
-    let refs = answer_over(alloc, facts, keys, query)?;
+    let refs = last_answer_over(alloc, facts, keys, query)?;
     line(alloc, &refs)
 }
 
