@@ -9,10 +9,7 @@ use Rattle.std.specs.Cmp.Lexicographic.{pointwise, nat_list_cmp_total, texts_tie
 use Rattle.std.specs.FinMap.{FinMap, get, empty, entries, entries_sorted, from_entries, find, get-from_entries, entries-insert, len-empty, len-entries}
 use Rattle.std.specs.FinMap.Entries.{put, by_order, is_sorted-where_key}
 use Rattle.blobref.specs.Blobref.{IsOwnRef, is_own_ref, ref_like, ref_cmp, is_after}
-use Rattle.edge_base.specs.Shelf.{Blob, Blobs, KeepLeaves, max_blob}
-use Rattle.edge_base.specs.declared.answers.PutFault.{PutFault}
-use Rattle.edge_base.specs.declared.answers.PutFault.TheVariants as keeping
-use Rattle.store_peer.specs.Faults.{IsOfPeer}
+use Rattle.edge_base.specs.Shelf.{Blob, Blobs, max_blob}
 use Rattle.pack_format.specs.Header.{max_size}
 use Rattle.pack_disk.specs.Packs.{Packs}
 use Rattle.pack_store.specs.declared.rows.Row.{Row}
@@ -54,7 +51,7 @@ no_entries : {X : Type 0} (es : List (List ℕ × X)) → length es ≡ 0 → es
 no_entries [] e = refl
 no_entries (e ∷ es) none = absurd (omega (arith, none))
 
-none_in_empty : (X : Type 0) → entries {X = X} (empty {R = ref_cmp}) ≡ []
+pub none_in_empty : (X : Type 0) → entries {X = X} (empty {R = ref_cmp}) ≡ []
 none_in_empty X = no_entries (entries {X = X} (empty {R = ref_cmp})) (sym (len-entries (empty {X = X} {R = ref_cmp})) ∙ len-empty ref_cmp X)
 
 entries-sized : (es : List Blob) → entries (from_entries {R = ref_cmp} (map sized es)) ≡ map sized (entries (from_entries {R = ref_cmp} es))
@@ -191,11 +188,3 @@ checked_bytes b r bytes e = go (is_own_ref b.r b.bytes) e
 
 pub found_small : (rows : List Row) (r : List ℕ) (b : Found) → All IsOfBlob rows → IsFound (entry_of r rows) b → length b.bytes ≤ max_blob
 found_small rows r b all f = omega (arith, entry_small rows r b.r f.size all f.asked_for, f.within)
-
--- why a blob that isn't too long wasn't put, as a peer tells it
-pub of_peer : (puts : List Blob → Type 0) (fills : ℕ → ℕ → Type 0) (before now : ℕ) (blob : Blob) (f : PutFault) → length blob.1 ≤ max_blob → KeepLeaves puts fills before now blob (Err f) → IsOfPeer f
-of_peer puts fills before now blob (keeping.TooBig size) small w = absurd (omega (arith, small, w.1, w.2))
-of_peer puts fills before now blob (keeping.BadDigest said is) small w = absurd w
-of_peer puts fills before now blob (keeping.Full blobs pack) small w = tt
-of_peer puts fills before now blob keeping.Disk small w = tt
-of_peer puts fills before now blob keeping.NoMemory small w = tt

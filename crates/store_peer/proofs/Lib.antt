@@ -1,2 +1,4 @@
 mod Contents
 mod Counts
+pub mod Answered
+pub mod Listed

@@ -3,19 +3,16 @@ ghost use Rattle.std.specs.Prelude.{◌≡◌, ◌≤◌, ◌∷◌, [], length,
 ghost use Rattle.std.specs.Option.{ForSome, option_map};
 ghost use Rattle.blobref.specs.Blobref.{IsOwnRef};
 ghost use Rattle.edge_base.specs.Shelf.{max_blob};
-ghost use Rattle.pack_store.specs.Packs.{KeepsAll};
-ghost use Rattle.pack_store.specs.Puts.{HasNoRoom};
-ghost use Rattle.pack_store.specs.Reading.{page, StaysStill};
-ghost use Rattle.pack_store.specs.StoreShelf.{content_of, PutsStore};
 ghost use Rattle.pack_store.specs.RunLaws.{store_puts_nothing, store_puts_then, store_follows_then};
 ghost use Rattle.peer_base.specs.Blobs.{AreHeld, IsPage, listed};
 ghost use Rattle.peer_base.specs.Causes.{ListCause, FetchCause, PutLeaves, MayKeep};
 ghost use Rattle.store_peer.specs.Faults.{IsOfPeer, get_fault, put_fault};
+ghost use Rattle.store_peer.specs.StorePeer.{peer_of};
 
 use blobref::{Listing, Octets, Ref};
-use edge_base::{GetFault, PutFault, Shelf};
+use edge_base::{GetFault, PutFault};
 use pack_disk::Disk;
-use pack_store::Store;
+use pack_store::{Store, puts_last};
 use peer_base::{Peer, PeerFault};
 use std::marker::Model;
 
@@ -50,22 +47,24 @@ impl<D: Disk> StorePeer<D> {
 }
 
 /// It tells its arrivals where its disk tells its packs, and is full as its store is. `Failed` is its disk's fault.
+/// Whether its disk tells or not, each call is one of its store: a page is that of all refs that have arrived, a ref
+/// is absent exactly where it isn't one of them, and neither `BadReply` nor `Refused` comes.
 impl<D: Disk> Peer for StorePeer<D> {
-    ghost content = { λ p. content_of D.Disk p };
+    ghost content = { (peer_of D.Disk).content };
 
-    ghost faults = { λ p. D.faults p.disk };
+    ghost faults = { (peer_of D.Disk).faults };
 
-    ghost fills = { λ p blob blobs pack. HasNoRoom D.Disk p.limits p blob blobs pack };
+    ghost fills = { (peer_of D.Disk).fills };
 
-    ghost follows = { λ a b. KeepsAll D.Disk a.disk b.disk };
+    ghost follows = { (peer_of D.Disk).follows };
 
-    ghost puts = { λ a blobs b. PutsStore D.Disk a blobs b };
+    ghost puts = { (peer_of D.Disk).puts };
 
-    ghost lists = { λ a after limit answer b. IfOk answer (λ p. p ≡ page after limit a.rows) × (b ≡ a) };
+    ghost lists = { (peer_of D.Disk).lists };
 
-    ghost fetches = { λ a r answer b. StaysStill D.Disk a b };
+    ghost fetches = { (peer_of D.Disk).fetches };
 
-    ghost keeps = { λ a blob answer b. KeepsAll D.Disk a.disk b.disk };
+    ghost keeps = { (peer_of D.Disk).keeps };
 
     ghost puts_nothing = { λ p. store_puts_nothing _ D.counts_now D.only_now p };
 
@@ -98,13 +97,15 @@ impl<D: Disk> Peer for StorePeer<D> {
         };
         let checked = match found.checked() {
             Ok(checked) => checked,
-            Err(fault) => return Err(get_fault(fault)),
+            Err(damage) => return Err(get_fault(damage)),
         };
         Ok(Some(checked.1))
     }
 
+    /// As `Store::put_own`, but that no blob is too long.
     fn put(&mut self, r: &Ref, bytes: &[u8]) -> Result<(), PeerFault> {
-        match self.store.keep(r, bytes) {
+        puts_last::<D>();
+        match self.store.put_own(r, bytes) {
             Ok(_) => Ok(()),
             Err(fault) => Err(put_fault(fault)),
         }
