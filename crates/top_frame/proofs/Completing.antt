@@ -1,5 +1,5 @@
 -- A valid command ends with all done, or for want of memory.
-use Rattle.std.proofs.Common.{◌≡◌, ◌≢◌, ◌⊎◌, ◌||◌, ◌&&◌, inl, inr, ℕ, ◌≤◌, ◌<◌, Bool, true, false, nat_le, nat_lt, Option, None, Some, IfSome, List, [], ◌∷◌, ◌++◌, length, refl, ap, subst, arith}
+use Rattle.std.proofs.Common.{◌≡◌, ◌⊎◌, ◌||◌, ◌&&◌, inl, inr, ℕ, ◌≤◌, ◌<◌, Bool, true, false, nat_le, nat_lt, Option, None, Some, IfSome, List, [], ◌∷◌, ◌++◌, length, refl, ap, subst, arith}
 use Rattle.std.proofs.lemmas.Bool.{ltb-true, leb-true}
 use Rattle.std.specs.FinMap.{entries}
 use Rattle.edge_base.specs.Edge.{FaultsRose, SourceGaveAll}
@@ -15,10 +15,9 @@ use Rattle.top_frame.specs.declared.status.InputFault.{InputFault}
 use Rattle.top_frame.specs.declared.status.Status.{Status}
 use Rattle.top_frame.specs.declared.status.Status.TheVariants as status
 use Rattle.top_frame.specs.Complete.{IsFitInput, IsCalm, IsTold, IsToldTo, IsValid, EndsWell}
-use Rattle.top_frame.specs.Frame.{Input, Exchange, Meaning, Ends, EndsEarly, StopsFull, Unusable, said_badly, read_too_much, read_wrongly, found_unfit, WhileReading, ReadsTooMuch, WhenRead, WhileExchanging, WhilePushing, WhereUntold, StoreReplied, StoreAnswered, PeerReplied, PeerAnswered, reads_nothing, reads_first, reads_later, no_peer, pulls, pushes}
+use Rattle.top_frame.specs.Frame.{Input, Exchange, Meaning, Ends, EndsEarly, StopsFull, Unusable, said_badly, read_too_much, read_wrongly, found_unfit, WhileReading, ReadsTooMuch, WhenRead, WhileExchanging, WhilePushing, WhileFetching, PeerReplied, reads_nothing, reads_first, reads_later, no_peer, pulls, pushes}
 use Rattle.top_frame.specs.Limits.{limits}
 use Rattle.top_frame.specs.Outside.{Outside, World}
-use Rattle.peer_base.specs.declared.peer.PeerFault.TheVariants as peer_fault
 
 some_none : {X : Type 0} (told : Option X) (x : X) → told ≡ Some x → told ≡ None → ⊥
 some_none told x some none = absurd (cc (some, none))
@@ -87,9 +86,10 @@ module _ {D P S K C R : Type 0} (o : Outside D P S K C R) (m : Meaning) (old new
   while pulls Why never tells w = never tells w.why.why
   while pushes Why never tells w = never tells w.why.why
 
-  both_tell : (Stored Answered : Type 0) → IsTold o old new → WhereUntold o m old new Stored Answered → ⊥
-  both_tell Stored Answered tells (inl none) = some_none (o.disk.packs old.disk) held v.tells none.0
-  both_tell Stored Answered tells (inr none) = tells.tells none.0
+  none_damaged : (x : Exchange) (want is : List ℕ) → IsToldTo o old new x → WhileFetching o m old new x want is → ⊥
+  none_damaged no_peer want is tells w = w
+  none_damaged pulls want is tells w = tells.tells w.why.why.1.0
+  none_damaged pushes want is tells w = some_none (o.disk.packs old.disk) held v.tells w.why.why.1.untold
 
   never_full : (x : Exchange) (blobs pack : ℕ) → IsToldTo o old new x → WhilePushing o m old new x blobs pack → ⊥
   never_full no_peer blobs pack tells w = w
@@ -118,7 +118,7 @@ module _ {D P S K C R : Type 0} (o : Outside D P S K C R) (m : Meaning) (old new
   ends_well (status.BadInput fault) e = absurd (usable fault e.ends)
   ends_well (status.Absent r) e = absurd (not_refused (status.Absent r) e.ends)
   ends_well status.Peer e = absurd (while m.exchange (FaultsRose (o.peer.faults old.peer) (o.peer.faults new.peer)) (λ tells rose. calm.peer rose) v.peer e.ends)
-  ends_well (status.BadReply why) e = absurd (while m.exchange (WhereUntold o m old new (StoreReplied o m old new why) (PeerReplied o m old new why)) (both_tell (StoreReplied o m old new why) (PeerReplied o m old new why)) v.peer e.ends)
+  ends_well (status.BadReply why) e = absurd (while m.exchange (PeerReplied o m old new why) (λ tells w. tells.tells w.0) v.peer e.ends)
   ends_well (status.Full blobs pack) e = absurd (full e.ends)
     where
       full : EndsEarly o m old new (λ given bytes gone rest. StopsFull o m old new blobs pack rest) ⊎ WhilePushing o m old new m.exchange blobs pack → ⊥
@@ -126,6 +126,6 @@ module _ {D P S K C R : Type 0} (o : Outside D P S K C R) (m : Meaning) (old new
       full (inr w) = never_full m.exchange blobs pack v.peer w
   ends_well (status.Damaged want is) e = absurd (damaged e.ends)
     where
-      damaged : EndsEarly o m old new (λ given bytes gone rest. m.Refuses given (o.disk.packs old.disk) bytes gone (status.Damaged want is)) ⊎ WhileExchanging o m old new m.exchange ((is ≢ want) × WhereUntold o m old new (StoreAnswered o m old new (peer_fault.Damaged want is)) (PeerAnswered o m old new (peer_fault.Damaged want is))) → ⊥
+      damaged : EndsEarly o m old new (λ given bytes gone rest. m.Refuses given (o.disk.packs old.disk) bytes gone (status.Damaged want is)) ⊎ WhileFetching o m old new m.exchange want is → ⊥
       damaged (inl w) = not_refused (status.Damaged want is) w
-      damaged (inr w) = while m.exchange ((is ≢ want) × WhereUntold o m old new (StoreAnswered o m old new (peer_fault.Damaged want is)) (PeerAnswered o m old new (peer_fault.Damaged want is))) (λ tells w. both_tell (StoreAnswered o m old new (peer_fault.Damaged want is)) (PeerAnswered o m old new (peer_fault.Damaged want is)) tells w.1) v.peer w
+      damaged (inr w) = none_damaged m.exchange want is v.peer w

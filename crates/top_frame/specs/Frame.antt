@@ -1,5 +1,5 @@
 -- What a command means, and how a run of it may end: the same for every command (docs/commands.md).
-use Rattle.std.specs.Prelude.{◌≡◌, ◌≢◌, ◌⊎◌, ◌≤◌, ◌<◌, ◌+◌, ℕ, ℤ, Bool, true, false, List, [], ◌∷◌, ◌++◌, length, Option, None, Some, IfSome, Ok, Err}
+use Rattle.std.specs.Prelude.{◌≡◌, ◌≢◌, ◌⊎◌, ◌≤◌, ◌<◌, ◌+◌, ℕ, ℤ, Bool, true, false, List, [], ◌∷◌, ◌++◌, length, Option, None, Some, IfSome, Err}
 use Rattle.std.specs.Option.{ForSome, option_map}
 use Rattle.std.specs.FinMap.{entries}
 use Rattle.schema_date.specs.Dates.{IsInRange}
@@ -16,9 +16,10 @@ use Rattle.pack_store.specs.Packs.{KeepsAll}
 use Rattle.pack_store.specs.Puts.{PutsAll, HoldAll, IsFull, IsAtLimit, blobs_of}
 use Rattle.peer_base.specs.declared.peer.PeerFault.{PeerFault}
 use Rattle.peer_base.specs.declared.peer.PeerFault.TheVariants as peer_fault
-use Rattle.listed_pages.specs.Answers.{Listed, Fetched, Put, IsReached}
+use Rattle.listed_pages.specs.Answers.{Fetched, IsReached}
 use Rattle.sync_core.specs.Copying.{lacking, copied, StandIn}
 use Rattle.sync_core.specs.Turns.{SyncsAll}
+use Rattle.store_peer.specs.StorePeer.{peer_of}
 use Rattle.top_frame.specs.declared.status.ReplyFault.{ReplyFault}
 use Rattle.top_frame.specs.declared.status.ReplyFault.TheVariants as reply
 use Rattle.top_frame.specs.declared.status.InputFault.{InputFault}
@@ -26,7 +27,7 @@ use Rattle.top_frame.specs.declared.status.Status.{Status}
 use Rattle.top_frame.specs.declared.status.Status.TheVariants as status
 use Rattle.top_frame.specs.Limits.{limits}
 use Rattle.top_frame.specs.Outside.{Outside, World}
-use Rattle.top_frame.specs.Stores.{peer_of, Answers, Replies}
+use Rattle.top_frame.specs.Answers.{Answers, Replies, SyncsPart}
 
 -- ---- what a command means
 
@@ -188,8 +189,24 @@ module _ {D P S K C R : Type 0} (o : Outside D P S K C R) (m : Meaning) (old new
     pub all : WhereBothTell (λ here there. given.pulled ≡ lacking there here)
     pub counted : WhereBothTell (λ here there. AreCounted given there here)
 
-  -- what was to be pulled where that stopped: nothing was put to the peer
+  -- these were pulled: none, since the store wasn't opened, or those that a sync copied
+  abbrev pub PullsPart : Given → List Blob → Type 0
+  PullsPart given pulled = ((new.peer ≡ old.peer) × (pulled ≡ []))
+      ⊎ ((store store_now : Archive D) × IsOpened store store_now
+      × SyncsPart o.peer (peer_of o.disk) old.peer new.peer store store_now pulled given.lacked given.had)
+
+  -- and these pushed
+  abbrev pub PushesPart : Given → List Blob → Type 0
+  PushesPart given sent = ((new.peer ≡ old.peer) × (sent ≡ []))
+      ⊎ ((store store_now : Archive D) × IsOpened store store_now
+      × SyncsPart (peer_of o.disk) o.peer store store_now old.peer new.peer sent given.lacked given.had)
+
+  -- what was to be pulled where that stopped, and what of it was: nothing was put to the peer
   pub record PullsSome (given : Given) : Type 0 where
+    pub pulled : List Blob
+    pub rest : List Blob
+    pub cut : given.pulled ≡ pulled ++ rest
+    pub did : PullsPart given pulled
     pub alone : o.peer.puts old.peer [] new.peer
     pub all : WhereBothTell (λ here there. given.pulled ≡ lacking there here)
 
@@ -210,8 +227,9 @@ module _ {D P S K C R : Type 0} (o : Outside D P S K C R) (m : Meaning) (old new
     pub reached : IsReached o.peer old.peer new.peer
 
   -- a front of them was put where that stopped, and it is known what was put unless the peer failed
-  pub record PushesSome : Type 0 where
+  pub record PushesSome (given : Given) : Type 0 where
     pub sent : List Blob
+    pub did : PushesPart given sent
     pub stand : StandIn (option_map blobs_of told) sent
     pub put : o.peer.puts old.peer sent new.peer ⊎ FaultsRose (o.peer.faults old.peer) (o.peer.faults new.peer)
     pub kept : Keeps (o.peer.content old.peer) (o.peer.content new.peer) sent
@@ -225,33 +243,23 @@ module _ {D P S K C R : Type 0} (o : Outside D P S K C R) (m : Meaning) (old new
   abbrev pub ExchangesSome : Exchange → Given → Type 0
   ExchangesSome no_peer given = Unit {0}
   ExchangesSome pulls given = PullsSome given
-  ExchangesSome pushes given = PushesSome
+  ExchangesSome pushes given = PushesSome given
 
-  -- a call of the peer answered with this fault
+  -- the peer, which doesn't tell what it holds, answered a call with this fault
   abbrev pub PeerAnswered : PeerFault → Type 0
-  PeerAnswered e = Answers o.peer old.peer new.peer e
+  PeerAnswered e = (o.peer.content old.peer ≡ None) × Answers o.peer old.peer new.peer e
 
-  -- its reply can't be used
+  -- or so that its reply can't be used
   abbrev pub PeerReplied : ReplyFault → Type 0
-  PeerReplied why = Replies o.peer old.peer new.peer why
+  PeerReplied why = (o.peer.content old.peer ≡ None) × Replies o.peer old.peer new.peer why
 
-  -- a call of the store that was opened answered with this fault
-  pub record StoreAnswered (e : PeerFault) : Type 0 where
+  -- The store that was opened on a disk that doesn't tell its packs was asked for a blob: the bytes that it read have this other ref.
+  pub record StoreDamaged (want is : List ℕ) : Type 0 where
+    pub untold : told ≡ None
     pub store : Archive D
     pub store_now : Archive D
     pub opens : IsOpened store store_now
-    pub answers : Answers (peer_of o.disk) store store_now e
-
-  -- or so that a peer's reply couldn't be used
-  pub record StoreReplied (why : ReplyFault) : Type 0 where
-    pub store : Archive D
-    pub store_now : Archive D
-    pub opens : IsOpened store store_now
-    pub replies : Replies (peer_of o.disk) store store_now why
-
-  -- One of the two doesn't tell what it holds, and a call of that one answered so: the disk, whose store did, or else the peer.
-  abbrev pub WhereUntold : (Stored Answered : Type 0) → Type 0
-  WhereUntold Stored Answered = ((told ≡ None) × Stored) ⊎ ((o.peer.content old.peer ≡ None) × Answered)
+    pub fetched : Fetched (peer_of o.disk) store store_now want (Err (peer_fault.Damaged want is))
 
   -- ---- how it ends
 
@@ -323,6 +331,12 @@ module _ {D P S K C R : Type 0} (o : Outside D P S K C R) (m : Meaning) (old new
   WhilePushing pushes blobs pack = EndsEarly (λ given bytes gone rest. (blob : Blob) × o.peer.fills new.peer blob blobs pack)
   WhilePushing _ blobs pack = ⊥
 
+  -- bytes of another ref were read where blobs are copied from: from the peer, or from the store
+  abbrev pub WhileFetching : Exchange → List ℕ → List ℕ → Type 0
+  WhileFetching no_peer want is = ⊥
+  WhileFetching pulls want is = EndsEarly (λ given bytes gone rest. (is ≢ want) × PeerAnswered (peer_fault.Damaged want is))
+  WhileFetching pushes want is = EndsEarly (λ given bytes gone rest. (is ≢ want) × StoreDamaged want is)
+
   -- a fault of the reading, where the command reads
   abbrev pub WhileReading : Input → (ℕ → Type 0) → Type 0
   WhileReading reads_nothing Why = ⊥
@@ -375,11 +389,11 @@ module _ {D P S K C R : Type 0} (o : Outside D P S K C R) (m : Meaning) (old new
   EndsBy status.HandFault = RefusedEarly WhileDrawing
   EndsBy status.Disk = RefusedLate (λ given bytes. FaultsRose (o.disk.faults old.disk) (o.disk.faults new.disk))
   EndsBy status.Peer = WhileExchanging m.exchange (FaultsRose (o.peer.faults old.peer) (o.peer.faults new.peer))
-  EndsBy (status.BadReply why) = WhileExchanging m.exchange (WhereUntold (StoreReplied why) (PeerReplied why))
+  EndsBy (status.BadReply why) = WhileExchanging m.exchange (PeerReplied why)
   EndsBy (status.Full blobs pack) = EndsEarly (λ given bytes gone rest. StopsFull blobs pack rest) ⊎ WhilePushing m.exchange blobs pack
   EndsBy (status.Absent r) = EndsEarly (λ given bytes gone rest. m.Refuses given told bytes gone (status.Absent r))
   EndsBy (status.Damaged want is) = EndsEarly (λ given bytes gone rest. m.Refuses given told bytes gone (status.Damaged want is))
-      ⊎ WhileExchanging m.exchange ((is ≢ want) × WhereUntold (StoreAnswered (peer_fault.Damaged want is)) (PeerAnswered (peer_fault.Damaged want is)))
+      ⊎ WhileFetching m.exchange want is
   EndsBy status.BadWords = ⊥
 
   pub record Ends (answer : Status) : Type 0 where

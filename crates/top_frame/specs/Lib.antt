@@ -6,4 +6,4 @@ pub mod Frame
 pub mod Steps
 pub mod Asking
 pub mod Complete
-pub mod Stores
+pub mod Answers

@@ -24,7 +24,7 @@ use Rattle.top_frame.specs.declared.status.Status.TheVariants as status
 use Rattle.top_frame.specs.Frame.{Exchange, no_peer, pulls, Given, Meaning, IsQuiet, Always, Exchanges, ExchangesSome, Finishes, RefusedLate, EndsEarly, EndsBy}
 use Rattle.top_frame.specs.Limits.{limits}
 use Rattle.top_frame.specs.Outside.{Outside, World, world}
-use Rattle.top_frame.specs.Stores.{Answers}
+use Rattle.top_frame.specs.Answers.{Answers}
 use Rattle.top_frame.specs.Steps.{Finds, NeverRefuses, Writes}
 use Rattle.top_sync.specs.Meanings.{exchanging, copied_line}
 

@@ -1,3 +1,4 @@
 pub mod Exchanged
+pub mod Stored
 pub mod Pushed
 pub mod Pulled

@@ -17,19 +17,18 @@ use Rattle.sync_core.specs.declared.syncing.SyncFault.TheVariants as sync
 use Rattle.sync_core.specs.declared.syncing.Synced.{Synced}
 use Rattle.sync_core.specs.Causes.{FirstIs}
 use Rattle.sync_core.specs.Copying.{lacking}
-use Rattle.sync_core.specs.Syncing.{ForBoth, IsStopped, IsSynced}
-use Rattle.top_frame.specs.declared.status.ReplyFault.{ReplyFault}
-use Rattle.top_frame.specs.declared.status.ReplyFault.TheVariants as reply
+use Rattle.sync_core.specs.Syncing.{IsStopped, IsSynced}
+use Rattle.store_peer.specs.StorePeer.{peer_of}
 use Rattle.top_frame.specs.declared.status.Status.{Status}
 use Rattle.top_frame.specs.declared.status.Status.TheVariants as status
 use Rattle.top_frame.specs.Faults.{pull_status}
-use Rattle.top_frame.specs.Frame.{pulls, Given, IsQuiet, Always, IsOpened, StoreReplied, PullsAll, PullsSome, EndsEarly, StopsFull, EndsBy, Ends}
+use Rattle.top_frame.specs.Frame.{pulls, Given, IsQuiet, Always, IsOpened, PullsAll, PullsSome, EndsEarly, StopsFull, EndsBy, Ends}
 use Rattle.top_frame.specs.Limits.{limits}
 use Rattle.top_frame.specs.Outside.{Outside, World}
-use Rattle.top_frame.specs.Stores.{peer_of, Replies}
 use Rattle.top_frame.specs.Steps.{Finds, NeverRefuses, Writes}
 use Rattle.top_sync.specs.Meanings.{pull_meaning, copied_line}
-use Rattle.top_sync.proofs.Exchanged.{from_source, from_target, holds, later_rose, untold, given_of, now_at, always, late, stops, written, unopened}
+use Rattle.top_sync.proofs.Exchanged.{from_source, holds, later_rose, given_of, now_at, always, late, stops, written, unopened}
+use Rattle.top_sync.proofs.Stored.{bad_reply, refused, never_target}
 
 abbrev its_blobs : Given → List Blob
 its_blobs given = given.pulled
@@ -67,16 +66,19 @@ module _ {D P S K C R : Type 0} (o : Outside D P S K C R)
   puts_some : IsQuiet pull_meaning → ⊥
   puts_some q = cc (q (given_of (([], []) ∷ []) 0 0))
 
-  some_of : (d : D) (p : P) (k : K) (known : List Blob) → o.peer.puts old.peer [] p → PullsSome o pull_meaning old (here d p k) (given_of (pulled_of there told known) 0 0)
-  some_of d p k known alone = record { alone = alone; all = shown known there told }
+  abbrev given_known : List Blob → Given
+  given_known known = given_of (pulled_of there told known) 0 0
 
   -- ---- the store wasn't opened
 
   module _ (nothing_put : o.peer.puts old.peer [] old.peer) (e : D) (stays : Stays o.disk old.disk e) (later : o.disk.faults old.disk ≤ o.disk.faults e) where
+    none_pulled : PullsSome o pull_meaning old (here e old.peer old.sink) (given_known [])
+    none_pulled = record { pulled = []; rest = pulled_of there told []; cut = refl; did = inl (refl, refl); alone = nothing_put; all = shown [] there told }
+
     pub pull_unopened : (end : Status) → Finds o.disk old.disk e NeverRefuses end → Ends o pull_meaning old (here e old.peer old.sink) end
     pull_unopened end why = record {
       always = always o old pulls its_blobs (λ e. absurd (cc e)) e old.peer old.sink (stays_keeps o.disk counts_now only_now old.disk e stays) (λ _. stays) (λ _. refl) later (omega arith) (omega arith);
-      ends = unopened o old pulls its_blobs e stays (given_of (pulled_of there told []) 0 0) refl (some_of e old.peer old.sink [] nothing_put) end why;
+      ends = unopened o old pulls its_blobs e stays (given_known []) refl none_pulled end why;
     }
 
   -- ---- it was
@@ -115,23 +117,35 @@ module _ {D P S K C R : Type 0} (o : Outside D P S K C R)
     asked : (k : K) → IsOpened o pull_meaning old (here s1.disk p1 k) s0 s1
     asked k = record { opened = opened; now = refl }
 
-    stored_replies : (why : ReplyFault) → Replies (peer_of o.disk) s0 s1 why → StoreReplied o pull_meaning old (here s1.disk p1 old.sink) why
-    stored_replies why replies = record { store = s0; store_now = s1; opens = asked old.sink; replies = replies }
+    module _ (f : SyncFault) (w : IsStopped o.peer (peer_of o.disk) old.peer p1 s0 s1 f) where
+      abbrev gone : List Blob
+      gone = w.gone
 
-    module _ (gone next : List Blob) (front : ForBoth o.peer (peer_of o.disk) old.peer s0 (λ from to. (rest : List Blob) × (lacking from to ≡ (gone ++ next) ++ rest))) where
+      abbrev next : List Blob
+      next = w.next
+
       abbrev given : Given
-      given = given_of (pulled_of there told (gone ++ next)) 0 0
-
-      some : PullsSome o pull_meaning old (here s1.disk p1 old.sink) given
-      some = some_of s1.disk p1 old.sink (gone ++ next) alone
+      given = given_known (gone ++ next)
 
       -- what is to be pulled begins with what was copied and what was tried
       cut_of : (from : Option Blobs) (packs : Option Packs) → there ≡ from → told ≡ packs → (rest : List Blob) × (pulled_of from packs (gone ++ next) ≡ gone ++ (next ++ rest))
       cut_of None packs e f = ([], ap (λ l. gone ++ l) (sym (append-nil next)))
       cut_of (Some from) None e f = ([], ap (λ l. gone ++ l) (sym (append-nil next)))
       cut_of (Some from) (Some held) e f =
-          let all = front from e (blobs_of held) (in_packs held f) in
+          let all = w.front from e (blobs_of held) (in_packs held f) in
           (all.0, all.1 ∙ append_assoc gone next all.0)
+
+      some : PullsSome o pull_meaning old (here s1.disk p1 old.sink) given
+      some =
+          let cut = cut_of there told refl refl in
+          record {
+            pulled = gone;
+            rest = next ++ cut.0;
+            cut = cut.1;
+            did = inr (s0, s1, asked old.sink, inl (next, f, w.did));
+            alone = alone;
+            all = shown (gone ++ next) there told;
+          }
 
       stopped : PutsStore o.disk s0 gone s1 → {Why : Given → List ℕ → List Blob → List Blob → Type 0} → ((rest : List Blob) → Why given [] gone (next ++ rest)) → EndsEarly o pull_meaning old (here s1.disk p1 old.sink) Why
       stopped puts why =
@@ -147,27 +161,25 @@ module _ {D P S K C R : Type 0} (o : Outside D P S K C R)
           inl (stopped puts (λ rest. subst (λ l. StopsFull o pull_meaning old (here s1.disk p1 old.sink) count pack (l ++ rest)) (sym is) room))
 
     pull_why : (f : SyncFault) → IsStopped o.peer (peer_of o.disk) old.peer p1 s0 s1 f → EndsBy o pull_meaning old (here s1.disk p1 old.sink) (pull_status f)
-    pull_why (sync.Source peer_fault.Failed) w = stopped w.gone w.next w.front w.stopped.put (λ rest. w.stopped.why.0)
-    pull_why (sync.Source peer_fault.BadReply) w = stopped w.gone w.next w.front w.stopped.put (λ rest. inr (w.stopped.why.0, from_source o.peer old.peer p1 peer_fault.BadReply w.stopped.why.1))
+    pull_why (sync.Source peer_fault.Failed) w = stopped (sync.Source peer_fault.Failed) w w.stopped.put (λ rest. w.stopped.why.0)
+    pull_why (sync.Source peer_fault.BadReply) w =
+        stopped (sync.Source peer_fault.BadReply) w w.stopped.put (λ rest. (w.stopped.why.0, from_source o.peer old.peer p1 peer_fault.BadReply w.stopped.why.1))
     pull_why (sync.Source (peer_fault.Refused number)) w =
-        stopped w.gone w.next w.front w.stopped.put (λ rest. inr (w.stopped.why.0, from_source o.peer old.peer p1 (peer_fault.Refused number) w.stopped.why.1))
+        stopped (sync.Source (peer_fault.Refused number)) w w.stopped.put (λ rest. (w.stopped.why.0, from_source o.peer old.peer p1 (peer_fault.Refused number) w.stopped.why.1))
     pull_why (sync.Source (peer_fault.Damaged want is)) w =
-        inr (stopped w.gone w.next w.front w.stopped.put (λ rest. (w.stopped.why.0.0, inr (w.stopped.why.0.1, from_source o.peer old.peer p1 (peer_fault.Damaged want is) w.stopped.why.1))))
+        inr (stopped (sync.Source (peer_fault.Damaged want is)) w w.stopped.put
+        (λ rest. (w.stopped.why.0.0, (w.stopped.why.0.1, from_source o.peer old.peer p1 (peer_fault.Damaged want is) w.stopped.why.1))))
     pull_why (sync.Source (peer_fault.Full count pack)) w = absurd w.stopped.why.0
-    pull_why (sync.Source peer_fault.NoMemory) w = inr (stopped w.gone w.next w.front w.stopped.put (λ rest. tt))
+    pull_why (sync.Source peer_fault.NoMemory) w = inr (stopped (sync.Source peer_fault.NoMemory) w w.stopped.put (λ rest. tt))
     pull_why (sync.Target peer_fault.Failed) w =
-        late o old pulls its_blobs s1.disk p1 (given w.gone w.next w.front) refl (some w.gone w.next w.front)
+        late o old pulls its_blobs s1.disk p1 (given (sync.Target peer_fault.Failed) w) refl (some (sync.Target peer_fault.Failed) w)
         (later_rose (o.disk.faults old.disk) (o.disk.faults s0.disk) (o.disk.faults s1.disk) opened_later w.stopped.why.0)
-    pull_why (sync.Target peer_fault.BadReply) w =
-        stopped w.gone w.next w.front w.stopped.put
-        (λ rest. inl (untold told (content_of o.disk s0) stored w.stopped.why.0, stored_replies reply.Grammar (from_target (peer_of o.disk) s0 s1 peer_fault.BadReply (λ e. cc e) w.stopped.why.1)))
-    pull_why (sync.Target (peer_fault.Refused number)) w =
-        stopped w.gone w.next w.front w.stopped.put
-        (λ rest. inl (untold told (content_of o.disk s0) stored w.stopped.why.0, stored_replies (reply.Refused number) (from_target (peer_of o.disk) s0 s1 (peer_fault.Refused number) (λ e. cc e) w.stopped.why.1)))
+    pull_why (sync.Target peer_fault.BadReply) w = absurd (never_target o.disk s0 s1 peer_fault.BadReply w.stopped.why.1 bad_reply)
+    pull_why (sync.Target (peer_fault.Refused number)) w = absurd (never_target o.disk s0 s1 (peer_fault.Refused number) w.stopped.why.1 (refused number))
     pull_why (sync.Target (peer_fault.Damaged want is)) w = absurd w.stopped.why.0
-    pull_why (sync.Target (peer_fault.Full count pack)) w = full w.gone w.next w.front count pack w.stopped.put w.next refl w.stopped.why.0
-    pull_why (sync.Target peer_fault.NoMemory) w = inr (stopped w.gone w.next w.front w.stopped.put (λ rest. tt))
-    pull_why (sync.Gone r) w = stopped w.gone w.next w.front w.stopped.put (λ rest. inr (w.stopped.why.0, w.stopped.why.1))
+    pull_why (sync.Target (peer_fault.Full count pack)) w = full (sync.Target (peer_fault.Full count pack)) w count pack w.stopped.put w.next refl w.stopped.why.0
+    pull_why (sync.Target peer_fault.NoMemory) w = inr (stopped (sync.Target peer_fault.NoMemory) w w.stopped.put (λ rest. tt))
+    pull_why (sync.Gone r) w = stopped (sync.Gone r) w w.stopped.put (λ rest. (w.stopped.why.0, w.stopped.why.1))
 
     pub pull_refused : (f : SyncFault) → IsStopped o.peer (peer_of o.disk) old.peer p1 s0 s1 f → Ends o pull_meaning old (here s1.disk p1 old.sink) (pull_status f)
     pull_refused f w = record { always = always_so old.sink (omega arith); ends = pull_why f w }
@@ -194,7 +206,14 @@ module _ {D P S K C R : Type 0} (o : Outside D P S K C R)
       pub pull_unwritten : Ends o pull_meaning old (here s1.disk p1 old.sink) status.NoMemory
       pull_unwritten = record {
         always = always_so old.sink (omega arith);
-        ends = inr (stops o old pulls its_blobs s1.disk p1 pulled refl (record { alone = alone; all = λ held e from f. w.all from f (blobs_of held) (in_packs held e) }) w.gone [] (sym (append-nil w.gone))
+        ends = inr (stops o old pulls its_blobs s1.disk p1 pulled refl (record {
+          pulled = w.gone;
+          rest = [];
+          cut = sym (append-nil w.gone);
+          did = inr (s0, s1, asked old.sink, inr w.did);
+          alone = alone;
+          all = λ held e from f. w.all from f (blobs_of held) (in_packs held e);
+        }) w.gone [] (sym (append-nil w.gone))
             (put_of w.gone w.copies.put) (of_store w.gone w.copies.put).held tt);
       }
 

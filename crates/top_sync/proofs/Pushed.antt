@@ -10,7 +10,6 @@ use Rattle.pack_store.specs.Archive.{Archive}
 use Rattle.pack_store.specs.Puts.{Stands, blobs_of}
 use Rattle.pack_store.specs.StoreShelf.{content_of, PutsStore, ContentStands}
 use Rattle.pack_store.proofs.Moments.{stays_then, stays_keeps}
-use Rattle.peer_base.specs.declared.peer.PeerFault.{PeerFault}
 use Rattle.peer_base.specs.declared.peer.PeerFault.TheVariants as peer_fault
 use Rattle.sync_core.specs.declared.syncing.SyncFault.{SyncFault}
 use Rattle.sync_core.specs.declared.syncing.SyncFault.TheVariants as sync
@@ -18,18 +17,17 @@ use Rattle.sync_core.specs.declared.syncing.Synced.{Synced}
 use Rattle.sync_core.specs.Causes.{FirstIs}
 use Rattle.sync_core.specs.Copying.{lacking, StandIn}
 use Rattle.sync_core.specs.Syncing.{IsStopped, IsSynced}
-use Rattle.top_frame.specs.declared.status.ReplyFault.{ReplyFault}
-use Rattle.top_frame.specs.declared.status.ReplyFault.TheVariants as reply
+use Rattle.store_peer.specs.StorePeer.{peer_of}
 use Rattle.top_frame.specs.declared.status.Status.{Status}
 use Rattle.top_frame.specs.declared.status.Status.TheVariants as status
 use Rattle.top_frame.specs.Faults.{push_status}
-use Rattle.top_frame.specs.Frame.{pushes, Given, Always, IsOpened, StoreAnswered, StoreReplied, PushesAll, PushesSome, EndsEarly, EndsBy, Ends}
+use Rattle.top_frame.specs.Frame.{pushes, Given, Always, IsOpened, StoreDamaged, PushesAll, PushesSome, EndsEarly, EndsBy, Ends}
 use Rattle.top_frame.specs.Limits.{limits}
 use Rattle.top_frame.specs.Outside.{Outside, World}
-use Rattle.top_frame.specs.Stores.{peer_of, Answers, Replies}
 use Rattle.top_frame.specs.Steps.{Finds, NeverRefuses, Writes}
 use Rattle.top_sync.specs.Meanings.{push_meaning, copied_line}
-use Rattle.top_sync.proofs.Exchanged.{from_source, from_target, holds, later_rose, untold, none_stand, front_stands, kept_none, given_of, now_at, always, late, stops, written, put_none, unopened}
+use Rattle.top_sync.proofs.Stored.{bad_reply, refused, never_source, damaged_source, never_gone}
+use Rattle.top_sync.proofs.Exchanged.{from_target, holds, later_rose, untold, none_stand, front_stands, kept_none, given_of, now_at, always, late, stops, written, put_none, unopened}
 
 abbrev no_blobs : Given → List Blob
 no_blobs given = []
@@ -49,9 +47,10 @@ module _ {D P S K C R : Type 0} (o : Outside D P S K C R)
   -- ---- the store wasn't opened
 
   module _ (nothing_put : o.peer.puts old.peer [] old.peer) (e : D) (stays : Stays o.disk old.disk e) (later : o.disk.faults old.disk ≤ o.disk.faults e) where
-    sent_none : PushesSome o push_meaning old (here e old.peer old.sink)
+    sent_none : PushesSome o push_meaning old (here e old.peer old.sink) pushed
     sent_none = record {
       sent = [];
+      did = inl (refl, refl);
       stand = none_stand (option_map blobs_of told);
       put = inl nothing_put;
       kept = kept_none (o.peer.content old.peer);
@@ -106,20 +105,24 @@ module _ {D P S K C R : Type 0} (o : Outside D P S K C R)
     asked : (k : K) → IsOpened o push_meaning old (here s1.disk p1 k) s0 s1
     asked k = record { opened = opened; now = refl }
 
-    stored_replies : (why : ReplyFault) → Replies (peer_of o.disk) s0 s1 why → StoreReplied o push_meaning old (here s1.disk p1 old.sink) why
-    stored_replies why replies = record { store = s0; store_now = s1; opens = asked old.sink; replies = replies }
-
-    stored_answers : (e : PeerFault) → Answers (peer_of o.disk) s0 s1 e → StoreAnswered o push_meaning old (here s1.disk p1 old.sink) e
-    stored_answers e answers = record { store = s0; store_now = s1; opens = asked old.sink; answers = answers }
+    damaged : (want is : List ℕ) → IsStopped (peer_of o.disk) o.peer s0 s1 old.peer p1 (sync.Source (peer_fault.Damaged want is)) → StoreDamaged o push_meaning old (here s1.disk p1 old.sink) want is
+    damaged want is w = record {
+      untold = untold told (content_of o.disk s0) stored w.stopped.why.0.1;
+      store = s0;
+      store_now = s1;
+      opens = asked old.sink;
+      fetched = damaged_source o.disk s0 s1 want is w.stopped.why.1;
+    }
 
     first_fills : (count pack : ℕ) (next : List Blob) → FirstIs (λ blob. o.peer.fills p1 blob count pack) next → (blob : Blob) × o.peer.fills p1 blob count pack
     first_fills count pack [] w = absurd w
     first_fills count pack (blob ∷ more) w = (blob, w)
 
     module _ (f : SyncFault) (w : IsStopped (peer_of o.disk) o.peer s0 s1 old.peer p1 f) where
-      some : PushesSome o push_meaning old (here s1.disk p1 old.sink)
+      some : PushesSome o push_meaning old (here s1.disk p1 old.sink) pushed
       some = record {
         sent = w.gone;
+        did = inr (s0, s1, asked old.sink, inl (w.next, f, w.did));
         stand = subst (λ from. StandIn from w.gone) stored (front_stands (content_of o.disk s0) w.gone w.next w.stopped.stand);
         put = known f w;
         kept = w.stopped.given;
@@ -132,29 +135,21 @@ module _ {D P S K C R : Type 0} (o : Outside D P S K C R)
     push_why : (f : SyncFault) → IsStopped (peer_of o.disk) o.peer s0 s1 old.peer p1 f → EndsBy o push_meaning old (here s1.disk p1 old.sink) (push_status f)
     push_why (sync.Source peer_fault.Failed) w = late o old pushes no_blobs s1.disk p1 pushed refl (some (sync.Source peer_fault.Failed) w)
         (later_rose (o.disk.faults old.disk) (o.disk.faults s0.disk) (o.disk.faults s1.disk) opened_later w.stopped.why.0)
-    push_why (sync.Source peer_fault.BadReply) w =
-        stopped (sync.Source peer_fault.BadReply) w
-        (inl (untold told (content_of o.disk s0) stored w.stopped.why.0, stored_replies reply.Grammar (from_source (peer_of o.disk) s0 s1 peer_fault.BadReply w.stopped.why.1)))
-    push_why (sync.Source (peer_fault.Refused number)) w =
-        stopped (sync.Source (peer_fault.Refused number)) w
-        (inl (untold told (content_of o.disk s0) stored w.stopped.why.0, stored_replies (reply.Refused number) (from_source (peer_of o.disk) s0 s1 (peer_fault.Refused number) w.stopped.why.1)))
-    push_why (sync.Source (peer_fault.Damaged want is)) w =
-        inr (stopped (sync.Source (peer_fault.Damaged want is)) w (
-          w.stopped.why.0.0,
-          inl (untold told (content_of o.disk s0) stored w.stopped.why.0.1, stored_answers (peer_fault.Damaged want is) (from_source (peer_of o.disk) s0 s1 (peer_fault.Damaged want is) w.stopped.why.1)),
-        ))
+    push_why (sync.Source peer_fault.BadReply) w = absurd (never_source o.disk s0 s1 peer_fault.BadReply w.stopped.why.1 bad_reply)
+    push_why (sync.Source (peer_fault.Refused number)) w = absurd (never_source o.disk s0 s1 (peer_fault.Refused number) w.stopped.why.1 (refused number))
+    push_why (sync.Source (peer_fault.Damaged want is)) w = inr (stopped (sync.Source (peer_fault.Damaged want is)) w (w.stopped.why.0.0, damaged want is w))
     push_why (sync.Source (peer_fault.Full count pack)) w = absurd w.stopped.why.0
     push_why (sync.Source peer_fault.NoMemory) w = inr (stopped (sync.Source peer_fault.NoMemory) w tt)
     push_why (sync.Target peer_fault.Failed) w = stopped (sync.Target peer_fault.Failed) w w.stopped.why.0
     push_why (sync.Target peer_fault.BadReply) w =
-        stopped (sync.Target peer_fault.BadReply) w (inr (w.stopped.why.0, from_target o.peer old.peer p1 peer_fault.BadReply (λ e. cc e) w.stopped.why.1))
+        stopped (sync.Target peer_fault.BadReply) w (w.stopped.why.0, from_target o.peer old.peer p1 peer_fault.BadReply (λ e. cc e) w.stopped.why.1)
     push_why (sync.Target (peer_fault.Refused number)) w =
-        stopped (sync.Target (peer_fault.Refused number)) w (inr (w.stopped.why.0, from_target o.peer old.peer p1 (peer_fault.Refused number) (λ e. cc e) w.stopped.why.1))
+        stopped (sync.Target (peer_fault.Refused number)) w (w.stopped.why.0, from_target o.peer old.peer p1 (peer_fault.Refused number) (λ e. cc e) w.stopped.why.1)
     push_why (sync.Target (peer_fault.Damaged want is)) w = absurd w.stopped.why.0
     push_why (sync.Target (peer_fault.Full count pack)) w =
         inr (stopped (sync.Target (peer_fault.Full count pack)) w (first_fills count pack w.next w.stopped.why.0))
     push_why (sync.Target peer_fault.NoMemory) w = inr (stopped (sync.Target peer_fault.NoMemory) w tt)
-    push_why (sync.Gone r) w = stopped (sync.Gone r) w (inl (untold told (content_of o.disk s0) stored w.stopped.why.0, stored_replies (reply.Gone r) w.stopped.why.1))
+    push_why (sync.Gone r) w = absurd (never_gone o.disk o.peer s0 s1 old.peer p1 w.gone w.next r w.did)
 
     pub push_refused : (f : SyncFault) → IsStopped (peer_of o.disk) o.peer s0 s1 old.peer p1 f → Ends o push_meaning old (here s1.disk p1 old.sink) (push_status f)
     push_refused f w = record { always = always_so old.sink (omega arith); ends = push_why f w }
@@ -187,6 +182,7 @@ module _ {D P S K C R : Type 0} (o : Outside D P S K C R)
         always = always_so old.sink (omega arith);
         ends = inr (stops o old pushes no_blobs s1.disk p1 (given_of [] done.copied done.already) refl (record {
           sent = w.gone;
+          did = inr (s0, s1, asked old.sink, inr w.did);
           stand = stand;
           put = inl w.copies.put;
           kept = w.copies.given;
