@@ -303,6 +303,14 @@ impl<'a> Disk for FolderDisk<'a> {
 
     ghost faults = { λ disk. disk.faults };
 
+    ghost finds = { λ a from n b. Unit {0} };
+
+    ghost sizes = { λ a pack n b. Unit {0} };
+
+    ghost gives = { λ a pack at room bytes b. Unit {0} };
+
+    ghost syncs = { λ a pack b. Unit {0} };
+
     ghost reads = { λ disk held is. tells_nothing held is };
 
     ghost tells = { λ disk image is. absurd is };

@@ -3,6 +3,7 @@ pub mod Disk
 pub mod Runs
 pub mod PackState
 pub mod Past
+pub mod Answered
 pub mod Memory
 pub mod Told
 pub mod Left

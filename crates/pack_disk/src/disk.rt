@@ -1,5 +1,5 @@
 //! A disk as a store of packs sees it: what it holds where it tells that, and what a crash may leave.
-ghost use Rattle.std.specs.Prelude.{◌≡◌, ◌≤◌, ℕ, [], List, length, IsSome, IfSome, IfOk, OnOk, Option, Some, None, ◌++◌};
+ghost use Rattle.std.specs.Prelude.{◌≡◌, ◌≤◌, ℕ, [], List, length, take, IsSome, IfSome, IfOk, OnOk, Option, Some, None, ◌++◌};
 ghost use Rattle.std.specs.FinMap.{get, insert};
 ghost use Rattle.std.specs.Option.{ForSome};
 ghost use Rattle.edge_base.specs.Edge.{HasCause};
@@ -13,6 +13,9 @@ use edge_base::Failed;
 /// Clauses on what it holds stand where the disk tells that, and clauses on images only for those it has: a disk that
 /// doesn't tell has none. Each call that fails raises the count of faults by one, or leaves it at the last value of
 /// its type.
+///
+/// Four relations say what a call is that was answered, in the implementation's own words, also where it doesn't tell
+/// what it holds: who reads a disk says by them that what it makes of it is what the disk answered, call by call.
 pub trait Disk {
     /// The bytes of each pack, where the disk tells them.
     ghost packs: { Self → Option Packs };
@@ -30,10 +33,25 @@ pub trait Disk {
     /// How often a call has failed.
     ghost faults: { Self → ℕ };
 
+    /// What a call of `packs` is: the disk before it, the number that it began from, the one that it found, and the disk
+    /// after it.
+    ghost finds: { Self → ℕ → Option ℕ → Self → Type 0 };
+
+    /// What a call of `size` is: the disk before it, the pack, how many bytes that has, and the disk after it.
+    ghost sizes: { Self → ℕ → ℕ → Self → Type 0 };
+
+    /// What a call of `read` is: the disk before it, the pack, the place, for how many bytes there was room, the bytes
+    /// that were read, and the disk after it.
+    ghost gives: { Self → ℕ → ℕ → ℕ → List ℕ → Self → Type 0 };
+
+    /// What a call of `sync` is: the disk before it, the pack, and the disk after it.
+    ghost syncs: { Self → ℕ → Self → Type 0 };
+
     /// The least pack number at or above `from`, and `None` exactly where there is none.
     fn packs(&mut self, from: u32) -> Result<Option<u32>, Failed>
         ensures least { IfOk result (λ n. ForSome (packs self.old) (λ held. n ≡ least_from from held)) }
         ensures range { IfOk result (λ o. IfSome o (λ n. (from ≤ n) × (n ≤ last_number))) }
+        ensures is { IfOk result (λ n. finds self.old from n self.new) }
         ensures told { packs self.new ≡ packs self.old }
         ensures crash { NoNew (images self.old) (images self.new) }
         ensures time { Elapses (moment self.old) (moment self.new) (images_since self.old) (images_since self.new)
@@ -46,6 +64,7 @@ pub trait Disk {
         requires { ForSome (packs self.old) (λ held. IsSome (get held pack)) }
         ensures size { IfOk result (λ n. ForSome (packs self.old)
             (λ held. (bytes : List ℕ) → get held pack ≡ Some bytes → n ≡ length bytes)) }
+        ensures is { IfOk result (λ n. sizes self.old pack n self.new) }
         ensures told { packs self.new ≡ packs self.old }
         ensures crash { NoNew (images self.old) (images self.new) }
         ensures time { Elapses (moment self.old) (moment self.new) (images_since self.old) (images_since self.new)
@@ -60,6 +79,7 @@ pub trait Disk {
         ensures bound { IfOk result (λ n. n ≤ length buf.old) }
         ensures bytes { IfOk result (λ n. ForSome (packs self.old)
             (λ held. (bytes : List ℕ) → get held pack ≡ Some bytes → ReadAt bytes at (length buf.old) n buf.new)) }
+        ensures is { IfOk result (λ n. gives self.old pack at (length buf.old) (take n buf.new) self.new) }
         ensures told { packs self.new ≡ packs self.old }
         ensures crash { NoNew (images self.old) (images self.new) }
         ensures time { Elapses (moment self.old) (moment self.new) (images_since self.old) (images_since self.new)
@@ -98,6 +118,7 @@ pub trait Disk {
         requires { ForSome (packs self.old) (λ held. IsSome (get held pack)) }
         ensures durable { OnOk result (ForSome (packs self.old)
             (λ held. (image : Packs) → images self.new image → get image pack ≡ get held pack)) }
+        ensures is { OnOk result (syncs self.old pack self.new) }
         ensures told { packs self.new ≡ packs self.old }
         ensures crash { NoNew (images self.old) (images self.new) }
         ensures time { Elapses (moment self.old) (moment self.new) (images_since self.old) (images_since self.new)

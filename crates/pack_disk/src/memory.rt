@@ -1,5 +1,5 @@
 //! A disk in memory, whose calls fail by a list, and what a crash may leave of it.
-ghost use Rattle.std.specs.Prelude.{◌≡◌, ◌≤◌, ◌-◌, ◌^◌, ℕ, [], List, length, Some, None, IsSome, IfSome, IfOk, OnOk, OnErr, IsOk, IsErr, ◌++◌};
+ghost use Rattle.std.specs.Prelude.{◌≡◌, ◌≤◌, ◌-◌, ◌^◌, ℕ, [], List, length, Some, None, IsSome, IfSome, IfOk, OnOk, OnErr, IsOk, IsErr, ◌++◌, take};
 ghost use Rattle.std.specs.FinMap.{get, insert};
 ghost use Rattle.std.specs.Option.{ForSome, option_map, option_and_then};
 ghost use Rattle.edge_base.specs.Calls.{no_calls, after_fault, IsCounted, IsPlanned};
@@ -9,7 +9,8 @@ ghost use Rattle.pack_disk.specs.Packs.{Packs, least_from};
 ghost use Rattle.pack_disk.specs.Disk.{last_number, SameOthers, Extends, Makes, Follows, NoNew, Tells, ReadAt};
 ghost use Rattle.pack_disk.specs.PackState.{all_bytes, begun};
 ghost use Rattle.pack_disk.specs.Left.{left};
-ghost use Rattle.pack_disk.specs.Past.{no_past, told, state, IsImage, Passes, Does};
+ghost use Rattle.pack_disk.specs.Past.{no_past, told, state, with_call, IsImage, Passes, Does};
+ghost use Rattle.pack_disk.specs.Answered.{PackFound, HasSize, BytesRead};
 
 use crate::disk::Disk;
 use crate::history::History;
@@ -101,7 +102,9 @@ impl MemDisk {
 
 impl Disk for MemDisk {
     ghost use Rattle.std.specs.Prelude.{◌≡◌, length, Some, refl};
-    ghost use Rattle.pack_disk.specs.Past.{told, state, IsImage, WasImage};
+    ghost use Rattle.pack_disk.specs.declared.history.Call.TheVariants.{Sync};
+    ghost use Rattle.pack_disk.specs.Past.{told, state, with_call, IsImage, WasImage};
+    ghost use Rattle.pack_disk.specs.Answered.{PackFound, HasSize, BytesRead};
     ghost use Rattle.pack_disk.specs.Told.{reads_image, now_counts, now_only};
 
     ghost packs = { λ d. Some (told d.history) };
@@ -113,6 +116,14 @@ impl Disk for MemDisk {
     ghost images_since = { λ d t image. WasImage d.history t image };
 
     ghost faults = { λ d. d.calls.faults };
+
+    ghost finds = { λ a from n b. PackFound a.history from n b.history };
+
+    ghost sizes = { λ a pack n b. HasSize a.history pack n b.history };
+
+    ghost gives = { λ a pack at room bytes b. BytesRead a.history pack at room bytes b.history };
+
+    ghost syncs = { λ a pack b. b.history ≡ with_call a.history (Sync pack) };
 
     ghost reads = { λ d held is. reads_image d.history held is };
 
@@ -126,6 +137,7 @@ impl Disk for MemDisk {
     fn packs(&mut self, from: u32) -> Result<Option<u32>, Failed>
         ensures least { IfOk result (λ n. ForSome (Some (told self.old.history)) (λ held. n ≡ least_from from held)) }
         ensures range { IfOk result (λ o. IfSome o (λ n. (from ≤ n) × (n ≤ last_number))) }
+        ensures is { IfOk result (λ n. PackFound self.old.history from n self.new.history) }
         ensures told { Some (told self.new.history) ≡ Some (told self.old.history) }
         ensures crash { NoNew (IsImage (state self.old.history)) (IsImage (state self.new.history)) }
         ensures time { Passes self.old.history self.new.history }
@@ -144,6 +156,7 @@ impl Disk for MemDisk {
         requires { ForSome (Some (told self.old.history)) (λ held. IsSome (get held pack)) }
         ensures size { IfOk result (λ n. ForSome (Some (told self.old.history))
             (λ held. (bytes : List ℕ) → get held pack ≡ Some bytes → n ≡ length bytes)) }
+        ensures is { IfOk result (λ n. HasSize self.old.history pack n self.new.history) }
         ensures told { Some (told self.new.history) ≡ Some (told self.old.history) }
         ensures crash { NoNew (IsImage (state self.old.history)) (IsImage (state self.new.history)) }
         ensures time { Passes self.old.history self.new.history }
@@ -164,6 +177,8 @@ impl Disk for MemDisk {
         ensures bound { IfOk result (λ n. n ≤ length buf.old) }
         ensures bytes { IfOk result (λ n. ForSome (Some (told self.old.history))
             (λ held. (bytes : List ℕ) → get held pack ≡ Some bytes → ReadAt bytes at (length buf.old) n buf.new)) }
+        ensures is { IfOk result (λ n. BytesRead self.old.history pack at (length buf.old) (take n buf.new)
+            self.new.history) }
         ensures told { Some (told self.new.history) ≡ Some (told self.old.history) }
         ensures crash { NoNew (IsImage (state self.old.history)) (IsImage (state self.new.history)) }
         ensures time { Passes self.old.history self.new.history }
@@ -224,6 +239,7 @@ impl Disk for MemDisk {
         requires { ForSome (Some (told self.old.history)) (λ held. IsSome (get held pack)) }
         ensures durable { OnOk result (ForSome (Some (told self.old.history))
             (λ held. (image : Packs) → IsImage (state self.new.history) image → get image pack ≡ get held pack)) }
+        ensures is { OnOk result (self.new.history ≡ with_call self.old.history (Sync pack)) }
         ensures told { Some (told self.new.history) ≡ Some (told self.old.history) }
         ensures crash { NoNew (IsImage (state self.old.history)) (IsImage (state self.new.history)) }
         ensures time { Passes self.old.history self.new.history }
