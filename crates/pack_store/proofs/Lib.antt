@@ -4,6 +4,7 @@ pub mod Still
 pub mod Taking
 pub mod Buffers
 pub mod Piecewise
+pub mod Called
 pub mod Shown
 pub mod Walking
 pub mod Packing

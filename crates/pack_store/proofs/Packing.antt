@@ -1,7 +1,7 @@
 -- Packs are taken in, one after another.
 use Rattle.std.proofs.Common.{◌≡◌, ℕ, suc, ◌+◌, ◌≤◌, ◌++◌, cond, Option, None, Some, List, [], ◌∷◌, length, map, refl, sym, ap, subst, ◌∙◌, arith}
 use Rattle.std.specs.List.{All}
-use Rattle.std.specs.Option.{ForSome, IfSome, is_some, option_map}
+use Rattle.std.specs.Option.{ForSome, is_some, option_map}
 use Rattle.std.specs.FinMap.{get}
 use Rattle.std.proofs.lemmas.List.Elements.{All-nil}
 use Rattle.salvage_scan.specs.Salvage.{salvage, broken, IsClean}
@@ -16,9 +16,12 @@ use Rattle.pack_store.specs.declared.rows.Current.{Current}
 use Rattle.pack_store.specs.Rows.{arrivals_in, IsKept, IsOfBlob, AreBlobs}
 use Rattle.pack_store.specs.Archive.{AreLimits, IsSound}
 use Rattle.pack_store.specs.Walk.{below}
-use Rattle.pack_store.specs.Opening.{next_of, current_if_clean, current_of, IsOpened, take_pack, IsPlaced, IsTaken}
+use Rattle.pack_store.specs.Opening.{next_of, current_if_clean, current_of, IsOpened, take_rows, take_pack, IsPlaced, IsTaken}
 use Rattle.pack_store.proofs.Held.{some_same}
-use Rattle.pack_store.proofs.Taking.{arrive_pack, All-take_pack}
+use Rattle.pack_store.specs.declared.arrivals.Arrivals.{Arrivals}
+use Rattle.pack_store.specs.declared.onlooker.Onlooker.{Ghosts as OnlookerGhosts}
+use Rattle.pack_store.specs.Calls.{TakesPack}
+use Rattle.pack_store.proofs.Taking.{arrive_pack, rows_shown, blobs_take_found, All-take_pack}
 use Rattle.pack_store.proofs.Walking.{walk_begins, walk_step, walk_ends}
 
 -- ---- the last pack of a list
@@ -47,10 +50,6 @@ end_of pack bytes c = elim (broken bytes) as (λ o. broken bytes ≡ o → cond 
   | Some at ↦ λ bad is. no_current c is
 ] refl
 
-number_in : (o : Option Current) (pack : ℕ) (c : Current) → IfSome o (λ x. x.pack ≡ pack) → o ≡ Some c → c.pack ≡ pack
-number_in None pack c h is = no_current c is
-number_in (Some x) pack c h is = ap (λ (y : Current). y.pack) (sym (some_same x c is)) ∙ h
-
 module _ {D : Type 0} (g : Ghosts D) where
   pub taken_none : (d : D) → IsTaken g d [] 0 None
   taken_none d = record {
@@ -68,22 +67,23 @@ module _ {D : Type 0} (g : Ghosts D) where
   kept_on old new held rows fewer each k d lt = record { found = λ image is. (each k d lt).found image (fewer image is); same = λ image is. (each k d lt).same image (fewer image is) }
 
   -- one pack more
-  pub taken_more : ((d : D) (image : Packs) → g.images d image → (held : Packs) × (g.packs d ≡ Some held)) → (old mid new : D) (rows more : List Row) (from pack : ℕ) (current found : Option Current) → IsTaken g old rows from current
+  pub taken_more : ((d : D) (image : Packs) → g.images d image → (held : Packs) × (g.packs d ≡ Some held)) → {L : Type 0} (h : OnlookerGhosts L) (old mid new : D) (before now : Arrivals L) (from pack : ℕ) (current found : Option Current)
+      → IsTaken g old before.rows.items from current → TakesPack g h mid pack before now new found
       → g.packs mid ≡ g.packs old → g.packs new ≡ g.packs mid → NoNew (g.images old) (g.images new)
       → ForSome (g.packs old) (λ held. Some pack ≡ least_from from held)
       → from ≤ pack
-      → ForSome (g.packs mid) (λ held. (bytes : List ℕ) → get held pack ≡ Some bytes → more ≡ take_pack rows pack bytes)
-      → ForSome (g.packs mid) (λ held. (bytes : List ℕ) → get held pack ≡ Some bytes → found ≡ current_if_clean (pack, bytes))
-      → IfSome found (λ c. c.pack ≡ pack)
-      → (AreBlobs rows → AreBlobs more)
       → ForSome (g.packs mid) (λ held. (image : Packs) → g.images new image → get image pack ≡ get held pack)
-      → IsTaken g new more (pack + 1) found
-  taken_more tells old mid new rows more from pack current found taken told_mid told_new fewer least ge takes is_found number blobs stands =
+      → IsTaken g new now.rows.items (pack + 1) found
+  taken_more tells h old mid new before now from pack current found taken takes told_mid told_new fewer least ge stands =
+      let rows : List Row = before.rows.items in
+      let bytes : List ℕ = takes.bytes in
       let at_mid : (held : Packs) → g.packs new ≡ Some held → g.packs mid ≡ Some held = λ held told. sym told_new ∙ told in
       let at_old : (held : Packs) → g.packs new ≡ Some held → g.packs old ≡ Some held = λ held told. sym told_mid ∙ at_mid held told in
       let step = λ (held : Packs) (told : g.packs new ≡ Some held). walk_step from pack held (sym (least held (at_old held told))) in
-      let rows_are = λ (held : Packs) (told : g.packs new ≡ Some held). takes held (at_mid held told) (step held told).bytes (step held told).found in
-      let end = λ (held : Packs) (told : g.packs new ≡ Some held) (c : Current) (is : found ≡ Some c). end_of pack (step held told).bytes c (sym (is_found held (at_mid held told) (step held told).bytes (step held told).found) ∙ is) in
+      let same = λ (held : Packs) (told : g.packs new ≡ Some held). some_same bytes (step held told).bytes (sym (takes.there held (at_mid held told)) ∙ (step held told).found) in
+      let rows_are = λ (held : Packs) (told : g.packs new ≡ Some held). takes.rows ∙ ap (take_pack rows pack) (same held told) in
+      let is_found = λ (held : Packs) (told : g.packs new ≡ Some held). takes.current_is ∙ ap (λ (b : List ℕ). current_if_clean (pack, b)) (same held told) in
+      let end = λ (held : Packs) (told : g.packs new ≡ Some held) (c : Current) (is : found ≡ Some c). end_of pack (step held told).bytes c (sym (is_found held told) ∙ is) in
       record {
         arrived = λ held told.
             ap (arrivals_in held) (rows_are held told) ∙ arrive_pack held pack (step held told).bytes rows (step held told).found
@@ -93,11 +93,11 @@ module _ {D : Type 0} (g : Ghosts D) where
             let before : next_of (below from held) ≤ pack = omega (arith, taken.counted held (at_old held told), ge) in
             let sum : pack + 1 ≡ suc pack = omega arith in
             sum ∙ sym (next_after (below from held) pack (step held told).bytes before) ∙ ap next_of (sym (step held told).so_far);
-        current_is = λ held told. is_found held (at_mid held told) (step held told).bytes (step held told).found ∙ sym (current_after (below from held) pack (step held told).bytes) ∙ ap current_of (sym (step held told).so_far);
-        blobs = blobs taken.blobs;
+        current_is = λ held told. is_found held told ∙ sym (current_after (below from held) pack (step held told).bytes) ∙ ap current_of (sym (step held told).so_far);
+        blobs = subst AreBlobs (ap (take_rows rows) (rows_shown pack (salvage bytes)) ∙ sym takes.rows) (blobs_take_found pack bytes rows takes.octets taken.blobs);
         kept = λ held told. subst (All (IsKept held (g.images new))) (sym (rows_are held told))
             (All-take_pack held (g.images new) pack (step held told).bytes rows (step held told).found (stands held (at_mid held told)) (kept_on old new held rows fewer (taken.kept held (at_old held told))));
-        last = λ c is. omega (arith, number_in found pack c number is);
+        last = λ c is. omega (arith, (end_of pack bytes c (sym takes.current_is ∙ is)).number);
         long = λ c is held told. let e = end held told c is in
             ap (λ n. option_map (λ (bytes : List ℕ). length bytes) (get held n)) e.number ∙ ap (option_map (λ (bytes : List ℕ). length bytes)) (step held told).found ∙ ap Some (sym e.long);
         clean = λ c is image among bytes at.

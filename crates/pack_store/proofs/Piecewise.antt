@@ -40,11 +40,12 @@ module _ {T : Type 0} (g : Ghosts T) where
 
   module _ (nothing : (t : T) → g.ready t → g.takes t [] t) (then : (a b c : T) (xs ys : List Finding) → g.takes a xs b → g.takes b ys c → g.takes a (xs ++ ys) c) where
     -- nothing was read
-    pub front_none : (told : Option Packs) (pack : ℕ) (s : Scanning) (t : T) → s ≡ fresh → g.ready t → TookFront g told pack 0 s t t
-    front_none told pack s t is ready = subst (λ s. TookFront g told pack 0 s t t) (sym is) (record {
+    pub front_none : (told : Option Packs) (Gave : List ℕ → Type 0) (pack : ℕ) (s : Scanning) (t : T) → Gave [] → s ≡ fresh → g.ready t → TookFront g told Gave pack 0 s t t
+    front_none told Gave pack s t gave is ready = subst (λ s. TookFront g told Gave pack 0 s t t) (sym is) (record {
       front = [];
       octets = All-nil (λ (b : ℕ). b < 256);
       long = refl;
+      gave = gave;
       counts = refl;
       found = [];
       finds = λ more. refl;
@@ -54,12 +55,14 @@ module _ {T : Type 0} (g : Ghosts T) where
     })
 
     -- and a piece more
-    pub front_more : (told : Option Packs) (pack at room count : ℕ) (old new : Scanning) (before mid now : T) → TookFront g told pack at old before mid → TookPiece g told pack at room count old new mid now
-        → TookFront g told pack (at + count) new before now
-    front_more told pack at room count old new before mid now first more = record {
+    pub front_more : (told : Option Packs) (First More Both : List ℕ → Type 0) (pack at room count : ℕ) (old new : Scanning) (before mid now : T)
+        → ((front piece : List ℕ) → length front ≡ at → length piece ≡ count → First front → More piece → Both (front ++ piece))
+        → TookFront g told First pack at old before mid → TookPiece g told More pack at room count old new mid now → TookFront g told Both pack (at + count) new before now
+    front_more told First More Both pack at room count old new before mid now both first more = record {
       front = first.front ++ more.piece;
       octets = All-append (λ (b : ℕ). b < 256) first.front more.piece first.octets more.octets;
       long = omega (arith, length-append first.front more.piece, first.long, more.long);
+      gave = both first.front more.piece first.long more.long first.gave more.gave;
       counts = omega (arith, more.feeds.counts, first.counts, more.long);
       found = first.found ++ more.feeds.tells.found;
       finds = λ rest. ap (still_found fresh) (append_assoc first.front more.piece rest) ∙ first.finds (more.piece ++ rest) ∙ ap (λ l. first.found ++ l) (more.feeds.tells.finds rest)
@@ -70,11 +73,13 @@ module _ {T : Type 0} (g : Ghosts T) where
     }
 
     -- the whole pack
-    pub front_whole : (told : Option Packs) (pack at : ℕ) (s : Scanning) (before mid now : T) (taken : Taken) → TookFront g told pack at s before mid → EndsPack g s at mid now taken
-        → ForSome told (λ held. IsSome (get held pack)) → ForSome told (λ held. (bytes : List ℕ) → get held pack ≡ Some bytes → length bytes ≤ at) → TookPack g told pack before now taken
-    front_whole told pack at s before mid now taken took rest some all = record {
+    pub front_whole : (told : Option Packs) (Gave All : List ℕ → Type 0) (pack at : ℕ) (s : Scanning) (before mid now : T) (taken : Taken) → ((front : List ℕ) → length front ≡ at → Gave front → All front)
+        → TookFront g told Gave pack at s before mid → EndsPack g s at mid now taken
+        → ForSome told (λ held. IsSome (get held pack)) → ForSome told (λ held. (bytes : List ℕ) → get held pack ≡ Some bytes → length bytes ≤ at) → TookPack g told All pack before now taken
+    front_whole told Gave All pack at s before mid now taken whole took rest some all = record {
       bytes = took.front;
       octets = took.octets;
+      gave = whole took.front took.long took.gave;
       took = subst (λ fs. g.takes before fs now) (sym (took.finds []) ∙ ap salvage (append-nil took.front))
           (then before mid now took.found (still_found s []) took.took rest.took);
       clean_is = rest.clean_is ∙ sym (took.breaks []) ∙ ap (λ l. joined clean.Yes (broken_past 0 0 l)) (append-nil took.front);
@@ -86,5 +91,6 @@ module _ {T : Type 0} (g : Ghosts T) where
     }
 
   -- the same of a disk that tells the same
-  pub took_told : (told other : Option Packs) (pack at room count : ℕ) (old new : Scanning) (before now : T) → told ≡ other → TookPiece g told pack at room count old new before now → TookPiece g other pack at room count old new before now
-  took_told told other pack at room count old new before now is took = subst (λ t. TookPiece g t pack at room count old new before now) is took
+  pub took_told : (told other : Option Packs) (Gave : List ℕ → Type 0) (pack at room count : ℕ) (old new : Scanning) (before now : T) → told ≡ other → TookPiece g told Gave pack at room count old new before now
+      → TookPiece g other Gave pack at room count old new before now
+  took_told told other Gave pack at room count old new before now is took = subst (λ t. TookPiece g t Gave pack at room count old new before now) is took

@@ -8,6 +8,7 @@ pub mod Scan
 pub mod Opening
 pub mod Taking
 pub mod Onlooking
+pub mod Calls
 pub mod Reading
 pub mod Finding
 pub mod PutsLast

@@ -18,20 +18,22 @@ pub record Feeds {T : Type 0} (g : Ghosts T) (old : Scanning) (piece : List ℕ)
   pub took : g.takes before tells.found now
   pub counts : fed new ≡ fed old + length piece
 
--- it took the piece of a pack at this place, for which there was so much room, and that has so many bytes
-pub record TookPiece {T : Type 0} (g : Ghosts T) (told : Option Packs) (pack at room count : ℕ) (old new : Scanning) (before now : T) : Type 0 where
+-- it took the piece of a pack at this place, for which there was so much room, and that has so many bytes, and was given so
+pub record TookPiece {T : Type 0} (g : Ghosts T) (told : Option Packs) (Gave : List ℕ → Type 0) (pack at room count : ℕ) (old new : Scanning) (before now : T) : Type 0 where
   pub piece : List ℕ
   pub octets : AreBytes piece
   pub long : length piece ≡ count
+  pub gave : Gave piece
   pub feeds : Feeds g old piece new before now
   pub there : ForSome told (λ held. (bytes : List ℕ) → get held pack ≡ Some bytes
       → (count ≡ min room (length bytes - at)) × (piece ≡ take count (drop at bytes)))
 
--- it took the bytes of a pack up to this place
-pub record TookFront {T : Type 0} (g : Ghosts T) (told : Option Packs) (pack at : ℕ) (s : Scanning) (before now : T) : Type 0 where
+-- it took the bytes of a pack up to this place, which were given so
+pub record TookFront {T : Type 0} (g : Ghosts T) (told : Option Packs) (Gave : List ℕ → Type 0) (pack at : ℕ) (s : Scanning) (before now : T) : Type 0 where
   pub front : List ℕ
   pub octets : AreBytes front
   pub long : length front ≡ at
+  pub gave : Gave front
   pub counts : fed s ≡ at
   pub found : List Finding
   pub finds : (more : List ℕ) → still_found fresh (front ++ more) ≡ found ++ still_found s more
@@ -45,10 +47,11 @@ pub record EndsPack {T : Type 0} (g : Ghosts T) (s : Scanning) (size : ℕ) (bef
   pub clean_is : taken.clean ≡ still_clean s []
   pub size_is : taken.size ≡ size
 
--- the salvage of some bytes was taken up, and where the disk tells them, of the pack's
-pub record TookPack {T : Type 0} (g : Ghosts T) (told : Option Packs) (pack : ℕ) (before now : T) (taken : Taken) : Type 0 where
+-- the salvage of bytes that were given so was taken up, and where the disk tells them, of the pack's
+pub record TookPack {T : Type 0} (g : Ghosts T) (told : Option Packs) (Gave : List ℕ → Type 0) (pack : ℕ) (before now : T) (taken : Taken) : Type 0 where
   pub bytes : List ℕ
   pub octets : AreBytes bytes
+  pub gave : Gave bytes
   pub took : g.takes before (salvage bytes) now
   pub clean_is : taken.clean ≡ clean_of (broken bytes)
   pub size_is : taken.size ≡ length bytes

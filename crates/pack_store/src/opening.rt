@@ -1,5 +1,5 @@
 //! A store is opened: each pack in order is synced and then read.
-ghost use Rattle.std.specs.Prelude.{◌≡◌, ◌≤◌, ◌<◌, ◌^◌, ℕ, List, [], IfOk, IfErr, IfSome, OnOk, IsSome, Some, Err};
+ghost use Rattle.std.specs.Prelude.{◌≡◌, ◌≤◌, ◌<◌, ◌^◌, [], IfOk, IfErr, OnOk, IsSome, Err};
 ghost use Rattle.std.specs.Option.{ForSome};
 ghost use Rattle.std.specs.FinMap.{get};
 ghost use Rattle.edge_base.specs.Edge.{FaultsRose};
@@ -7,10 +7,10 @@ ghost use Rattle.pack_disk.specs.Packs.{Packs};
 ghost use Rattle.pack_disk.specs.Disk.{last_number};
 ghost use Rattle.pack_disk.specs.Runs.{Stays};
 ghost use Rattle.pack_store.specs.declared.limits.Limits.{Limits};
-ghost use Rattle.pack_store.specs.Rows.{AreBlobs};
 ghost use Rattle.pack_store.specs.Archive.{Archive, AreLimits, IsSound};
-ghost use Rattle.pack_store.specs.Opening.{IsOpened, IsPlaced, current_if_clean, current_by, take_pack};
+ghost use Rattle.pack_store.specs.Opening.{IsOpened, IsPlaced, current_by};
 ghost use Rattle.pack_store.specs.Onlooking.{IsShown};
+ghost use Rattle.pack_store.specs.Calls.{IsReadFrom, TakesPack};
 
 use crate::arrivals::Arrivals;
 use crate::limits::Limits;
@@ -49,13 +49,14 @@ impl From<NoMemory> for OpenFault {
 impl<D: Disk> Store<D> {
     /// Opens the store that a disk holds (`docs/store.md`). For each pack in order it syncs, and then reads it whole.
     /// Nothing is made and nothing added. Where the disk tells its packs, the store has their arrivals, and goes on
-    /// behind the last pack where that is clean. Whatever is answered, a crash at any moment leaves an image of the
-    /// disk that was handed in. `Disk` comes only where the disk's count of faults rose. After an error the disk is
-    /// handed back.
+    /// behind the last pack where that is clean. Where it doesn't, the store has what is found in the bytes that these
+    /// very calls answered, pack by pack. Whatever is answered, a crash at any moment leaves an image of the disk that
+    /// was handed in. `Disk` comes only where the disk's count of faults rose. After an error the disk is handed back.
     pub fn open_on(alloc: Global, disk: D, limits: Limits) -> Result<Store<D>, (D, OpenFault)>
         requires last_pack { limits.last_pack ≤ last_number }
         requires pack_bytes { limits.pack_bytes ≤ 2 ^ 63 }
         ensures opened { IfOk result (IsOpened D.Disk disk limits) }
+        ensures read { IfOk result (IsReadFrom D.Disk disk) }
         ensures stays { IfOk result (λ s. Stays D.Disk disk s.disk) }
         ensures stays_err { IfErr result (λ e. Stays D.Disk disk e.0) }
         ensures failed { IfErr result (λ e. e.1 ≡ OpenFault.Disk → FaultsRose (D.faults disk) (D.faults e.0)) }
@@ -85,6 +86,7 @@ impl<D: Disk> Store<D> {
         requires pack_bytes { limits.pack_bytes ≤ 2 ^ 63 }
         requires some { 0 < piece }
         ensures opened { IfOk result (λ o. IsOpened D.Disk disk limits o.0) }
+        ensures read { IfOk result (λ o. IsReadFrom D.Disk disk o.0) }
         ensures shown { IfOk result (λ o. IsShown L.Onlooker (D.packs disk) [] o.0.rows onlooker o.1) }
         ensures stays { IfOk result (λ o. Stays D.Disk disk o.0.disk) }
         ensures stays_err { IfErr result (λ e. Stays D.Disk disk e.0) }
@@ -138,6 +140,8 @@ fn load<D: Disk, L: Onlooker + Drop>(
     requires { 0 < piece }
     ensures opened { IfOk result (λ l. (limits : Limits) → IsOpened D.Disk disk.old limits
         (record { rows = l.rows.items; limits = limits; next = l.next; current = l.current; disk = disk.new })) }
+    ensures read { IfOk result (λ l. (limits : Limits) → IsReadFrom D.Disk disk.old
+        (record { rows = l.rows.items; limits = limits; next = l.next; current = l.current; disk = disk.new })) }
     ensures sound { IfOk result (λ l. (limits : Limits) → AreLimits limits → IsSound D.Disk l.places
         (record { rows = l.rows.items; limits = limits; next = l.next; current = l.current; disk = disk.new })) }
     ensures shown { IfOk result (λ l. IsShown L.Onlooker (D.packs disk.old) [] l.rows.items onlooker l.onlooker) }
@@ -188,16 +192,7 @@ fn take_pack<D: Disk, L: Onlooker>(
     requires there { ForSome (D.packs disk.old) (λ held. IsSome (get held pack)) }
     requires some { 0 < piece }
     requires placed { IsPlaced arrivals.old.places arrivals.old.rows.items }
-    ensures rows { OnOk result (ForSome (D.packs disk.old)
-        (λ held. (bytes : List ℕ) → get held pack ≡ Some bytes → arrivals.new.rows.items
-        ≡ take_pack arrivals.old.rows.items pack bytes)) }
-    ensures placed { OnOk result (IsPlaced arrivals.new.places arrivals.new.rows.items) }
-    ensures blobs { OnOk result (AreBlobs arrivals.old.rows.items → AreBlobs arrivals.new.rows.items) }
-    ensures shown { OnOk result (IsShown L.Onlooker (D.packs disk.old) arrivals.old.rows.items arrivals.new.rows.items
-        arrivals.old.onlooker arrivals.new.onlooker) }
-    ensures clean { IfOk result (λ current. ForSome (D.packs disk.old)
-        (λ held. (bytes : List ℕ) → get held pack ≡ Some bytes → current ≡ current_if_clean (pack, bytes))) }
-    ensures number { IfOk result (λ current. IfSome current (λ c. c.pack ≡ pack)) }
+    ensures takes { IfOk result (TakesPack D.Disk L.Onlooker disk.old pack arrivals.old arrivals.new disk.new) }
     ensures stands { OnOk result (ForSome (D.packs disk.old)
         (λ held. (image : Packs) → D.images disk.new image → get image pack ≡ get held pack)) }
     ensures stays { Stays D.Disk disk.old disk.new }

@@ -5,6 +5,7 @@ ghost use Rattle.std.specs.FinMap.{get};
 ghost use Rattle.edge_base.specs.Edge.{FaultsRose};
 ghost use Rattle.pack_disk.specs.Runs.{Stays};
 ghost use Rattle.pack_store.specs.Rows.{AreBytes};
+ghost use Rattle.pack_store.specs.Calls.{ReadsPack};
 ghost use Rattle.salvage_scan.specs.Pieces.{fed};
 ghost use Rattle.pack_store.specs.Taking.{Feeds, TookPiece, EndsPack, TookPack};
 
@@ -38,7 +39,8 @@ pub(crate) fn take_pieces<D: Disk, T: Taker>(
     requires there { ForSome (D.packs disk.old) (λ held. IsSome (get held pack)) }
     requires some { 0 < piece }
     requires ready { T.ready taker.old }
-    ensures took { IfOk result (TookPack T.Taker (D.packs disk.old) pack taker.old taker.new) }
+    ensures took { IfOk result (TookPack T.Taker (D.packs disk.old)
+        (λ bytes. ReadsPack D.Disk disk.old pack bytes disk.new) pack taker.old taker.new) }
     ensures stays { Stays D.Disk disk.old disk.new }
     ensures still { D.moment disk.new ≡ D.moment disk.old }
     ensures failed { result ≡ Err OpenFault.Disk → FaultsRose (D.faults disk.old) (D.faults disk.new) }
@@ -99,7 +101,8 @@ fn take_piece<D: Disk, T: Taker>(
     requires ready { T.ready taker.old }
     ensures ready { OnOk result (T.ready taker.new) }
     ensures bound { IfOk result (λ count. count ≤ length buf.old) }
-    ensures took { IfOk result (λ count. TookPiece T.Taker (D.packs disk.old) pack at (length buf.old) count
+    ensures took { IfOk result (λ count. TookPiece T.Taker (D.packs disk.old)
+        (λ piece. D.gives disk.old pack at (length buf.old) piece disk.new) pack at (length buf.old) count
         scanner.old scanner.new taker.old taker.new) }
     ensures stays { Stays D.Disk disk.old disk.new }
     ensures still { D.moment disk.new ≡ D.moment disk.old }

@@ -1,5 +1,6 @@
 use Rattle.std.proofs.Common.{◌-◌, ◌≤◌, []}
 use Rattle.pack_disk.specs.Runs.{Stays}
+use Rattle.pack_store.specs.Calls.{AreReadFrom}
 use Rattle.pack_store.specs.Onlooking.{IsShown}
 use Rattle.pack_store.specs.Opening.{IsTaken, IsPlaced}
 use Rattle.pack_store.proofs.opening.load.Given as goal
@@ -12,6 +13,7 @@ invariant-loop-found g l =
       rose : disk.faults l.fn.disk ≤ disk.faults l.disk;
       stays : Stays disk l.fn.disk l.disk;
       placed : IsPlaced l.arrivals.places l.arrivals.rows.items;
+      read : AreReadFrom disk l.fn.disk l.arrivals.rows.items l.next l.current l.disk;
       taken : IsTaken disk l.disk l.arrivals.rows.items l.next l.current;
       shown : IsShown g.L.Onlooker (disk.packs l.fn.disk) [] l.arrivals.rows.items l.fn.onlooker l.arrivals.onlooker;
     }
