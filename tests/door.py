@@ -10,6 +10,7 @@ from connections import BLANKS, HEAD, HEADER, LENGTH, LONGEST_HEAD, MOST_HEADERS
 
 OWN_HOST = re.compile(rb"(localhost|127\.0\.0\.1|\[::1\])(:[0-9]*)?")
 OWN_SITES = (b"none", b"same-origin")
+SAYS_PAGE = {b"sec-fetch-site", b"origin"}
 BROWSER = b"mozilla/"
 ONLY_OF_BROWSERS = {b"sec-fetch-site", b"origin", b"referer"}
 
@@ -47,8 +48,20 @@ def is_foreign(headers, name, value):
     if name == b"sec-fetch-site":
         return value not in OWN_SITES
     if name == b"origin":
-        return value not in [b"http://" + host.lower() for other, host in headers if other == b"host"]
+        return value not in origins_of(headers)
+    if name == b"referer":
+        says_page = any(other in SAYS_PAGE for other, _ in headers)
+        return not says_page and not any(is_at(value, origin) for origin in origins_of(headers))
     return False
+
+
+def origins_of(headers):
+    return [b"http://" + host.lower() for name, host in headers if name == b"host"]
+
+
+def is_at(address, origin):
+    """Whether an address is an origin, with nothing or a path behind it."""
+    return address == origin or address.startswith(origin + b"/")
 
 
 def says_browser(header):

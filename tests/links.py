@@ -2,7 +2,8 @@
 
 Relative links lead to files that are there, and their anchors to headings, by GitHub's rule for anchors. Lines outside
 code and tables have at most 120 characters. What docs/top.md quotes stands in the file that is linked before it. The
-names in docs/proved.md stand in the crates that it names, crates/README.md has the table that crates_table.py makes of
+names in docs/proved.md stand in the crates that it names, which also have the lines that it tells of those that are
+trusted, crates/README.md has the table that crates_table.py makes of
 crates.txt and docs/gate.md, and each script has a row on the page of its folder.
 """
 
@@ -185,6 +186,32 @@ def check_names(page, block):
             check(f"{page.name}: {name} stands in none of {sorted(crates)}", any(parts <= words_of(c) for c in crates))
 
 
+# A row of a table that begins with a crate and a number.
+COUNTED = re.compile(r"\| `(\w+)` \| ([\d,]+) \|")
+# By so many lines a trusted crate may have grown or shrunk since they were counted.
+SOME_LINES = 50
+# The crates that name what the system gives.
+OF_THE_SYSTEM = re.compile(r"\bHostRuntime\b|\blibc::")
+
+
+def trusted(program):
+    """docs/proved.md lists each crate of the program that names the system, and no other, with its lines."""
+    text = (TOP / "docs" / "proved.md").read_text(encoding="utf-8").partition("\n## What is trusted\n")[2]
+    told = {name: int(count.replace(",", "")) for name, count in COUNTED.findall(text)}
+    names = sorted(name for name in CRATES if OF_THE_SYSTEM.search(sources_of(name, "src")) and not is_of_tests(name))
+    whole = [lambda: compare("docs/proved.md", "the crates that are trusted", names, sorted(told))]
+    return whole + [functools.partial(check_count, name, count) for name, count in sorted(told.items())]
+
+
+def is_of_tests(name):
+    return name == "lab" or name.endswith("_tests")
+
+
+def check_count(name, told):
+    counted = sources_of(name, "src").count("\n") + 1
+    check(f"docs/proved.md: {name} has {counted} lines, and not some {told}", abs(counted - told) <= SOME_LINES)
+
+
 @functools.cache
 def sources_of(crate, folder):
     files = sorted((TOP / "crates" / crate / folder).rglob("*.*"))
@@ -232,4 +259,4 @@ def check_script(file):
 
 
 if __name__ == "__main__":
-    harness.main("links.sh", [links, lines, quotes, ledger, crates, scripts])
+    harness.main("links.sh", [links, lines, quotes, ledger, trusted, crates, scripts])

@@ -23,6 +23,8 @@ from writers import Locked
 # at the most.
 EARLIER, LATER = 5, 15
 GREATEST = bytes(LARGEST_BLOB)
+# A client whose connection is over is read for a second. What it sends meanwhile comes after so many seconds each.
+LITTLE_BY_LITTLE, A_MOMENT = 0.02, 5
 
 
 # Clients that stay
@@ -47,6 +49,7 @@ def stays(program):
         lambda: others_beside_an_unread_reply(program),
         lambda: others_beside_all_kinds(program),
         lambda: talks_on(program),
+        lambda: talks_on_at_length(program),
     ]
 
 
@@ -114,6 +117,23 @@ def talks_on(program):
                 with contextlib.suppress(ConnectionError):
                     one.send(b"x")
             compare_texts("the other client", ABC_REPLY.text(), other.read_text("the other client"))
+
+
+def talks_on_at_length(program):
+    """So does one that sends 16 KiB every few milliseconds, as much as is read at once."""
+    what = "a client that goes on sending at length"
+    with Server(program, store_of(program, b"abc").path, "--workers=1") as server:
+        with Talk(server.port) as one, Talk(server.port) as other:
+            one.send(b"GET /x HTTP/1.0\r\n\r\n")
+            other.send(get(blob_target(ABC)))
+            start = time.monotonic()
+            while not select.select([other.wire], [], [], LITTLE_BY_LITTLE)[0]:
+                check(f"{what} keeps the worker", time.monotonic() < start + SOON)
+                with contextlib.suppress(ConnectionError):
+                    one.send(bytes(16_384))
+            seconds = time.monotonic() - start
+            compare_texts(what, ABC_REPLY.text(), other.read_text(what))
+        check(f"{what} kept the worker for {seconds:.1f} seconds", seconds < A_MOMENT)
 
 
 # Clients that stay until they are ended, and locks that do

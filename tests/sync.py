@@ -693,12 +693,22 @@ def begins_anew(program):
 # Peers that are slow, and commands that pause
 
 def slow(program):
-    """A reply that stops, one that trickles, and a request that nobody reads: each is given up after a minute."""
+    """A reply that stops, one that trickles, one of which nothing comes behind others, and a request that nobody reads: each
+    is given up after a minute. The first reply of another connection, and one to a long request, may take longer."""
     return [
-        lambda: is_given_up(program, "a reply that stops", stops),
-        lambda: is_given_up(program, "a reply that trickles", trickles),
+        lambda: is_given_up(program, "pull", "a reply that stops", 0, stops),
+        lambda: is_given_up(program, "pull", "a reply that trickles", 0, trickles),
+        lambda: is_given_up(program, "pull", "a second reply that doesn't come", 1, says_nothing),
+        lambda: is_given_up(program, "push", "a third reply that doesn't come", 2, says_nothing),
+        lambda: comes_late(program),
+        lambda: takes_long(program),
         lambda: is_not_read(program),
     ]
+
+
+def says_nothing(wire, _):
+    wire.recv(1)
+    return True
 
 
 def stops(wire, due):
@@ -722,13 +732,38 @@ def takes_a_minute(what, start):
     check(f"{what}: it took {seconds:.1f} seconds", WITHIN_A_REPLY - 1 <= seconds <= 2 * WITHIN_A_REPLY)
 
 
-def is_given_up(program, what, wrong):
-    exchange = Exchange(program, "pull")
-    with exchange.start(wrongs={0: wrong}) as peer:
+def is_given_up(program, command, what, number, wrong):
+    exchange = Exchange(program, command)
+    with exchange.start(wrongs={number: wrong}) as peer:
         start = time.monotonic()
         program.check(what, exchange.words(peer), status=PEER, seconds=2 * WITHIN_A_REPLY)
         takes_a_minute(what, start)
-        exchange.is_as_it_should_be(what, peer, 0)
+        exchange.is_as_it_should_be(what, peer, len([kind for kind in exchange.kinds[:number] if kind != "page"]))
+
+
+def late(wire, due):
+    time.sleep(WITHIN_A_REPLY + 5)
+    wire.sendall(due.text())
+    return False
+
+
+def takes_long(program):
+    """A blob that may still be on its way is waited for."""
+    what, blob = "a late reply to a long request", bytes(100_000)
+    here = Store(program, {0: writing.pack(blob)}, OTHERS)
+    with FalsePeer(rights={1: late}) as peer:
+        program.check(what, here.words("push", peer.address), b"copied 1 already 0\n", seconds=3 * WITHIN_A_REPLY)
+        peer.is_good(what)
+
+
+def comes_late(program):
+    """A server all of whose workers are with clients that say nothing answers over another connection after a minute."""
+    what, exchange = "a late reply over another connection", Exchange(program, "pull")
+
+    with exchange.start(rights={0: RIGHT["no length"], 1: late}) as peer:
+        program.check(what, exchange.words(peer), exchange.told(), seconds=3 * WITHIN_A_REPLY)
+        exchange.is_as_it_should_be(what, peer, 3)
+        compare(what, "connections", 2, peer.connections)
 
 
 def is_not_read(program):

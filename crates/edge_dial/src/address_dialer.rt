@@ -2,7 +2,7 @@
 ghost use Rattle.std.specs.Prelude.{◌≡◌, None, IfOk, IfSome, []};
 
 use blobref::NoMemory;
-use edge_os::{PeerIn, PeerOut, peer_ends};
+use edge_tcp::{PeerIn, PeerOut, peer_ends};
 use peer_http::{Dialer, OnDemandPeer};
 
 /// The server at an address, `HOST:PORT`, as a peer. It takes its memory, some 235 KiB, and looks for the server, at its

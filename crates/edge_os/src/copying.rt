@@ -7,7 +7,7 @@ const PAUSE: u64 = 1;
 
 /// How many blobs were copied so far. While they are that is told once a second where standard error is a terminal, on one
 /// line that is written over and cleared in the end. Elsewhere nothing is looked at and nothing told.
-pub(crate) struct Copying<'a> {
+pub struct Copying<'a> {
     rt: &'a HostRuntime,
     is_shown: bool,
     blobs: u64,
@@ -31,7 +31,7 @@ impl<'a> Drop for Copying<'a> {
 
 impl<'a> Copying<'a> {
     /// Nothing was copied so far.
-    pub(crate) fn new(rt: &'a HostRuntime) -> Copying<'a> {
+    pub fn new(rt: &'a HostRuntime) -> Copying<'a> {
         Copying {
             rt,
             is_shown: rt.stderr().is_terminal(),
@@ -42,7 +42,7 @@ impl<'a> Copying<'a> {
     }
 
     /// A request begins with these bytes. All requests but those for a page are for one blob each; the one before is done.
-    pub(crate) fn goes_on(&mut self, request: &[u8]) {
+    pub fn goes_on(&mut self, request: &[u8]) {
         if !self.is_shown || request.starts_with(b"GET /camli/enumerate-blobs") {
             return;
         }

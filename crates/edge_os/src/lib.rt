@@ -1,26 +1,16 @@
-//! The system's readers, writers and sockets as sources, sinks and listeners (`docs/architecture.md`). They tell nothing
-//! of the bytes, and count their failures; what the system does is trusted. Who gets in by a socket is decided by
-//! [`admission_of`], from the first head of a connection alone.
+//! The system's readers, writers and streams as sources and sinks, and what a person at a terminal is told
+//! (`docs/architecture.md`). They tell nothing of the bytes, and count their failures; what the system does is trusted.
 #![tactic(auto)]
 
-mod admission;
 pub mod again;
-mod at_door;
-mod connection;
 mod copying;
-mod dialing;
 mod edges;
-mod lingering;
-mod listening;
-mod patience;
-mod peer_line;
+mod owner;
+mod standard;
 mod terminal;
-mod waiting;
 
-pub use admission::{Admission, admission_of};
-pub use at_door::{AtDoor, Ear};
-pub use connection::{ReadHalf, TcpIn, TcpOut, WriteHalf};
+pub use copying::Copying;
 pub use edges::{ReadSource, WriteSink, counted};
-pub use listening::TcpListenerOn;
-pub use peer_line::{PeerIn, PeerOut, PeerReader, PeerWriter, peer_ends};
-pub use terminal::{Readiness, tell_person};
+pub use owner::is_own;
+pub use standard::{StandardIn, StandardOut, standard_input, standard_output};
+pub use terminal::{Readiness, is_told, tell_person};

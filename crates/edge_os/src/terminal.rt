@@ -3,9 +3,14 @@ use std::fmt::Display;
 use std::io::IsTerminal;
 use std::sync::atomic::{AtomicBool, Ordering};
 
+/// Whether a person is told anything: standard error is a terminal.
+pub fn is_told(rt: &HostRuntime) -> bool {
+    rt.stderr().is_terminal()
+}
+
 /// Writes a line to standard error where that is a terminal, and nothing elsewhere. Where it can't be written it is lost.
 pub fn tell_person<D: Display + Drop>(rt: &HostRuntime, line: D) {
-    if rt.stderr().is_terminal() {
+    if is_told(rt) {
         let _ = rt.eprintln(line);
     }
 }
@@ -29,7 +34,7 @@ impl<'a> Readiness<'a> {
     }
 
     /// Tells it, unless that was done.
-    pub(crate) fn tell(&self) {
+    pub fn tell(&self) {
         if !self.was_told.swap(true, Ordering::Relaxed) {
             tell_person(
                 self.rt,

@@ -7,7 +7,8 @@ use crate::pauses::Pauses;
 use blob_server::{Served, desks, serve_all};
 use blobref::NoMemory;
 use claim_verify::Verifier;
-use edge_os::{Readiness, TcpListenerOn, tell_person};
+use edge_os::{Readiness, tell_person};
+use edge_tcp::{Door, TcpListenerOn};
 use folder_disk::{Access, FolderDisk};
 use home_places::Home;
 use perkeep_top::{LIMITS, Status};
@@ -110,7 +111,7 @@ fn listeners<'a>(
 {
     let mut listeners = Vec::new(rt.alloc());
     'workers: for _ in 0..workers {
-        listeners.push(TcpListenerOn::new(rt, listener, ready))?;
+        listeners.push(TcpListenerOn::new(rt, listener, ready, Door::Own))?;
     }
     Ok(listeners)
 }

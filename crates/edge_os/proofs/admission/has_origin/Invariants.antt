@@ -1,9 +1,0 @@
-use Rattle.std.proofs.Common.{◌≡◌, take, map}
-use Rattle.std.specs.List.{list_any}
-use Rattle.httparse.specs.Spans.{header_bytes}
-use Rattle.edge_os.specs.Admissions.{gives_origin}
-use Rattle.edge_os.proofs.admission.has_origin.Given as goal
-
--- what the headers so far say
-abbrev pub invariant-loop-header : goal.invariant-loop-header
-invariant-loop-header l = l.is ≡ list_any (gives_origin l.origin) (map (header_bytes l.text) (take l.header-index l.headers))

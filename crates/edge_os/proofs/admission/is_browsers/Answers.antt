@@ -1,7 +1,0 @@
-use Rattle.std.proofs.Common.{arith}
-use Rattle.edge_os.specs.Admissions.{says_browser}
-use Rattle.edge_os.proofs.Headers.{any_more}
-use Rattle.edge_os.proofs.admission.is_browsers.Goals as goal
-
-pub loop-header-preserved : goal.loop-header-preserved
-loop-header-preserved c = any_more says_browser c.args.text.now c.args.headers.now c.loop-header.header-index _ c.loop-header.is c.says_browser-is.result (omega arith) c.loop-header.invariant c.says_browser-is.ensures

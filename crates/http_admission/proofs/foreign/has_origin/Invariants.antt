@@ -1,0 +1,9 @@
+use Rattle.std.proofs.Common.{◌≡◌, take, map}
+use Rattle.std.specs.List.{list_any}
+use Rattle.httparse.specs.Spans.{header_bytes}
+use Rattle.http_admission.specs.Admissions.{gives_origin}
+use Rattle.http_admission.proofs.foreign.has_origin.Given as goal
+
+-- what the headers so far say
+abbrev pub invariant-loop-header : goal.invariant-loop-header
+invariant-loop-header l = l.is ≡ list_any (gives_origin l.origin) (map (header_bytes l.text) (take l.header-index l.headers))
