@@ -94,7 +94,8 @@ def syncs(program):
 def failing(program):
     """Calls on a pack fail: the requests are told so, others are served, and what was acknowledged stands."""
     need_strace(program)
-    return [lambda what=what: upload_fails(program, what) for what in FAILS] + [lambda: reads_fail(program)]
+    checks = [lambda what=what: upload_fails(program, what) for what in FAILS]
+    return checks + [lambda number=number: sync_fails(program, number) for number in (1, 2)] + [lambda: reads_fail(program)]
 
 
 def one_worker(program, store, log, *words):
@@ -137,6 +138,22 @@ def upload_fails(program, what):
         server.ends(f"a server of which {what} failed")
     store.packs = {0: pack(*NEW[:2]), 1: pack(NEW[2])}
     store.check_files(what)
+
+
+def sync_fails(program, number):
+    """What couldn't be synced is taken back at once, so that it isn't there where the server is killed then. Of a pack that
+    was never synced nothing is left."""
+    what = f"a server that is killed once its sync {number} has failed"
+    store, log = Store(program, {}), program.new_path()
+    with one_worker(program, store, log, "-e", f"inject={SYNCING}:error=EIO:when={number}") as server:
+        for blob in NEW[: number - 1]:
+            ask_all(what, server, uploads([blob]))
+        told = Reply(503, json_text({"received": [], "error": "disk"}), closes=True)
+        ask_all(what, server, [(upload(NEW[number]), told)])
+        server.kill()
+    store.packs = {0: pack(*NEW[: number - 1])} if number > 1 else {}
+    store.check_files(what)
+    store.reads(what, "stat", ref_of(NEW[number]), status=3)
 
 
 def reads_fail(program):

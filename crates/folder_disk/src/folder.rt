@@ -259,11 +259,22 @@ impl<'a> FolderDisk<'a> {
         }
     }
 
-    // Makes the bytes of a pack durable, and the names of all.
+    // Makes the bytes of a pack durable, and the names of all. Where that fails, what was added is cut off.
     fn settle(&mut self, pack: u32) -> io::Result<()>
         ensures faults { self.new.faults ≡ self.old.faults }
     {
         self.begin()?;
+        let done = self.make_durable(pack);
+        match &done {
+            Ok(()) => self.growing.settle(pack),
+            Err(_) => self.growing.take_back(self.rt, pack),
+        }
+        done
+    }
+
+    fn make_durable(&mut self, pack: u32) -> io::Result<()>
+        ensures faults { self.new.faults ≡ self.old.faults }
+    {
         if let Some(file) = self.growing.file(pack) {
             file.sync_all()?;
         } else {
@@ -271,9 +282,7 @@ impl<'a> FolderDisk<'a> {
             self.reading.file(pack)?.sync_all()?;
         }
         self.sync_names()?;
-        self.growing.check(self.rt, pack)?;
-        self.growing.settle(pack);
-        Ok(())
+        self.growing.check(self.rt, pack)
     }
 
     // Makes the names durable that stand in the folder, unless they are.

@@ -125,12 +125,17 @@ impl Grown {
         self.added = self.added.saturating_add(bytes.len() as u64);
         let done = self.file.write_all(bytes);
         if done.is_err() {
-            if self.cut() {
-                self.added = 0;
-            }
-            self.remove_void(rt);
+            self.take_back(rt);
         }
         done
+    }
+
+    // Cuts it back, and removes it if it is void then, as well as may be.
+    fn take_back(&mut self, rt: &HostRuntime) {
+        if self.cut() {
+            self.added = 0;
+        }
+        self.remove_void(rt);
     }
 }
 
@@ -213,6 +218,16 @@ impl UnsyncedPacks {
                 pack.size = pack.size.saturating_add(pack.added);
                 pack.added = 0;
                 pack.is_fresh = false;
+            }
+        }
+    }
+
+    /// The pack couldn't be synced: it is cut back to what was synced of it, and removed where it was made here, was never
+    /// synced and holds nothing then, as well as may be.
+    pub(crate) fn take_back(&mut self, rt: &HostRuntime, number: u32) {
+        for pack in &mut self.packs {
+            if pack.number == number && pack.added > 0 {
+                pack.take_back(rt);
             }
         }
     }
