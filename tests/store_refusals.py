@@ -3,16 +3,18 @@
 Each group is a function of the program, and answers its checks.
 """
 
+import contextlib
 import itertools
 import os
 import pathlib
 import shutil
 import stat
 import subprocess
+import time
 
 import inputs
 import reference
-from harness import LeftOut, Program, compare, compare_ending, with_broken_source, with_streams, without
+from harness import Difference, LeftOut, Program, compare, compare_ending, finish, with_broken_source, with_streams, without
 from older import OLDER_ABC
 from reference import pack_name, ref_of
 from stores import ABC, NOTHING_FOUND, READING, Store, lines_of, look
@@ -172,16 +174,26 @@ def keyrings(program):
     (folder.path / "keyring").mkdir()
     lines = [*lines_of(folder.path).values(), folder.words("get", "no ref"), folder.words("list", "--limit=0")]
     checks += [lambda line=line: folder.keeps(f"a keyring that is a folder: {line}", line, status=5) for line in lines]
+    checks += [lambda line=line: lost_keyring(program, line) for line in lines_of("D").values()]
     longest = Store(program, {0: inputs.EXAMPLE}, {"keyring": inputs.KEYRING})
     out = reference.search_text(inputs.FOUND) + b"\n"
     return checks + [lambda: longest.reads("a good keyring", "search", "--attr=tag", "--value=a", out=out)]
 
 
+def lost_keyring(program, line):
+    """A link to a keyring that isn't there, as on a drive that isn't mounted, is no empty keyring."""
+    for target in (program.folder / "nowhere" / "keyring", "keyring", "pack-00000.blobs/keyring"):
+        store = Store(program, {0: pack(b"abc")})
+        (store.path / "keyring").symlink_to(target)
+        words = [str(store.path) if word == "D" else word for word in line]
+        program.check(f"a keyring that leads to {target}: {line}", words, status=5, source=b"new")
+
+
 # Standard input, standard output and standard error
 
 def streams(program):
-    """Streams that are closed, full, or can't be read; what then stands."""
-    checks = (failing_sources, failing_sinks, kept_though_unsaid, closed_errors, which_is_first)
+    """Streams that are closed, full, or can't be read, or don't wait; what then stands."""
+    checks = (failing_sources, failing_sinks, kept_though_unsaid, closed_errors, which_is_first, late_source, late_sink)
     return [lambda check=check: check(program) for check in checks]
 
 
@@ -250,6 +262,61 @@ def which_is_first(program):
         ("bad words before the source", ["put"], 2, {"closed": 0}),
     ]:
         with_streams(program, what, line, status, folder=program.working, **stream)
+
+
+# How long a stream without anything to be read, or without room, is left so, and how much of that the processor may take.
+LATE, SPENT = 1.5, 0.5
+
+
+def late_source(program):
+    """An input that doesn't wait, as another program may have left it, is waited for, and takes no processor meanwhile."""
+    store, what, longest = Store(program, {}), "an input that doesn't wait", bytes(range(256)) * 4_096
+    theirs, ours = os.pipe()
+    os.set_blocking(theirs, False)
+    with subprocess.Popen([program.path, *store.words("put")], stdin=theirs, stdout=subprocess.PIPE, stderr=subprocess.PIPE) as process:
+        os.close(theirs)
+        stands_still(what, process)
+        with open(ours, "wb") as source:
+            source.write(longest)
+        out, err = finish(what, process)
+    compare_ending(what, 0, process.returncode, err)
+    compare(what, "standard output", ref_of(longest).encode() + b"\n", out)
+    store.packs = reference.put(store.packs, longest)
+    store.check_files(what)
+
+
+def late_sink(program):
+    """So is an output without room."""
+    longest, what = bytes(range(256)) * 16_384, "an output that doesn't wait"
+    store = Store(program, {0: pack(longest)})
+    ours, theirs = os.pipe()
+    os.set_blocking(theirs, False)
+    words = [program.path, *store.words("get", ref_of(longest))]
+    with subprocess.Popen(words, stdin=subprocess.DEVNULL, stdout=theirs, stderr=subprocess.PIPE) as process:
+        os.close(theirs)
+        stands_still(what, process)
+        with open(ours, "rb") as sink:
+            compare(what, "standard output", longest, sink.read())
+        _, err = finish(what, process)
+    compare_ending(what, 0, process.returncode, err)
+
+
+def stands_still(what, process):
+    """The process goes on for a while and takes next to no time of the processor."""
+    with contextlib.suppress(subprocess.TimeoutExpired):
+        process.wait(LATE)
+        raise Difference(f"{what}: it ended with {process.returncode}")
+    before = ticks_of(process)
+    time.sleep(LATE)
+    spent = (ticks_of(process) - before) / os.sysconf("SC_CLK_TCK")
+    if spent > SPENT:
+        raise Difference(f"{what}: it took the processor for {spent} of {LATE} seconds")
+
+
+def ticks_of(process):
+    """How much of the processor a process has taken: the fields utime and stime of proc(5), behind its name."""
+    text = pathlib.Path(f"/proc/{process.pid}/stat").read_text()
+    return sum(map(int, text.rpartition(")")[2].split()[11:13]))
 
 
 # Folders

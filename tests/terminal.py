@@ -2,6 +2,7 @@
 elsewhere all other scripts compare.
 """
 
+import contextlib
 import os
 import pty
 import subprocess
@@ -9,10 +10,11 @@ import termios
 import time
 
 import harness
+import reference
 import tracing
 from harness import check, compare
 from inputs import ABSENT
-from reference import ref_of
+from reference import pack_name, ref_of
 from serving import PORTS, is_listened_to
 from stores import Store
 from writers import Locked
@@ -21,6 +23,8 @@ from writing import pack
 # So many seconds each read of a pack is held up, and so many packs there are.
 HELD_UP, PACKS = 1.2, 6
 BAD_KEYRING = b"me abc\n"
+# The number of a user who has nothing.
+OTHER = 65_534
 
 
 class Terminal:
@@ -101,6 +105,74 @@ def done(program):
     compare("a get", "status, output and what is told", (0, b"abc", b""), told(program, store.words("get", ref_of(b"abc"))))
 
 
+def files(program):
+    """What is wrong with single files: packs that are none, the last pack there may be, and what others may write to."""
+    checks = (folder_for_a_pack, pipe_for_a_pack, lost_pack, odd_pack_of_a_server, last_pack, open_keyring, folder_of_others)
+    return [lambda check=check: check(program) for check in checks]
+
+
+def odd_pack(store, number):
+    return f"disk ({store.path}/{pack_name(number)} is no regular file)"
+
+
+def folder_for_a_pack(program):
+    store = Store(program, {0: pack(b"abc")})
+    (store.path / pack_name(3)).mkdir()
+    # Names that are no pack's are no pack's.
+    (store.path / "pack-0000a.blobs").mkdir()
+    is_told(program, store.words("list"), 7, odd_pack(store, 3))
+    is_told(program, store.words("put-file", "name"), 7, odd_pack(store, 3))
+
+
+def pipe_for_a_pack(program):
+    store = Store(program, {0: pack(b"abc")})
+    os.mkfifo(store.path / pack_name(1))
+    is_told(program, store.words("stat", ABSENT), 7, odd_pack(store, 1))
+
+
+def lost_pack(program):
+    store = Store(program, {})
+    (store.path / pack_name(0)).symlink_to(program.new_path())
+    is_told(program, store.words("list"), 7, odd_pack(store, 0))
+
+
+def odd_pack_of_a_server(program):
+    store, port = Store(program, {}), PORTS.free()
+    (store.path / pack_name(0)).mkdir()
+    status, out, text = told(program, ["serve", str(store.path), f"--port={port}"])
+    compare("a server", "status and output", (7, b""), (status, out))
+    reads = f"perkeep: has port {port}, and reads the store\n"
+    compare("a server", "what is told", f"{reads}perkeep: {odd_pack(store, 0)}\n".encode(), text)
+
+
+def last_pack(program):
+    store = Store(program, {reference.LAST_PACK: b"x"}, {"keyring": b"me 00\n"})
+    text = f"full (no pack can follow {store.path}/{pack_name(reference.LAST_PACK)})"
+    is_told(program, store.words("put-file", "name"), 9, text)
+
+
+def open_keyring(program):
+    """A keyring to which everyone may write."""
+    store = Store(program, {0: pack(b"abc")}, {"keyring": b"me 00\n"})
+    keyring = store.path / "keyring"
+    for mode, is_open in ((0o600, False), (0o664, False), (0o666, True), (0o602, True)):
+        keyring.chmod(mode)
+        text = f"perkeep: everyone may write to {keyring}\n".encode() if is_open else b""
+        compare(f"mode {mode:o}", "what is told", (0, b"abc", text), told(program, store.words("get", ref_of(b"abc"))))
+
+
+def folder_of_others(program):
+    """A folder of another user's: one that was given away, where this script may do that, else that of the system."""
+    store, path = Store(program, {0: pack(b"abc")}), "/"
+    if os.geteuid() == 0:
+        with contextlib.suppress(OSError):
+            os.chown(store.path, OTHER, OTHER)
+            path = str(store.path)
+    check("no folder here is another user's", os.stat(path).st_uid != os.geteuid())
+    status, _, text = told(program, ["list", path])
+    compare("a folder of another user's", "status and what is told", (0, f"perkeep: {path} is another user's\n".encode()), (status, text))
+
+
 def openings(program):
     """How far a long opening is. Reads of the packs are held up by strace."""
     tracing.need_strace(program)
@@ -145,4 +217,4 @@ def server(program):
 
 
 if __name__ == "__main__":
-    harness.main("terminal.sh", [hints, openings, servers])
+    harness.main("terminal.sh", [hints, files, openings, servers])

@@ -1,16 +1,18 @@
 //! The keyring in its file.
 use crate::ending::Ending;
+use crate::hints::tell_of_others;
 use claim_verify::{Keyring, KeyringFault};
 use edge_base::{ReadAllError, read_all};
 use edge_os::ReadSource;
+use edge_os::again::uninterrupted;
 use folder_disk::open_regular;
 use perkeep_top::Status;
-use std::fs::File;
-use std::io::ErrorKind;
+use std::fs::{self, File};
+use std::io::{self, ErrorKind};
 
 const LONGEST_KEYRING: usize = 1_048_576;
 
-/// The keyring of a folder: of its file `keyring`, or empty where there is no such file, or no such folder.
+/// The keyring of a folder: of its file `keyring`, or empty where there is no such name, or no such folder.
 pub(crate) fn read_keyring(rt: &HostRuntime, folder: &str) -> Result<Keyring, Ending> {
     if folder.is_empty() {
         return Ok(Keyring::empty(rt.alloc()));
@@ -18,19 +20,29 @@ pub(crate) fn read_keyring(rt: &HostRuntime, folder: &str) -> Result<Keyring, En
     let Ok(path) = format!(in rt.alloc(); "{folder}/keyring") else {
         return Err(Ending::Ran(Status::NoMemory));
     };
-    let file = match open_regular(rt, File::options().read(true), &path) {
-        Ok(file) => file,
-        Err(error) => {
-            return match error.kind() {
-                ErrorKind::NotFound | ErrorKind::NotADirectory => Ok(Keyring::empty(rt.alloc())),
-                ErrorKind::OutOfMemory => Err(Ending::Ran(Status::NoMemory)),
-                _ => Err(Ending::Ran(Status::ReadFault)),
-            };
+    tell_of_others(rt, folder, &path);
+    let file = match open_keyring(rt, &path) {
+        Ok(Some(file)) => file,
+        Ok(None) => return Ok(Keyring::empty(rt.alloc())),
+        Err(error) if error.kind() == ErrorKind::OutOfMemory => {
+            return Err(Ending::Ran(Status::NoMemory));
         }
+        Err(_) => return Err(Ending::Ran(Status::ReadFault)),
     };
     let mut source = ReadSource::new(file);
     let text = read_all(rt.alloc(), &mut source, LONGEST_KEYRING).map_err(unread)?;
     Keyring::read(rt.alloc(), &text).map_err(unusable)
+}
+
+// Opens the file under a path; None where nothing has that name. A link that leads to nothing is something.
+fn open_keyring(rt: &HostRuntime, path: &str) -> io::Result<Option<File>> {
+    match uninterrupted(|| fs::symlink_metadata(rt, path)) {
+        Ok(_) => Ok(Some(open_regular(rt, File::options().read(true), path)?)),
+        Err(error) => match error.kind() {
+            ErrorKind::NotFound | ErrorKind::NotADirectory => Ok(None),
+            _ => Err(error),
+        },
+    }
 }
 
 fn unread(error: ReadAllError) -> Ending {

@@ -3,6 +3,7 @@
 
 mod ending;
 mod hand;
+mod hints;
 mod keys;
 mod pauses;
 mod serving;
@@ -10,18 +11,19 @@ mod streams;
 
 use crate::ending::Ending;
 use crate::hand::{SystemClock, SystemDice};
+use crate::hints::file_to_blame;
 use crate::keys::read_keyring;
 use crate::serving::serve;
 use crate::streams::Closed;
 use blobref::{NoMemory, Text};
 use edge_dial::peer_at;
-use edge_os::{ReadSource, WriteSink};
+use edge_os::{is_told, standard_input, standard_output};
 use folder_disk::{Access, FolderDisk};
 use perkeep_top::{Status, run};
 use perkeep_words::{Line, places, serve_words};
 use std::alloc::Global;
 use std::env;
-use std::io::{self, ErrorKind, IsTerminal};
+use std::io::{self, ErrorKind};
 use std::process::ExitCode;
 use std::sync::Wait;
 use std::thread::Threads;
@@ -38,14 +40,25 @@ fn main(rt: HostRuntime) -> ExitCode {
     ExitCode::from(ending.code())
 }
 
-// Tells how the program ended; to a person at a terminal also what may be done.
+// Tells how the program ended; to a person at a terminal also which file is to blame, or what may be done.
 fn tell(rt: &HostRuntime, ending: &Ending) -> io::Result<()> {
-    match ending.hint() {
-        Some(hint) if rt.stderr().is_terminal() => {
-            rt.eprintln(format_args!("perkeep: {} ({hint})", ending.word()))
-        }
-        _ => rt.eprintln(format_args!("perkeep: {}", ending.word())),
+    let word = ending.word();
+    if !is_told(rt) {
+        return rt.eprintln(format_args!("perkeep: {word}"));
     }
+    if let Some(file) = blamed(rt, ending) {
+        return rt.eprintln(format_args!("perkeep: {word} ({file})"));
+    }
+    match ending.hint() {
+        Some(hint) => rt.eprintln(format_args!("perkeep: {word} ({hint})")),
+        None => rt.eprintln(format_args!("perkeep: {word}")),
+    }
+}
+
+// Which file of the folder that the words name is to blame for an ending.
+fn blamed(rt: &HostRuntime, ending: &Ending) -> Option<String> {
+    let words = words(rt).ok()?;
+    file_to_blame(rt, folder_named(&words), ending.code())
 }
 
 // Does what the command line asks for, over standard input and standard output, or as a server.
@@ -72,8 +85,8 @@ fn ending_of<R: Threads + Wait + Sync>(rt: &HostRuntime, threads: &R) -> Ending 
     };
     let disk = FolderDisk::new(rt, folder, access);
     let mut peer = peer_at(rt, address_named(&words));
-    let mut source = ReadSource::new(rt.stdin());
-    let mut sink = WriteSink::new(rt.stdout());
+    let mut source = standard_input(rt);
+    let mut sink = standard_output(rt);
     let mut clock = SystemClock::new(rt);
     let mut dice = SystemDice::new(rt);
     let (_disk, status) = run(

@@ -1,0 +1,85 @@
+//! What a person at a terminal is told of single files.
+use edge_os::again::uninterrupted;
+use edge_os::{is_own, is_told, tell_person};
+use std::fs;
+use std::io::ErrorKind;
+use std::os::unix::fs::MetadataExt;
+
+// The exit statuses of a disk that failed, and of a store that is full.
+const DISK: u8 = 7;
+
+const FULL: u8 = 9;
+
+// The name of the last pack that there may be.
+const LAST_PACK: &str = "pack-99999.blobs";
+
+// The bit of a file's mode by which everyone may write to it.
+const BY_ALL: u32 = 0o002;
+
+/// Which file of a folder is to blame for an exit status, and why; None where that isn't seen.
+pub(crate) fn file_to_blame(rt: &HostRuntime, folder: &str, code: u8) -> Option<String> {
+    match code {
+        DISK => odd_pack(rt, folder),
+        FULL => last_pack(rt, folder),
+        _ => None,
+    }
+}
+
+// Something by the name of a pack that is seen to be no regular file, or to lead to none.
+fn odd_pack(rt: &HostRuntime, folder: &str) -> Option<String> {
+    for entry in fs::read_dir(rt, folder).ok()? {
+        if let Ok(entry) = entry {
+            let name = entry.file_name();
+            if is_pack_name(name) && !is_regular(rt, folder, name) {
+                return format!(in rt.alloc(); "{folder}/{name} is no regular file").ok();
+            }
+        }
+    }
+    None
+}
+
+// The last pack that there may be, where it is there.
+fn last_pack(rt: &HostRuntime, folder: &str) -> Option<String> {
+    if is_regular(rt, folder, LAST_PACK) {
+        format!(in rt.alloc(); "no pack can follow {folder}/{LAST_PACK}").ok()
+    } else {
+        None
+    }
+}
+
+fn is_pack_name(name: &str) -> bool {
+    let Some(rest) = name.strip_prefix("pack-") else {
+        return false;
+    };
+    match rest.strip_suffix(".blobs") {
+        Some(digits) => digits.len() == 5 && digits.bytes().all(|b| b.is_ascii_digit()),
+        None => false,
+    }
+}
+
+fn is_regular(rt: &HostRuntime, folder: &str, name: &str) -> bool {
+    let Ok(path) = format!(in rt.alloc(); "{folder}/{name}") else {
+        return true;
+    };
+    match uninterrupted(|| fs::metadata(rt, &path)) {
+        Ok(found) => found.is_file(),
+        Err(error) => error.kind() != ErrorKind::NotFound,
+    }
+}
+
+/// Tells a person of a folder that is another user's, and of a keyring to which everyone may write.
+pub(crate) fn tell_of_others(rt: &HostRuntime, folder: &str, keyring: &str) {
+    if !is_told(rt) {
+        return;
+    }
+    if let Ok(found) = uninterrupted(|| fs::metadata(rt, folder)) {
+        if !is_own(&found) {
+            tell_person(rt, format_args!("perkeep: {folder} is another user's"));
+        }
+    }
+    if let Ok(found) = uninterrupted(|| fs::metadata(rt, keyring)) {
+        if found.mode() & BY_ALL != 0 {
+            tell_person(rt, format_args!("perkeep: everyone may write to {keyring}"));
+        }
+    }
+}
