@@ -1,6 +1,5 @@
 -- How `get-file` ends, from what reading the file gave.
-use Rattle.std.proofs.Common.{◌≡◌, true, ℕ, ◌≤◌, List, [], ◌++◌, Option, None, Some, Result, Ok, Err, option_map, refl, sym, ap, subst, ◌∙◌, arith}
-use Rattle.std.proofs.lemmas.List.{append-nil}
+use Rattle.std.proofs.Common.{◌≡◌, true, ℕ, ◌≤◌, List, [], Option, None, Some, Result, Ok, Err, option_map, refl, sym, ap, subst, ◌∙◌, arith}
 use Rattle.std.specs.Option.{ForSome}
 use Rattle.edge_base.specs.Edge.{SinkTook}
 use Rattle.edge_base.specs.declared.answers.GetFault.TheVariants as getting
@@ -12,13 +11,14 @@ use Rattle.file_tree.proofs.Found.{read_told}
 use Rattle.pack_disk.specs.Packs.{Packs}
 use Rattle.pack_disk.specs.Runs.{Stays}
 use Rattle.pack_store.specs.Archive.{Archive}
+use Rattle.pack_store.specs.Calls.{IsReadFrom}
 use Rattle.pack_store.specs.Puts.{Stands, PutsBlobs, blobs_of}
 use Rattle.pack_store.specs.StoreShelf.{content_of, ContentStands}
 use Rattle.top_frame.specs.declared.status.InputFault.TheVariants.{NotAFile, Short, Deep}
 use Rattle.top_frame.specs.declared.status.Status.TheVariants as status
 use Rattle.top_frame.specs.Faults.{file_status}
 use Rattle.top_frame.specs.Frame.{Ends}
-use Rattle.perkeep_top.specs.GetFile.{get_file_meaning, walk_of, BeginsFile, StopsFile, RefusesAs, IsRead, store_shelf}
+use Rattle.perkeep_top.specs.GetFile.{get_file_meaning, walk_of, BeginsFile, RefusesAs, IsRead, store_shelf}
 use Rattle.top_frame.specs.Limits.{limits}
 use Rattle.top_frame.specs.Outside.{Outside, World, world}
 use Rattle.top_frame.proofs.Ending.{Begun, Far, Has, nothing_given, later_rose, far_start, far_asked, far_puts, failed, no_memory, not_written, absent, unfit, damaged, done}
@@ -28,7 +28,8 @@ module _ {D P S K C R : Type 0} (o : Outside D P S K C R)
     (counts_now : (d : D) (t : ℕ) (c : Packs) → t ≤ o.disk.moment d → o.disk.images d c → o.disk.images_since d t c)
     (only_now : (d : D) (c : Packs) → o.disk.images_since d (o.disk.moment d) c → o.disk.images d c)
     (r : List ℕ) (b : World D P S K C R) (store old new : Archive D) (k : K) (same : old ≡ store)
-    (store_opened : Stays o.disk b.disk store.disk) (store_later : o.disk.faults b.disk ≤ o.disk.faults store.disk) (store_stands : Stands o.disk limits store) (tells : ContentStands o.disk)
+    (store_opened : Stays o.disk b.disk store.disk) (store_later : o.disk.faults b.disk ≤ o.disk.faults store.disk) (store_stands : Stands o.disk limits store) (store_read : IsReadFrom o.disk b.disk store)
+    (tells : ContentStands o.disk)
     (nothing : PutsBlobs o.disk old.limits old [] new) (later : o.disk.faults old.disk ≤ o.disk.faults new.disk) (sink_later : o.sink.faults b.sink ≤ o.sink.faults k) where
   opened : Stays o.disk b.disk old.disk
   opened = subst (λ (s : Archive D). Stays o.disk b.disk s.disk) (sym same) store_opened
@@ -78,6 +79,7 @@ module _ {D P S K C R : Type 0} (o : Outside D P S K C R)
       store = old;
       left = new;
       stays = opened;
+      read = subst (IsReadFrom o.disk b.disk) (sym same) store_read;
       stands = stands;
       fetches = h.fetches;
       fetched = h.fetched;

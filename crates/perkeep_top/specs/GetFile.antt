@@ -12,6 +12,7 @@ use Rattle.pack_disk.specs.Packs.{Packs}
 use Rattle.pack_disk.specs.Runs.{Stays}
 use Rattle.pack_disk.specs.declared.disk.Disk.{Ghosts as DiskGhosts}
 use Rattle.pack_store.specs.Archive.{Archive}
+use Rattle.pack_store.specs.Calls.{IsReadFrom}
 use Rattle.pack_store.specs.Packs.{KeepsAll}
 use Rattle.pack_store.specs.Puts.{Stands, HasNoRoom, blobs_of}
 use Rattle.pack_store.specs.StoreShelf.{content_of, PutsStore, FetchesStore}
@@ -50,12 +51,13 @@ store_shelf g = record {
   fetches = λ a r answer b. FetchesStore g a r answer b;
 }
 
--- These bytes were read of the file, and this is why no more were: a store that was opened on this disk was asked for blobs, and they are
--- the walk by what it answered.
+-- These bytes were read of the file, and this is why no more were: the store that was opened on this disk, from what the disk's calls
+-- answered, was asked for blobs, and they are the walk by what it answered.
 pub record IsRead {D : Type 0} (g : DiskGhosts D) (disk : D) (r bytes : List ℕ) (stop : Option FileFault) : Type 0 where
   pub store : Archive D
   pub left : Archive D
   pub stays : Stays g disk store.disk
+  pub read : IsReadFrom g disk store
   pub stands : Stands g limits store
   pub fetches : List Fetch
   pub fetched : All (Fetched (store_shelf g) store left) fetches

@@ -31,9 +31,9 @@ use Rattle.top_sync.specs.Meanings.{push_meaning, pull_meaning}
 -- what each command means on this disk, under the keys that accept these signatures
 abbrev pub meaning_of : {D : Type 0} → DiskGhosts D → D → Keys → Command → Meaning
 meaning_of g disk keys (command.Put dir) = put_meaning
-meaning_of g disk keys (command.Get dir r) = get_meaning r
-meaning_of g disk keys (command.Stat dir r) = stat_meaning r
-meaning_of g disk keys (command.List dir after limit) = list_meaning after limit
+meaning_of g disk keys (command.Get dir r) = get_meaning g disk r
+meaning_of g disk keys (command.Stat dir r) = stat_meaning g disk r
+meaning_of g disk keys (command.List dir after limit) = list_meaning g disk after limit
 meaning_of g disk keys (command.Search dir attr value at) = search_meaning keys.accepts attr value at
 meaning_of g disk keys (command.Salvage dir) = salvage_meaning
 meaning_of g disk keys (command.Permanode dir name) = permanode_meaning keys name

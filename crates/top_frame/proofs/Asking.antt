@@ -2,12 +2,30 @@
 use Rattle.std.proofs.Common.{ℕ, ◌≤◌, List, [], Option, refl, subst}
 use Rattle.pack_disk.specs.Packs.{Packs}
 use Rattle.pack_disk.specs.Runs.{Stays}
+use Rattle.pack_disk.specs.declared.disk.Disk.{Ghosts as DiskGhosts}
 use Rattle.top_frame.specs.declared.status.Status.{Status}
+use Rattle.top_frame.specs.declared.status.Status.TheVariants as status
 use Rattle.top_frame.specs.Asking.{asking}
 use Rattle.top_frame.specs.Frame.{Ends}
 use Rattle.top_frame.specs.Outside.{Outside, World, world}
 use Rattle.top_frame.specs.Steps.{Finds, NeverRefuses, Writes}
 use Rattle.top_frame.proofs.Ending.{Begun, Far, Has, nothing_given, far_start, far_asked, refused, finished}
+
+-- a cause that has another one
+pub finds_more : {D : Type 0} (g : DiskGhosts D) (old new : D) (Why More : Status → Type 0) → ((end : Status) → Why end → More end) → (end : Status) → Finds g old new Why end → Finds g old new More end
+finds_more g old new Why More f status.Disk w = w
+finds_more g old new Why More f status.NoMemory w = w
+finds_more g old new Why More f (status.Absent r) w = f (status.Absent r) w
+finds_more g old new Why More f (status.Damaged want is) w = f (status.Damaged want is) w
+finds_more g old new Why More f status.Done w = absurd w
+finds_more g old new Why More f status.BadWords w = absurd w
+finds_more g old new Why More f status.HandFault w = absurd w
+finds_more g old new Why More f status.Peer w = absurd w
+finds_more g old new Why More f (status.BadReply fault) w = absurd w
+finds_more g old new Why More f (status.BadInput fault) w = absurd w
+finds_more g old new Why More f status.ReadFault w = absurd w
+finds_more g old new Why More f status.WriteFault w = absurd w
+finds_more g old new Why More f (status.Full blobs pack) w = absurd w
 
 module _ {D P S K C R : Type 0} (o : Outside D P S K C R)
     (counts_now : (d : D) (t : ℕ) (c : Packs) → t ≤ o.disk.moment d → o.disk.images d c → o.disk.images_since d t c)

@@ -12,6 +12,7 @@ use Rattle.pack_disk.specs.Packs.{Packs}
 use Rattle.pack_disk.specs.Disk.{Tells}
 use Rattle.pack_disk.specs.Runs.{Stays}
 use Rattle.pack_store.specs.Archive.{Archive}
+use Rattle.pack_store.specs.Calls.{IsReadFrom}
 use Rattle.pack_store.specs.Packs.{KeepsAll}
 use Rattle.pack_store.specs.Puts.{PutsAll, HoldAll, IsFull, IsAtLimit, blobs_of}
 use Rattle.peer_base.specs.declared.peer.PeerFault.{PeerFault}
@@ -172,9 +173,10 @@ module _ {D P S K C R : Type 0} (o : Outside D P S K C R) (m : Meaning) (old new
   abbrev pub AreCounted : Given → Blobs → Blobs → Type 0
   AreCounted given from to = (given.lacked ≡ length (lacking from to)) × (given.lacked + given.had ≡ length (entries from))
 
-  -- The store of the disk was opened, and asked, and what it then had is the disk now.
+  -- The store of the disk was opened, from what the disk's calls answered, and asked, and what it then had is the disk now.
   pub record IsOpened (store store_now : Archive D) : Type 0 where
     pub opened : Stays o.disk old.disk store.disk
+    pub read : IsReadFrom o.disk old.disk store
     pub now : store_now.disk ≡ new.disk
 
   -- The peer's blobs that the store lacked were pulled, and nothing was put to the peer. Told or not, these are the blobs whose refs were on the

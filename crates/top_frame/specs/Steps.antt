@@ -7,7 +7,10 @@ use Rattle.edge_base.specs.declared.edge.Source.{Ghosts as SourceGhosts}
 use Rattle.edge_base.specs.declared.edge.Sink.{Ghosts as SinkGhosts}
 use Rattle.pack_disk.specs.Packs.{Packs}
 use Rattle.pack_disk.specs.declared.disk.Disk.{Ghosts as DiskGhosts}
+use Rattle.pack_store.specs.Archive.{Archive}
+use Rattle.pack_store.specs.Calls.{IsReadFrom}
 use Rattle.pack_store.specs.Puts.{blobs_of}
+use Rattle.pack_store.specs.Rows.{number_of}
 use Rattle.top_frame.specs.declared.status.InputFault.TheVariants.{BadRef, BadDate, BadNumber, BadName, TooBig, NotAFile, Short, Deep}
 use Rattle.top_frame.specs.declared.status.InputFault.TheVariants.{NoKey, TooLong, BadQuery, BadChanges}
 use Rattle.top_frame.specs.declared.status.Status.{Status}
@@ -60,9 +63,17 @@ Finds g old new Why _ = ⊥
 abbrev pub NeverRefuses : Status → Type 0
 NeverRefuses answer = ⊥
 
--- the ref isn't there
-abbrev pub IsAbsent : List ℕ → Option Packs → List ℕ → Type 0
-IsAbsent r told asked = (asked ≡ r) × ForSome told (λ held. get (blobs_of held) r ≡ None)
+-- it is so of the store that was opened on the disk, from what the disk's calls answered
+pub record OfOpened {D : Type 0} (g : DiskGhosts D) (disk : D) (P : Archive D → Type 0) : Type 0 where
+  pub store : Archive D
+  pub read : IsReadFrom g disk store
+  pub is : P store
+
+-- the ref isn't there: not in the store that was opened, and not in the packs, where the disk tells them
+pub record IsAbsent {D : Type 0} (s : Archive D) (r : List ℕ) (told : Option Packs) (asked : List ℕ) : Type 0 where
+  pub same : asked ≡ r
+  pub lacks : number_of r s.rows ≡ None
+  pub absent : ForSome told (λ held. get (blobs_of held) r ≡ None)
 
 -- how the writing ended
 abbrev pub Writes : {K : Type 0} → SinkGhosts K → K → K → List ℕ → Status → Type 0

@@ -3,6 +3,7 @@ ghost use Rattle.std.specs.Prelude.{◌≡◌, ◌≤◌, ◌<◌, ◌^◌, leng
 ghost use Rattle.blobref.specs.Blobref.{ref_of};
 ghost use Rattle.pack_format.specs.Header.{max_size};
 ghost use Rattle.pack_disk.specs.Runs.{Stays};
+ghost use Rattle.pack_store.specs.Calls.{IsReadFrom};
 ghost use Rattle.pack_store.specs.Packs.{KeepsAll};
 ghost use Rattle.pack_store.specs.Puts.{Stands, PutLeaves};
 ghost use Rattle.top_frame.specs.Frame.{GaveWhole};
@@ -55,6 +56,7 @@ pub fn told_too_long(status: Status) -> Status
 /// The store that a disk holds. Nothing is made and nothing added.
 pub fn opened<D: Disk>(alloc: Global, disk: D) -> Result<Store<D>, (D, Status)>
     ensures stands { IfOk result (Stands D.Disk limits) }
+    ensures read { IfOk result (IsReadFrom D.Disk disk) }
     ensures stays { IfOk result (λ store. Stays D.Disk disk store.disk) }
     ensures later { IfOk result (λ store. D.faults disk ≤ D.faults store.disk) }
     ensures stays_err { IfErr result (λ e. Stays D.Disk disk e.0) }

@@ -7,6 +7,7 @@ use Rattle.pack_disk.specs.Packs.{Packs}
 use Rattle.pack_disk.specs.Disk.{Tells}
 use Rattle.pack_disk.specs.Runs.{Stays}
 use Rattle.pack_store.specs.Archive.{Archive}
+use Rattle.pack_store.specs.Calls.{IsReadFrom}
 use Rattle.pack_store.specs.Packs.{KeepsAll}
 use Rattle.pack_store.specs.Puts.{Stands, PutsAll, PutsBlobs, HasNoRoom, blobs_of}
 use Rattle.pack_store.specs.StoreShelf.{content_of, PutsStore, ContentStands}
@@ -83,7 +84,8 @@ module _ {D P S K C R : Type 0} (o : Outside D P S K C R)
 
   -- ---- it was
 
-  module _ (store s0 : Archive D) (is : s0 ≡ store) (s1 : Archive D) (p1 : P) (store_opened : Stays o.disk old.disk store.disk) (store_later : o.disk.faults old.disk ≤ o.disk.faults store.disk) (store_stands : Stands o.disk limits store) (tells : ContentStands o.disk)
+  module _ (store s0 : Archive D) (is : s0 ≡ store) (s1 : Archive D) (p1 : P) (store_opened : Stays o.disk old.disk store.disk) (store_later : o.disk.faults old.disk ≤ o.disk.faults store.disk) (store_stands : Stands o.disk limits store) (store_read : IsReadFrom o.disk old.disk store)
+      (tells : ContentStands o.disk)
       (run : KeepsAll o.disk s0.disk s1.disk) (disk_later : o.disk.faults s0.disk ≤ o.disk.faults s1.disk)
       (unsent : o.peer.content p1 ≡ o.peer.content old.peer) (alone : o.peer.puts old.peer [] p1) (peer_later : o.peer.faults old.peer ≤ o.peer.faults p1) where
     opened : Stays o.disk old.disk s0.disk
@@ -115,7 +117,7 @@ module _ {D P S K C R : Type 0} (o : Outside D P S K C R)
     -- ---- the sync stopped
 
     asked : (k : K) → IsOpened o pull_meaning old (here s1.disk p1 k) s0 s1
-    asked k = record { opened = opened; now = refl }
+    asked k = record { opened = opened; read = subst (IsReadFrom o.disk old.disk) (sym is) store_read; now = refl }
 
     module _ (f : SyncFault) (w : IsStopped o.peer (peer_of o.disk) old.peer p1 s0 s1 f) where
       abbrev gone : List Blob

@@ -7,6 +7,7 @@ use Rattle.edge_base.specs.Shelf.{Blob}
 use Rattle.pack_disk.specs.Packs.{Packs}
 use Rattle.pack_disk.specs.Runs.{Stays}
 use Rattle.pack_store.specs.Archive.{Archive}
+use Rattle.pack_store.specs.Calls.{IsReadFrom}
 use Rattle.pack_store.specs.Puts.{Stands, blobs_of}
 use Rattle.pack_store.specs.StoreShelf.{content_of, PutsStore, ContentStands}
 use Rattle.pack_store.proofs.Moments.{stays_then, stays_keeps}
@@ -65,7 +66,8 @@ module _ {D P S K C R : Type 0} (o : Outside D P S K C R)
 
   -- ---- it was
 
-  module _ (store s0 : Archive D) (is : s0 ≡ store) (s1 : Archive D) (p1 : P) (store_opened : Stays o.disk old.disk store.disk) (store_later : o.disk.faults old.disk ≤ o.disk.faults store.disk) (store_stands : Stands o.disk limits store) (tells : ContentStands o.disk)
+  module _ (store s0 : Archive D) (is : s0 ≡ store) (s1 : Archive D) (p1 : P) (store_opened : Stays o.disk old.disk store.disk) (store_later : o.disk.faults old.disk ≤ o.disk.faults store.disk) (store_stands : Stands o.disk limits store) (store_read : IsReadFrom o.disk old.disk store)
+      (tells : ContentStands o.disk)
       (nothing : PutsStore o.disk s0 [] s1) (disk_later : o.disk.faults s0.disk ≤ o.disk.faults s1.disk) (peer_later : o.peer.faults old.peer ≤ o.peer.faults p1) where
     opened : Stays o.disk old.disk s0.disk
     opened = subst (λ (s : Archive D). Stays o.disk old.disk s.disk) (sym is) store_opened
@@ -103,7 +105,7 @@ module _ {D P S K C R : Type 0} (o : Outside D P S K C R)
     known (sync.Gone r) w = inl w.stopped.put
 
     asked : (k : K) → IsOpened o push_meaning old (here s1.disk p1 k) s0 s1
-    asked k = record { opened = opened; now = refl }
+    asked k = record { opened = opened; read = subst (IsReadFrom o.disk old.disk) (sym is) store_read; now = refl }
 
     damaged : (want is : List ℕ) → IsStopped (peer_of o.disk) o.peer s0 s1 old.peer p1 (sync.Source (peer_fault.Damaged want is)) → StoreDamaged o push_meaning old (here s1.disk p1 old.sink) want is
     damaged want is w = record {

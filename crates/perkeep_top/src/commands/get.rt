@@ -23,7 +23,7 @@ pub(crate) fn get<D: Disk, P: Peer, S: Source, K: Sink, C: Clock, R: Dice, V>(
     disk: D,
     environment: Environment<'_, P, S, K, C, R, V>,
 ) -> (D, Status)
-    ensures { Ends (outside D.Disk P.Peer S.Source K.Sink C.Clock R.Dice) (get_meaning r.now)
+    ensures { Ends (outside D.Disk P.Peer S.Source K.Sink C.Clock R.Dice) (get_meaning D.Disk disk r.now)
         (world_before disk environment.entry)
         (world_after result.0 environment.exit) result.1 }
 {
@@ -45,7 +45,7 @@ fn blob<D: Disk>(store: &mut Store<D>, r: &Ref) -> Result<Octets, Status>
     requires { Stands D.Disk limits store.old }
     ensures found { IfOk result (IsBlob r.now (D.packs store.old.disk)) }
     ensures refused { IfErr result (Finds D.Disk store.old.disk store.new.disk
-        (RefusesBlob r.now (D.packs store.old.disk))) }
+        (RefusesBlob store.old r.now (D.packs store.old.disk))) }
     ensures still { StaysStill D.Disk store.old store.new }
     ensures later { D.faults store.old.disk ≤ D.faults store.new.disk }
 {

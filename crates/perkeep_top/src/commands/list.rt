@@ -24,8 +24,8 @@ pub(crate) fn list<D: Disk, P: Peer, S: Source, K: Sink, C: Clock, R: Dice, V>(
     disk: D,
     environment: Environment<'_, P, S, K, C, R, V>,
 ) -> (D, Status)
-    ensures { Ends (outside D.Disk P.Peer S.Source K.Sink C.Clock R.Dice) (list_meaning (option_copied after.entry) limit)
-        (world_before disk environment.entry)
+    ensures { Ends (outside D.Disk P.Peer S.Source K.Sink C.Clock R.Dice)
+        (list_meaning D.Disk disk (option_copied after.entry) limit) (world_before disk environment.entry)
         (world_after result.0 environment.exit) result.1 }
 {
     let store = match opened(alloc, disk) {
@@ -49,7 +49,7 @@ fn lines_of<D: Disk>(
     limit: u64,
 ) -> Result<Octets, NoMemory>
     requires { Stands D.Disk limits store.now }
-    ensures { IfOk result (IsListing (option_copied after.entry) limit (D.packs store.now.disk)) }
+    ensures { IfOk result (IsListing store.now (option_copied after.entry) limit (D.packs store.now.disk)) }
 {
     store.arrivals_are_held();
     let page = store.list(after, limit as usize)?;

@@ -23,7 +23,7 @@ pub(crate) fn stat<D: Disk, P: Peer, S: Source, K: Sink, C: Clock, R: Dice, V>(
     disk: D,
     environment: Environment<'_, P, S, K, C, R, V>,
 ) -> (D, Status)
-    ensures { Ends (outside D.Disk P.Peer S.Source K.Sink C.Clock R.Dice) (stat_meaning r.now)
+    ensures { Ends (outside D.Disk P.Peer S.Source K.Sink C.Clock R.Dice) (stat_meaning D.Disk disk r.now)
         (world_before disk environment.entry)
         (world_after result.0 environment.exit) result.1 }
 {
@@ -43,9 +43,9 @@ pub(crate) fn stat<D: Disk, P: Peer, S: Source, K: Sink, C: Clock, R: Dice, V>(
 // The line of a blob that stands in the store.
 fn line_of<D: Disk>(alloc: Global, store: &Store<D>, r: &Ref) -> Result<Octets, Status>
     requires { Stands D.Disk limits store.now }
-    ensures line { IfOk result (IsSizeLine r.now (D.packs store.now.disk)) }
+    ensures line { IfOk result (IsSizeLine store.now r.now (D.packs store.now.disk)) }
     ensures refused { IfErr result (Finds D.Disk store.now.disk store.now.disk
-        (RefusesSize r.now (D.packs store.now.disk))) }
+        (RefusesSize store.now r.now (D.packs store.now.disk))) }
 {
     store.arrivals_are_held();
     match store.stat(r) {

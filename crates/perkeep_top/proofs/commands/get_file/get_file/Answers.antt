@@ -16,12 +16,12 @@ pub returns-in-Ok-read_file : goal.returns-in-Ok-read_file
 returns-in-Ok-read_file g c =
     rw (c.give_back.ensures, c.back.ensures) (
     walked (outside g.D.Disk g.P.Peer g.S.Source g.K.Sink g.C.Clock g.R.Dice) g.met.D.Disk.counts_now g.met.D.Disk.only_now c.args.r.now (world_before c.args.disk c.args.environment)
-    c.in-Ok.store c.over-shelf.result c.read_file.new.shelf c.read_file.new.sink c.over-shelf.ensures c.in-Ok.ensures.stays c.in-Ok.ensures.later c.in-Ok.ensures.stands c.content_stands.ensures
+    c.in-Ok.store c.over-shelf.result c.read_file.new.shelf c.read_file.new.sink c.over-shelf.ensures c.in-Ok.ensures.stays c.in-Ok.ensures.later c.in-Ok.ensures.stands c.in-Ok.ensures.read c.content_stands.ensures
     c.in-Ok-read_file.ensures.rests.nothing c.in-Ok-read_file.ensures.rests.later c.in-Ok-read_file.ensures.later c.in-Ok-read_file.field-0 c.in-Ok-read_file.ensures.reads.has)
 
 pub returns-in-Err-read_file : goal.returns-in-Err-read_file
 returns-in-Err-read_file g c =
     rw (c.give_back-in-Err-read_file.ensures, c.back-in-Err-read_file.ensures, c.from.ensures) (
     not_walked (outside g.D.Disk g.P.Peer g.S.Source g.K.Sink g.C.Clock g.R.Dice) g.met.D.Disk.counts_now g.met.D.Disk.only_now c.args.r.now (world_before c.args.disk c.args.environment)
-    c.in-Ok.store c.over-shelf.result c.read_file.new.shelf c.read_file.new.sink c.over-shelf.ensures c.in-Ok.ensures.stays c.in-Ok.ensures.later c.in-Ok.ensures.stands c.content_stands.ensures
+    c.in-Ok.store c.over-shelf.result c.read_file.new.shelf c.read_file.new.sink c.over-shelf.ensures c.in-Ok.ensures.stays c.in-Ok.ensures.later c.in-Ok.ensures.stands c.in-Ok.ensures.read c.content_stands.ensures
     c.in-Err-read_file.ensures.rests.nothing c.in-Err-read_file.ensures.rests.later c.in-Err-read_file.ensures.later c.in-Err-read_file.fault c.in-Err-read_file.ensures.reads.has c.in-Err-read_file.ensures.cause)
