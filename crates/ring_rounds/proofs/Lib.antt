@@ -1,0 +1,6 @@
+mod Places
+mod Zips
+mod Turns
+mod Gathering
+mod Scattering
+mod Ending

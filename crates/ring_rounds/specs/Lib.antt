@@ -1,0 +1,4 @@
+pub mod Maps
+pub mod Peers
+pub mod Turns
+pub mod Rounds
