@@ -1,6 +1,6 @@
-mod Maps
-mod Running
-mod Joining
+pub mod Maps
+pub mod Running
+pub mod Joining
 mod Walking
 mod Undoing
 mod Changing

@@ -108,25 +108,25 @@ module _ {A P : Type 0} (g : Ghosts A) (h : Ghosts P) (la : Laws g) (lp : Laws h
   }
 
   did_round : (hub mid now : A) (old olds news : List P) (n1 n2 k : ℕ) → CountsTurns (Gives g h) hub mid old olds n1 → CountsTurns (Takes g h) mid now olds news n2
-      → k ≡ min (n1 + n2) (2 ^ 64 - 1) → DoesRound g h hub now old news k
-  did_round hub mid now old olds news n1 n2 k b s is =
+      → AllZip (IsOnlyRead h) old olds → k ≡ min (n1 + n2) (2 ^ 64 - 1) → DoesRound g h hub now old news k
+  did_round hub mid now old olds news n1 n2 k b s read is =
       let first : n1 ≡ min b.0 (2 ^ 64 - 1) = b.2 in
       let second : n2 ≡ min s.0 (2 ^ 64 - 1) = s.2 in
       let all : k ≡ min (b.0 + s.0) (2 ^ 64 - 1) = omega (arith, first, second, is) in
-      record { mid = mid; peers = olds; gathered = b.0; gathers = b.1; scattered = s.0; scatters = s.1; count_is = all }
+      record { mid = mid; peers = olds; gathered = b.0; gathers = b.1; read = read; scattered = s.0; scatters = s.1; count_is = all }
 
   pub round_done : (hub mid now : A) (old olds news : List P) (n1 n2 k : ℕ) → Gathers g h hub mid old olds n1 → map h.content olds ≡ map h.content old
-      → g.content now ≡ g.content mid → g.puts mid [] now → Scatters g h mid now olds news n2 → k ≡ min (n1 + n2) (2 ^ 64 - 1) → IsRound g h hub now old news k
-  round_done hub mid now old olds news n1 n2 k b same told nothing s is = record {
+      → AllZip (IsOnlyRead h) old olds → g.content now ≡ g.content mid → g.puts mid [] now → Scatters g h mid now olds news n2 → k ≡ min (n1 + n2) (2 ^ 64 - 1) → IsRound g h hub now old news k
+  round_done hub mid now old olds news n1 n2 k b same read told nothing s is = record {
     gone = b.gone;
     given = taken_since hub mid now b.gone told nothing b.given;
     maps = maps_done (g.content hub) (g.content mid) (g.content now) (map h.content old) (map h.content olds) (map h.content news) n1 n2 k b.maps same told s.maps s.count is;
-    did = did_round hub mid now old olds news n1 n2 k b.did s.did is;
+    did = did_round hub mid now old olds news n1 n2 k b.did s.did read is;
   }
 
-  pub gather_breaks : (hub now : A) (old news : List P) (fault : RingFault) → map h.content news ≡ map h.content old → GatherEnds g h hub now old news fault → RoundStops g h hub now old news fault
-  gather_breaks hub now old news (Gather k e) same s = (same, s)
-  gather_breaks hub now old news (Scatter k e) same s = absurd s
+  pub gather_breaks : (hub now : A) (old news : List P) (fault : RingFault) → map h.content news ≡ map h.content old → AllZip (IsOnlyRead h) old news → GatherEnds g h hub now old news fault → RoundStops g h hub now old news fault
+  gather_breaks hub now old news (Gather k e) same read s = (same, read, s)
+  gather_breaks hub now old news (Scatter k e) same read s = absurd s
 
   pub round_stops : (hub mid now : A) (old olds news : List P) (n1 : ℕ) (fault : RingFault) → Gathers g h hub mid old olds n1 → map h.content olds ≡ map h.content old
       → AllZip (IsOnlyRead h) old olds → g.faults hub ≤ g.faults mid → g.content now ≡ g.content mid → g.puts mid [] now → ScatterEnds g h mid now olds news fault → RoundStops g h hub now old news fault
@@ -138,7 +138,7 @@ module _ {A P : Type 0} (g : Ghosts A) (h : Ghosts P) (la : Laws g) (lp : Laws h
     next = s.next;
     here = peer_since hub mid now old olds news k e b.gone s.gone s.next b.given.given b.given.put le read s.here;
     maps = maps_stop (g.content hub) (g.content mid) (g.content now) (map h.content old) (map h.content olds) (map h.content news) n1 k s.gone s.next b.maps same told s.maps;
-    did = record { mid = mid; peers = olds; gathered = b.did.0; gathers = b.did.1; scatters = s.did };
+    did = record { mid = mid; peers = olds; gathered = b.did.0; gathers = b.did.1; read = read; scatters = s.did };
   }
 
   -- ---- runs

@@ -4,3 +4,4 @@ mod Turns
 mod Gathering
 mod Scattering
 mod Ending
+mod Joins

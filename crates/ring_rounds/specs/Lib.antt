@@ -2,3 +2,4 @@ pub mod Maps
 pub mod Peers
 pub mod Turns
 pub mod Rounds
+pub mod Joins

@@ -1,5 +1,6 @@
 -- What a round over peers makes.
 use Rattle.std.specs.Prelude.{◌≡◌, ℕ, ◌+◌, List, ◌++◌, length, map, take, slice_get, Some}
+use Rattle.std.specs.List.{AllZip}
 use Rattle.std.specs.Option.{ForSome}
 use Rattle.edge_base.specs.Shelf.{Blob, Keeps}
 use Rattle.peer_base.specs.declared.peer.Peer.{Ghosts}
@@ -9,7 +10,7 @@ use Rattle.sync_core.specs.declared.syncing.SyncFault.{SyncFault}
 use Rattle.ring_rounds.specs.declared.rounds.RingFault.{RingFault}
 use Rattle.ring_rounds.specs.declared.rounds.RingFault.TheVariants.{Gather, Scatter}
 use Rattle.ring_rounds.specs.Maps.{gathered, HasGathered, IsFront, AreGiven, scattered, IsCount, StopsAt, AreRound, AreStopped}
-use Rattle.ring_rounds.specs.Peers.{WasGiven}
+use Rattle.ring_rounds.specs.Peers.{WasGiven, IsOnlyRead}
 use Rattle.ring_rounds.specs.Turns.{InTurn, CountsTurns, StopsInTurn, Gives, StopsGiving, Takes, StopsTaking}
 
 module _ {A P : Type 0} (g : Ghosts A) (h : Ghosts P) where
@@ -75,6 +76,7 @@ module _ {A P : Type 0} (g : Ghosts A) (h : Ghosts P) where
     pub peers : List P
     pub gathered : ℕ
     pub gathers : InTurn (Gives g h) hub mid old peers gathered
+    pub read : AllZip (IsOnlyRead h) old peers
     pub scattered : ℕ
     pub scatters : InTurn (Takes g h) mid hub_now peers now scattered
     pub count_is : n ≡ counted (gathered + scattered)
@@ -85,6 +87,7 @@ module _ {A P : Type 0} (g : Ghosts A) (h : Ghosts P) where
     pub peers : List P
     pub gathered : ℕ
     pub gathers : InTurn (Gives g h) hub mid old peers gathered
+    pub read : AllZip (IsOnlyRead h) old peers
     pub scatters : StopsInTurn (Takes g h) (StopsTaking g h e) mid hub_now peers now k
 
   pub record IsRound (hub hub_now : A) (old now : List P) (n : ℕ) : Type 0 where
@@ -104,5 +107,5 @@ module _ {A P : Type 0} (g : Ghosts A) (h : Ghosts P) where
     pub did : StopsRound hub hub_now old now k e
 
   abbrev pub RoundStops : A → A → List P → List P → RingFault → Type 0
-  RoundStops hub hub_now old now (Gather k e) = (map h.content now ≡ map h.content old) × GatherStops hub hub_now old now k e
+  RoundStops hub hub_now old now (Gather k e) = (map h.content now ≡ map h.content old) × AllZip (IsOnlyRead h) old now × GatherStops hub hub_now old now k e
   RoundStops hub hub_now old now (Scatter k e) = RoundBreaks hub hub_now old now k e

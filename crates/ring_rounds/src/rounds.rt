@@ -1,6 +1,7 @@
 //! A round over a hub and its peers.
 ghost use Rattle.std.specs.Prelude.{◌≡◌, ◌≤◌, [], map, IfOk, IfErr};
 ghost use Rattle.std.specs.List.{AllZip};
+ghost use Rattle.ring_rounds.specs.Joins.{JoinsAll, StaysBetween};
 ghost use Rattle.ring_rounds.specs.Peers.{IsOnlyRead, IsRunOf};
 ghost use Rattle.ring_rounds.specs.Rounds.{Gathers, GatherEnds, Scatters, ScatterEnds, IsRound, RoundStops};
 
@@ -18,11 +19,22 @@ pub enum RingFault {
 }
 
 /// Copies from each peer to the hub what that lacks, and then from the hub to each peer what that lacks, one peer after
-/// the other. The answer is how many blobs were copied, or the last value of its type where that is less. Where all tell
-/// what they hold, all then have the refs that any of them had.
+/// the other, each time as `sync` does. The answer is how many blobs were copied, or the last value of its type where
+/// that is less.
 ///
-/// After a fault the hub and each peer hold what they held, and further blobs that some of them had. What the fault
-/// comes from is told at `sync`, of the hub and the peer of that place, from the start of the round on.
+/// At `Ok`, whether or not they tell what they hold, each of these copies did what `sync` says at `Ok`, each with the
+/// hub as the one before left it. Where all tell, the hub then has the join of all: what it had, and for each other ref
+/// the bytes of the first peer that had it. Each peer has what it had and what it lacked of that. So all have the same
+/// refs.
+///
+/// After an error the copies before it were whole, and the one with the peer of that place ended as `sync` says of that
+/// error; peers after that place are as they were before this half of the round. While it gathers, nothing is put to a
+/// peer. What `sync` says of an error's cause holds of the hub and that peer from the start of the round on: `Failed`
+/// comes only where that one's count of faults rose. Where all tell, each has what it had, and further blobs of the
+/// join of all.
+///
+/// It lists the hub twice for each peer. Where all tell, no blob is fetched twice while it gathers; then a blob is
+/// fetched from the hub once for each peer that lacks it. It takes the memory that `sync` takes.
 pub fn ring_round<A: Peer, P: Peer>(
     alloc: Global,
     hub: &mut A,
@@ -30,6 +42,9 @@ pub fn ring_round<A: Peer, P: Peer>(
 ) -> Result<u64, RingFault>
     ensures ok { IfOk result (IsRound A.Peer P.Peer hub.old hub.new peers.old peers.new) }
     ensures err { IfErr result (RoundStops A.Peer P.Peer hub.old hub.new peers.old peers.new) }
+    ensures joined { IfOk result (λ n. JoinsAll (A.content hub.old) (A.content hub.new) (map P.content peers.old)
+        (map P.content peers.new)) }
+    ensures between { StaysBetween (A.content hub.old) (A.content hub.new) (map P.content peers.old) (map P.content peers.new) }
     ensures run { A.follows hub.old hub.new }
     ensures later { A.faults hub.old ≤ A.faults hub.new }
     ensures each { AllZip (IsRunOf P.Peer) peers.old peers.new }
