@@ -1,11 +1,13 @@
-//! Tests of peers in memory, over stores and over HTTP, of copying between them, and of `push` and `pull`. What is
-//! tested here stands in the crates below.
+//! Tests of peers in memory, over stores and over HTTP, of copying between them, of rounds, and of `push` and `pull`.
+//! What is tested here stands in the crates below.
 #![tactic(auto)]
 
 #[cfg(test)]
 mod commands;
 #[cfg(test)]
 mod peers;
+#[cfg(test)]
+mod rings;
 #[cfg(test)]
 mod stores;
 #[cfg(test)]
