@@ -35,7 +35,7 @@ use Rattle.attr_fold.proofs.OneChange.{own_bytes, beside, put_beside, put_own, d
 -- ---- the changes that count
 
 module _ (facts : Facts) (deletes : Deletes) where
-  counted-append : (ks js : List Moment) → counted facts deletes (ks ++ js) ≡ counted facts deletes ks ++ counted facts deletes js
+  pub counted-append : (ks js : List Moment) → counted facts deletes (ks ++ js) ≡ counted facts deletes ks ++ counted facts deletes js
   counted-append ks js =
       ap (filter_map (change_at facts)) (filter-append (moment_counts facts deletes Always) ks js)
       ∙ filter_map-append (change_at facts) (filter (moment_counts facts deletes Always) ks) (filter (moment_counts facts deletes Always) js)

@@ -33,7 +33,7 @@ none_there : {A : Type 0} (o : Option A) → is_some o ≡ false → o ≡ None
 none_there None h = refl
 none_there (Some x) h = absurd (false≢true (sym h))
 
-true_of : (b : Bool) → T b → b ≡ true
+pub true_of : (b : Bool) → T b → b ≡ true
 true_of true t = refl
 true_of false t = absurd t
 
@@ -43,7 +43,7 @@ module _ (before : Changes) (p : List ℕ) (k : Moment) (fresh : contains_key be
   abbrev now : Changes
   now = insert before (p, k) tt
 
-  new : find change_cmp (p, k) (entries before) ≡ None
+  pub new : find change_cmp (p, k) (entries before) ≡ None
   new = sym (get-entries before (p, k)) ∙ none_there (get before (p, k)) fresh
 
   of_other : (q : List ℕ) → bytes_eq q p ≡ false → changes_after now q None ≡ changes_after before q None
@@ -148,7 +148,7 @@ module _ (before : Changes) (p : List ℕ) (k : Moment) (fresh : contains_key be
 
     module _ (but : List (List ℕ)) (holders : Holders) (was : IsHeldBut but facts state deletes before holders) where
       -- rows that are right for p, where those of others stay
-      right_after : (after : Holders)
+      pub right_after : (after : Holders)
           → ((name value q : List ℕ) → bytes_eq q p ≡ false → contains_key after (name, value, q) ≡ contains_key holders (name, value, q))
           → ((name value : List ℕ) → contains_key holders (name, value, p) ≡ row_holds facts state deletes before name value p
           → contains_key after (name, value, p) ≡ row_holds facts state deletes now name value p)

@@ -11,7 +11,7 @@ none_of : {A : Type 0} (b : Bool) (x : A) (xs : List A) → cond b (x ∷ xs) xs
 none_of true x xs h = absurd (let e : x ∷ xs ≡ [] = h in cc e)
 none_of false x xs h = h
 
-is_less : (r : Ordering) → is_lt r ≡ true → r ≡ Less
+pub is_less : (r : Ordering) → is_lt r ≡ true → r ≡ Less
 is_less Less h = refl
 is_less Equal h = absurd (false≢true h)
 is_less Greater h = absurd (false≢true h)
@@ -20,11 +20,11 @@ module _ {K X : Type 0} {R : K → K → Ordering} (o : IsTotalOrder R) (f : K �
   abbrev passing : List (K × X) → List (K × X)
   passing es = filter (λ e. f e.0) es
 
-  new_here : (e : K × X) (es : List (K × X)) → find R k (e ∷ es) ≡ None → R k e.0 ≡ Equal → ⊥
+  pub new_here : (e : K × X) (es : List (K × X)) → find R k (e ∷ es) ≡ None → R k e.0 ≡ Equal → ⊥
   new_here e es h is =
       let g : Some e.1 ≡ None = sym (cond-true (eq_by_cmp R k e.0) (Some e.1) (find R k es) (ap is_eq is)) ∙ h in cc g
 
-  new_there : (e : K × X) (es : List (K × X)) → find R k (e ∷ es) ≡ None → R k e.0 ≡ Greater → find R k es ≡ None
+  pub new_there : (e : K × X) (es : List (K × X)) → find R k (e ∷ es) ≡ None → R k e.0 ≡ Greater → find R k es ≡ None
   new_there e es h is = sym (cond-false (eq_by_cmp R k e.0) (Some e.1) (find R k es) (ap is_eq is)) ∙ h
 
   -- a new entry that doesn't pass
@@ -68,7 +68,7 @@ module _ {K X : Type 0} {R : K → K → Ordering} (o : IsTotalOrder R) (f : K �
 
   -- a new entry that passes, where none that passes is behind it
   module _ (l : K → Bool) (behind : (x : K) → f x ≡ true → is_lt (R k x) ≡ true → l x ≡ true) where
-    below_less : (e : K) (es : List (K × X)) → R k e ≡ Less → below_all R e es ≡ true → below_all R k es ≡ true
+    pub below_less : (e : K) (es : List (K × X)) → R k e ≡ Less → below_all R e es ≡ true → below_all R k es ≡ true
     below_less e [] is h = refl
     below_less e (d ∷ es) is h =
         let parts = and_parts (is_lt (R e d.0)) (below_all R e es) h in

@@ -10,3 +10,7 @@ pub mod Telling
 pub mod Written
 pub mod Seen
 pub mod Ticks
+pub mod Splitting
+pub mod Deciding
+pub mod Behind
+pub mod Among

@@ -44,6 +44,10 @@ module _ (facts : Facts) (state : States) (deletes : Deletes) (counted : IsCount
   deletable : (p : List ℕ) (k : Moment) → IsChange facts state p k → is_deletable facts k.1 ≡ true
   deletable p k change = ap (passes (λ (f : Fact). can_be_deleted f.kind)) change.found ∙ ap can_be_deleted change.says
 
+  -- of the claim of a change the count tells it
+  pub by_deleters : (p : List ℕ) (k : Moment) → IsChange facts state p k → has_deleters state k.1 ≡ row_deleted facts deletes Always k.1
+  by_deleters p k change = by_count k.1 (deletable p k change)
+
   -- a change whose claim has no delete claim that counts isn't deleted
   pub lives : (p : List ℕ) (k : Moment) → IsChange facts state p k → false ≡ has_deleters state k.1
       → row_deleted facts deletes Always k.1 ≡ false

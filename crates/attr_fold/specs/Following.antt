@@ -1,5 +1,5 @@
 -- What one change more does to the rows of a permanode.
-use Rattle.std.specs.Prelude.{◌≡◌, ℕ, ◌+◌, ◌*◌, ◌&&◌, ◌||◌, ◌==◌, Bool, true, false, not, List, [], ◌∷◌, ◌++◌, length, map, filter, None}
+use Rattle.std.specs.Prelude.{◌≡◌, ℕ, ◌+◌, ◌*◌, ◌&&◌, ◌||◌, ◌==◌, Bool, true, false, not, List, [], ◌∷◌, ◌++◌, length, map, filter, Some, None}
 use Rattle.std.specs.List.{filter_map}
 use Rattle.std.specs.Str.{bytes_eq}
 use Rattle.std.specs.FinMap.{contains_key, insert}
@@ -28,11 +28,19 @@ counted facts deletes ks = filter_map (change_at facts) (filter (moment_counts f
 abbrev pub counted_before : Facts → Deletes → Changes → List ℕ → Moment → List Change
 counted_before facts deletes changes p k = counted facts deletes (map (λ e. e.0.1) (changes_before changes p k))
 
+-- those behind it
+abbrev pub counted_after : Facts → Deletes → Changes → List ℕ → Moment → List Change
+counted_after facts deletes changes p k = counted facts deletes (map (λ e. e.0.1) (changes_after changes p (Some k)))
+
 -- whether a change leaves no value of its attribute that was there before it
 abbrev pub is_end : Act → List ℕ → Bool
 is_end sets value = true
 is_end adds value = false
 is_end removes value = length value == 0
+
+-- whether a change alone decides if the attribute has the value behind it, or with `all` if it has any value
+abbrev pub decides : Bool → List ℕ → List ℕ → Change → Bool
+decides all name value c = bytes_eq c.attr name && (is_end c.act c.value || (not all && bytes_eq c.value value))
 
 -- at most rows of values of this attribute of p were dropped
 pub record AreFewer (attr p : List ℕ) (before after : Holders) : Type 0 where
@@ -60,6 +68,16 @@ pub record IsFollowed (p : List ℕ) (c : Change) (said : List Change) (before a
       → contains_key after (name, value, q) ≡ contains_key before (name, value, q)
   pub own : (value : List ℕ) → contains_key before (c.attr, value, p) ≡ has_after c.attr value said
       → contains_key after (c.attr, value, p) ≡ has_after c.attr value (said ++ c ∷ [])
+  pub given : (value : List ℕ) → contains_key after (c.attr, value, p) ≡ true
+      → (contains_key before (c.attr, value, p) || gives c.attr value c) ≡ true
+
+-- the rows of p that were right without a change are right with it, between those before it and those behind it, and no
+-- other row changed
+pub record IsSettled (p : List ℕ) (c : Change) (front back : List Change) (before after : Holders) : Type 0 where
+  pub others : (name value q : List ℕ) → (bytes_eq name c.attr && bytes_eq q p) ≡ false
+      → contains_key after (name, value, q) ≡ contains_key before (name, value, q)
+  pub own : (value : List ℕ) → contains_key before (c.attr, value, p) ≡ has_after c.attr value (front ++ back)
+      → contains_key after (c.attr, value, p) ≡ has_after c.attr value (front ++ c ∷ back)
   pub given : (value : List ℕ) → contains_key after (c.attr, value, p) ≡ true
       → (contains_key before (c.attr, value, p) || gives c.attr value c) ≡ true
 

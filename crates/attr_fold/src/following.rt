@@ -9,6 +9,7 @@ ghost use Rattle.index_rows.specs.Holders.{IsHeldBut};
 ghost use Rattle.index_rows.specs.Values.{change_at, IsChange, IsListed};
 ghost use Rattle.attr_fold.specs.Following.{counted, counted_before, follow_steps, holds_values, is_end, AreFewer, AreGone, IsFollowed, IsOneMore, IsTakenBack};
 
+use crate::late::follow_late;
 use crate::refolding::{has_deleters, standing};
 use blobref::{NoMemory, Ref};
 use edge_base::Steps;
@@ -18,18 +19,20 @@ use schema_fact::Act;
 use std::alloc::Global;
 use std::sync::ledger::Ledger;
 
-/// Writes what one change more does to the rows of its attribute in `holders`, where that can be told without a look at
+/// Writes what one change more does to the rows of its attribute in `holders`, where that can be told without a fold of
 /// all changes. It answers whether it could: the rows of p are then right with this change exactly where they were
-/// right without it. It can't where another change of p comes behind this one, and where the change's claim is deleted;
-/// nothing changes then, and p has to be folded again.
+/// right without it. It can't where the change leaves its value alone or removes all values, others come behind it, and
+/// none of these that counts does so again for its attribute; nothing changes then, and p has to be folded again.
 ///
 /// The counts of delete claims must be right, each row of `changes` be that of a change of a genuine claim, and the
 /// change have its row. Rows of other permanodes stay as they are, also after `NoMemory`. No other table changes.
 ///
-/// An addition, or the removal of one value, takes at most six look-ups, steps and changes. Where the change leaves its
-/// value alone, or removes all values, it walks back over the changes of p to the last one that did so for the same
-/// attribute, or to the first of all: that takes at most four for each, and the whole never more than 7 + 4 k where p
-/// has k changes. It takes memory for two keys.
+/// An addition, or the removal of one value, behind all other changes of p takes at most six look-ups, steps and changes.
+/// Where such a change leaves its value alone, or removes all values, it walks back over the changes of p to the last
+/// one that did so for the same attribute, or to the first of all, which takes at most four for each. From a change
+/// that comes before others it walks on over these, to the first one that decides alone what the change could do, which
+/// takes at most three for each. The whole never takes more than 7 + 4 k where p has k changes. It takes memory for two
+/// keys.
 pub fn follow<L: Ledger>(
     alloc: Global,
     rows: &mut Rows,
@@ -56,12 +59,12 @@ pub fn follow<L: Ledger>(
         return Ok(true);
     }
     if has_deleters(&rows.state, &moment.1, steps) {
-        return Ok(false);
+        return Ok(true);
     }
-    if !is_last(&rows.changes, p, moment, steps) {
-        return Ok(false);
+    if is_last(&rows.changes, p, moment, steps) {
+        return follow_last(alloc, rows, p, moment, steps);
     }
-    follow_last(alloc, rows, p, moment, steps)
+    follow_late(alloc, rows, p, moment, steps)
 }
 
 // Whether p is a genuine permanode that isn't deleted.
@@ -270,7 +273,7 @@ fn take_back<L: Ledger>(
 }
 
 // Whether a change leaves no value of its attribute that was there before it.
-fn is_end(act: Act, value: &str) -> bool
+pub(crate) fn is_end(act: Act, value: &str) -> bool
     ensures { result ≡ is_end act value.now }
 {
     match act {

@@ -3,6 +3,7 @@
 
 mod attribute_turns;
 mod following;
+mod late;
 mod moments;
 mod refolding;
 mod turns;

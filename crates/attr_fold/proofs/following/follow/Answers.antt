@@ -3,11 +3,13 @@ use Rattle.std.proofs.lemmas.Result.{IfOk-weaker}
 use Rattle.index_rows.specs.Changes.{Changes, changes_after}
 use Rattle.index_rows.specs.Holders.{IsHeldBut}
 use Rattle.std.specs.Prelude.{Some, []}
-use Rattle.attr_fold.specs.Following.{counted_before, IsFollowed}
+use Rattle.attr_fold.specs.Following.{counted_after, counted_before, IsFollowed, IsSettled}
 use Rattle.attr_fold.proofs.Followed.{nothing_held, followed_before}
+use Rattle.attr_fold.proofs.Among.{not_counted, settled_late}
 use Rattle.attr_fold.proofs.Walking.{change_is}
-use Rattle.attr_fold.proofs.Standing.{lives}
+use Rattle.attr_fold.proofs.Standing.{dies, lives}
 use Rattle.attr_fold.proofs.Dropping.{fewer_before}
+use Rattle.attr_fold.proofs.Behind.{fewer_behind}
 use Rattle.attr_fold.proofs.following.follow.Goals as goal
 
 pub returns-then-not-holds_values-clause-followed :
@@ -18,15 +20,24 @@ returns-then-not-holds_values-clause-followed g c = λ done but before one was.
     (nothing_held before c.args.p.now c.args.moment.now one.fresh old.facts.ordered old.state old.deletes but old.holders was
     (sym c.if-not-holds_values.ensures.holds))
 
-pub returns-clause-followed : goal.returns-clause-followed
-returns-clause-followed g c =
+pub returns-then-has_deleters-clause-followed : goal.returns-then-has_deleters-clause-followed
+returns-then-has_deleters-clause-followed g c = λ done but before one was.
+    let old = c.args.rows.now in
+    let p = c.args.p.now in
+    let k = c.args.moment.now in
+    subst (λ (cs : Changes). IsHeldBut but old.facts.ordered old.state old.deletes cs old.holders) (sym one.more)
+    (not_counted before p k one.fresh old.facts.ordered old.state old.deletes but old.holders was
+    (dies old.facts.ordered old.state old.deletes c.requires.counted p k (c.requires.listed p k c.requires.there) c.if-has_deleters.ensures.some))
+
+pub returns-then-is_last-clause-followed : goal.returns-then-is_last-clause-followed
+returns-then-is_last-clause-followed g c =
     let old = c.args.rows.now in
     let p = c.args.p.now in
     let k = c.args.moment.now in
     let change = c.requires.listed p k c.requires.there in
     IfOk-weaker c.follow_last.result _ _
     (λ answer told done but before one was.
-    let last : changes_after (_) p (Some k) ≡ [] = ap (λ (cs : Changes). changes_after cs p (Some k)) (sym one.more) ∙ c.if-not-is_last.ensures.last refl in
+    let last : changes_after (_) p (Some k) ≡ [] = ap (λ (cs : Changes). changes_after cs p (Some k)) (sym one.more) ∙ c.if-is_last.ensures.last refl in
     let live = lives old.facts.ordered old.state old.deletes c.requires.counted p k change c.if-has_deleters.ensures.some in
     subst (λ (cs : Changes). IsHeldBut but old.facts.ordered old.state old.deletes cs c.follow_last.new.rows.holders) (sym one.more)
     (followed_before before p k one.fresh old.facts.ordered old.state old.deletes but old.holders was last
@@ -35,11 +46,36 @@ returns-clause-followed g c =
     (told done change.change (change_is old.facts.ordered old.state p k change)))))
     c.follow_last.ensures.followed
 
-pub returns-clause-ticks : goal.returns-clause-ticks
-returns-clause-ticks g c =
+pub returns-clause-followed : goal.returns-clause-followed
+returns-clause-followed g c =
+    let old = c.args.rows.now in
+    let p = c.args.p.now in
+    let k = c.args.moment.now in
+    let change = c.requires.listed p k c.requires.there in
+    IfOk-weaker c.follow_late.result _ _
+    (λ answer told done but before one was.
+    let live = lives old.facts.ordered old.state old.deletes c.requires.counted p k change c.if-has_deleters.ensures.some in
+    subst (λ (cs : Changes). IsHeldBut but old.facts.ordered old.state old.deletes cs c.follow_late.new.rows.holders) (sym one.more)
+    (settled_late before p k one.fresh old.facts.ordered old.state old.deletes but old.holders was
+    change live (sym c.if-not-holds_values.ensures.holds) c.follow_late.new.rows.holders
+    (subst (λ (cs : Changes). IsSettled p change.change (counted_before old.facts.ordered old.deletes cs p k) (counted_after old.facts.ordered old.deletes cs p k) old.holders c.follow_late.new.rows.holders) one.more
+    (told done change.change (change_is old.facts.ordered old.state p k change)))))
+    c.follow_late.ensures.settled
+
+pub returns-then-is_last-clause-ticks : goal.returns-then-is_last-clause-ticks
+returns-then-is_last-clause-ticks g c =
     let f = fewer_before c.args.rows.now.changes c.args.p.now c.args.moment.now in
     let a = c.holds_values.ensures.ticks in
     let b = c.has_deleters.ensures.ticks in
     let d = c.is_last.ensures.ticks in
     let e = c.follow_last.ensures.ticks in
+    omega (arith, a, b, d, e, f)
+
+pub returns-clause-ticks : goal.returns-clause-ticks
+returns-clause-ticks g c =
+    let f = fewer_behind c.args.rows.now.changes c.args.p.now c.args.moment.now in
+    let a = c.holds_values.ensures.ticks in
+    let b = c.has_deleters.ensures.ticks in
+    let d = c.is_last.ensures.ticks in
+    let e = c.follow_late.ensures.ticks in
     omega (arith, a, b, d, e, f)
