@@ -7,17 +7,25 @@
 #   - a build after that, as a user's after .ci/run
 #
 # Builds what is committed here, in a clone, by a copy of the kit whose folders are links, since a kit keeps beside
-# itself what passed; what this machine has kept is neither read nor changed. Ends with status 1 where something fails,
-# or a crate of the program is proved a second time. Wants 20 GB in TMPDIR or /tmp.
+# itself what passed; what this machine has kept is neither read nor changed. With --keep it builds by the kit itself,
+# on a machine that has kept nothing yet, and what passes is kept. Ends with status 1 where something fails, or a crate
+# of the program is proved a second time. Wants 20 GB in TMPDIR or /tmp.
 set -eu -o pipefail
 cd "$(dirname "$0")/.."
 folder=$(mktemp -d)
 trap 'kill %% 2>/dev/null || true; rm -rf "$folder"' EXIT
 TIMEFORMAT='%R %U %S'
+# The kit itself, beside which nothing may be kept yet.
+take_kit() {
+  kept=$kit-kept
+  [ ! -e "$kept" ] || { echo "$0: this machine has kept what is proved: $kept" >&2 && exit 2; }
+  mkdir -p "$folder/tmp"
+  export TMPDIR=$folder/tmp
+}
+
 copy_kit() {
-  local kit part
-  kit=$(rt doc)
-  kit=${kit%/*}
+  local part
+  kept=$folder/kit
   mkdir -p "$folder/kit/rattle/bin" "$folder/tmp"
   for part in "$kit"/* "$kit"/bin/*; do
     case ${part#"$kit"/} in
@@ -48,12 +56,18 @@ measure() {
 watch_disk() {
   local now
   while sleep 5; do
-    now=$(du -sck "$folder/clone" "$folder/tmp" "$folder/kit" 2>/dev/null | awk 'END { print $1 }') || true
+    now=$(du -sck "$folder/clone" "$folder/tmp" "$kept" 2>/dev/null | awk 'END { print $1 }') || true
     [ "$now" -le "$(cat "$folder/most")" ] || echo "$now" >"$folder/most"
   done
 }
 
-copy_kit
+kit=$(rt doc)
+kit=${kit%/*}
+case ${1-} in
+  --keep) take_kit ;;
+  '') copy_kit ;;
+  *) echo "usage: $0 [--keep]" >&2 && exit 2 ;;
+esac
 git clone -q . "$folder/clone"
 export PERKEEP_BUILD=only
 measure "a first build" ./perkeep
