@@ -102,7 +102,7 @@ def chunks_read():
     for body in (b"3\r\nabcd", b"3\nabc", b"g\r\n", b"0\r\nT u\r\n\r\n"):
         yield query_head(CHUNKED) + body, BAD_LENGTH
         yield query_head(CHUNKED) + body + NOTHING, BAD_LENGTH
-    for body in (b"3\r\nabc", b"0\r\n"):
+    for body in (b"3\r\nabc", b"5\r\nab", b"0\r\n"):
         yield query_head(CHUNKED) + body, b""
 
 

@@ -3,8 +3,8 @@
 Relative links lead to files that are there, and their anchors to headings, by GitHub's rule for anchors. Lines outside
 code and tables have at most 120 characters. What docs/top.md quotes stands in the file that is linked before it. The
 names in docs/proved.md stand in the crates that it names, which also have the lines that it tells of those that are
-trusted, crates/README.md has the table that crates_table.py makes of
-crates.txt and docs/gate.md, and each script has a row on the page of its folder.
+trusted, and it names each public function without a contract. crates/README.md has the table that crates_table.py makes
+of crates.txt and docs/gate.md, and each script has a row on the page of its folder.
 """
 
 import collections
@@ -13,6 +13,7 @@ import os
 import pathlib
 import re
 
+import contracts as functions
 import crates_table
 import harness
 from budget import lines_of_crates
@@ -186,6 +187,31 @@ def check_names(page, block):
             check(f"{page.name}: {name} stands in none of {sorted(crates)}", any(parts <= words_of(c) for c in crates))
 
 
+# A place in a test: names, and the file that is linked behind them.
+IN_TESTS = re.compile(r"((?:`\w+`(?: and )?)+) of \[[^\]]*\]\(([^)]+)\)")
+
+
+def tried(program):
+    """docs/limits.md names, for inputs at limits, tests that are there."""
+    page = page_at(TOP / "docs" / "limits.md")
+    found = [one for line in page.lines for one in IN_TESTS.findall(line)]
+    check(f"{page.name}: it names only {len(found)} tests", len(found) >= 12)
+    return [functools.partial(check_test, page, names, path) for names, path in found]
+
+
+def check_test(page, names, path):
+    text = (page.path.parent / path).read_text(encoding="utf-8")
+    for name in re.findall(r"\w+", names.replace(" and ", " ")):
+        check(f"{page.name}: {path} has no {name}", re.search(rf"^(def |const )?{name}\b", text, re.M))
+
+
+def contracts(program):
+    """docs/proved.md names each public function of the libraries that has no contract, and no other as such."""
+    named = functions.named_on((TOP / "docs" / "proved.md").read_text(encoding="utf-8"))
+    what = "the public functions without a contract"
+    return [lambda: compare("docs/proved.md", what, functions.without_contract(), named)]
+
+
 # A row of a table that begins with a crate and a number.
 COUNTED = re.compile(r"\| `(\w+)` \| ([\d,]+) \|")
 # By so many lines a trusted crate may have grown or shrunk since they were counted.
@@ -259,4 +285,4 @@ def check_script(file):
 
 
 if __name__ == "__main__":
-    harness.main("links.sh", [links, lines, quotes, ledger, trusted, crates, scripts])
+    harness.main("links.sh", [links, lines, quotes, ledger, contracts, tried, trusted, crates, scripts])
