@@ -14,6 +14,9 @@ EDIT = re.compile(r"file: (?P<file>src/\S+\.rt)\nold: (?P<old>.+)\nnew: ?(?P<new
 # A row of docs/gate.md that names edits of the gate: the crate, then their names in the last cell.
 ROW = re.compile(r"^\|.*\| `(\w+)` \| ((?:`\w+`(?:, )?)+) \|", re.M)
 
+# One that docs/gate.md names beside these.
+NAMED = re.compile(r"`(\w+/\w+)`")
+
 
 def edits():
     """The crate's name and the file of each edit."""
@@ -45,11 +48,18 @@ def of_the_gate():
     return stand, told
 
 
+def missing():
+    """The edits that docs/gate.md names beside its table and that aren't there."""
+    stand = {f"{crate}/{file.stem}" for crate, file in edits()}
+    return sorted(set(NAMED.findall((TOP / "docs/gate.md").read_text())) - stand)
+
+
 def failures():
     for crate, file in edits():
         why = fault(crate, file)
         if why:
             yield f"{file.relative_to(TOP)}: {why}"
+    yield from (f"{name}: docs/gate.md names it, and it isn't there" for name in missing())
     stand, told = of_the_gate()
     for name in sorted(stand ^ told):
         yield f"{name}: {'docs/gate.md has no row of it' if name in stand else 'docs/gate.md lists it, and it is no edit of the gate'}"
