@@ -1,5 +1,5 @@
 #!/usr/bin/env python3
-"""Makes what is installed beside the program out of docs/commands.md:
+"""Makes what is installed beside the program out of docs/commands.md and docs/guide.md:
 
     perkeep.1       the manual page
     perkeep.bash    completions for bash
@@ -9,6 +9,7 @@
 
 They are written into FOLDER, or where none is given into the folder of this script. The page's first table has the
 lines of the commands. Each of its sections becomes one of the manual, but for those that speak of the repository alone.
+The guide gives the manual its examples, the first commands of each of its tasks, and its table of files.
 """
 
 import pathlib
@@ -17,12 +18,15 @@ import sys
 from typing import NamedTuple
 
 HERE = pathlib.Path(__file__).resolve().parent
-PAGE = HERE.parent / "docs" / "commands.md"
+DOCS = HERE.parent / "docs"
+PAGE, GUIDE = DOCS / "commands.md", DOCS / "guide.md"
 # What the table of commands begins with, and the sections that are no part of the manual.
 HEADS = ["words", "what it does", "what it prints"]
 LEFT_OUT = ["The launcher"]
+# The section of the guide that is a table of files.
+FILES = "Files"
 PURPOSE = "keeps an archive of blobs, notes and files"
-MADE = "made from docs/commands.md by install/make.py"
+MADE = "made from docs/commands.md and docs/guide.md by install/make.py"
 
 
 # The page
@@ -101,6 +105,21 @@ def plain(text):
     return without_links(text).replace("`", "")
 
 
+# The guide
+
+def sections_of(text):
+    """The sections of a page by their headings."""
+    return dict(section.split("\n", 1) for section in re.split(r"(?m)^## ", text)[1:])
+
+
+def tasks_of(sections):
+    """What the guide begins with in each section that has commands, as the lines of these."""
+    for heading, text in sections.items():
+        commands = re.search(r"(?ms)^```sh\n(.*?)^```$", text)
+        if commands:
+            yield heading, commands[1].splitlines()
+
+
 # The manual page
 
 def escaped(text):
@@ -144,6 +163,11 @@ def manual_list(block):
     return lines
 
 
+def manual_code(lines):
+    """Commands, or a text, as they are."""
+    return [".RS 4", ".EX", *(escaped(line).replace("./perkeep", "perkeep") for line in lines), ".EE", ".RE"]
+
+
 def manual_block(block):
     if block[0].startswith("#"):
         marks, _, title = block[0].partition(" ")
@@ -151,7 +175,7 @@ def manual_block(block):
     if is_table(block):
         return manual_table(block)
     if block[0].startswith("    "):
-        return [".PP", ".RS 4", ".EX", *(escaped(line[4:]).replace("./perkeep", "perkeep") for line in block), ".EE", ".RE"]
+        return [".PP", *manual_code(line[4:] for line in block)]
     if re.match(r"(-|\d+\.) ", block[0]):
         return manual_list(block)
     return [".PP", formatted("\n".join(block))]
@@ -161,7 +185,16 @@ def is_kept(section):
     return section.partition("\n")[0] not in LEFT_OUT
 
 
-def manual(text):
+def manual_guide(sections):
+    """The examples and the files."""
+    lines = [".SH EXAMPLES"]
+    for heading, commands in tasks_of(sections):
+        lines += [".PP", f"{formatted(heading)}:", *manual_code(commands)]
+    blocks = blocks_of(sections[FILES])
+    return [*lines, ".SH FILES", *(line for block in blocks for line in manual_block(block))]
+
+
+def manual(text, guide):
     first, *sections = text.split("\n## ")
     text = "\n## ".join([first, *filter(is_kept, sections)])
     blocks = blocks_of(text)[1:]
@@ -169,6 +202,7 @@ def manual(text):
     for command in commands_of(blocks):
         lines += [".PD 0", ".PP", bold(f"perkeep {command.usage}")]
     lines += [".PD", ".SH DESCRIPTION", *(line for block in blocks for line in manual_block(block))]
+    lines += manual_guide(sections_of(guide))
     lines += [".SH \"SEE ALSO\"", "The pages that are named docs/ are in the sources of the program."]
     return "\n".join(lines) + "\n"
 
@@ -191,31 +225,52 @@ _perkeep_offer() {{
 }}
 
 _perkeep() {{
-  local word=${{COMP_WORDS[COMP_CWORD]}} place count=0 is_over='' given=' ' positions options
+  local words=() word name place count=0 is_over='' given=' ' folder='' option='' positions options
   COMPREPLY=()
-  if [ "$COMP_CWORD" -eq 1 ]; then
+  _perkeep_join
+  word=${{words[-1]}} name=${{words[0]}}
+  if [ "${{#words[@]}}" -eq 1 ]; then
     _perkeep_offer -W '{names}'
     return
   fi
-  _perkeep_words "${{COMP_WORDS[1]}}"
-  for ((place = 2; place < COMP_CWORD; place++)); do
-    if [ -z "$is_over" ] && [ "${{COMP_WORDS[place]}}" = -- ]; then
+  _perkeep_words "$name"
+  for ((place = 1; place < ${{#words[@]}} - 1; place++)); do
+    if [ -z "$is_over" ] && [ "${{words[place]}}" = -- ]; then
       is_over=1
-    elif [ -z "$is_over" ] && [[ ${{COMP_WORDS[place]}} == --* ]]; then
-      given+="${{COMP_WORDS[place]}} "
-      # Its value comes next. A `=` before that is a word of its own here.
-      [ "${{COMP_WORDS[place + 1]}}" != = ] || place=$((place + 1))
+    elif [ -z "$is_over" ] && [[ ${{words[place]}} == --* ]]; then
+      option=${{words[place]}}
+      given+="$option "
+      # Its value comes next. A `=` before that is a word of its own here, and before a value that is yet to be written.
+      [ "${{words[place + 1]}}" != = ] || [ $((place + 2)) -eq "${{#words[@]}}" ] || place=$((place + 1))
       place=$((place + 1))
     else
+      [ "${{positions[count]:-}}" != DIR ] || folder=${{words[place]}}
       count=$((count + 1))
     fi
   done
-  # The value of an option may be anything.
-  [ "$place" -eq "$COMP_CWORD" ] || return
+  if [ "$place" -eq "${{#words[@]}}" ]; then
+    # The value of an option. But for the name of a key it may be anything.
+    word=${{word#=}}
+    [ "$option" != --key ] || _perkeep_keys
+    return
+  fi
   case $is_over$word in
     -*) _perkeep_options ;;
     *) _perkeep_position "${{positions[count]:-}}" ;;
   esac
+}}
+
+# The words up to the one that is being written. Bash takes colons for words of their own, or not: they are parts here.
+_perkeep_join() {{
+  local place last=''
+  for ((place = 1; place <= COMP_CWORD; place++)); do
+    if [ "${{#words[@]}}" -gt 1 ] && [[ ${{COMP_WORDS[place]}} == : || $last == *: ]]; then
+      words[-1]+=${{COMP_WORDS[place]}}
+    else
+      words+=("${{COMP_WORDS[place]}}")
+    fi
+    last=${{COMP_WORDS[place]}}
+  done
 }}
 
 # Offers what may stand at a position, and the options where nothing is known of that.
@@ -225,9 +280,31 @@ _perkeep_position() {{
       compopt -o filenames 2>/dev/null
       _perkeep_offer -d
       ;;
+    NAME)
+      compopt -o filenames 2>/dev/null
+      _perkeep_offer -f
+      ;;
+    ADDR) _perkeep_addresses ;;
     KIND) _perkeep_offer -W '{kinds}' ;;
     *) _perkeep_options ;;
   esac
+}}
+
+# Offers the names of the keys of the folder that was written before.
+_perkeep_keys() {{
+  folder=${{folder//\\/}}
+  _perkeep_offer -W "$(cut -d ' ' -f 1 "${{folder/#\~\//$HOME/}}/keyring" 2>/dev/null)"
+}}
+
+# Offers the ports of 127.0.0.1 at which some program listens: servers, and tunnels to them.
+_perkeep_addresses() {{
+  local local state addresses=''
+  while read -r _ local _ state _; do
+    [[ $local != 0100007F:* || $state != 0A ]] || addresses+=" 127.0.0.1:$((16#${{local#*:}}))"
+  done 2>/dev/null </proc/net/tcp
+  _perkeep_offer -W "$addresses"
+  # Where bash takes colons for words, what stands before the last one stays.
+  [[ $word != *:* || $COMP_WORDBREAKS != *:* ]] || COMPREPLY=("${{COMPREPLY[@]#"${{word%:*}}:"}}")
 }}
 
 # Offers the options that weren't given yet. There are none after a word `--`.
@@ -261,6 +338,20 @@ _perkeep() {{
   esac
 }}
 
+# The names of the keys of the folder that was written before.
+_perkeep_keys() {{
+  local folder=${{(Q)line[1]}}
+  compadd -- ${{${{(f)"$(<${{folder/#\~\//$HOME/}}/keyring)"}}%% *}} 2>/dev/null
+}}
+
+# The ports of 127.0.0.1 at which some program listens: servers, and tunnels to them.
+_perkeep_addresses() {{
+  local row
+  for row in ${{(f)"$(</proc/net/tcp)"}}; do
+    [[ ${{row[(w)2]}} != 0100007F:* || ${{row[(w)4]}} != 0A ]] || compadd 127.0.0.1:$((16#${{${{row[(w)2]}}#*:}}))
+  done
+}}
+
 _perkeep "$@"
 """
 
@@ -280,12 +371,12 @@ def quoted(text):
 
 def zsh_words(command, kinds):
     """What zsh is told of the positions and options of a command."""
-    offers = {"DIR": "_directories", "KIND": f"({' '.join(kinds)})"}
+    offers = {"DIR": "_directories", "KIND": f"({' '.join(kinds)})", "NAME": "_files", "ADDR": "_perkeep_addresses"}
     for place, position in enumerate(command.positions, 1):
         mark = "::" if command.may_lack(position) else ":"
         yield quoted(f"{place}{mark}{position}:{offers.get(position, ' ')}")
     for name, value in command.options:
-        yield quoted(f"{name}=:{value}: ")
+        yield quoted(f"{name}=:{value}:{'_perkeep_keys' if name == '--key' else ' '}")
 
 
 def completions_for_zsh(commands, kinds):
@@ -297,8 +388,8 @@ def completions_for_zsh(commands, kinds):
 def main():
     folder = pathlib.Path(sys.argv[1]) if len(sys.argv) > 1 else HERE
     text = PAGE.read_text()
+    (folder / "perkeep.1").write_text(manual(text, GUIDE.read_text()))
     commands, kinds = commands_of(blocks_of(text)), kinds_of(text)
-    (folder / "perkeep.1").write_text(manual(text))
     (folder / "perkeep.bash").write_text(completions_for_bash(commands, kinds))
     (folder / "_perkeep").write_text(completions_for_zsh(commands, kinds))
 

@@ -1,4 +1,4 @@
-# Completions of perkeep for bash, made from docs/commands.md by install/make.py.
+# Completions of perkeep for bash, made from docs/commands.md and docs/guide.md by install/make.py.
 
 # The positions and options of a command.
 _perkeep_words() {
@@ -31,31 +31,52 @@ _perkeep_offer() {
 }
 
 _perkeep() {
-  local word=${COMP_WORDS[COMP_CWORD]} place count=0 is_over='' given=' ' positions options
+  local words=() word name place count=0 is_over='' given=' ' folder='' option='' positions options
   COMPREPLY=()
-  if [ "$COMP_CWORD" -eq 1 ]; then
+  _perkeep_join
+  word=${words[-1]} name=${words[0]}
+  if [ "${#words[@]}" -eq 1 ]; then
     _perkeep_offer -W 'put get stat list search query salvage search-pack permanode claim multi delete get-file put-file push pull load serve'
     return
   fi
-  _perkeep_words "${COMP_WORDS[1]}"
-  for ((place = 2; place < COMP_CWORD; place++)); do
-    if [ -z "$is_over" ] && [ "${COMP_WORDS[place]}" = -- ]; then
+  _perkeep_words "$name"
+  for ((place = 1; place < ${#words[@]} - 1; place++)); do
+    if [ -z "$is_over" ] && [ "${words[place]}" = -- ]; then
       is_over=1
-    elif [ -z "$is_over" ] && [[ ${COMP_WORDS[place]} == --* ]]; then
-      given+="${COMP_WORDS[place]} "
-      # Its value comes next. A `=` before that is a word of its own here.
-      [ "${COMP_WORDS[place + 1]}" != = ] || place=$((place + 1))
+    elif [ -z "$is_over" ] && [[ ${words[place]} == --* ]]; then
+      option=${words[place]}
+      given+="$option "
+      # Its value comes next. A `=` before that is a word of its own here, and before a value that is yet to be written.
+      [ "${words[place + 1]}" != = ] || [ $((place + 2)) -eq "${#words[@]}" ] || place=$((place + 1))
       place=$((place + 1))
     else
+      [ "${positions[count]:-}" != DIR ] || folder=${words[place]}
       count=$((count + 1))
     fi
   done
-  # The value of an option may be anything.
-  [ "$place" -eq "$COMP_CWORD" ] || return
+  if [ "$place" -eq "${#words[@]}" ]; then
+    # The value of an option. But for the name of a key it may be anything.
+    word=${word#=}
+    [ "$option" != --key ] || _perkeep_keys
+    return
+  fi
   case $is_over$word in
     -*) _perkeep_options ;;
     *) _perkeep_position "${positions[count]:-}" ;;
   esac
+}
+
+# The words up to the one that is being written. Bash takes colons for words of their own, or not: they are parts here.
+_perkeep_join() {
+  local place last=''
+  for ((place = 1; place <= COMP_CWORD; place++)); do
+    if [ "${#words[@]}" -gt 1 ] && [[ ${COMP_WORDS[place]} == : || $last == *: ]]; then
+      words[-1]+=${COMP_WORDS[place]}
+    else
+      words+=("${COMP_WORDS[place]}")
+    fi
+    last=${COMP_WORDS[place]}
+  done
 }
 
 # Offers what may stand at a position, and the options where nothing is known of that.
@@ -65,9 +86,31 @@ _perkeep_position() {
       compopt -o filenames 2>/dev/null
       _perkeep_offer -d
       ;;
+    NAME)
+      compopt -o filenames 2>/dev/null
+      _perkeep_offer -f
+      ;;
+    ADDR) _perkeep_addresses ;;
     KIND) _perkeep_offer -W 'set add del' ;;
     *) _perkeep_options ;;
   esac
+}
+
+# Offers the names of the keys of the folder that was written before.
+_perkeep_keys() {
+  folder=${folder//\\/}
+  _perkeep_offer -W "$(cut -d ' ' -f 1 "${folder/#\~\//$HOME/}/keyring" 2>/dev/null)"
+}
+
+# Offers the ports of 127.0.0.1 at which some program listens: servers, and tunnels to them.
+_perkeep_addresses() {
+  local local state addresses=''
+  while read -r _ local _ state _; do
+    [[ $local != 0100007F:* || $state != 0A ]] || addresses+=" 127.0.0.1:$((16#${local#*:}))"
+  done 2>/dev/null </proc/net/tcp
+  _perkeep_offer -W "$addresses"
+  # Where bash takes colons for words, what stands before the last one stays.
+  [[ $word != *:* || $COMP_WORDBREAKS != *:* ]] || COMPREPLY=("${COMPREPLY[@]#"${word%:*}:"}")
 }
 
 # Offers the options that weren't given yet. There are none after a word `--`.

@@ -1,13 +1,15 @@
-"""What is installed beside the program: the manual page and the completions of install/, and the unit of examples/.
+"""What is installed beside the program: the manual page and the completions of install/, and the units of examples/.
 
 They have to be what install/make.py makes of docs/commands.md, and what reads them has to take them. What bash's
 completion offers is compared with the page's lines of commands, written down here.
 """
 
+import functools
 import os
 import pathlib
 import re
 import shutil
+import socket
 import subprocess
 
 import harness
@@ -18,7 +20,7 @@ INSTALL = TOP / "install"
 MADE = ["_perkeep", "perkeep.1", "perkeep.bash"]
 COMMANDS = "put get stat list search query salvage search-pack permanode claim multi delete get-file put-file push pull load serve".split()
 # What is written, each as bash divides it, and what is offered for the last word. There are the folders
-# `a folder` and `archive`, and a file `arrow`.
+# `a folder` and `archive`, which has the keys `me` and `mine`, and a file `arrow`. PORT is one that is listened to.
 OFFERS = [
     ([""], COMMANDS),
     (["se"], ["search", "search-pack", "serve"]),
@@ -51,6 +53,18 @@ OFFERS = [
     (["claim", "--key", "me", "archive", "s"], ["set"]),
     (["claim", "archive", "set", "ref", "tag", "a", ""], ["--key"]),
     (["permanode", "archive", "--"], ["--key"]),
+    (["permanode", "archive", "--key", ""], ["me", "mine"]),
+    (["permanode", "archive", "--key", "mi"], ["mine"]),
+    (["permanode", "archive", "--key", "="], ["me", "mine"]),
+    (["claim", "archive", "set", "--key", "=", "mi"], ["mine"]),
+    (["permanode", "arch", "--key", ""], []),
+    (["permanode", "--key", ""], []),
+    (["put-file", "archive", "a"], ["a folder", "archive", "arrow"]),
+    (["put-file", "archive", "arr"], ["arrow"]),
+    (["push", "archive", "127.0.0.1", ":", "PORT"], ["PORT"]),
+    (["push", "archive", "127.0.0.1:PORT"], ["PORT"]),
+    (["pull", "archive", "other", ":", "31"], []),
+    (["push", "archive", "127.0.0.1", ":", "PORT", "--"], []),
     (["serve", "archive", "--port", "3179", "--"], ["--workers", "--indexers", "--connections"]),
 ]
 
@@ -98,10 +112,18 @@ def bash(program):
     for name in ("archive", "a folder"):
         (folder / name).mkdir(parents=True)
     (folder / "arrow").touch()
+    (folder / "archive" / "keyring").write_text("me 00\nmine 01\n")
     return [lambda words=words, offers=offers: offers_so(folder, words, offers) for words, offers in OFFERS]
 
 
+@functools.cache
+def listener():
+    return socket.create_server(("127.0.0.1", 0))
+
+
 def offers_so(folder, words, offers):
+    port = str(listener().getsockname()[1])
+    words, offers = ([one.replace("PORT", port) for one in some] for some in (words, offers))
     script = 'source "$1"; shift; COMP_WORDS=(perkeep "$@"); COMP_CWORD=$#; _perkeep; printf "%s\\n" "${COMPREPLY[@]}"'
     what = f"completions of {words}"
     out = silent(what, "bash", "-c", script, "bash", INSTALL / "perkeep.bash", *words, cwd=folder)
@@ -113,7 +135,7 @@ def zsh(_program):
     return [lambda: silent("the completions for zsh", shell, "-n", INSTALL / "_perkeep")]
 
 
-# The manual page, and the unit
+# The manual page, and the units
 
 def man(_program):
     reader = one_of("groff", "mandoc")
@@ -123,7 +145,8 @@ def man(_program):
 
 def is_read(*reader):
     text = silent("the manual page", *reader, INSTALL / "perkeep.1")
-    for wanted in ("SYNOPSIS", "perkeep claim DIR KIND REF ATTR [VALUE] --key NAME", "EXIT STATUSES"):
+    wanted = ["SYNOPSIS", "perkeep claim DIR KIND REF ATTR [VALUE] --key NAME", "EXIT STATUSES", "EXAMPLES", "FILES"]
+    for wanted in [*wanted, "examples/put_tree.py 127.0.0.1:3179 photos", "DIR/keyring"]:
         check(f"the manual page doesn't have {wanted}", wanted in without_marks(text))
 
 
@@ -132,15 +155,28 @@ def without_marks(text):
     return re.sub(r"\x1b\[[0-9;]*m|.\x08", "", text)
 
 
-def unit(program):
+UNITS = ["perkeep.service", "perkeep-tunnel.service", "perkeep-verify.service", "perkeep-verify.timer"]
+# What has to be there for a unit that starts it.
+STARTED = [".local/bin/perkeep", ".local/share/perkeep/verify_backup.sh"]
+
+
+def units(program):
+    """Each unit is read without a complaint, that of the server with its drop-in too."""
     tool = one_of("systemd-analyze")
+    if shutil.which("ssh", path="/usr/bin") is None:
+        raise LeftOut("there is no /usr/bin/ssh here")
     home = program.new_path()
-    (home / ".local/bin").mkdir(parents=True)
-    (home / ".local/bin/perkeep").symlink_to("/bin/true")
+    for path in STARTED:
+        (home / path).parent.mkdir(parents=True)
+        (home / path).symlink_to("/bin/true")
     (home / "run").mkdir()
+    for name in UNITS:
+        shutil.copy(TOP / "examples" / name, home)
+    (home / "perkeep.service.d").mkdir()
+    shutil.copy(TOP / "examples" / "perkeep-hardening.conf", home / "perkeep.service.d")
     settings = {"env": {**os.environ, "HOME": str(home), "XDG_RUNTIME_DIR": str(home / "run")}}
-    return [lambda: silent("the unit", tool, "verify", "--user", TOP / "examples/perkeep.service", **settings)]
+    return [lambda name=name: silent(name, tool, "verify", "--user", home / name, **settings) for name in UNITS]
 
 
 if __name__ == "__main__":
-    harness.main("install.sh", [made, bash, zsh, man, unit])
+    harness.main("install.sh", [made, bash, zsh, man, units])

@@ -54,7 +54,8 @@ def run_script(program, commands):
     text = script(commands).replace(PORT, str(PORTS.free()))
     words = ["bash", "-u", "-c", text]
     streams = {"stdin": subprocess.DEVNULL, "stdout": subprocess.PIPE}
-    with subprocess.Popen(words, cwd=folder, start_new_session=True, text=True, **streams) as process:
+    settings = {**os.environ, "XDG_CACHE_HOME": str(folder / "cache")}
+    with subprocess.Popen(words, cwd=folder, env=settings, start_new_session=True, text=True, **streams) as process:
         try:
             out, _ = process.communicate(timeout=SECONDS)
         finally:
