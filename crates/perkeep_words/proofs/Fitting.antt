@@ -72,7 +72,7 @@ option_fits form kind option ((Some other, value) ∷ parts) place text at right
         rw (← same_text value text first) (fits kind (kind_in form.options other) value found here)
     go false apart here more later = more later
 
-there : (texts : List (List ℕ)) (k : ℕ) → k < length texts
+pub there : (texts : List (List ℕ)) (k : ℕ) → k < length texts
     → slice_get texts k ≡ Some (unwrap_or (slice_get texts k) [])
 there [] k small = absurd (omega (arith, small))
 there (text ∷ texts) zero small = refl
@@ -170,8 +170,11 @@ number_found least most text n e = by (are_digits text && nat_le 1 (length text)
     inner : (b : Bool) → (nat_le least (number text) && nat_le (number text) most) ≡ b
         → Some n ≡ cond b (Some (number text)) None → (n ≡ number text) × (n ≤ most)
     inner true fits is =
-        let same : n ≡ number text = cc is in
-        (same, subst (λ k. k ≤ most) (sym same) (leb-true (number text) most (and_parts (nat_le least (number text)) (nat_le (number text) most) fits).1))
+        let same : n ≡ number text = cc is in (
+          same,
+          subst (λ k. k ≤ most) (sym same)
+              (leb-true (number text) most (and_parts (nat_le least (number text)) (nat_le (number text) most) fits).1),
+        )
     inner false fits is = absurd (cc is)
 
     by : (b : Bool) → Some n ≡ cond b (within least most (number text)) None → (n ≡ number text) × (n ≤ most)

@@ -1,4 +1,5 @@
 pub mod PartReadings
+mod Addresses
 pub mod Numbers
 pub mod LineReadings
 pub mod Fitting

@@ -7,4 +7,5 @@ pub mod Seen
 pub mod Table
 pub mod Reading
 pub mod Serving
+pub mod Mirroring
 pub mod Places

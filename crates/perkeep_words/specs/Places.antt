@@ -7,23 +7,28 @@ use Rattle.perkeep_words.specs.Forms.{count_at, position_at}
 use Rattle.perkeep_words.specs.Table.{has_dir, has_addr}
 use Rattle.perkeep_words.specs.Reading.{LineSeen, line_of}
 use Rattle.perkeep_words.specs.Serving.{serve_of}
+use Rattle.perkeep_words.specs.Mirroring.{mirror_of}
 use Rattle.perkeep_words.specs.declared.serving.ServePlan.{ServePlan}
 
--- the words are a line that has DIR, of a command or of a server, and this is what it says of DIR
+-- the words are a line that has DIR, of a command, of a server or of `mirror`, and this is what it says of DIR
 pub data SaysDir (words : List (List ℕ)) (dir : List ℕ) : Type 0 where
-  OfCommand : (line : LineSeen) → line_of words ≡ Some line → has_dir line.0 ≡ true → dir ≡ position_at 0 line.1 → SaysDir words dir
-  OfServer : (plan : ServePlan) → serve_of words ≡ Some plan → dir ≡ position_at 0 (parts_from start (drop 1 words)) → SaysDir words dir
+  OfCommand : (line : LineSeen) → line_of words ≡ Some line → has_dir line.0 ≡ true → dir ≡ position_at 0 line.1
+      → SaysDir words dir
+  OfServer : (plan : ServePlan) → serve_of words ≡ Some plan → dir ≡ position_at 0 (parts_from start (drop 1 words))
+      → SaysDir words dir
+  OfMirror : (addresses : List (List ℕ)) → mirror_of words ≡ Some addresses
+      → dir ≡ position_at 0 (parts_from start (drop 1 words)) → SaysDir words dir
 
--- the words are a line that has ADDR, and this is what it says of ADDR
-pub record SaysAddr (words : List (List ℕ)) (addr : List ℕ) : Type 0 where
-  pub line : LineSeen
-  pub is : line_of words ≡ Some line
-  pub has : has_addr line.0 ≡ true
-  pub same : addr ≡ position_at 1 line.1
+-- the words are a line that has ADDR, of a command or of `mirror`, and this is what it says of it, or of the first one
+pub data SaysAddr (words : List (List ℕ)) (addr : List ℕ) : Type 0 where
+  ToOne : (line : LineSeen) → line_of words ≡ Some line → has_addr line.0 ≡ true → addr ≡ position_at 1 line.1
+      → SaysAddr words addr
+  ToFirst : (addresses : List (List ℕ)) → mirror_of words ≡ Some addresses
+      → addr ≡ position_at 1 (parts_from start (drop 1 words)) → SaysAddr words addr
 
--- A word of which the line says this, and before which so many positions stand, stands at this place in the words of the
--- line: before it stand the command's name, options and positions, and `--` with more positions if the line has it so
--- far. If it hasn't, the word begins with no dash; so one place fits at most.
+-- A word of which the line says this, and before which so many positions stand, stands at this place in the words of
+-- the line: before it stand the command's name, options and positions, and `--` with more positions if the line has it
+-- so far. If it hasn't, the word begins with no dash; so one place fits at most.
 pub record StandsBehind (Says : List ℕ → Type 0) (count : ℕ) (words : List (List ℕ)) (place : ℕ) : Type 0 where
   pub name : List ℕ
   pub items : List Item
@@ -70,8 +75,8 @@ position_or left None place rest = None
 position_or left (Some next) place rest =
     if is_position next.1 then place_or left place (λ fewer. rest fewer next.0) else rest left next.0
 
--- the place of the position before which so many others stand, among the words, read on from a state, the first of which
--- has this place
+-- the place of the position before which so many others stand, among the words, read on from a state, the first of
+-- which has this place
 abbrev pub nth_position : ℕ → State → ℕ → List (List ℕ) → Option ℕ
 nth_position left state place [] = None
 nth_position left state place (word ∷ words) =
@@ -87,11 +92,11 @@ line_has_addr (Some line) = has_addr line.0
 
 -- whether the words are a line that has DIR
 abbrev pub says_dir : List (List ℕ) → Bool
-says_dir words = is_some (serve_of words) || line_has_dir (line_of words)
+says_dir words = is_some (serve_of words) || is_some (mirror_of words) || line_has_dir (line_of words)
 
 -- whether the words are a line that has ADDR
 abbrev pub says_addr : List (List ℕ) → Bool
-says_addr words = line_has_addr (line_of words)
+says_addr words = is_some (mirror_of words) || line_has_addr (line_of words)
 
 -- the place of the position before which so many others stand, if the words are a line that has it
 abbrev pub place_if : Bool → ℕ → List (List ℕ) → Option ℕ

@@ -4,14 +4,16 @@ ghost use Rattle.perkeep_words.specs.Parts.{start};
 ghost use Rattle.perkeep_words.specs.Reading.{line_named, line_of};
 ghost use Rattle.perkeep_words.specs.Places.{IsDirPlace, IsAddrPlace, OnePlaceEach, nth_position, is_position, line_has_dir, line_has_addr, says_dir, says_addr, place_if};
 
+use crate::mirroring::is_mirror;
 use crate::parts::{Part, State};
 use crate::place::Places;
 use crate::serving::serve_words;
 use crate::table::CommandName;
 use blobref::Text;
 
-/// The places of DIR and ADDR in the words. Each is None exactly where the words are no line that has it, whatever the
-/// line's texts say (docs/commands.md); a line of `serve` is one. It takes no memory.
+/// The places of DIR and ADDR in the words, of the first ADDR where there are several. Each is None exactly where the
+/// words are no line that has it, whatever the line's texts say (docs/commands.md); a line of `serve` or `mirror` is
+/// one. It takes no memory.
 pub fn places(words: &[Text]) -> Places
     ensures dir { IsDirPlace words.now result.dir }
     ensures addr { IsAddrPlace words.now result.addr }
@@ -37,7 +39,7 @@ fn place_if(has: bool, count: usize, words: &[Text]) -> Option<usize>
 fn says_dir(words: &[Text]) -> bool
     ensures { result ≡ says_dir words.now }
 {
-    serve_words(words).is_some() || is_command_with_dir(words)
+    serve_words(words).is_some() || is_mirror(words) || is_command_with_dir(words)
 }
 
 // Whether the words are a command's line that has DIR.
@@ -64,6 +66,13 @@ fn is_line_with_dir(name: CommandName, behind: &[Text]) -> bool
 // Whether the words are a line that has ADDR.
 fn says_addr(words: &[Text]) -> bool
     ensures { result ≡ says_addr words.now }
+{
+    is_mirror(words) || is_command_with_addr(words)
+}
+
+// Whether the words are a command's line that has ADDR.
+fn is_command_with_addr(words: &[Text]) -> bool
+    ensures { result ≡ line_has_addr (line_of words.now) }
 {
     let Some((word, behind)) = words.split_first() else {
         return false;

@@ -115,8 +115,8 @@ impl Form {
         }
     }
 
-    // Whether the words are parts, and the form has all of them.
-    fn knows_all(&self, words: &[Text]) -> bool
+    /// Whether the words are parts, and the form has all of them.
+    pub fn knows_all(&self, words: &[Text]) -> bool
         ensures { result ≡ (are_parts start words.now && are_of self.now 0 (parts_from start words.now)) }
     {
         let mut state = State::start();
@@ -210,8 +210,8 @@ pub fn position<'a>(words: &'a [Text], place: usize) -> &'a str
     nth(words, None, place).unwrap_or("")
 }
 
-// How many values of an option the parts have, or positions.
-fn count(words: &[Text], option: Option<&str>) -> usize
+/// How many values of an option the parts have, or positions.
+pub fn count(words: &[Text], option: Option<&str>) -> usize
     ensures { result ≡ count_at (option_copied option.entry) (parts_from start words.now) }
 {
     let mut state = State::start();

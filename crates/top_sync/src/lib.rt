@@ -7,5 +7,6 @@ mod pulling;
 mod pushing;
 
 pub use faults::{pull_status, push_status};
+pub use lines::push_decimal;
 pub use pulling::pull;
 pub use pushing::push;

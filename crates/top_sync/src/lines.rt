@@ -20,7 +20,8 @@ pub(crate) fn copied_line(alloc: Global, synced: Synced) -> Result<Octets, NoMem
     Ok(Octets::from_vec(line))
 }
 
-fn push_decimal(line: &mut Vec<u8>, number: u64) -> Result<(), NoMemory>
+/// Puts the decimal digits of a number behind what is there.
+pub fn push_decimal(line: &mut Vec<u8>, number: u64) -> Result<(), NoMemory>
     ensures { OnOk result (line.new.items ≡ line.old.items ++ decimal number) }
 {
     let mut digits = Buffer::new();
