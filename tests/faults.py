@@ -11,6 +11,7 @@ import os
 import harness
 import inputs
 import reference
+import serve_faults
 from harness import check, compare, compare_ending
 from reference import pack_name, ref_of
 from stores import CLEAN, TORN, Store, lines_of
@@ -34,7 +35,8 @@ def syncs(program):
     """In which order the program writes, syncs and prints. A killed program can't show it: the kernel still writes."""
     need_strace(program)
     orders = [lambda what=what: put_is_synced(program, what) for what in STORES]
-    return orders + [lambda check=check: check(program) for check in (readers_sync, each_byte_is_read_once, salvage_syncs_nothing)]
+    others = (readers_sync, each_byte_is_read_once, salvage_syncs_nothing)
+    return orders + [lambda check=check: check(program) for check in others]
 
 
 def put_is_synced(program, what):
@@ -43,7 +45,8 @@ def put_is_synced(program, what):
     store.packs = reference.put(before, BLOB)
     calls = traced(program, what, store.words("put"), BLOB)
     store.check_files(what)
-    is_durable_when_printed(what, calls, store.path, reference.pack_for_the_next_record(before), before, STORES[what] is None)
+    number = reference.pack_for_the_next_record(before)
+    is_durable_when_printed(what, calls, store.path, number, before, STORES[what] is None)
 
 
 def is_durable_when_printed(what, calls, folder, number, packs, is_new):
@@ -56,7 +59,8 @@ def is_durable_when_printed(what, calls, folder, number, packs, is_new):
     file = calls[written[-1]].file
     closed = [place for place in places(calls, ("close",), path, file) if place > written[-1]]
     in_order(what, "the record's sync", written[-1], places(calls, SYNCS, path, file), min([printed, *closed]))
-    compare(what, f"writes to {path.name} behind the print", [], [place for place in places(calls, WRITES, path) if place > printed])
+    late = [place for place in places(calls, WRITES, path) if place > printed]
+    compare(what, f"writes to {path.name} after the print", [], late)
     if number not in packs:
         made = made_at(what, calls, OPENS, path, "O_CREAT")
         in_order(what, "the sync of the folder", made, places(calls, SYNCS, folder) + spelled(calls, folder), printed)
@@ -125,7 +129,10 @@ def failing_calls(program, what):
     checks = []
     for call in own_calls(calls, store.path):
         where = os.path.relpath(call.path, store.path) if call.path.startswith("/") else call.path
-        checks += [lambda call=call, fault=fault, where=where: put_fails(program, what, call, fault, where) for fault in faults_of(call)]
+        checks += [
+            lambda call=call, fault=fault, where=where: put_fails(program, what, call, fault, where)
+            for fault in faults_of(call)
+        ]
     check(f"{what}: only {len(checks)} calls to make fail", len(checks) >= 10)
     return checks
 
@@ -171,7 +178,8 @@ def ends_with_fault(what, store, words, source, call, fault):
     check(f"{what}: no call failed", any(one.is_injected() for one in calls))
     expected = status if status in statuses_for(call) else statuses_for(call)[0]
     # Where all writes fail the program can't tell its status.
-    compare_ending(what, expected, status, harness.told_of(expected) if fault[0].startswith("write") and not err else err)
+    told = err or harness.told_of(expected) if fault[0].startswith("write") else err
+    compare_ending(what, expected, status, told)
     store.packs = reference.packs_of(store.files())
     stands(what, before, store.packs)
     return status, out, calls
@@ -188,7 +196,8 @@ def stands(what, before, packs):
     """The packs of before stand with their bytes, and at most one has more than it had, or is new."""
     for number, content in before.items():
         compare(what, f"what stood in pack {number}", content, packs.get(number, b"")[: len(content)])
-    grown = [number for number, content in packs.items() if len(content) > len(before.get(number, b"")) or number not in before]
+    lengths = {number: len(content) for number, content in before.items()}
+    grown = [number for number, content in packs.items() if len(content) > lengths.get(number, -1)]
     check(f"{what}: packs {grown} have grown", len(grown) <= 1)
 
 
@@ -207,4 +216,4 @@ def goes_on(what, store, before):
 
 
 if __name__ == "__main__":
-    harness.main("faults.sh", [syncs, failing])
+    harness.main("faults.sh", [syncs, failing, serve_faults.under_clients])

@@ -39,20 +39,22 @@ def need_strace(program):
     """LeftOut where nothing can be traced here."""
     if not shutil.which("strace"):
         raise LeftOut("strace isn't there")
-    tried = subprocess.run(["strace", "-o", str(program.new_path()), "true"], stdin=subprocess.DEVNULL, stderr=subprocess.DEVNULL)
+    command = ["strace", "-o", str(program.new_path()), "true"]
+    tried = subprocess.run(command, stdin=subprocess.DEVNULL, stderr=subprocess.DEVNULL)
     if tried.returncode != 0:
         raise LeftOut("strace can't trace here")
 
 
-def trace(program, words, source=b"", faults=()):
-    """Runs the program, with calls that fail as strace's words say; answers its status, output, errors and calls in
-    order."""
+def trace(program, words, source=b"", faults=(), folder=None, variables=None, names=TRACED):
+    """Runs the program, with calls that fail as strace's words say, and more variables in its environment; answers its
+    status, output, errors and calls of these names in order."""
     log = program.new_path()
     program.starts[words[0]] += 1
-    command = ["strace", "-f", "-y", "-s", "0", "-o", str(log), "-e", "trace=" + ",".join("?" + name for name in TRACED)]
+    command = ["strace", "-f", "-y", "-s", "0", "-o", str(log), "-e", "trace=" + ",".join("?" + name for name in names)]
     command += [word for fault in faults for word in ("-e", f"inject={fault}")]
+    command += [word for name, value in (variables or {}).items() for word in ("-E", f"{name}={value}")]
     streams = {"stdout": subprocess.PIPE, "stderr": subprocess.PIPE, "timeout": SECONDS}
-    done = subprocess.run([*command, program.path, *words], cwd=program.working, input=source, **streams)
+    done = subprocess.run([*command, program.path, *words], cwd=folder or program.working, input=source, **streams)
     calls = calls_in(log.read_text(errors="replace"))
     log.unlink()
     return done.returncode, done.stdout, done.stderr, calls
@@ -79,11 +81,9 @@ def calls_in(log):
 
 def places(calls, names, path=None, file=None):
     """The places in a list of calls of those by name that were done, on a path or a file's number."""
-    return [
-        place
-        for place, call in enumerate(calls)
-        if call.name in names and call.error is None and (path is None or call.path == str(path)) and file in (None, call.file)
-    ]
+    some = [(place, call) for place, call in enumerate(calls) if call.name in names and call.error is None]
+    there = [(place, call) for place, call in some if path is None or call.path == str(path)]
+    return [place for place, call in there if file in (None, call.file)]
 
 
 def made_at(what, calls, names, path, flag=""):

@@ -1,0 +1,206 @@
+"""Calls to the system that fail in a server while four clients ask it, by strace: in each run the k-th call of a name
+that each of its threads makes, for each k up to where none makes so many.
+
+A request is answered as ever, by 503 as the disk failed, or its connection ends. Once nothing fails any more all
+workers answer at once, new blobs are taken, and whatever was acknowledged is found. """
+
+import contextlib
+import os
+import subprocess
+import threading
+import time
+
+from connections import Reply, entry, json_text
+from harness import Difference, check, compare
+from http_inputs import blob_target, get, stat, upload
+from reference import arrivals, packs_of, ref_of
+from serving import TAKEN, Ended, Server, Talk, blob_reply, store_of, stored
+from tracing import need_strace
+
+CLIENTS = WORKERS = 4
+WORDS = (f"--workers={WORKERS}", "--indexers=1")
+# So often each client connects, uploads a blob and asks for it.
+ROUNDS = 4
+# By the name of a call the errors with which it fails.
+FAILS = {
+    "recvfrom": ("ECONNRESET", "EINTR"),
+    "sendto": ("ECONNRESET", "EINTR"),
+    "shutdown": ("ENOTCONN",),
+    "setsockopt": ("ENOBUFS",),
+    "accept4": ("ECONNABORTED", "EINTR", "EMFILE", "ENOMEM"),
+    "pread64": ("EIO", "EINTR"),
+    "openat": ("EIO",),
+    "statx": ("EIO",),
+    "write": ("EIO", "ENOSPC", "EINTR"),
+    "fsync": ("EIO",),
+}
+# What a server takes back that couldn't be synced: so these fail with a sync.
+WITH_A_SYNC = ("ftruncate", "unlink,unlinkat")
+SYNC = "fsync:error=EIO:when=%d"
+MOST = 60
+# Nothing is done once no call is made for so many seconds.
+STILL = 0.05
+
+
+def under_clients(program):
+    need_strace(program)
+    faults = [f"{name}:error={error}:when=%d" for name, errors in FAILS.items() for error in errors]
+    checks = [lambda fault=fault: fails_in_turn(program, fault) for fault in faults]
+    checks += [lambda names=names: fails_in_turn(program, SYNC, f"{names}:error=EIO") for names in WITH_A_SYNC]
+    return checks + [lambda check=check: check(program) for check in (one_listener_fails, all_listeners_fail)]
+
+
+def fails_in_turn(program, fault, *others):
+    """The k-th call fails, for each k, and others always."""
+    for number in range(1, MOST):
+        if not Session(program, [fault % number, *others]).runs():
+            return
+    raise Difference(f"{fault}: more than {MOST} calls of a thread")
+
+
+class Tracer:
+    """A strace that has a server's calls fail, from its beginning to its end: those of all threads, or of one."""
+
+    def __init__(self, program, process, faults, thread=None):
+        self.log = program.new_path()
+        names = ",".join(sorted({fault.partition(":")[0] for fault in faults}))
+        whom = ["-f", "-p", str(process)] if thread is None else ["-p", str(thread)]
+        injected = [word for fault in faults for word in ("-e", f"inject={fault}")]
+        command = ["strace", *whom, "-o", str(self.log), "-e", f"trace={names}", *injected]
+        self.process = subprocess.Popen(command, stdin=subprocess.DEVNULL, stderr=subprocess.PIPE)
+        line = self.process.stderr.readline()
+        check(f"strace says {line}", b"attached" in line)
+
+    def __enter__(self):
+        return self
+
+    def __exit__(self, *_):
+        """A call that strace has begun to fail would end otherwise if it left the program now: so it waits for the
+        last."""
+        size = None
+        while size != self.log.stat().st_size:
+            size = self.log.stat().st_size
+            time.sleep(STILL)
+        self.process.terminate()
+        self.process.communicate()
+
+    def has_injected(self):
+        return "(INJECTED)" in self.log.read_text(errors="replace")
+
+
+def has_begun(server):
+    """Waits until the server answers: it has its port before it has read the store."""
+    with Talk(server.port) as talk:
+        talk.ask("a server that begins", get(blob_target(ref_of(b"abc"))), blob_reply(b"abc"))
+
+
+class Session:
+    """Four clients of a server, and what was acknowledged to them."""
+
+    def __init__(self, program, faults):
+        self.program, self.what, self.faults = program, " and ".join(faults), faults
+        self.store = store_of(program, b"abc")
+        self.acknowledged, self.sent = {}, {ref_of(b"abc"): b"abc"}
+        self.wrong = []
+
+    def runs(self):
+        """Answers whether a call failed."""
+        with Server(self.program, self.store.path, *WORDS) as server:
+            has_begun(server)
+            with Tracer(self.program, server.process.pid, self.faults) as tracer:
+                self.all_clients(server)
+            if self.wrong:
+                raise self.wrong[0]
+            self.all_answer(server)
+        self.packs_are_right()
+        return tracer.has_injected()
+
+    def all_clients(self, server):
+        clients = [threading.Thread(target=self.client, args=(server, number)) for number in range(CLIENTS)]
+        for one in clients:
+            one.start()
+        for one in clients:
+            one.join()
+
+    def client(self, server, number):
+        try:
+            for place in range(ROUNDS):
+                with contextlib.suppress(Ended, ConnectionError):
+                    self.one_round(server, b"blob %d of client %d" % (place, number))
+        except Exception as wrong:
+            self.wrong.append(wrong)
+
+    def one_round(self, server, blob):
+        ref = ref_of(blob)
+        self.sent[ref] = blob
+        failed = Reply(503, json_text({"error": "disk"}))
+        not_put = Reply(503, json_text({"received": [], "error": "disk"}), closes=True)
+        absent = Reply(404, json_text({"error": "absent", "blobRef": ref}))
+        with Talk(server.port) as talk:
+            self.answers(talk, get(blob_target(ref_of(b"abc"))), blob_reply(b"abc"), failed)
+            if self.answers(talk, upload(blob), stored(blob), not_put):
+                self.acknowledged[ref] = blob
+            there = () if ref in self.acknowledged else (absent,)
+            self.answers(talk, get(blob_target(ref)), blob_reply(blob), failed, *there)
+            size = Reply(200, json_text({"stat": [entry(ref, len(blob))]}))
+            none = () if ref in self.acknowledged else (Reply(200, json_text({"stat": []})),)
+            self.answers(talk, stat(ref), size, *none)
+
+    def answers(self, talk, request, due, *others):
+        """Whether a request gets the reply that is due; else it has to get another one of these, or none."""
+        talk.send(request)
+        text = talk.read_text(self.what)
+        if text not in [other.text() for other in others]:
+            compare(self.what, "the reply", due.text(), text)
+        return text == due.text()
+
+    def all_answer(self, server):
+        """All workers at once, and each takes a new blob."""
+        with contextlib.ExitStack() as stack:
+            for number in range(WORKERS):
+                talk, blob = stack.enter_context(Talk(server.port)), b"new %d" % number
+                talk.ask(f"{self.what}, worker {number}", upload(blob), stored(blob))
+                self.acknowledged[ref_of(blob)] = self.sent[ref_of(blob)] = blob
+            for ref, blob in self.acknowledged.items():
+                talk.ask(f"{self.what}, what was acknowledged", get(blob_target(ref)), blob_reply(blob))
+
+    def packs_are_right(self):
+        blobs = arrivals(packs_of(self.store.files()))
+        lost = {ref for ref, blob in self.acknowledged.items() if blobs.get(ref) != blob}
+        compare(self.what, "what was lost", set(), lost)
+        compare(self.what, "what nobody sent", set(), blobs.keys() - self.sent.keys())
+
+
+# Listeners
+
+def one_listener_fails(program):
+    """A worker that can't accept ends, and the others go on."""
+    store = store_of(program, b"abc")
+    with Server(program, store.path, *WORDS) as server:
+        has_begun(server)
+        ended = next((thread for thread in threads_of(server) if fails_to_accept(program, server, thread)), None)
+        check("no thread is at an accept", ended)
+        with contextlib.ExitStack() as stack:
+            for number in range(WORKERS - 1):
+                talk = stack.enter_context(Talk(server.port))
+                talk.ask(f"worker {number} of those that go on", get(blob_target(ref_of(b"abc"))), blob_reply(b"abc"))
+
+
+def threads_of(server):
+    return sorted(map(int, os.listdir(f"/proc/{server.process.pid}/task")))
+
+
+def fails_to_accept(program, server, thread):
+    """Whether a thread that is at an accept ends, as that fails."""
+    with Tracer(program, server.process.pid, ["accept4:error=EIO"], thread) as tracer:
+        time.sleep(0.3)
+    return tracer.has_injected()
+
+
+def all_listeners_fail(program):
+    """Once none of the workers can accept the server ends."""
+    store = store_of(program, b"abc")
+    with Server(program, store.path, *WORDS) as server:
+        has_begun(server)
+        with Tracer(program, server.process.pid, ["accept4:error=EIO"]):
+            server.ends("all listeners fail", status=TAKEN)
