@@ -25,6 +25,7 @@ import sys
 import tempfile
 import threading
 import traceback
+from typing import NamedTuple
 
 SEED = int(os.environ.get("SEED") or 20201)
 AT_ONCE = 4
@@ -103,7 +104,8 @@ class Program:
     def start(self, words, folder=None, front=(), **streams):
         """Starts the program, by another one that it takes the place of where there are words in front."""
         self.starts[words[0] if words else ""] += 1
-        return subprocess.Popen([*front, self.path, *words], cwd=folder or self.working, stderr=subprocess.PIPE, **streams)
+        line = [*front, self.path, *words]
+        return subprocess.Popen(line, cwd=folder or self.working, stderr=subprocess.PIPE, **streams)
 
     def run(self, what, words, source=b"", folder=None, seconds=SECONDS, **streams):
         """Runs the program to its end; answers its status, output and errors."""
@@ -158,9 +160,14 @@ def with_broken_source(program, what, line, front, **streams):
         with_streams(program, what, line, 5, source=memory.fileno(), **streams)
 
 
-def run_quickly(program, words, source, seconds=SECONDS):
-    """As `Program.run`, in the folder of this process and with files in memory as streams: this takes little time of the
-    script's own."""
+def run_quickly(program, words, source, seconds=SECONDS, environment=os.environ):
+    """As `Program.run`, in the folder of this process, in an environment, and with files in memory as streams: this
+    takes little time of the script's own."""
+    return run_measured(program, words, source, seconds, environment)[0]
+
+
+def run_measured(program, words, source, seconds=SECONDS, environment=os.environ):
+    """As `run_quickly`, and what the run took as well."""
     program.starts[words[0]] += 1
     files = [os.memfd_create("stream") for _ in range(3)]
     try:
@@ -168,15 +175,25 @@ def run_quickly(program, words, source, seconds=SECONDS):
         actions = [(os.POSIX_SPAWN_DUP2, file, stream) for stream, file in enumerate(files)]
         signals = [signal.SIGPIPE, signal.SIGXFSZ]
         line = [program.path, *words]
-        child = os.posix_spawn(program.path, line, os.environ, file_actions=actions, setsigdef=signals)
+        child = os.posix_spawn(program.path, line, environment, file_actions=actions, setsigdef=signals)
         in_time = ends_within(child, seconds)
-        status = os.waitstatus_to_exitcode(os.waitpid(child, 0)[1])
+        _, ending, usage = os.wait4(child, 0)
         if not in_time:
             raise Difference(f"{words}: no end after {seconds} seconds")
-        return status, *(os.pread(file, os.fstat(file).st_size, 0) for file in files[1:])
+        out, err = (os.pread(file, os.fstat(file).st_size, 0) for file in files[1:])
+        taken = Taken(usage.ru_utime + usage.ru_stime, usage.ru_maxrss / 1_024)
+        return (os.waitstatus_to_exitcode(ending), out, err), taken
     finally:
         for file in files:
             os.close(file)
+
+
+class Taken(NamedTuple):
+    """What a run took: seconds of a processor, and at most so many MiB of memory. The system counts for these what this
+    process has, where that is more."""
+
+    seconds: float
+    mib: float
 
 
 def ends_within(child, seconds):
@@ -193,8 +210,8 @@ def ends_within(child, seconds):
         os.close(handle)
 
 
-# What stands in front of a program's words, where it is to start under some condition. (No code of Python's runs between a fork
-# and the program: that may hang where there are threads.)
+# What stands in front of a program's words, where it is to start under some condition. (No code of Python's runs
+# between a fork and the program: that may hang where there are threads.)
 
 def limited_to(mib):
     """So many MiB of memory."""

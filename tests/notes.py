@@ -6,8 +6,6 @@ What they put is looked at in note_stores.py, and what is shown of `multi` alone
 import concurrent.futures
 import itertools
 import os
-import shutil
-import subprocess
 
 import harness
 import inputs
@@ -15,7 +13,8 @@ import multis
 import reference
 import writing
 from faults import ends_with_fault, faults_of, is_durable_when_printed, own_calls
-from harness import LeftOut, chance, check, compare, compare_ending, with_streams
+from harness import chance, check, compare, compare_ending, with_streams
+from libraries import CLOCK, DICE, made_library
 from note_stores import DATE, KEYRING, OTHERS, RANDOM, SECRETS, Notes, list_text
 from reference import older_ref_of, ref_of
 from refused_alike import SOURCE, bad_keyrings, bad_packs, ends_first, leaves, refused_lines, waits_too_long
@@ -151,7 +150,8 @@ def on_anything(program):
     """What a claim is on need not stand, nor be a permanode."""
     store = Notes(program, {0: pack(b"abc")})
     refs = [NOWHERE, ABC, "sha224-" + "0" * 56, "sha224-" + "f" * 56, ref_of(inputs.KEY)]
-    refs += [inputs.OLDER_ABSENT, older_ref_of(b"abc"), "sha1-" + "0" * 40, "sha1-" + "f" * 40, older_ref_of(inputs.KEY)]
+    refs += [inputs.OLDER_ABSENT, older_ref_of(b"abc"), older_ref_of(inputs.KEY)]
+    refs += ["sha1-" + "0" * 40, "sha1-" + "f" * 40]
     for ref in refs:
         for kind in ("set", "add", "del"):
             store.claim(f"{kind} on {ref}", kind, ref, "tag", "a")
@@ -345,8 +345,8 @@ def has_values(store, what, node, other, values, at=None):
 
 
 def random_changes(program, number):
-    """Random claims of several keys on a few permanodes, half of which were there before under their older names, searched
-    at random moments."""
+    """Random claims of several keys on a few permanodes, half of which were there before under their older names,
+    searched at random moments."""
     random, names = chance("changes", number), list(SECRETS)[:3]
     keys = [(older_ref_of(writing.key_blob(name)), SECRETS[name]) for name in names]
     older = [writing.permanode(f"{place:032x}", *random.choice(keys)) for place in range(3)]
@@ -383,7 +383,8 @@ def words(program):
 
 def bad_lines(folder, ref):
     key = ("--key", "jefe")
-    return bad_permanodes(folder, key) + bad_claims(folder, ref, key) + bad_deletes(folder, ref, key) + bad_multis(folder, key)
+    of_claims = bad_claims(folder, ref, key) + bad_deletes(folder, ref, key) + bad_multis(folder, key)
+    return bad_permanodes(folder, key) + of_claims
 
 
 def bad_permanodes(folder, key):
@@ -653,8 +654,8 @@ MEMBERS_OF_TRIPS = (
 
 
 def realistic(program):
-    """Forty permanodes with titles, tags and members, twelve files, and a directory with its set, in one pack: all of it
-    is found, and the pack is clean."""
+    """Forty permanodes with titles, tags and members, twelve files, and a directory with its set, in one pack: all of
+    it is found, and the pack is clean."""
     return [lambda: holds_all(program)]
 
 
@@ -666,7 +667,8 @@ def holds_all(program):
         store.claim(what, "set", node, "title", titles[node])
         store.claim(what, "add", node, "tag", f"tag {place % 3}")
         store.claim(what, "add", nodes[place // 3], "camliMember", node)
-    names = [store.put_file(what, f"photo {number}.jpg", chance(what, number).randbytes(2_300_000)) for number in range(FILES)]
+    contents = [chance(what, number).randbytes(2_300_000) for number in range(FILES)]
+    names = [store.put_file(what, f"photo {number}.jpg", content) for number, content in enumerate(contents)]
     for blob in (static_set(names), directory("trips", ref_of(static_set(names)))):
         store.put(what, blob)
     compare(what, "packs", [0], list(store.packs))
@@ -688,24 +690,6 @@ def known_dice(program):
     """A permanode with random bytes that are told: its ref is known before, and the store holds the key and it."""
     library = made_library(program, "dice", DICE)
     return [lambda: first_permanode(program, library)]
-
-
-# Random bytes that are those of hexadecimal digits in the environment.
-DICE = """
-#include <stdio.h>
-#include <stdlib.h>
-
-int getentropy(void *bytes, size_t length) {
-    const char *digits = getenv("TEST_DICE");
-    unsigned char *to = bytes;
-    for (size_t i = 0; i < length; i++) {
-        unsigned int byte;
-        if (sscanf(digits + 2 * i, "%2x", &byte) != 1) return -1;
-        to[i] = byte;
-    }
-    return 0;
-}
-"""
 
 
 def first_permanode(program, library):
@@ -794,46 +778,12 @@ def note_fails(program, packs, call, fault):
         compare(told, "whether what it printed stands", True, out.decode().strip() in stand)
 
 
-# A clock that tells what the environment says: seconds and nanoseconds, or nothing where it says nothing.
-CLOCK = """
-#include <errno.h>
-#include <stdio.h>
-#include <stdlib.h>
-#include <time.h>
-
-int clock_gettime(clockid_t clock, struct timespec *time) {
-    const char *said = getenv("TEST_CLOCK");
-    long long seconds, nanoseconds;
-    if (said == NULL || sscanf(said, "%lld.%lld", &seconds, &nanoseconds) != 2) {
-        errno = EINVAL;
-        return -1;
-    }
-    time->tv_sec = seconds;
-    time->tv_nsec = nanoseconds;
-    return 0;
-}
-"""
-
-
 def clock(program):
     """Claims under a clock that tells what it is told to: the text of each moment, and the clock's failures."""
     library = made_library(program, "clock", CLOCK)
     moments = [lambda time=time, date=date: tells(program, library, time, date) for time, date in TIMES]
     examples = [lambda example=example: makes_example(program, library, *example) for example in EXAMPLE_CLAIMS]
     return moments + examples + [lambda time=time: fails(program, library, time) for time in NO_TIMES]
-
-
-def made_library(program, name, text):
-    """A library of C that the program can be started with in front of its own."""
-    compiler = shutil.which("cc")
-    if compiler is None:
-        raise LeftOut(f"there is no cc, to make the library {name}")
-    source, library = program.folder / f"{name}.c", program.folder / f"{name}.so"
-    source.write_text(text)
-    command = [compiler, "-shared", "-fPIC", "-o", library, source]
-    if subprocess.run(command, stdin=subprocess.DEVNULL, stderr=subprocess.DEVNULL).returncode != 0:
-        raise LeftOut(f"cc can't make the library {name}")
-    return library
 
 
 TIMES = [

@@ -69,9 +69,9 @@ def asked_by(head, body):
 class FalsePeer:
     """A server that holds blobs by their refs, and lists, gives and keeps them.
 
-    `wrongs` and `rights` have by the numbers of requests, from 0 on, what is done in place of a plain reply: a function of
-    the connection and the reply that was due, after which the connection is ended where it answers True. A blob whose
-    upload is answered by one of `wrongs` isn't kept. `before` is called before each reply."""
+    `wrongs` and `rights` have by the numbers of requests, from 0 on, what is done in place of a plain reply: a function
+    of the connection and the reply that was due, after which the connection is ended where it answers True. A blob
+    whose upload is answered by one of `wrongs` isn't kept. `before` is called before each reply."""
 
     def __init__(self, blobs=None, wrongs=None, rights=None, before=None):
         self.blobs, self.wrongs, self.rights, self.before = dict(blobs or {}), wrongs or {}, rights or {}, before
@@ -90,6 +90,8 @@ class FalsePeer:
         self.close()
 
     def close(self):
+        # Who waits for a connection is woken by this alone.
+        self.listener.shutdown(socket.SHUT_RDWR)
         self.listener.close()
 
     def is_good(self, what):

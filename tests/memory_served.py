@@ -1,0 +1,262 @@
+"""A server's requests for memory that are refused: one while it starts, or one from the moment on at which something is
+sent to it.
+
+What is sent is answered as ever, or by 503 as there is no memory, or its connection ends before a reply; over another
+connection it is answered well then. Where an upload wasn't acknowledged a front of its parts was put. In the end all
+workers answer at once, and the packs hold what was put and nothing else.
+"""
+
+import contextlib
+import json
+import subprocess
+import time
+from typing import Callable, NamedTuple
+
+import inputs
+import reference
+import writing
+from connections import LISTING, QUERY, STAT, UPLOAD, Connection, Reply, json_text
+from harness import Difference, check, compare, compare_ending, finish
+from http_inputs import ABC, EMPTY, FORM, blob_part, blob_target, form, get, part, post, post_pieces, stat, stat_pairs
+from http_inputs import upload
+from query_inputs import spell
+from reference import ref_of
+from refusing import Page, refusing
+from serving import ABC_REPLY, PORTS, STARTED, Exchange, Server, Talk, compare_texts, is_listened_to, records_of
+from serving import store_of
+
+WORKERS = 2
+WORDS = (f"--workers={WORKERS}", "--indexers=1")
+KEYS = reference.read_keyring(inputs.KEYRING)
+NO_MEMORY = Reply(503, json_text({"error": "memory"}), closes=True).text()
+# How often the server is asked: it has no more requests for memory once so many numbers in a row were too great.
+QUIET, MOST = 3, 10_000
+# What is done after a reply is done once no request for memory comes for so many seconds.
+STILL, MOMENT, SOON = 0.01, 0.001, 10
+# docs/commands.md, "Exit statuses"
+MEMORY, DISK, LISTENER = 1, 7, 14
+# How many requests each case makes.
+COUNTS = {}
+
+
+# What is sent
+
+class Case(NamedTuple):
+    """What is sent by a number while memory is refused, and what is sent before it."""
+
+    what: str
+    stream: Callable
+    before: Callable = lambda number: b""
+
+
+def blobs_of(what, number, count):
+    return [b"%d of %d, %b" % (place, number, what) for place in range(count)]
+
+
+def notes_of(number):
+    """A permanode and a claim on it."""
+    node = writing.permanode(f"{number:032x}")
+    return node, writing.claim("set", ref_of(node), "tag", f"v{number}", inputs.DATE)
+
+
+def search_of(value):
+    return post(QUERY, spell({"constraint": {"permanode": {"attr": "tag", "value": value}}}).encode())
+
+
+def with_a_false_part(number):
+    """The second of three parts has another ref than its name."""
+    return post(UPLOAD, form(blob_part(b"front %d" % number), part(EMPTY, b"abc"), part(EMPTY, b"")), FORM)
+
+
+def in_chunks(number):
+    body = form(*map(blob_part, blobs_of(b"in chunks", number, 2)))
+    return post_pieces(UPLOAD, [body[at : at + 40] for at in range(0, len(body), 40)], FORM)
+
+
+CASES = [
+    Case("a blob", lambda number: get(blob_target(ABC))),
+    Case("an absent blob", lambda number: get(blob_target(inputs.ABSENT))),
+    Case("a stat", lambda number: stat(ABC, EMPTY, ref_of(inputs.NODE))),
+    Case("a stat by POST", lambda number: post(STAT, stat_pairs(ABC, EMPTY))),
+    Case("a page", lambda number: get(LISTING)),
+    Case("no route", lambda number: get(b"/x")),
+    Case("no head", lambda number: b"GET\r\n\r\n"),
+    Case("a search", lambda number: search_of("a")),
+    Case("no query", lambda number: post(QUERY, b'{"constraint":{"colour":1}}')),
+    Case("an upload", lambda number: upload(*blobs_of(b"alone", number, 1))),
+    Case("an upload of three", lambda number: upload(*blobs_of(b"of three", number, 3))),
+    Case("an upload in chunks", in_chunks),
+    Case("an upload with a false part", with_a_false_part),
+    Case("an upload of notes", lambda number: upload(*notes_of(number))),
+    Case("a search after notes", lambda number: search_of(f"v{number}"), lambda number: upload(*notes_of(number))),
+    Case("two requests", lambda number: get(blob_target(ABC)) + upload(*blobs_of(b"the second", number, 2))),
+]
+
+
+def routes(program):
+    """What a server does from the moment on at which a request is sent, until it is still."""
+    library = refusing(program)
+    return [lambda case=case: Asked(program, library, case).in_turn() for case in CASES]
+
+
+def front_of(page):
+    """What starts a server under the library."""
+    return ("env", *(f"{name}={value}" for name, value in page.variables().items()))
+
+
+class Asked:
+    """A server that is sent what a case has, by one number after the other."""
+
+    def __init__(self, program, library, case):
+        self.case, self.page = case, Page(program, library)
+        self.store = store_of(program, *inputs.EXAMPLE_BLOBS, b"abc")
+        self.blobs, self.records = self.store.blobs(), records_of(self.store.packs)
+        self.server = Server(program, self.store.path, *WORDS, front=front_of(self.page))
+
+    def in_turn(self):
+        quiet = 0
+        with self.server:
+            for number in range(1, MOST):
+                was_refused = self.refuses(f"{self.case.what}, request {number} refused", number)
+                quiet = 0 if was_refused else quiet + 1
+                if quiet == QUIET:
+                    break
+            workers_answer(self.case.what, self.server.port)
+        self.packs_are_right()
+        COUNTS[self.case.what] = number - QUIET
+
+    def refuses(self, what, number):
+        """Answers whether a request was refused."""
+        self.asks(f"{what}, before it", self.case.before(number))
+        self.is_still()
+        stream = self.case.stream(number)
+        due = Connection(stream, self.blobs, KEYS)
+        texts = [reply.text() for reply in due.replies()]
+        self.page.refuse(number)
+        got = Exchange(self.server.port, [stream]).bytes()
+        self.is_still()
+        was_refused = self.page.refused() > 0
+        self.page.refuse_none()
+        is_answer(what, texts, got, was_refused)
+        self.takes_in(what, due, got == b"".join(texts))
+        self.asks(f"{what}, and then none", stream)
+        self.asks(f"{what}, and then a search", search_of(f"v{number}"))
+        return was_refused
+
+    def is_still(self):
+        """Waits until nothing is done any more."""
+        made, since = self.page.made(), time.monotonic()
+        until = since + SOON
+        while time.monotonic() < since + STILL:
+            check(f"{self.case.what}: the server asks for memory without end", time.monotonic() < until)
+            time.sleep(MOMENT)
+            if self.page.made() != made:
+                made, since = self.page.made(), time.monotonic()
+
+    def takes_in(self, what, due, is_whole):
+        """What was put: all that was due, or else a front of it."""
+        new = [ref for ref in due.blobs if ref not in self.blobs]
+        if new and not is_whole:
+            standing = self.standing(new)
+            compare(what, "what was put", new[: len(standing)], standing)
+            new = standing
+        self.blobs.update((ref, due.blobs[ref]) for ref in new)
+
+    def standing(self, refs):
+        _, _, body = Exchange(self.server.port, [stat(*refs)]).bytes().partition(b"\r\n\r\n")
+        return [one["blobRef"] for one in json.loads(body)["stat"]]
+
+    def asks(self, what, stream):
+        """Asks what has to be answered as ever, if anything."""
+        due = Connection(stream, self.blobs, KEYS)
+        told = b"".join(reply.text() for reply in due.replies())
+        compare_texts(what, told, Exchange(self.server.port, [stream]).bytes() if stream else b"")
+        self.blobs = due.blobs
+
+    def packs_are_right(self):
+        packs = reference.packs_of(self.store.files())
+        broken = [place for _, place in map(reference.salvage, packs.values()) if place is not None]
+        compare(self.case.what, "broken places", [], broken)
+        added = [ref for ref in self.blobs if ref not in self.records]
+        compare(self.case.what, "the refs in the packs", sorted([*self.records, *added]), sorted(records_of(packs)))
+
+
+def is_answer(what, texts, got, was_refused):
+    """The replies that are due; or a front of them, and then that there is no memory, or nothing."""
+    fronts = [b"".join(texts[:count]) for count in range(len(texts))] if was_refused else []
+    if got not in [front + end for front in fronts for end in (NO_MEMORY, b"")]:
+        compare_texts(what, b"".join(texts), got)
+
+
+def workers_answer(what, port):
+    """As many connections as there are workers are answered while all of them stay."""
+    with contextlib.ExitStack() as stack:
+        for number in range(WORKERS):
+            talk = stack.enter_context(Talk(port))
+            talk.ask(f"{what}, connection {number} of {WORKERS}", get(blob_target(ABC)), ABC_REPLY)
+
+
+# Starts
+
+def starts(program):
+    """A server's start: it ends for want of memory, or serves."""
+    library = refusing(program)
+    return [lambda: starts_in_turn(program, library)]
+
+
+def starts_in_turn(program, library):
+    page = Page(program, library)
+    for number in range(1, MOST):
+        store = store_of(program, *inputs.EXAMPLE_BLOBS, b"abc")
+        if not Start(program, page, store).refuses(f"a start, request {number} refused", number):
+            COUNTS["a start"] = number - 1
+            return
+    raise Difference(f"a start: more than {MOST} requests")
+
+
+class Start:
+    """A server that may not come to serve."""
+
+    def __init__(self, program, page, store):
+        self.page, self.store, self.port = page, store, PORTS.free()
+        self.program = program
+
+    def refuses(self, what, number):
+        """Answers whether a request was refused until the server has answered once, or ended."""
+        before = self.store.files()
+        self.page.refuse(number)
+        self.start()
+        got = self.first_answer()
+        was_refused = self.page.refused() > 0
+        self.page.refuse_none()
+        if self.process.poll() is None:
+            is_answer(what, [ABC_REPLY.text()], got, was_refused)
+            workers_answer(f"{what}, and then none", self.port)
+            self.process.kill()
+            self.process.communicate()
+        else:
+            check(f"{what}: it ended", was_refused)
+            out, err = finish(what, self.process)
+            status = self.process.returncode
+            compare_ending(what, status if status in (MEMORY, DISK, LISTENER) else MEMORY, status, err)
+            compare(what, "standard output", b"", out)
+        compare(what, "the folder", before, self.store.files())
+        return was_refused
+
+    def start(self):
+        words = ["serve", str(self.store.path), f"--port={self.port}", *WORDS]
+        streams = {"stdin": subprocess.DEVNULL, "stdout": subprocess.PIPE}
+        self.process = self.program.start(words, front=front_of(self.page), **streams)
+        STARTED.append(self.process)
+        while not is_listened_to(self.port) and self.process.poll() is None:
+            time.sleep(MOMENT)
+
+    def first_answer(self):
+        """What a connection gets; where that is nothing the server may have ended."""
+        got = b""
+        with contextlib.suppress(ConnectionRefusedError):
+            got = Exchange(self.port, [get(blob_target(ABC))]).bytes()
+        if got == b"":
+            with contextlib.suppress(subprocess.TimeoutExpired):
+                self.process.wait(timeout=0.5)
+        return got
