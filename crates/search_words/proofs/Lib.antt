@@ -1,0 +1,11 @@
+pub mod Tests
+pub mod Refs
+pub mod Reaching
+pub mod Wholes
+pub mod WordSound
+pub mod LineSound
+pub mod Completing
+pub mod Wide
+pub mod Walking
+pub mod Telling
+pub mod Valid

@@ -1,0 +1,9 @@
+pub mod Asking
+pub mod Grammar
+pub mod Words
+pub mod Lines
+pub mod Characters
+pub mod Fronts
+pub mod Onward
+pub mod Faults
+pub mod Laws
