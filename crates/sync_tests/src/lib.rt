@@ -1,9 +1,11 @@
-//! Tests of peers in memory, over stores and over HTTP, of copying between them, of rounds, and of `push` and `pull`.
-//! What is tested here stands in the crates below.
+//! Tests of peers in memory, over stores and over HTTP, of copying between them, of rounds, and of `push`, `pull` and
+//! `mirror`. What is tested here stands in the crates below.
 #![tactic(auto)]
 
 #[cfg(test)]
 mod commands;
+#[cfg(test)]
+mod mirrors;
 #[cfg(test)]
 mod peers;
 #[cfg(test)]

@@ -2,23 +2,31 @@
 use crate::peers::{ABC, NOTHING, failing, has, is_put};
 use crate::syncs::size;
 use blobref::{BlobList, NoMemory, Octets, Ref};
-use peer_base::{MemPeer, PeerFault};
+use edge_base::CallList;
+use peer_base::{MemPeer, Peer, PeerFault};
 use replica_ring::{Ring, RingEvent, RingEventList, run_ring};
 use ring_rounds::{RingFault, ring_round};
 use std::alloc::Global;
 use sync_core::SyncFault;
 
-// A hub with one blob, and two peers, the first with another one; one call of the second may be to fail.
-fn three(alloc: Global, fails: Option<u64>) -> Result<(MemPeer, [MemPeer; 2], bool), NoMemory> {
-    let mut hub = MemPeer::empty(alloc, failing(alloc, None)?);
+// Two peers, the first with one blob; one call of the second may be to fail.
+pub(crate) fn two(alloc: Global, fails: Option<u64>) -> Result<([MemPeer; 2], bool), NoMemory> {
     let mut first = MemPeer::empty(alloc, failing(alloc, None)?);
     let second = MemPeer::empty(alloc, failing(alloc, fails)?);
-    let made = is_put(&mut hub, ABC, b"abc") && is_put(&mut first, NOTHING, b"");
-    Ok((hub, [first, second], made))
+    let made = is_put(&mut first, NOTHING, b"");
+    Ok(([first, second], made))
+}
+
+// A hub with another blob, and these two.
+fn three(alloc: Global, fails: Option<u64>) -> Result<(MemPeer, [MemPeer; 2], bool), NoMemory> {
+    let (peers, made) = two(alloc, fails)?;
+    let mut hub = MemPeer::empty(alloc, CallList::empty(alloc));
+    let put = is_put(&mut hub, ABC, b"abc");
+    Ok((hub, peers, made && put))
 }
 
 // Whether a peer has both blobs and no other one.
-fn has_both(peer: &mut MemPeer) -> bool {
+pub(crate) fn has_both<P: Peer>(peer: &mut P) -> bool {
     has(peer, ABC, Some(b"abc")) && has(peer, NOTHING, Some(b"")) && size(peer) == 2
 }
 

@@ -24,12 +24,17 @@ const TWO_BLOBS: Limits = Limits {
     last_pack: 99_999,
 };
 
-// The store on a disk without packs whose calls fail so. No call fails while it is opened.
-fn store(alloc: Global, fails: CallList) -> Result<StorePeer<MemDisk>, NoMemory> {
-    match Store::open_on(alloc, MemDisk::empty(alloc, fails, u64::MAX), WIDE) {
+// The store on a disk. No call fails while it is opened.
+pub(crate) fn store_on(alloc: Global, disk: MemDisk) -> Result<StorePeer<MemDisk>, NoMemory> {
+    match Store::open_on(alloc, disk, WIDE) {
         Ok(store) => Ok(StorePeer::over(store)),
         Err(_) => Err(NoMemory),
     }
+}
+
+// The store on a disk without packs whose calls fail so.
+pub(crate) fn store(alloc: Global, fails: CallList) -> Result<StorePeer<MemDisk>, NoMemory> {
+    store_on(alloc, MemDisk::empty(alloc, fails, u64::MAX))
 }
 
 // The same with room for two blobs.
