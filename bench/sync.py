@@ -1,4 +1,5 @@
-"""Times `push` and `pull` beside programs that do the least of it, and prints how they compare, as tables.
+"""Times `push` and `pull` beside programs that do the least of it, and `mirror` beside `push` and `pull`, and prints
+how they compare, as tables.
 
     sync.py PROGRAM HTTP_LOAD APPEND_SYNC PLAIN_PUT FOLDER
 
@@ -6,6 +7,7 @@ Each time is the best of three, taken in turn with what it is compared with. Eac
 time of a copy is that of the whole command, so the opening of its store is in it.
 """
 
+import contextlib
 import os
 import random
 import shutil
@@ -18,6 +20,8 @@ from serve import HOST, Bench, PlainPut, Seconds, Served, best, heading, ratio, 
 
 BLOBS = int(os.environ.get("BENCH_BLOBS") or 10_000)
 LARGE_BLOBS = 64
+# So many servers are in a round.
+PEERS = 3
 
 
 def large_blobs():
@@ -26,6 +30,22 @@ def large_blobs():
 
 
 # Copies
+
+def timed(bench, words, out):
+    """The seconds of a command that has to print this, and its peak of memory in bytes."""
+    # A child of this one would be told to have had this one's memory, which holds all blobs.
+    peak = bench.program.new_path()
+    line = ["/usr/bin/time", "-f", "%M", "-o", str(peak), bench.program.path, *words]
+    start = time.monotonic()
+    process = subprocess.Popen(line, stdin=subprocess.DEVNULL, stdout=subprocess.PIPE)
+    printed = process.stdout.read()
+    _, status, usage = os.wait4(process.pid, 0)
+    seconds = time.monotonic() - start
+    process.returncode = os.waitstatus_to_exitcode(status)
+    if process.returncode != 0 or printed != out:
+        sys.exit(f"{words[0]}: status {process.returncode}, {printed}")
+    return Seconds(usage.ru_utime + usage.ru_stime, seconds), int(peak.read_text().split()[-1]) * 1_024
+
 
 class Copies:
     """Pushes and pulls of some blobs, and the peak memory of each."""
@@ -49,19 +69,43 @@ class Copies:
             shutil.rmtree(folder)
 
     def copy(self, command, folder, server):
-        # A child of this one would be told to have had this one's memory, which holds all blobs.
-        peak = self.bench.program.new_path()
-        line = ["/usr/bin/time", "-f", "%M", "-o", str(peak), self.bench.program.path, command, str(folder), f"{HOST}:{server.port}"]
-        start = time.monotonic()
-        process = subprocess.Popen(line, stdin=subprocess.DEVNULL, stdout=subprocess.PIPE)
-        out = process.stdout.read()
-        _, status, usage = os.wait4(process.pid, 0)
-        seconds = time.monotonic() - start
-        process.returncode = os.waitstatus_to_exitcode(status)
-        if process.returncode != 0 or out != b"copied %d already 0\n" % len(self.blobs):
-            sys.exit(f"{command}: status {process.returncode}, {out}")
-        self.peaks[command] = max(self.peaks[command], int(peak.read_text().split()[-1]) * 1_024)
-        return Seconds(usage.ru_utime + usage.ru_stime, seconds)
+        words = [command, str(folder), f"{HOST}:{server.port}"]
+        seconds, peak = timed(self.bench, words, b"copied %d already 0\n" % len(self.blobs))
+        self.peaks[command] = max(self.peaks[command], peak)
+        return seconds
+
+
+class Rounds:
+    """A round over a folder that isn't there yet and servers that have blobs of their own, and as many pulls and pushes
+    that copy the same."""
+
+    def __init__(self, bench, blobs):
+        self.bench, self.shares, self.peak = bench, [blobs[place::PEERS] for place in range(PEERS)], 0
+
+    @contextlib.contextmanager
+    def stores(self):
+        """The folder, and the addresses of the servers."""
+        folder = self.bench.program.new_path()
+        with contextlib.ExitStack() as started:
+            servers = [started.enter_context(Served(self.bench, share)) for share in self.shares]
+            yield str(folder), [f"{HOST}:{server.port}" for server in servers]
+        shutil.rmtree(folder)
+
+    def mirror(self):
+        with self.stores() as (folder, addresses):
+            line = b"stores %d blobs %d\n" % (PEERS + 1, sum(map(len, self.shares)))
+            seconds, peak = timed(self.bench, ["mirror", folder, *addresses], line)
+        self.peak = max(self.peak, peak)
+        return seconds
+
+    def pull_and_push(self):
+        with self.stores() as (folder, addresses):
+            both = [
+                timed(self.bench, [command, folder, address], b"copied %d already %d\n" % counts)[0]
+                for command, counts in (("pull", (BLOBS, 0)), ("push", ((PEERS - 1) * BLOBS, BLOBS)))
+                for address in addresses
+            ]
+        return Seconds(*map(sum, zip(*both)))
 
 
 def plainly(bench, blobs, requests):
@@ -155,7 +199,8 @@ def large(bench):
     """MiB a second, and those of the others."""
     blobs = large_blobs()
     copies, requests = Copies(bench, blobs), [upload([blob]) for blob in blobs]
-    heading(f"{LARGE_BLOBS} blobs of 1 MiB", "MiB a second", "of append, sync", "of uploads", "of a plain server", "peak MiB")
+    columns = "MiB a second", "of append, sync", "of uploads", "of a plain server", "peak MiB"
+    heading(f"{LARGE_BLOBS} blobs of 1 MiB", *columns)
     push, pull, *its = best(
         copies.push,
         copies.pull,
@@ -168,10 +213,21 @@ def large(bench):
         row(command, f"{LARGE_BLOBS / own.wall:,.0f}", *beside, f"{copies.peaks[command] / MIB:.1f}")
 
 
+def rounds(bench):
+    """Blobs that a round copies in a second, and what pulls and pushes of the same take beside it."""
+    own = Rounds(bench, small_blobs(PEERS * BLOBS))
+    heading(f"rounds over {PEERS} servers", "a second", "of pull and push", "their processor", "peak MiB")
+    mirror, others = best(own.mirror, own.pull_and_push)
+    # Each server's blobs are copied to the folder, and then to each other server.
+    pace = f"{PEERS * PEERS * BLOBS / mirror.wall:,.0f}"
+    beside = ratio(others.wall, mirror.wall), ratio(others.processor, mirror.processor)
+    row(f"mirror, {BLOBS:,} small blobs each", pace, *beside, f"{own.peak / MIB:.1f}")
+
+
 def main(program, http_load, append_sync, plain_put, folder):
     bench = Bench(program, http_load, append_sync, plain_put, folder)
-    print("speeds of `push` and `pull`, those of the other programs being 1")
-    for table in (small, large):
+    print("speeds of `push`, `pull` and `mirror`, those of the other programs being 1")
+    for table in (small, large, rounds):
         table(bench)
 
 

@@ -1,12 +1,13 @@
 #!/usr/bin/env bash
-# Times `push` and `pull` of 10,000 small blobs and of 64 blobs of 1 MiB between a folder and a server on the same machine:
-# beside a C loop that appends and syncs as much, beside uploads of the same blobs by a client that has made its requests
-# before, to the same server and to a C server that only digests, appends and syncs; and small ones beside `rsync --fsync`
-# and `restic copy` of as many files, which are left out where they aren't there, or rsync doesn't know that option. Needs
-# g++, openssl with its headers, and /usr/bin/time.
+# Times `push` and `pull` of 10,000 small blobs and of 64 blobs of 1 MiB between a folder and a server on the same
+# machine: beside a C loop that appends and syncs as much, beside uploads of the same blobs by a client that has made
+# its requests before, to the same server and to a C server that only digests, appends and syncs; and small ones beside
+# `rsync --fsync` and `restic copy` of as many files, which are left out where they aren't there, or rsync doesn't know
+# that option. Then a round of `mirror` over three servers with 10,000 small blobs each, beside the pulls and pushes
+# that copy the same. Needs g++, openssl with its headers, and /usr/bin/time.
 #
-# Prints paces, ratios within this run and peak memory. Ends with status 1 where not all was copied. BENCH_BLOBS is another
-# number of small blobs, to try the script.
+# Prints paces, ratios within this run and peak memory. Ends with status 1 where not all was copied. BENCH_BLOBS is
+# another number of small blobs, to try the script.
 . "$(dirname "$0")/preamble.bash"
 cc -O2 -o "$folder/append_sync" bench/append_sync.c
 cc -O2 -pthread -o "$folder/plain_put" bench/plain_put.c -lcrypto

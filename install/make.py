@@ -254,6 +254,8 @@ _perkeep() {{
     [ "$option" != --key ] || _perkeep_keys
     return
   fi
+  # The last position may come several times.
+  [[ $count -lt ${{#positions[@]}} || ${{positions[*]}} != *.. ]] || count=$((${{#positions[@]}} - 1))
   case $is_over$word in
     -*) _perkeep_options ;;
     *) _perkeep_position "${{positions[count]:-}}" ;;
@@ -284,7 +286,7 @@ _perkeep_position() {{
       compopt -o filenames 2>/dev/null
       _perkeep_offer -f
       ;;
-    ADDR) _perkeep_addresses ;;
+    ADDR | ADDR..) _perkeep_addresses ;;
     KIND) _perkeep_offer -W '{kinds}' ;;
     *) _perkeep_options ;;
   esac
@@ -374,7 +376,8 @@ def zsh_words(command, kinds):
     offers = {"DIR": "_directories", "KIND": f"({' '.join(kinds)})", "NAME": "_files", "ADDR": "_perkeep_addresses"}
     for place, position in enumerate(command.positions, 1):
         mark = "::" if command.may_lack(position) else ":"
-        yield quoted(f"{place}{mark}{position}:{offers.get(position, ' ')}")
+        name = position.removesuffix("..")
+        yield quoted(f"{place if name == position else '*'}{mark}{name}:{offers.get(name, ' ')}")
     for name, value in command.options:
         yield quoted(f"{name}=:{value}:{'_perkeep_keys' if name == '--key' else ' '}")
 

@@ -20,6 +20,7 @@ _perkeep_words() {
     put-file) positions=(DIR NAME) options=() ;;
     push) positions=(DIR ADDR) options=() ;;
     pull) positions=(DIR ADDR) options=() ;;
+    mirror) positions=(DIR ADDR..) options=() ;;
     load) positions=(COUNT START) options=() ;;
     serve) positions=(DIR) options=(--port --workers --indexers --connections) ;;
   esac
@@ -36,7 +37,7 @@ _perkeep() {
   _perkeep_join
   word=${words[-1]} name=${words[0]}
   if [ "${#words[@]}" -eq 1 ]; then
-    _perkeep_offer -W 'put get stat list search query salvage search-pack permanode claim multi delete get-file put-file push pull load serve'
+    _perkeep_offer -W 'put get stat list search query salvage search-pack permanode claim multi delete get-file put-file push pull mirror load serve'
     return
   fi
   _perkeep_words "$name"
@@ -60,6 +61,8 @@ _perkeep() {
     [ "$option" != --key ] || _perkeep_keys
     return
   fi
+  # The last position may come several times.
+  [[ $count -lt ${#positions[@]} || ${positions[*]} != *.. ]] || count=$((${#positions[@]} - 1))
   case $is_over$word in
     -*) _perkeep_options ;;
     *) _perkeep_position "${positions[count]:-}" ;;
@@ -90,7 +93,7 @@ _perkeep_position() {
       compopt -o filenames 2>/dev/null
       _perkeep_offer -f
       ;;
-    ADDR) _perkeep_addresses ;;
+    ADDR | ADDR..) _perkeep_addresses ;;
     KIND) _perkeep_offer -W 'set add del' ;;
     *) _perkeep_options ;;
   esac

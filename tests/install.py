@@ -18,7 +18,8 @@ from harness import SECONDS, LeftOut, check, compare
 TOP = pathlib.Path(__file__).resolve().parent.parent
 INSTALL = TOP / "install"
 MADE = ["_perkeep", "perkeep.1", "perkeep.bash"]
-COMMANDS = "put get stat list search query salvage search-pack permanode claim multi delete get-file put-file push pull load serve".split()
+COMMANDS = "put get stat list search query salvage search-pack permanode claim multi delete get-file put-file".split()
+COMMANDS += "push pull mirror load serve".split()
 # What is written, each as bash divides it, and what is offered for the last word. There are the folders
 # `a folder` and `archive`, which has the keys `me` and `mine`, and a file `arrow`. PORT is one that is listened to.
 OFFERS = [
@@ -65,6 +66,8 @@ OFFERS = [
     (["push", "archive", "127.0.0.1:PORT"], ["PORT"]),
     (["pull", "archive", "other", ":", "31"], []),
     (["push", "archive", "127.0.0.1", ":", "PORT", "--"], []),
+    (["mirror", "archive", "127.0.0.1:PORT"], ["PORT"]),
+    (["mirror", "archive", "127.0.0.1:1", "127.0.0.1:2", "127.0.0.1:PORT"], ["PORT"]),
     (["serve", "archive", "--port", "3179", "--"], ["--workers", "--indexers", "--connections"]),
 ]
 
@@ -155,9 +158,10 @@ def without_marks(text):
     return re.sub(r"\x1b\[[0-9;]*m|.\x08", "", text)
 
 
-UNITS = ["perkeep.service", "perkeep-tunnel.service", "perkeep-verify.service", "perkeep-verify.timer"]
+UNITS = ["perkeep.service", "perkeep-mirror.service", "perkeep-mirror.timer", "perkeep-tunnel.service"]
+UNITS += ["perkeep-verify.service", "perkeep-verify.timer"]
 # What has to be there for a unit that starts it.
-STARTED = [".local/bin/perkeep", ".local/share/perkeep/verify_backup.sh"]
+STARTED = [".local/bin/perkeep", ".local/bin/perkeep-mirror", ".local/share/perkeep/verify_backup.sh"]
 
 
 def units(program):
@@ -167,7 +171,7 @@ def units(program):
         raise LeftOut("there is no /usr/bin/ssh here")
     home = program.new_path()
     for path in STARTED:
-        (home / path).parent.mkdir(parents=True)
+        (home / path).parent.mkdir(parents=True, exist_ok=True)
         (home / path).symlink_to("/bin/true")
     (home / "run").mkdir()
     for name in UNITS:

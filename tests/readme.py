@@ -22,8 +22,8 @@ from serving import PORTS
 TOP = pathlib.Path(__file__).resolve().parent.parent
 README, GUIDE, LIMITS = TOP / "README.md", TOP / "docs" / "guide.md", TOP / "docs" / "limits.md"
 FENCED = re.compile(r"^```(\w*)\n(.*?)^```$", re.MULTILINE | re.DOTALL)
-# The port that the pages use; another one may be taken here.
-PORT = "3179"
+# The ports that the pages use; others are taken here.
+PORTS_OF_PAGES = "3179", "3180"
 TOOLS = ("bash", "curl", "openssl")
 MOST_BYTES = 14_000
 MARK = "the end of a block"
@@ -51,7 +51,9 @@ def run_script(program, commands):
     (folder / "perkeep").symlink_to(program.path)
     for name in ("examples", "keyring"):
         (folder / name).symlink_to(TOP / name)
-    text = script(commands).replace(PORT, str(PORTS.free()))
+    text = script(commands)
+    for port in PORTS_OF_PAGES:
+        text = text.replace(port, str(PORTS.free()))
     words = ["bash", "-u", "-c", text]
     streams = {"stdin": subprocess.DEVNULL, "stdout": subprocess.PIPE}
     settings = {**os.environ, "XDG_CACHE_HOME": str(folder / "cache")}

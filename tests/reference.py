@@ -171,6 +171,20 @@ def put(packs, blob, ref=None):
     return {**packs, number: packs.get(number, b"") + record}
 
 
+# Rounds (docs/ring.md)
+
+def joined(first, second):
+    """The blobs of one map, and those of another whose refs it lacks."""
+    return {**second, **first}
+
+
+def round_over(hub, peers):
+    """What a round makes of the maps of a hub and its peers."""
+    for peer in peers:
+        hub = joined(hub, peer)
+    return hub, [joined(peer, hub) for peer in peers]
+
+
 def entry(ref, blob):
     """The line of a blob in a listing."""
     return f"{ref} {len(blob)}\n".encode()
@@ -195,7 +209,8 @@ def salvage_text(packs):
 
 # docs/formats/dates.md, "The text of a date"
 DATE = re.compile(
-    r"([0-9]{4})-([0-9]{2})-([0-9]{2})T([0-9]{2}):([0-9]{2}):([0-9]{2})(?:\.([0-9]{1,9}))?(?:Z|([+-])([0-9]{2}):([0-9]{2}))"
+    r"([0-9]{4})-([0-9]{2})-([0-9]{2})T([0-9]{2}):([0-9]{2}):([0-9]{2})(?:\.([0-9]{1,9}))?"
+    r"(?:Z|([+-])([0-9]{2}):([0-9]{2}))"
 )
 # docs/formats/dates.md, at the beginning
 LEAST_MOMENT = -62_135_596_800 * 10**9

@@ -1,5 +1,5 @@
-"""What a person is told at a terminal (docs/commands.md, "On a terminal"), by a terminal of the system's for standard error. What is told
-elsewhere all other scripts compare.
+"""What a person is told at a terminal (docs/commands.md, "On a terminal"), by a terminal of the system's for standard
+error. What is told elsewhere all other scripts compare.
 """
 
 import contextlib
@@ -14,8 +14,9 @@ import reference
 import tracing
 from harness import check, compare
 from inputs import ABSENT
+from peers import FalsePeer
 from reference import pack_name, ref_of
-from serving import PORTS, is_listened_to
+from serving import HOST, PORTS, is_listened_to
 from stores import Store
 from writers import Locked
 from writing import pack
@@ -70,9 +71,11 @@ def hints(program):
     bad = Store(program, {0: pack(b"abc")}, {"keyring": BAD_KEYRING})
     keyed = Store(program, {}, {"keyring": b"me 00\n"})
     nowhere, folder = str(program.new_path()), str(store.path)
+    no_blob = "the store has no such blob; a folder that isn't there reads as an empty store"
+    no_keyring = "each line of the keyring is a name, a space, hexadecimal digits and a line feed"
     rows = [
         (["put"], 2, "words (no line of a command has these words; docs/commands.md has them all)"),
-        (["get", nowhere, ABSENT], 3, "absent (the store has no such blob; a folder that isn't there reads as an empty store)"),
+        (["get", nowhere, ABSENT], 3, f"absent ({no_blob})"),
         (["get", folder, "abc"], 4, "input (a text that should be a blobref is none)"),
         (["search", folder, "--attr=a", "--value=b", "--at=x"], 4, "input (a text that should be a date is none)"),
         (["list", folder, "--limit=x"], 4, "input (a text that should be a number is none, or out of range)"),
@@ -82,33 +85,37 @@ def hints(program):
         (["query", folder], 4, "input (standard input is no query)"),
         (["multi", str(keyed.path), "--key=me"], 4, "input (standard input is no list of changes)"),
         (["push", folder, "nowhere"], 8, "peer (nobody answers at ADDR, which is HOST:PORT, or the way there broke)"),
-        (["list", str(bad.path)], 4, "input (each line of the keyring is a name, a space, hexadecimal digits and a line feed)"),
+        (["list", str(bad.path)], 4, f"input ({no_keyring})"),
     ]
     return [lambda row=row: is_told(program, *row) for row in rows] + [lambda: held(program), lambda: done(program)]
 
 
 def is_told(program, words, status, text):
-    compare(words, "status, output and what is told", (status, b"", f"perkeep: {text}\n".encode()), told(program, words))
+    expected = status, b"", f"perkeep: {text}\n".encode()
+    compare(words, "status, output and what is told", expected, told(program, words))
 
 
 def held(program):
     store = Store(program, {0: pack(b"abc")})
     text = "disk (the folder can't be read or written, the disk is full, or another program holds the store)"
+    words = store.words("delete", ref_of(b"abc"), "--key=me")
     with Locked(store.path):
-        is_told(program, store.words("delete", ref_of(b"abc"), "--key=me"), 4, "input (the keyring doesn't hold the key)")
+        is_told(program, words, 4, "input (the keyring doesn't hold the key)")
         is_told(program, store.words("put-file", "name"), 7, text)
 
 
 def done(program):
     """Nothing is told where all was done."""
     store = Store(program, {0: pack(b"abc")})
-    compare("a get", "status, output and what is told", (0, b"abc", b""), told(program, store.words("get", ref_of(b"abc"))))
+    got = told(program, store.words("get", ref_of(b"abc")))
+    compare("a get", "status, output and what is told", (0, b"abc", b""), got)
 
 
 def files(program):
-    """What is wrong with single files: packs that are none, the last pack there may be, and what others may write to."""
-    checks = (folder_for_a_pack, pipe_for_a_pack, lost_pack, odd_pack_of_a_server, last_pack, open_keyring, folder_of_others)
-    return [lambda check=check: check(program) for check in checks]
+    """What is wrong with single files: packs that are none, the last pack there may be, and what others may write
+    to."""
+    checks = folder_for_a_pack, pipe_for_a_pack, lost_pack, odd_pack_of_a_server, last_pack
+    return [lambda check=check: check(program) for check in (*checks, open_keyring, folder_of_others)]
 
 
 def odd_pack(store, number):
@@ -170,7 +177,8 @@ def folder_of_others(program):
             path = str(store.path)
     check("no folder here is another user's", os.stat(path).st_uid != os.geteuid())
     status, _, text = told(program, ["list", path])
-    compare("a folder of another user's", "status and what is told", (0, f"perkeep: {path} is another user's\n".encode()), (status, text))
+    expected = 0, f"perkeep: {path} is another user's\n".encode()
+    compare("a folder of another user's", "status and what is told", expected, (status, text))
 
 
 def openings(program):
@@ -196,6 +204,43 @@ def long_opening(program):
     check(f"a long opening: {percents} %", len(percents) >= 2 and percents == sorted(percents) and percents[-1] < 100)
 
 
+def rounds(program):
+    """Whose turn it is in a round, how many blobs were copied, and at whose address it was refused."""
+    return [lambda: turns(program), lambda: copied_so_far(program), lambda: named(program)]
+
+
+def turn(way, address):
+    return f"\r\x1b[Kperkeep: copies {way} {address}\n".encode()
+
+
+def turns(program):
+    store = Store(program, {0: pack(b"abc")})
+    with FalsePeer() as one, FalsePeer({ref_of(b"E"): b"E"}) as other:
+        got = told(program, store.words("mirror", one.address, other.address))
+        text = b"".join(turn(way, peer.address) for way in ("from", "to") for peer in (one, other))
+        compare("a round", "status, output and what is told", (0, b"stores 3 blobs 2\n", text), got)
+
+
+def copied_so_far(program):
+    """Each reply is held up, so that a blob takes more than a second."""
+    store, blobs = Store(program, {}), {ref_of(blob): blob for blob in (b"a", b"b", b"c")}
+    with FalsePeer(blobs, before=lambda _: time.sleep(HELD_UP)) as peer:
+        got = told(program, store.words("mirror", peer.address))
+        copied = b"".join(b"\rperkeep: copied %d so far" % number for number in (1, 2))
+        text = turn("from", peer.address) + copied + turn("to", peer.address) + b"\r\x1b[K"
+        compare("a slow round", "status, output and what is told", (0, b"stores 2 blobs 3\n", text), got)
+
+
+def named(program):
+    store, nowhere = Store(program, {0: pack(b"abc")}), f"{HOST}:{PORTS.free()}"
+    hint = "nobody answers at ADDR, which is HOST:PORT, or the way there broke"
+    with FalsePeer() as peer:
+        got = told(program, store.words("mirror", peer.address, nowhere))
+        refused = f"perkeep: peer ({nowhere}: {hint})\n".encode()
+        text = turn("from", peer.address) + turn("from", nowhere) + refused
+        compare("nobody", "status, output and what is told", (8, b"", text), got)
+
+
 def servers(program):
     return [lambda: server(program)]
 
@@ -217,4 +262,4 @@ def server(program):
 
 
 if __name__ == "__main__":
-    harness.main("terminal.sh", [hints, files, openings, servers])
+    harness.main("terminal.sh", [hints, files, openings, rounds, servers])

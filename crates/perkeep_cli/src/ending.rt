@@ -1,5 +1,6 @@
 //! How the program ends.
 use blob_server::Served;
+use blobref::Text;
 use perkeep_top::{InputFault, Status};
 
 /// The end of the program (`docs/commands.md`).
@@ -7,6 +8,8 @@ use perkeep_top::{InputFault, Status};
 pub(crate) enum Ending {
     /// As the run ended, or would have.
     Ran(Status),
+    /// As a round over servers ended, and the address of the one that refused its last call, where one did.
+    Mirrored { status: Status, peer: Option<Text> },
     /// As serving did.
     Served(Served),
     /// The keyring can't be used.
@@ -18,14 +21,19 @@ impl Ending {
     pub(crate) fn is_done(&self) -> bool {
         matches!(
             self,
-            Ending::Ran(Status::Done) | Ending::Served(Served::Done)
+            Ending::Ran(Status::Done)
+                | Ending::Mirrored {
+                    status: Status::Done,
+                    ..
+                }
+                | Ending::Served(Served::Done)
         )
     }
 
     /// The exit status.
     pub(crate) fn code(&self) -> u8 {
         match self {
-            Ending::Ran(status) => status.code(),
+            Ending::Ran(status) | Ending::Mirrored { status, .. } => status.code(),
             Ending::Served(Served::ListenerFault) => 14,
             Ending::Served(served) => status_of(*served).code(),
             Ending::BadKeyring => 4,
@@ -35,17 +43,28 @@ impl Ending {
     /// The word on standard error.
     pub(crate) fn word(&self) -> &'static str {
         match self {
-            Ending::Ran(status) => status.word(),
+            Ending::Ran(status) | Ending::Mirrored { status, .. } => status.word(),
             Ending::Served(Served::ListenerFault) => "listener",
             Ending::Served(served) => status_of(*served).word(),
             Ending::BadKeyring => "input",
         }
     }
 
+    /// The address of the peer that is to blame, where one is.
+    pub(crate) fn peer(&self) -> Option<&str> {
+        match self {
+            Ending::Mirrored {
+                peer: Some(peer),
+                ..
+            } => Some(peer.as_str()),
+            _ => None,
+        }
+    }
+
     /// What a person can do then, where that can be said.
     pub(crate) fn hint(&self) -> Option<&'static str> {
         match self {
-            Ending::Ran(status) => hint_of(status),
+            Ending::Ran(status) | Ending::Mirrored { status, .. } => hint_of(status),
             Ending::Served(Served::ListenerFault) => {
                 Some(
                     "the port is taken, or no connection could be accepted; --port takes another one",

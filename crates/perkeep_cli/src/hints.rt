@@ -67,17 +67,20 @@ fn is_regular(rt: &HostRuntime, folder: &str, name: &str) -> bool {
     }
 }
 
-/// Tells a person of a folder that is another user's, and of a keyring to which everyone may write.
-pub(crate) fn tell_of_others(rt: &HostRuntime, folder: &str, keyring: &str) {
-    if !is_told(rt) {
+/// Tells a person of a folder that is another user's, and of a keyring in it to which everyone may write.
+pub(crate) fn tell_of_others(rt: &HostRuntime, folder: &str) {
+    if !is_told(rt) || folder.is_empty() {
         return;
     }
+    let Ok(keyring) = format!(in rt.alloc(); "{folder}/keyring") else {
+        return;
+    };
     if let Ok(found) = uninterrupted(|| fs::metadata(rt, folder)) {
         if !is_own(&found) {
             tell_person(rt, format_args!("perkeep: {folder} is another user's"));
         }
     }
-    if let Ok(found) = uninterrupted(|| fs::metadata(rt, keyring)) {
+    if let Ok(found) = uninterrupted(|| fs::metadata(rt, &keyring)) {
         if found.mode() & BY_ALL != 0 {
             tell_person(rt, format_args!("perkeep: everyone may write to {keyring}"));
         }

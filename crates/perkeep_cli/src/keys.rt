@@ -20,7 +20,7 @@ pub(crate) fn read_keyring(rt: &HostRuntime, folder: &str) -> Result<Keyring, En
     let Ok(path) = format!(in rt.alloc(); "{folder}/keyring") else {
         return Err(Ending::Ran(Status::NoMemory));
     };
-    tell_of_others(rt, folder, &path);
+    tell_of_others(rt, folder);
     let file = match open_keyring(rt, &path) {
         Ok(Some(file)) => file,
         Ok(None) => return Ok(Keyring::empty(rt.alloc())),

@@ -5,6 +5,7 @@ mod ending;
 mod hand;
 mod hints;
 mod keys;
+mod mirroring;
 mod pauses;
 mod serving;
 mod streams;
@@ -13,6 +14,7 @@ use crate::ending::Ending;
 use crate::hand::{SystemClock, SystemDice};
 use crate::hints::file_to_blame;
 use crate::keys::read_keyring;
+use crate::mirroring::mirror;
 use crate::serving::serve;
 use crate::streams::Closed;
 use blobref::{NoMemory, Text};
@@ -20,7 +22,7 @@ use edge_dial::peer_at;
 use edge_os::{is_told, standard_input, standard_output};
 use folder_disk::{Access, FolderDisk};
 use perkeep_top::{Status, run};
-use perkeep_words::{Line, places, serve_words};
+use perkeep_words::{Line, mirror_words, places, serve_words};
 use std::alloc::Global;
 use std::env;
 use std::io::{self, ErrorKind};
@@ -40,7 +42,8 @@ fn main(rt: HostRuntime) -> ExitCode {
     ExitCode::from(ending.code())
 }
 
-// Tells how the program ended; to a person at a terminal also which file is to blame, or what may be done.
+// Tells how the program ended; to a person at a terminal also which file or peer is to blame, or what may be
+// done.
 fn tell(rt: &HostRuntime, ending: &Ending) -> io::Result<()> {
     let word = ending.word();
     if !is_told(rt) {
@@ -48,6 +51,9 @@ fn tell(rt: &HostRuntime, ending: &Ending) -> io::Result<()> {
     }
     if let Some(file) = blamed(rt, ending) {
         return rt.eprintln(format_args!("perkeep: {word} ({file})"));
+    }
+    if let (Some(peer), Some(hint)) = (ending.peer(), ending.hint()) {
+        return rt.eprintln(format_args!("perkeep: {word} ({peer}: {hint})"));
     }
     match ending.hint() {
         Some(hint) => rt.eprintln(format_args!("perkeep: {word} ({hint})")),
@@ -70,6 +76,11 @@ fn ending_of<R: Threads + Wait + Sync>(rt: &HostRuntime, threads: &R) -> Ending 
     let folder = folder_named(&words);
     if let Some(plan) = serve_words(&words) {
         return serve(rt, threads, folder, &plan);
+    }
+    match mirror_words(rt.alloc(), &words) {
+        Ok(Some(addresses)) => return mirror(rt, &words, folder, &addresses),
+        Ok(None) => {}
+        Err(NoMemory) => return Ending::Ran(Status::NoMemory),
     }
     let Some(line) = Line::read(&words) else {
         return Ending::Ran(Status::BadWords);
