@@ -23,7 +23,6 @@ import secrets
 import socket
 import sys
 import time
-import urllib.parse
 from typing import Callable, Iterable, Iterator, NamedTuple, Optional
 
 # The statuses with which the scripts end, beside 0, and 2 for words that argparse doesn't take.
@@ -76,13 +75,16 @@ def moment_in(text: object) -> Optional[int]:
     since = time_of_day - EPOCH
     offset = (int(parts[9] or 0) * 60 + int(parts[10] or 0)) * 60 * (-1 if parts[8] == "-" else 1)
     moment = (since.days * 86_400 + since.seconds - offset) * SECOND + int((parts[7] or "").ljust(9, "0"))
-    return moment if LEAST_MOMENT <= moment <= GREATEST_MOMENT else None
+    return moment if is_date(moment) else None
 
 
-def date_text(moment: int) -> Optional[str]:
-    """The text that is written for a moment, in UTC; None where it is beyond the years 1 to 9999."""
-    if not LEAST_MOMENT <= moment <= GREATEST_MOMENT:
-        return None
+def is_date(moment: int) -> bool:
+    """Whether a moment lies in the years 1 to 9999."""
+    return LEAST_MOMENT <= moment <= GREATEST_MOMENT
+
+
+def date_text(moment: int) -> str:
+    """The text that is written for a date, in UTC."""
     seconds, fraction = divmod(moment, SECOND)
     whole = (EPOCH + datetime.timedelta(seconds=seconds)).isoformat()
     return whole + f".{fraction:09}".rstrip("0").rstrip(".") + "Z"
@@ -122,9 +124,8 @@ def is_whole(value: object) -> bool:
     return type(value) is int
 
 
-def compact(value: object) -> str:
-    """JSON as it is written in blobs: no white space, and no escapes that aren't needed."""
-    return json.dumps(value, ensure_ascii=False, separators=(",", ":"))
+# JSON as it is written in blobs: no white space, and no escapes that aren't needed.
+compact = json.JSONEncoder(ensure_ascii=False, separators=(",", ":")).encode
 
 
 # Keys and signed blobs (docs/formats/keyring.md; schema.md, "Signed blobs")
@@ -152,10 +153,10 @@ class Key:
     def digest(self, octets: bytes) -> bytes:
         return hmac.digest(self.secret, octets, "sha256")
 
-    def signed(self, kind: str, fields: dict) -> bytes:
-        """The signed blob of a permanode or a claim."""
+    def signed(self, kind: str, fields: dict, rest: str = "") -> bytes:
+        """The signed blob of a permanode or a claim, of these fields and the text of further ones."""
         body = {"camliVersion": 1, "camliType": kind, "camliSigner": self.ref, **fields}
-        payload = compact(body)[:-1].encode()
+        payload = (compact(body)[:-1] + rest).encode()
         return payload + MARKER + self.digest(payload).hex().encode() + b'"}\n'
 
 
@@ -228,9 +229,9 @@ def octets_field(key: str, octets: bytes) -> dict:
 
 
 def unix_fields(mode: int, moment: int) -> dict:
-    """A file's mode and its time of change; a time beyond the years 1 to 9999 is left out."""
-    fields = {"unixPermission": f"0{mode & 0o7777:o}", "unixMtime": date_text(moment)}
-    return {key: value for key, value in fields.items() if value is not None}
+    """A file's mode and its time of change; a time that is no date is left out."""
+    time_field = {"unixMtime": date_text(moment)} if is_date(moment) else {}
+    return {"unixPermission": f"0{mode & 0o7777:o}", **time_field}
 
 
 def octets_text(octets: bytes) -> str:
@@ -258,18 +259,20 @@ class Change(NamedTuple):
     attribute: str
     value: str = ""
 
-    def body(self) -> dict:
+    def text(self) -> str:
+        """The change as it is written in a claim of several."""
         body = {"changeType": f"{self.act}-attribute", "permaNode": self.note, "attribute": self.attribute}
-        return body if self.act == "del" and self.value == "" else {**body, "value": self.value}
+        return compact(body if self.act == "del" and self.value == "" else {**body, "value": self.value})
 
 
 def permanode_blob(key: Key, random: bytes) -> bytes:
     return key.signed("permanode", {"random": random.hex()})
 
 
-def multi_claim(key: Key, moment: int, changes: list[Change]) -> bytes:
-    fields = {"claimDate": date_text(moment), "claimType": "multi", "changes": [one.body() for one in changes]}
-    return key.signed("claim", fields)
+def multi_claim(key: Key, moment: int, changes: list[str]) -> bytes:
+    """A claim of several changes, by their texts."""
+    fields = {"claimDate": date_text(moment), "claimType": "multi"}
+    return key.signed("claim", fields, f',"changes":[{",".join(changes)}]')
 
 
 # Packs (docs/formats/packs.md)
@@ -710,16 +713,20 @@ class Server:
     def ask(self, method: str, target: str, body: bytes = b"", kind: str = "application/json") -> dict:
         """The object that the server replies with."""
         status, reply = self.exchange(method, target, body, {"Host": "localhost", "Content-Type": kind})
-        answer = read_object(reply)
-        if status != 200 or answer is None:
-            why = {key: value for key, value in (answer or {}).items() if key != "received"}
+        try:
+            answer = json.loads(reply)
+        except ValueError:
+            raise Refused(f"the server at {self.address} answers {target} by {status}, and no JSON") from None
+        if status != 200:
+            why = {key: value for key, value in answer.items() if key != "received"}
             raise Refused(f"the server at {self.address} refuses {target} by {status} {compact(why)}")
         return answer
 
     def exchange(self, method: str, target: str, body: bytes, headers: dict) -> tuple[int, bytes]:
         """A reply's status and body. Each request may be sent again: what it asks for is done once."""
         for pause in PAUSES:
-            time.sleep(pause)
+            if pause:
+                time.sleep(pause)
             try:
                 self.send(method, target, body, headers)
                 reply = self.connection.getresponse()
@@ -744,8 +751,8 @@ class Server:
         """Those of the refs that the server has."""
         wanted, found = list(dict.fromkeys(refs)), set()
         for at in range(0, len(wanted), MOST_REFS):
-            asked = [(f"blob{number}", ref) for number, ref in enumerate(wanted[at : at + MOST_REFS], 1)]
-            body = urllib.parse.urlencode([("camliversion", 1), *asked]).encode()
+            asked = (f"&blob{number}={ref}" for number, ref in enumerate(wanted[at : at + MOST_REFS], 1))
+            body = f"camliversion=1{''.join(asked)}".encode()
             found.update(one["blobRef"] for one in self.ask("POST", "/camli/stat", body)["stat"])
         return found
 

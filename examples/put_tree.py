@@ -42,7 +42,7 @@ from typing import BinaryIO, Callable, Iterator, NamedTuple, Optional
 
 from perkeep_archive import (
     CHUNK, INCOMPLETE, LARGEST_SCHEMA, MOST_CHANGES, MOST_CHUNKS, MOST_PART_BYTES, MOST_PARTS, SECOND,
-    Change, Key, Refused, Server, compact, date_text, multi_claim, octets_field, octets_text, parser_of, part,
+    Change, Key, Refused, Server, is_date, multi_claim, octets_field, octets_text, parser_of, part,
     read_keyring, ref_of, run, schema_blob, shown, static_sets, tell, total_size, tree_note, unix_fields,
 )
 
@@ -69,8 +69,9 @@ class Found:
     def name(self) -> bytes:
         return os.path.basename(self.path)
 
-    def is_kind(self, is_so: Callable[[int], bool]) -> bool:
-        return is_so(self.status.st_mode)
+    @property
+    def kind(self) -> int:
+        return stat.S_IFMT(self.status.st_mode)
 
 
 class LeftOut:
@@ -94,9 +95,9 @@ def walk(top: bytes, left_out: LeftOut) -> list[Found]:
     folders = [Found(b"", os.stat(top))]
     for folder in folders:
         folder.entries = list(found_in(top, folder.path, left_out))
-        folders += [one for one in folder.entries if one.is_kind(stat.S_ISDIR)]
+        folders += [one for one in folder.entries if one.kind == stat.S_IFDIR]
     for one in itertools.chain(folders[:1], *(folder.entries for folder in folders)):
-        if date_text(one.status.st_mtime_ns) is None:
+        if not is_date(one.status.st_mtime_ns):
             left_out.tell(one.path, "its time alone, which is beyond the years 1 to 9999")
     return folders
 
@@ -109,14 +110,15 @@ def found_in(top: bytes, path: bytes, left_out: LeftOut) -> Iterator[Found]:
     except OSError as why:
         left_out.add(path, why)
         return
+    above = path + b"/" if path else b""
     for entry in entries:
-        one = os.path.join(path, entry.name)
+        one = above + entry.name
         try:
             found = Found(one, entry.stat(follow_symlinks=False))
         except OSError as why:
             left_out.add(one, why)
             continue
-        if any(map(found.is_kind, (stat.S_ISREG, stat.S_ISLNK, stat.S_ISDIR))):
+        if found.kind in (stat.S_IFREG, stat.S_IFLNK, stat.S_IFDIR):
             yield found
         else:
             left_out.add(one, "no file, folder or symbolic link")
@@ -241,18 +243,19 @@ class Claims:
         self.begin()
 
     def begin(self) -> None:
-        self.changes: list[Change] = []
+        self.changes: list[str] = []
         self.size = 0
         self.permanodes: dict[str, bytes] = {}
         self.done: list[Callable[[], None]] = []
 
     def add(self, changes: list[Change], permanode: Optional[bytes], done: Callable[[], None]) -> None:
         """Takes the changes of a note, with its permanode where it is new; calls `done` once they are acknowledged."""
-        size = sum(len(compact(change.body()).encode()) + 1 for change in changes)
-        is_full = len(self.changes) + len(changes) > MOST_CHANGES or self.size + size > LARGEST_SCHEMA - ROOM_OF_A_CLAIM
+        texts = [change.text() for change in changes]
+        size = sum(len(text.encode()) + 1 for text in texts)
+        is_full = len(self.changes) + len(texts) > MOST_CHANGES or self.size + size > LARGEST_SCHEMA - ROOM_OF_A_CLAIM
         if is_full:
             self.flush()
-        self.changes += changes
+        self.changes += texts
         self.size += size
         if permanode is not None:
             self.permanodes[ref_of(permanode)] = permanode
@@ -265,6 +268,7 @@ class Claims:
             self.server.upload({ref_of(claim): claim, **self.permanodes})
             for done in self.done:
                 done()
+            sys.stdout.flush()
         self.begin()
 
 
@@ -279,13 +283,14 @@ class Putting:
         self.uploads = Uploads(server)
         self.claims = Claims(server, key)
         self.holders: dict[str, set[str]] = {}
+        self.permanodes: dict[bytes, bytes] = {}
         self.note = ref_of(tree_note(key, tree))
 
     def run(self) -> None:
         folders = walk(self.top, self.left_out)
         if b"" in self.left_out.paths:
             raise Refused(f"{octets_text(self.top)} can't be read")
-        files = [one for folder in folders for one in folder.entries if one.is_kind(stat.S_ISREG)]
+        files = [one for folder in folders for one in folder.entries if one.kind == stat.S_IFREG]
         self.uploads.add(self.key.blob)
         self.store(folders, files)
         stored = [one for one in files if one.ref]
@@ -297,34 +302,35 @@ class Putting:
 
     def store(self, folders: list[Found], files: list[Found]) -> None:
         """Stores what the folders have, the innermost ones first."""
-        hits = [known for one in files for known in [self.known(one)] if known]
-        standing = self.server.standing(ref for known in hits for ref in (known.ref, *known.needs))
+        self.find_known(files)
         for folder in reversed(folders):
             if folder.path in self.left_out.paths:
                 continue
             for one in folder.entries:
                 try:
-                    self.store_entry(one, standing)
+                    self.store_entry(one)
                 except OSError as why:
                     self.left_out.add(one.path, why)
             folder.ref = self.store_folder(folder)
             self.cache.save_now_and_then()
         self.uploads.settle()
 
-    def known(self, one: Found) -> Optional[Known]:
-        """What the cache knows of a file as it is now."""
-        known = self.cache.files.get(one.path)
-        return known if known and known.is_of(one.status) else None
+    def find_known(self, files: list[Found]) -> None:
+        """Gives the files their refs that haven't changed, and of which the server has all blobs."""
+        looks = [(one, self.cache.files.get(one.path)) for one in files]
+        hits = [(one, known) for one, known in looks if known and known.is_of(one.status)]
+        standing = self.server.standing(ref for _, known in hits for ref in (known.ref, *known.needs))
+        for one, known in hits:
+            if known.ref in standing and standing.issuperset(known.needs):
+                one.ref = known.ref
 
-    def store_entry(self, one: Found, standing: set[str]) -> None:
-        """Stores a file or a link. A folder was stored before."""
-        if one.is_kind(stat.S_ISLNK):
+    def store_entry(self, one: Found) -> None:
+        """Stores a link, or a file that hasn't a ref yet. A folder was stored before."""
+        if one.kind == stat.S_IFLNK:
             target = os.readlink(os.path.join(self.top, one.path))
             one.ref = self.add("symlink", one, **octets_field("symlinkTarget", target))
-        elif one.is_kind(stat.S_ISREG):
-            known = self.known(one)
-            is_stored = known is not None and standing.issuperset([known.ref, *known.needs])
-            one.ref = known.ref if is_stored else self.store_file(one)
+        elif one.kind == stat.S_IFREG and one.ref is None:
+            one.ref = self.store_file(one)
 
     def add(self, kind: str, one: Found, **fields: object) -> str:
         """Stores the schema blob of a file, folder or link."""
@@ -344,7 +350,7 @@ class Putting:
             parts = self.store_chunks(content, one.status.st_size)
             after = os.fstat(file)
         is_whole = total_size(parts) == one.status.st_size and looks_of(one.status) == looks_of(after)
-        if not is_whole or not one.is_kind(stat.S_ISREG):
+        if not is_whole or one.kind != stat.S_IFREG:
             self.left_out.add(one.path, "changed while it was read")
             return None
         needs = [chunk["blobRef"] for chunk in parts]
@@ -377,13 +383,16 @@ class Putting:
         tick = TICK if ctime % SECOND else COARSE_TICK
         safe_ctime = ctime if ctime + tick < read_at else -1
         before = self.cache.files.get(one.path)
-        note, noted = (before.note, before.noted) if before else (ref_of(self.permanode(one)), None)
+        note, noted = (before.note, before.noted) if before else (ref_of(self.permanode(one.path)), None)
         self.cache.files[one.path] = Known(size, mtime, safe_ctime, ref, needs, note, noted)
 
     # Notes
 
-    def permanode(self, one: Found) -> bytes:
-        return tree_note(self.key, self.tree, one.path)
+    def permanode(self, path: bytes) -> bytes:
+        """The permanode of a path; the tree's own where that is empty."""
+        if path not in self.permanodes:
+            self.permanodes[path] = tree_note(self.key, self.tree, path)
+        return self.permanodes[path]
 
     def path_text(self, path: bytes) -> str:
         return f"{self.tree}/{octets_text(path)}"
@@ -406,7 +415,7 @@ class Putting:
                 self.cache.files[one.path] = known._replace(noted=one.ref)
             else:
                 self.distrust_cache()
-                permanode = self.permanode(one) if is_new else None
+                permanode = self.permanode(one.path) if is_new else None
                 self.claims.add(self.changes_of(one, is_new), permanode, functools.partial(self.noted, one))
         self.claims.flush()
 
@@ -427,13 +436,13 @@ class Putting:
     def noted(self, one: Found) -> None:
         known = self.cache.files[one.path]
         self.cache.files[one.path] = known._replace(noted=one.ref)
-        print(one.ref, known.note, shown(self.path_text(one.path)), flush=True)
+        print(one.ref, known.note, shown(self.path_text(one.path)))
 
     def note_gone(self, met: set[str]) -> None:
         """Takes the content from the notes of files that have gone."""
         gone = self.notes_below(b"") - met
         for path in self.left_out.paths:
-            gone -= {ref_of(tree_note(self.key, self.tree, path))} | (self.notes_below(path) if gone else set())
+            gone -= {ref_of(self.permanode(path))} | (self.notes_below(path) if gone else set())
         paths = {known.note: path for path, known in self.cache.files.items()}
         for note in sorted(gone):
             self.distrust_cache()
@@ -451,23 +460,22 @@ class Putting:
         return self.server.search({"logical": {"op": "and", "a": with_content, "b": below}})
 
     def went(self, note: str, path: Optional[bytes]) -> None:
-        print("gone", note, *([] if path is None else [shown(self.path_text(path))]), flush=True)
+        print("gone", note, *([] if path is None else [shown(self.path_text(path))]))
 
     def note_tree(self, top: str) -> None:
         """Sets the tree's note to the top folder, as the last thing that is done."""
-        permanode = tree_note(self.key, self.tree)
         is_new = self.note not in self.server.standing([self.note])
         if is_new or not self.holds(self.note, top):
             title = [Change("set", self.note, "title", self.tree)] if is_new else []
             content = Change("set", self.note, "camliContent", top)
-            self.claims.add([*title, content], permanode if is_new else None, lambda: None)
+            self.claims.add([*title, content], self.permanode(b"") if is_new else None, lambda: None)
             self.claims.flush()
             self.holders.clear()
             if not self.holds(self.note, top):
                 why = "its keyring lacks the key, the note was deleted, or has a claim of a date that is to come"
                 raise Refused(f"the server doesn't take {self.tree} as set: {why}")
         self.cache.top = top
-        print(top, self.note, shown(self.tree), flush=True)
+        print(top, self.note, shown(self.tree))
 
 
 # The command line

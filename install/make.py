@@ -343,7 +343,8 @@ _perkeep() {{
 # The names of the keys of the folder that was written before.
 _perkeep_keys() {{
   local folder=${{(Q)line[1]}}
-  compadd -- ${{${{(f)"$(<${{folder/#\~\//$HOME/}}/keyring)"}}%% *}} 2>/dev/null
+  local keyring=${{folder/#\~\//$HOME/}}/keyring
+  [[ ! -r $keyring ]] || compadd -- ${{${{(f)"$(<$keyring)"}}%% *}}
 }}
 
 # The ports of 127.0.0.1 at which some program listens: servers, and tunnels to them.
