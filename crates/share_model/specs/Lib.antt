@@ -1,0 +1,5 @@
+pub mod Shares
+pub mod Links
+pub mod Reach
+pub mod Verdicts
+pub mod Laws
