@@ -901,7 +901,8 @@ def no_tree(program):
 
 def notes(program):
     """notes.py prints what the reference reads, always and at dates, in random stores, and in one with a tree."""
-    return [lambda one=one: prints_so(program, *one) for one in inputs.random_stores()] + [lambda: of_a_note(program)]
+    stores = [lambda one=one: prints_so(program, *one) for one in inputs.random_stores()]
+    return [*stores, lambda: of_a_note(program), lambda: by_moments(program)]
 
 
 def prints_so(program, what, packs, dates):
@@ -946,6 +947,21 @@ def of_a_note(program):
     why = rf"notes\.py: {ref_of(claims[0])} is no note that a key of the keyring has signed\n"
     run(bench.cache, "notes.py", path, ref_of(claims[0]), status=3, err=why)
     run(bench.cache, "notes.py", path, inputs.ABSENT, status=3, err=rf"notes\.py: {inputs.ABSENT} isn't there\n")
+
+
+def by_moments(program):
+    """Dates count as moments, in whatever zone and with whatever fraction they are written, and then refs count."""
+    what, node, noon = "moments", writing.permanode(), "2020-02-02T12:00:00Z"
+    dates = ["2020-02-02T16:00:00+05:00", "2020-02-02T11:30:00.25Z", noon, noon, "2020-02-02T12:00:00.5Z"]
+    claims = [writing.claim("set", ref_of(node), "tag", f"{number}", date) for number, date in enumerate(dates)]
+    for first, second in (claims[2:4], claims[3:1:-1]):
+        some = [writing.key_blob(), node, *claims[:2], first, second, claims[4]]
+        bench, last = of_blobs(program, *some), max(claims[2:4], key=ref_of)
+        counted = {"2020-02-02T12:15:00+01:00": claims[0], "2020-02-02T11:45:00Z": claims[1], noon: last}
+        for moment, claim in counted.items():
+            (line,) = run(bench.cache, "notes.py", bench.store.path, moment)
+            told = {"note": ref_of(node), "attrs": {"tag": [str(claims.index(claim))]}}
+            compare(f"{what}: at {moment}", "the note", told, json.loads(line))
 
 
 # What isn't whole
