@@ -1,5 +1,5 @@
 #!/usr/bin/env python3
-"""Tells which files, trees and notes of an archive aren't whole: a blob that they need is lacking, or damaged.
+"""Says which files, trees and notes of an archive aren't whole: a blob that they need is lacking, or damaged.
 
     fsck_files.py ~/archive
     fsck_files.py ~/backup --keyring ~/archive/keyring
@@ -12,7 +12,7 @@ checked against its ref. A blob that is damaged in one pack and whole in another
                        the path of the first;
   note REF TITLE: ..   for each note whose camliContent isn't there, for which the keyring is needed.
 
-`perkeep salvage` tells which packs are broken, and docs/guide.md how a copy of a pack mends that. With --all each file
+`perkeep salvage` says which packs are broken, and docs/guide.md how a copy of a pack mends that. With --all each file
 that is whole is printed too, with its ref and its name. The last line counts what there is.
 
 Status: 0 all is whole, 1 something isn't, 2 bad words, 3 it couldn't be done.
@@ -129,7 +129,7 @@ class Check:
             return
         if part.tree is not None:
             if depth == DEEPEST:
-                raise Lacking(part.tree, f"stands within {DEEPEST} others")
+                raise Lacking(part.tree, f"is within {DEEPEST} others")
             part.check_within(part.tree, self.length(part.tree, ("file", "bytes"), depth + 1))
         elif part.blob is not None:
             record = self.archive.records.get(part.blob)

@@ -5,15 +5,15 @@
     get_tree.py ~/archive photos ~/photos.then 2026-01-31T18:30:00Z
 
 DIR is the folder of the archive, or a copy of it: its packs are read, also while a server runs. A backup that has no
-keyring is given one by --keyring. TREE is the name that put_tree.py was given; in its place a ref may stand, of a note,
-or of a folder, file or link (docs/formats/trees.md). At DATE the note has what it had then: what had been removed by
+keyring is given one by --keyring. TREE is the name that put_tree.py was given, or in its place a ref: of a note, or of
+a folder, file or link (docs/formats/trees.md). At DATE the note has what it had then: what had been removed by
 then isn't restored, nor what came later.
 
 PATH is made, or, where it is a folder already, added to. Nothing is written outside it, whatever names and links the
-tree has. A file that is there already is left alone, and told, unless --force is given; a folder with something in it
-keeps its mode and times then. Each blob is checked against its ref. Modes and times of change come back, those of
+tree has. A file that is there already is left alone and reported, unless --force is given; a folder with something in
+it keeps its mode and times then. Each blob is checked against its ref. Modes and times of change come back, those of
 folders and links too; of the bits that make a file run as its owner or its group's the archive gives none back, since
-owners aren't kept. What can't be restored is told on standard error, and nothing of it is left.
+owners aren't kept. Standard error says what can't be restored, and nothing of that is left.
 
 Status: 0 all is restored, 1 something isn't, 2 bad words, 3 it couldn't be done.
 """
@@ -30,7 +30,7 @@ from typing import Optional
 
 from perkeep_archive import (
     ALWAYS, INCOMPLETE, Archive, Entry, Lacking, Notes, Refused, is_ref, keyring_of, moment_word, octets_in,
-    octets_text, parser_of, ref_of, run, shown, tell, tree_note,
+    octets_text, parser_of, ref_of, report, run, shown, tree_note,
 )
 
 READ_FOLDER = os.O_RDONLY | os.O_DIRECTORY | os.O_NOFOLLOW | os.O_CLOEXEC
@@ -112,12 +112,12 @@ class Restoring:
             folder.meet(name)
             return self.restore_entry(folder, entry, name)
         except (Lacking, Left, OSError) as why:
-            self.tell(os.path.join(folder.path, name), why.strerror if isinstance(why, OSError) else str(why))
+            self.report(os.path.join(folder.path, name), why.strerror if isinstance(why, OSError) else str(why))
             return None
 
-    def tell(self, path: bytes, why: str) -> None:
+    def report(self, path: bytes, why: str) -> None:
         self.left += 1
-        tell(f"not restored: {shown(octets_text(path))}: {why}")
+        report(f"not restored: {shown(octets_text(path))}: {why}")
 
     def restore_entry(self, folder: Target, entry: Entry, name: bytes) -> Optional[Target]:
         if entry.kind == "directory":
@@ -148,7 +148,7 @@ class Restoring:
         return Target(file, os.path.join(folder.path, name), entry, is_new or not os.listdir(file))
 
     def check_free(self, folder: Target, name: bytes) -> None:
-        """Nothing may stand under a name, or, by force, no folder."""
+        """Nothing may be there under a name, or, by force, no folder."""
         try:
             status = os.stat(name, dir_fd=folder.file, follow_symlinks=False)
         except FileNotFoundError:
@@ -196,7 +196,7 @@ class Restoring:
                 os.fchmod(target.file, self.mode_of(target.entry))
                 set_times(target.file, target.entry)
         except OSError as why:
-            self.tell(target.path, f"its mode and times: {why.strerror}")
+            self.report(target.path, f"its mode and times: {why.strerror}")
         finally:
             os.close(target.file)
 

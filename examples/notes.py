@@ -7,7 +7,7 @@
 
 DIR is the folder of the archive, or a copy of it: its packs are read, also while a server runs. A backup that has no
 keyring is given one by --keyring. With DATE each note has the values that it had then, and those that had none then are
-left out, as are those that were deleted by then. With REF that note alone is printed. DATE and REF may stand in either
+left out, as are those that were deleted by then. With REF that note alone is printed. DATE and REF may come in either
 order.
 
 With --claims a line for each claim that counts follows a note, in their order: its ref, its date, and what it does to

@@ -170,7 +170,7 @@ def read_keyring(path: pathlib.Path) -> dict[str, Key]:
     for number, line in enumerate([*lines, rest] if rest else lines, 1):
         parts = KEYRING_LINE.fullmatch(line) if number <= len(lines) else None
         if parts is None or parts[1].decode() in keys:
-            why = "no name, space, hexadecimal digits and line feed" if parts is None else "its name stands above it"
+            why = "no name, space, hexadecimal digits and line feed" if parts is None else "its name is in a line above"
             raise Refused(f"the keyring {path}, line {number}: {why}")
         keys[parts[1].decode()] = Key(parts[1].decode(), bytes.fromhex(parts[2].decode()))
     return keys
@@ -235,7 +235,7 @@ def unix_fields(mode: int, moment: int) -> dict:
 
 
 def octets_text(octets: bytes) -> str:
-    """A path as a text, in which bytes that aren't UTF-8 stand as `%XX`."""
+    """A path as a text, with `%XX` for bytes that aren't UTF-8."""
     text = octets.decode(errors="surrogateescape")
     return re.sub(f"[{NOT_UTF8}]", lambda byte: f"%{ord(byte[0]) - 0xDC00:02X}", text)
 
@@ -285,7 +285,7 @@ LARGEST_BLOB = 16_777_216
 
 
 class Record(NamedTuple):
-    """Where a blob stands: behind a header, in a pack."""
+    """Where a blob is: after a header, in a pack."""
 
     ref: str
     pack: str
@@ -332,8 +332,8 @@ class Pack:
 
 
 def scan(path: pathlib.Path) -> Iterator[tuple[Record, Optional[bytes]]]:
-    """The records of a pack as salvage finds them, each with its blob, and the headers that other bytes, or too
-    few, stand behind, each with None."""
+    """The records of a pack as salvage finds them, each with its blob; and the headers that other bytes follow, or too
+    few, each with None."""
     with Pack(path) as pack:
         at = 0
         while at < pack.size:
@@ -451,7 +451,7 @@ class Archive:
     def bytes_of_part(self, one: Part, at: int, count: int, depth: int) -> Iterator[bytes]:
         if one.tree is not None:
             if depth == DEEPEST:
-                raise Lacking(one.tree, f"stands within {DEEPEST} others")
+                raise Lacking(one.tree, f"is within {DEEPEST} others")
             parts = parts_in(self.schema(one.tree, "file", "bytes"), one.tree)
             one.check_within(one.tree, total(parts))
             yield from self.bytes_of(parts, at, count, depth + 1)
@@ -582,7 +582,7 @@ class Claim(NamedTuple):
 class Notes:
     """What the signed blobs of an archive say together, under a keyring.
 
-    `see` is shown the blobs, in any order; `settle` is called once behind them.
+    `see` is shown the blobs, in any order; `settle` is called once after them.
     """
 
     def __init__(self, keys: dict[str, Key]):
@@ -636,7 +636,7 @@ class Notes:
                 yield claim
 
     def attributes(self, moment: int = ALWAYS, of: Optional[set[str]] = None) -> dict[str, dict[str, list[str]]]:
-        """The values of the attributes of each note that stands at a moment, or of some notes."""
+        """The values of the attributes of each note that isn't deleted at a moment, or of some notes."""
         wanted = self.permanodes if of is None else self.permanodes & of
         notes = {ref: {} for ref in sorted(wanted) if not self.is_deleted(ref, moment)}
         for claim in self.counted(moment):
@@ -792,24 +792,24 @@ def moment_word(text: str) -> int:
 
 
 def shown(text: str) -> str:
-    """A text for a terminal or a line of a list: what can't be printed there stands as its code."""
+    """A text for a terminal or a line of a list: what can't be printed there is shown as its code."""
     return "".join(sign if sign.isprintable() else sign.encode("unicode_escape").decode() for sign in text)
 
 
-def tell(text: str) -> None:
-    """Tells a person something, on standard error."""
+def report(text: str) -> None:
+    """Says something on standard error."""
     print(text, file=sys.stderr, flush=True)
 
 
 def run(main: Callable[[], int]) -> None:
-    """Runs a script, and ends with its status, or tells why it couldn't be done."""
+    """Runs a script, and ends with its status, or says why it couldn't be done."""
     for stream in (sys.stdout, sys.stderr):
         stream.reconfigure(encoding="utf-8", errors="backslashreplace")
     try:
         status = main()
         sys.stdout.flush()
     except Refused as why:
-        tell(f"{pathlib.Path(sys.argv[0]).name}: {shown(str(why))}")
+        report(f"{pathlib.Path(sys.argv[0]).name}: {shown(str(why))}")
         status = REFUSED
     except BrokenPipeError:
         # Nothing more can be printed, not even as Python ends.

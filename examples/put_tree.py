@@ -16,8 +16,8 @@ keeps its title, its tags and its history. get_tree.py restores the folder, also
 
 One line is printed for each file that is new or has changed, once the server has acknowledged it: the ref of the
 file, that of its note, and its path; for each that has gone `gone`, its note, and its path where that is known; and in
-the end one for the tree. What is left out is told on standard error: what can't be read, is no file, folder or link, or
-is changed while it is read.
+the end one for the tree. Standard error says what is left out: what can't be read, is no file, folder or link, or is
+changed while it is read.
 
 Not kept: owners, hard links (each name is a file of its own), extended attributes and holes. A file that was moved
 gets another note, and tags stay on the old one. Two machines take two TREEs, since each would take the other's files
@@ -43,13 +43,13 @@ from typing import BinaryIO, Callable, Iterator, NamedTuple, Optional
 from perkeep_archive import (
     CHUNK, INCOMPLETE, LARGEST_SCHEMA, MOST_CHANGES, MOST_CHUNKS, MOST_PART_BYTES, MOST_PARTS, SECOND,
     Change, Key, Refused, Server, is_date, multi_claim, octets_field, octets_text, parser_of, part,
-    read_keyring, ref_of, run, schema_blob, shown, static_sets, tell, total_size, tree_note, unix_fields,
+    read_keyring, ref_of, report, run, schema_blob, shown, static_sets, total_size, tree_note, unix_fields,
 )
 
 # The head and the signature of a claim have fewer bytes.
 ROOM_OF_A_CLAIM = 1_024
 # A change after a file was read may leave it the same ctime, within a tick of the system's clock; some file systems
-# tell whole seconds, or every other one.
+# keep whole seconds, or every other one.
 TICK, COARSE_TICK = SECOND // 50, 2 * SECOND
 SECONDS_BETWEEN_SAVES = 60
 
@@ -75,7 +75,7 @@ class Found:
 
 
 class LeftOut:
-    """What isn't stored, which is told at once, and the paths of which nothing is."""
+    """What isn't stored, which is reported at once, and the paths of which nothing is."""
 
     def __init__(self) -> None:
         self.count = 0
@@ -83,11 +83,11 @@ class LeftOut:
 
     def add(self, path: bytes, why: object) -> None:
         self.paths.add(path)
-        self.tell(path, why.strerror if isinstance(why, OSError) else why)
+        self.report(path, why.strerror if isinstance(why, OSError) else why)
 
-    def tell(self, path: bytes, why: object) -> None:
+    def report(self, path: bytes, why: object) -> None:
         self.count += 1
-        tell(f"left out: {shown(octets_text(path)) or '.'}: {why}")
+        report(f"left out: {shown(octets_text(path)) or '.'}: {why}")
 
 
 def walk(top: bytes, left_out: LeftOut) -> list[Found]:
@@ -98,7 +98,7 @@ def walk(top: bytes, left_out: LeftOut) -> list[Found]:
         folders += [one for one in folder.entries if one.kind == stat.S_IFDIR]
     for one in itertools.chain(folders[:1], *(folder.entries for folder in folders)):
         if not is_date(one.status.st_mtime_ns):
-            left_out.tell(one.path, "its time alone, which is beyond the years 1 to 9999")
+            left_out.report(one.path, "its time alone, which is beyond the years 1 to 9999")
     return folders
 
 
@@ -163,7 +163,7 @@ class Cache:
         except FileNotFoundError:
             pass
         except (OSError, ValueError, TypeError, KeyError, AttributeError):
-            tell(f"the cache {path} can't be read: all files are read anew")
+            report(f"the cache {path} can't be read: all files are read anew")
 
     def load(self, content: dict) -> None:
         """Takes what was saved, unless it is of another tree."""
@@ -262,7 +262,7 @@ class Claims:
         self.done.append(done)
 
     def flush(self) -> None:
-        """Sends a claim, and after it the permanodes: so a note that stands has its title."""
+        """Sends a claim, and after it the permanodes: so a note that is there has its title."""
         if self.changes:
             claim = multi_claim(self.key, time.time_ns(), self.changes)
             self.server.upload({ref_of(claim): claim, **self.permanodes})

@@ -3,9 +3,10 @@
 #
 #     verify_backup.sh ARCHIVE BACKUP [REFS]
 #
-# What ARCHIVE had the last time has to be found in both folders, each blob read and checked against its ref. That is kept
-# in the file REFS, else in ~/.local/state/perkeep/refs; the first time it is what BACKUP has. So make the backup first.
-# A blob that is damaged isn't found. Of a folder that has lost blobs it prints how many, and which packs are broken; the
+# What ARCHIVE had the last time has to be found in both folders, each blob read and checked against its ref. That is
+# kept in the file REFS, else in ~/.local/state/perkeep/refs; the first time it is what BACKUP has. So make the backup
+# first.
+# A blob that is damaged isn't found. Of a folder that has lost blobs it prints how many, and its broken packs; the
 # status is 1 then, and 2 where it couldn't be looked at. Neither folder is changed. PERKEEP names the program.
 set -eu -o pipefail
 export LC_ALL=C
@@ -28,7 +29,7 @@ list() {
   "$perkeep" list "$1" --limit 4194304 || exit 2
 }
 
-# Tells what a folder, whose list is this, has lost.
+# Says what a folder, whose list is this, has lost.
 look() {
   comm -23 "$known" "$2" >"$work/lost"
   if [ -s "$work/lost" ]; then
