@@ -1,0 +1,9 @@
+mod Small
+mod Verdicts
+mod Paths
+mod Facts
+mod Blobs
+mod Rows
+mod Targets
+mod Whole
+mod Reading

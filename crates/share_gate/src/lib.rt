@@ -1,0 +1,14 @@
+//! The gate of shares: what verdicts look up is gathered from a store once, and then no blob is read for a verdict
+//! (`docs/shares.md`).
+#![tactic(auto)]
+
+mod building;
+mod deletions;
+mod gate;
+mod keys;
+mod links;
+mod ref_map;
+mod shares;
+
+pub use gate::{ShareGate, ShareRow};
+pub use share_model::{Rule, Verdict};
