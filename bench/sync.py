@@ -224,11 +224,14 @@ def rounds(bench):
     row(f"mirror, {BLOBS:,} small blobs each", pace, *beside, f"{own.peak / MIB:.1f}")
 
 
-def main(program, http_load, append_sync, plain_put, folder):
+TABLES = {"small": small, "large": large, "rounds": rounds}
+
+
+def main(program, http_load, append_sync, plain_put, folder, *names):
     bench = Bench(program, http_load, append_sync, plain_put, folder)
     print("speeds of `push`, `pull` and `mirror`, those of the other programs being 1")
-    for table in (small, large, rounds):
-        table(bench)
+    for name in names or TABLES:
+        TABLES[name](bench)
 
 
 if __name__ == "__main__":

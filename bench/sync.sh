@@ -6,10 +6,12 @@
 # that option. Then a round of `mirror` over three servers with 10,000 small blobs each, beside the pulls and pushes
 # that copy the same. Needs g++, openssl with its headers, and /usr/bin/time.
 #
-# Prints paces, ratios within this run and peak memory. Ends with status 1 where not all was copied. BENCH_BLOBS is
-# another number of small blobs, to try the script.
+#     bench/sync.sh [small] [large] [rounds]
+#
+# Prints paces, ratios within this run and peak memory, of the tables that are named, or of all. Ends with status 1 where
+# not all was copied. BENCH_BLOBS is another number of small blobs, to try the script.
 . "$(dirname "$0")/preamble.bash"
 cc -O2 -o "$folder/append_sync" bench/append_sync.c
 cc -O2 -pthread -o "$folder/plain_put" bench/plain_put.c -lcrypto
 g++ -O2 -std=c++17 -pthread -o "$folder/http_load" bench/http_load.cc
-python3 bench/sync.py "$program" "$folder/http_load" "$folder/append_sync" "$folder/plain_put" "$folder"
+python3 bench/sync.py "$program" "$folder/http_load" "$folder/append_sync" "$folder/plain_put" "$folder" "$@"
