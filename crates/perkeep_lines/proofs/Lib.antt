@@ -1,5 +1,1 @@
-pub mod Gathering
-pub mod Taking
 pub mod Zeros
-pub mod Signing
-pub mod Loading

@@ -1,13 +1,14 @@
--- What the commands write (docs/commands.md).
-use Rattle.std.specs.Prelude.{ℕ, ◌-◌, List, ◌++◌, length, map, filter, flat_map, take, replicate, codes, decimal, Option}
+-- The lines that commands write of refs, of sizes, and of what packs hold (docs/commands.md).
+use Rattle.std.specs.Prelude.{ℕ, ◌-◌, List, ◌++◌, length, map, filter, flat_map, take, replicate, codes, decimal}
+use Rattle.std.specs.Prelude.{Option}
 use Rattle.std.specs.FinMap.{entries}
 use Rattle.blobref.specs.Blobref.{is_after}
+use Rattle.edge_base.specs.Shelf.{Blobs}
 use Rattle.salvage_scan.specs.Salvage.{salvage, broken}
 use Rattle.salvage_scan.specs.Scan.{place_of, clean_of}
 use Rattle.salvage_scan.specs.declared.found.Found.{Found}
 use Rattle.salvage_scan.specs.declared.found.Clean.{Clean}
 use Rattle.salvage_scan.specs.declared.found.Clean.TheVariants.{Yes, No}
-use Rattle.pack_store.specs.Puts.{Blobs}
 
 -- a ref, and a line feed
 abbrev pub ref_line : List ℕ → List ℕ
@@ -32,7 +33,8 @@ counted what count = what ++ decimal count
 -- how many blobs were inserted in that order, how many permanodes are found, and the ref of an answer
 abbrev pub load_line : List ℕ → ℕ → ℕ → List ℕ → List ℕ
 load_line order blobs permanodes answer =
-    order ++ counted (codes " blobs ") blobs ++ counted (codes " permanodes ") permanodes ++ codes " answer " ++ ref_line answer
+    order ++ counted (codes " blobs ") blobs ++ counted (codes " permanodes ") permanodes ++ codes " answer "
+    ++ ref_line answer
 
 -- ---- what salvage tells of packs
 

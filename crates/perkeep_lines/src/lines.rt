@@ -1,6 +1,7 @@
-//! The lines that commands write (`docs/commands.md`).
+//! Lines of refs, of sizes, and of what packs hold (`docs/commands.md`).
 ghost use Rattle.std.specs.Prelude.{◌≡◌, ◌++◌, decimal, flat_map, IfOk, OnOk};
-ghost use Rattle.perkeep_lines.specs.Outputs.{ref_line, size_line, counted, load_line, five_digits, pack_name, found_line, clean_line, report_of};
+ghost use Rattle.perkeep_lines.specs.Outputs.{ref_line, size_line, counted, load_line, report_of};
+ghost use Rattle.perkeep_lines.specs.Outputs.{five_digits, pack_name, found_line, clean_line};
 
 use blobref::{Listing, NoMemory, Octets, Ref};
 use itoa::Buffer;
@@ -55,8 +56,9 @@ pub fn size_line(alloc: Global, r: &Ref, size: u64) -> Result<Octets, NoMemory>
     Ok(Octets::from_vec(line))
 }
 
-/// How many blobs were inserted in an order, how many permanodes are found, and the ref of an answer.
-pub(crate) fn push_load_line(
+/// Adds a line: an order, how many blobs were inserted in it, how many permanodes are found, and the ref of an answer.
+/// `NoMemory` comes only where no memory is left; a part of the line may have been added then.
+pub fn push_load_line(
     text: &mut Vec<u8>,
     order: &str,
     blobs: u64,

@@ -4,10 +4,7 @@ pub mod Telling
 pub mod Searching
 pub mod Sizes
 pub mod Walked
-pub mod Noting
 pub mod Filing
 pub mod Querying
 pub mod Asked
 pub mod Counting
-pub mod Sealing
-pub mod Multi

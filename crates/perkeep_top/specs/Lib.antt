@@ -2,8 +2,6 @@ pub mod Get
 pub mod GetFile
 pub mod Put
 pub mod PutFile
-pub mod Notes
-pub mod Multi
 pub mod Stat
 pub mod ListRefs
 pub mod Search

@@ -1,7 +1,7 @@
 -- What `load` means (docs/commands.md).
 use Rattle.std.specs.Prelude.{◌≡◌, ℕ, false, [], None}
 use Rattle.claim_verify.specs.Verifier.{Accepts}
-use Rattle.perkeep_lines.specs.Load.{load_text}
+use Rattle.fact_lines.specs.Load.{load_text}
 use Rattle.top_frame.specs.declared.status.InputFault.TheVariants.{TooBig}
 use Rattle.top_frame.specs.Frame.{Meaning, leaves_alone, reads_nothing, no_peer}
 

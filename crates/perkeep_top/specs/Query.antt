@@ -9,8 +9,8 @@ use Rattle.search_query.specs.View.{question}
 use Rattle.search_query.specs.declared.query.Query.{Query}
 use Rattle.pack_disk.specs.Packs.{Packs}
 use Rattle.pack_store.specs.Puts.{blobs_of}
-use Rattle.perkeep_lines.specs.Blobs.{facts_of_content}
-use Rattle.perkeep_lines.specs.Search.{query_line}
+use Rattle.fact_lines.specs.Blobs.{facts_of_content}
+use Rattle.fact_lines.specs.Search.{query_line}
 use Rattle.top_frame.specs.declared.status.InputFault.{InputFault}
 use Rattle.top_frame.specs.declared.status.InputFault.TheVariants.{TooLong, BadQuery}
 use Rattle.top_frame.specs.declared.status.Status.{Status}

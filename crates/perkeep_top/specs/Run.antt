@@ -15,8 +15,8 @@ use Rattle.top_frame.specs.declared.status.InputFault.TheVariants.{BadRef, BadDa
 use Rattle.top_frame.specs.Frame.{Meaning, IsQuiet, Ends}
 use Rattle.perkeep_top.specs.Get.{get_meaning}
 use Rattle.perkeep_top.specs.GetFile.{get_file_meaning}
-use Rattle.perkeep_top.specs.Notes.{Keys, permanode_meaning, claim_meaning, what_of}
-use Rattle.perkeep_top.specs.Multi.{multi_meaning}
+use Rattle.top_notes.specs.Meanings.{Keys, permanode_meaning, claim_meaning, what_of}
+use Rattle.top_notes.specs.Multi.{multi_meaning}
 use Rattle.perkeep_top.specs.ListRefs.{list_meaning}
 use Rattle.perkeep_top.specs.Load.{load_meaning}
 use Rattle.top_frame.specs.Outside.{Outside, World}
@@ -56,11 +56,13 @@ input_fault text.BadNumber = BadNumber
 input_fault text.BadName = BadName
 
 -- how a run ends: at words that are no line, at a text that is wrong, and else by the command's meaning
-abbrev pub Runs : {D P S K C R : Type 0} → Outside D P S K C R → Keys → Option (Result Command TextFault) → World D P S K C R → World D P S K C R → Status → Type 0
+abbrev pub Runs : {D P S K C R : Type 0} → Outside D P S K C R → Keys → Option (Result Command TextFault)
+    → World D P S K C R → World D P S K C R → Status → Type 0
 Runs o keys None old new answer = (answer ≡ BadWords) × (new ≡ old)
 Runs o keys (Some (Err fault)) old new answer = (answer ≡ BadInput (input_fault fault)) × (new ≡ old)
 Runs o keys (Some (Ok asked)) old new answer = Ends o (meaning_of o.disk old.disk keys asked) old new answer
 
 -- a command whose line is said not to write puts nothing
 abbrev pub ReadersPutNothing : {D : Type 0} → DiskGhosts D → Type 0
-ReadersPutNothing {D} g = (disk : D) (keys : Keys) (line : LineSeen) → writes_of line.0 ≡ false → IsQuiet (meaning_of g disk keys (command_at line.0 line.1))
+ReadersPutNothing {D} g = (disk : D) (keys : Keys) (line : LineSeen) → writes_of line.0 ≡ false
+    → IsQuiet (meaning_of g disk keys (command_at line.0 line.1))

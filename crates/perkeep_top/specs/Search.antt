@@ -7,8 +7,8 @@ use Rattle.claim_verify.specs.Verifier.{Accepts}
 use Rattle.schema_date.specs.declared.date.When.{When}
 use Rattle.pack_disk.specs.Packs.{Packs}
 use Rattle.pack_store.specs.Puts.{blobs_of}
-use Rattle.perkeep_lines.specs.Blobs.{facts_of_content}
-use Rattle.perkeep_lines.specs.Search.{pack_answer, search_line}
+use Rattle.fact_lines.specs.Blobs.{facts_of_content}
+use Rattle.fact_lines.specs.Search.{pack_answer, search_line}
 use Rattle.top_frame.specs.declared.status.InputFault.TheVariants.{TooBig}
 use Rattle.top_frame.specs.Asking.{asking}
 use Rattle.top_frame.specs.Frame.{Meaning, leaves_alone, reads_first, no_peer}

@@ -1,5 +1,5 @@
 //! Laws of runs.
-ghost use Rattle.perkeep_top.specs.Notes.{keys_of};
+ghost use Rattle.top_notes.specs.Meanings.{keys_of};
 ghost use Rattle.top_frame.specs.Outside.{outside};
 ghost use Rattle.perkeep_top.specs.Stored.{StoredNotesCount};
 ghost use Rattle.perkeep_top.specs.Valid.{ValidRunsEndWell};
@@ -21,9 +21,9 @@ pub fn stored_notes_count<D: Disk, P: Peer, V: Signer, S: Source, K: Sink, C: Cl
 {}
 
 /// The law that a valid command isn't refused (`docs/commands.md`). Where the disk tells its packs, no text of the
-/// words and no input is wrong, what is asked for stands, there is room for what is put, a peer that is asked tells what it
-/// holds and is never full, and no count of faults rose, `run` ended with `Done` or `NoMemory`. It follows from the
-/// clause of `run`.
+/// words and no input is wrong, what is asked for stands, there is room for what is put, a peer that is asked tells
+/// what it holds and is never full, and no count of faults rose, `run` ended with `Done` or `NoMemory`. It follows from
+/// the clause of `run`.
 pub fn valid_runs_end_well<D: Disk, P: Peer, V: Signer, S: Source, K: Sink, C: Clock, R: Dice>(
     _keys: &V,
 )

@@ -3,16 +3,13 @@ ghost use Rattle.std.specs.Prelude.{◌≡◌};
 ghost use Rattle.perkeep_words.specs.Reading.{command_of};
 ghost use Rattle.top_frame.specs.Frame.{Ends};
 ghost use Rattle.top_frame.specs.Outside.{outside, world, world_before, world_after};
-ghost use Rattle.perkeep_top.specs.Notes.{keys_of};
+ghost use Rattle.top_notes.specs.Meanings.{keys_of};
 ghost use Rattle.perkeep_top.specs.Run.{input_fault, meaning_of, Runs, ReadersPutNothing};
 
-use crate::commands::claim::{change, claim};
 use crate::commands::get::get;
 use crate::commands::get_file::get_file;
 use crate::commands::list::list;
 use crate::commands::load::load;
-use crate::commands::multi::multi;
-use crate::commands::permanode::permanode;
 use crate::commands::put::put;
 use crate::commands::put_file::put_file;
 use crate::commands::query::query;
@@ -26,9 +23,9 @@ use edge_base::{Clock, Dice, Sink, Source};
 use pack_disk::Disk;
 use peer_base::Peer;
 use perkeep_words::{Command, Line, TextFault};
-use schema_fact::What;
 use std::alloc::Global;
 use top_frame::{Environment, InputFault, Status};
+use top_notes::{claim, delete, multi, permanode};
 use top_sync::{pull, push};
 
 /// Does what the words ask for, as `docs/commands.md` says, over the store that the disk holds, and hands the disk
@@ -126,7 +123,7 @@ fn run_command<D: Disk, P: Peer, S: Source, K: Sink, C: Clock, R: Dice, V: Signe
             attr,
             value,
             key,
-        } => change(
+        } => claim(
             alloc,
             *kind,
             r,
@@ -137,10 +134,7 @@ fn run_command<D: Disk, P: Peer, S: Source, K: Sink, C: Clock, R: Dice, V: Signe
             environment,
         ),
         Command::Multi { dir: _, key } => multi(alloc, key, disk, environment),
-        Command::Delete { dir: _, r, key } => {
-            let what = What::Delete { target: *r };
-            claim(alloc, &what, key, disk, environment)
-        }
+        Command::Delete { dir: _, r, key } => delete(alloc, r, key, disk, environment),
         Command::PutFile { dir: _, name } => put_file(alloc, name.as_str(), disk, environment),
         Command::GetFile { dir: _, r } => get_file(alloc, r, disk, environment),
         Command::Push { dir: _, addr: _ } => push(alloc, disk, environment),

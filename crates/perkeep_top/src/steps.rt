@@ -2,14 +2,14 @@
 ghost use Rattle.std.specs.Prelude.{◌≤◌, ◌<◌, ◌^◌, IfOk, IfErr};
 ghost use Rattle.pack_disk.specs.Runs.{Stays};
 ghost use Rattle.claim_model.specs.Facts.{AreValid};
-ghost use Rattle.perkeep_lines.specs.Incoming.{GaveFacts};
+ghost use Rattle.fact_lines.specs.Incoming.{GaveFacts};
 ghost use Rattle.perkeep_top.specs.Search.{AreFacts};
 ghost use Rattle.top_frame.specs.Steps.{RefusesInput, Finds, NeverRefuses};
 
 use claim_index::FactList;
 use edge_base::{ReadAllError, Source};
+use fact_lines::{source_facts, store_facts};
 use pack_disk::Disk;
-use perkeep_lines::{source_facts, store_facts};
 use std::alloc::Global;
 use top_frame::{InputFault, LIMITS, Status};
 

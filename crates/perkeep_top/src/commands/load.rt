@@ -6,9 +6,9 @@ ghost use Rattle.perkeep_top.specs.Load.{load_meaning};
 
 use claim_verify::Verifier;
 use edge_base::{Clock, Dice, Sink, Source};
+use fact_lines::load_text;
 use pack_disk::Disk;
 use peer_base::Peer;
-use perkeep_lines::load_text;
 use std::alloc::Global;
 use top_frame::{Environment, Status, written};
 

@@ -7,9 +7,9 @@ ghost use Rattle.perkeep_top.specs.Query.{query_meaning, ReadsQuery, RefusesQuer
 use crate::steps::opened_facts;
 use claim_verify::Verifier;
 use edge_base::{Clock, Dice, Sink, Source};
+use fact_lines::query_line;
 use pack_disk::Disk;
 use peer_base::Peer;
-use perkeep_lines::query_line;
 use search_query::Query;
 use std::alloc::Global;
 use top_frame::{Environment, Status, read_input, told_too_long, written};

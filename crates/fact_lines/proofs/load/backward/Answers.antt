@@ -1,0 +1,28 @@
+use Rattle.std.proofs.Common.{◌∙◌, ◌-◌, arith}
+use Rattle.fact_lines.proofs.Loading.{lacks_backward, goes_backward, numbers_left, none_backward, no_numbers}
+use Rattle.fact_lines.proofs.load.backward.Goals as goal
+
+pub insert-requires-clause-alone : goal.insert-requires-clause-alone
+insert-requires-clause-alone g c =
+    lacks_backward c.args.facts.now c.requires.distinct (c.loop-i.i - 1) c.loop-i.i c.loop-i.index.facts
+    (omega (arith, c.loop-i-test.true)) c.loop-i.invariant.facts
+
+pub loop-i-preserved : goal.loop-i-preserved
+loop-i-preserved g c = record {
+  facts = goes_backward c.args.facts.now c.requires.distinct (c.loop-i.i - 1) c.loop-i.i c.loop-i.index.facts
+      c.insert.new.index.facts
+      (omega (arith, c.loop-i-test.true, c.loop-i.auto.i, c.len-i.ensures)) (omega (arith, c.loop-i-test.true))
+      c.loop-i.invariant.facts c.in_ok-insert.ensures.facts;
+  numbers = numbers_left c.loop-i.index.numbers c.insert.new.index.numbers (c.loop-i.i - 1) c.loop-i.i
+      (omega (arith, c.loop-i-test.true)) c.in_ok-insert.ensures.numbers
+      c.loop-i.invariant.numbers;
+  keys = c.insert.ensures.keys ∙ c.loop-i.invariant.keys;
+}
+
+pub loop-i-init : goal.loop-i-init
+loop-i-init g c = record {
+  facts = none_backward c.args.facts.now c.len-i.result c.fresh-index.result.facts c.len-i.ensures
+      c.fresh-index.ensures.facts;
+  numbers = λ n less. no_numbers c.fresh-index.result.numbers c.fresh-index.ensures.numbers n;
+  keys = c.fresh-index.ensures.keys;
+}

@@ -1,0 +1,4 @@
+pub mod Blobs
+pub mod Incoming
+pub mod Search
+pub mod Load

@@ -1,0 +1,32 @@
+-- What two indexes tell of the blobs of a generated store (docs/commands.md).
+use Rattle.std.specs.Prelude.{ℕ, List, [], ◌++◌, codes, length, map}
+use Rattle.std.specs.FinMap.{from_entries}
+use Rattle.blobref.specs.Blobref.{ref_of}
+use Rattle.claim_verify.specs.Verifier.{Accepts}
+use Rattle.claim_model.specs.Facts.{Facts}
+use Rattle.claim_model.specs.Deleted.{live_permanodes}
+use Rattle.schema_date.specs.declared.date.When.TheVariants.{Always}
+use Rattle.schema_write.specs.Generated.{load_blobs}
+use Rattle.search_query.specs.Queries.{value_query}
+use Rattle.search_eval.specs.Answer.{answer_bytes}
+use Rattle.fact_lines.specs.Blobs.{named, with_blobs}
+use Rattle.perkeep_lines.specs.Outputs.{load_line}
+
+-- the facts of the blobs, each ref at its first blob
+abbrev pub load_facts : ℕ → ℕ → Facts
+load_facts count start = from_entries (with_blobs [] (map named (load_blobs count start)))
+
+-- the ref of the answer to a search for the tag `t0`
+abbrev pub tagged : Facts → Accepts → List ℕ
+tagged facts accepts = ref_of (answer_bytes facts accepts (value_query (codes "tag") (codes "t0") Always))
+
+-- what an index of these facts tells, which were inserted in that order
+abbrev pub order_line : List ℕ → ℕ → Facts → Accepts → List ℕ
+order_line order count facts accepts =
+    load_line order count (length (live_permanodes facts accepts Always)) (tagged facts accepts)
+
+-- the same of both orders
+unfoldable pub load_text : ℕ → ℕ → Accepts → List ℕ
+load_text count start accepts =
+    order_line (codes "forward") count (load_facts count start) accepts
+    ++ order_line (codes "backward") count (load_facts count start) accepts

@@ -1,0 +1,5 @@
+pub mod Signing
+pub mod Putting
+pub mod Noting
+pub mod Sealing
+pub mod Changing

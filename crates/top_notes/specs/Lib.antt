@@ -1,0 +1,4 @@
+pub mod Notes
+pub mod Storing
+pub mod Meanings
+pub mod Multi
