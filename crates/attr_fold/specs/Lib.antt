@@ -1,4 +1,3 @@
-pub mod Moments
 pub mod AttributeTurns
 pub mod Turns
 pub mod Refolded

@@ -1,5 +1,6 @@
 -- A judgment is right where what the ref depends on was judged.
-use Rattle.std.proofs.Common.{◌≡◌, ℕ, ◌+◌, Bool, true, false, ◌&&◌, ◌||◌, not, cond, List, [], ◌∷◌, Option, Some, None, nat_le, is_some, refl, sym, ap, ◌∙◌, ◌⊎◌, inl, inr}
+use Rattle.std.proofs.Common.{◌≡◌, ℕ, ◌+◌, Bool, true, false, ◌&&◌, ◌||◌, not, cond, List, [], ◌∷◌, Option, Some, None}
+use Rattle.std.proofs.Common.{nat_le, is_some, refl, sym, ap, ◌∙◌, ◌⊎◌, inl, inr}
 use Rattle.std.proofs.lemmas.Bool.{cases_Bool, false≢true, and_parts}
 use Rattle.std.proofs.lemmas.Option.{same_Some}
 use Rattle.std.proofs.lemmas.Slice.Eq.{bytes_eq-Decides}
@@ -9,7 +10,8 @@ use Rattle.std.specs.FinMap.{get, contains_key}
 use Rattle.claim_verify.specs.Verifier.{Accepts}
 use Rattle.schema_fact.specs.declared.kinds.Fact.{Fact}
 use Rattle.schema_fact.specs.declared.kinds.Kind.{Kind}
-use Rattle.schema_fact.specs.declared.kinds.Kind.TheVariants.{Plain, Key, File, Bytes, Directory, StaticSet, Permanode, Claim, Unread}
+use Rattle.schema_fact.specs.declared.kinds.Kind.TheVariants.{Plain, Key, File, Bytes, Directory, StaticSet, Permanode}
+use Rattle.schema_fact.specs.declared.kinds.Kind.TheVariants.{Claim, Unread}
 use Rattle.schema_fact.specs.declared.parts.Part.{Part}
 use Rattle.schema_fact.specs.declared.parts.Origin.{Origin}
 use Rattle.schema_fact.specs.declared.parts.Origin.TheVariants.{Zeros, Blob, Tree}
@@ -26,7 +28,8 @@ use Rattle.index_rows.specs.declared.rows.StateRow.{StateRow}
 use Rattle.index_rows.specs.Changes.{Changes}
 use Rattle.index_rows.specs.States.{States}
 use Rattle.index_meaning.specs.Meaning.{is_change_on, genuine_change, IsJudged, IsChangesOf}
-use Rattle.claim_index.specs.Judging.{says_sound, with_marks, marked, is_signed_at, fits_at, IsMarked, IsChanged, CanJudge}
+use Rattle.row_answers.specs.Told.{says_sound}
+use Rattle.claim_index.specs.Judging.{with_marks, marked, is_signed_at, fits_at, IsMarked, IsChanged, CanJudge}
 
 -- tests that agree on what a fact depends on
 module _ (facts : Facts) (p q : List ℕ → Bool) where

@@ -12,7 +12,6 @@ pub mod Finishable
 pub mod OneEntered
 pub mod Refolds
 mod OneFollowed
-pub mod Texts
 pub mod Telling
 mod Whole
 mod OneMore

@@ -1,26 +1,25 @@
 -- What the tables of an index at rest tell is what the definitions say.
-use Rattle.std.proofs.Common.{◌≡◌, ℕ, Bool, true, false, ◌&&◌, not, cond, List, [], ◌∷◌, length, filter, map, Option, None, Some, refl, sym, ap, ◌∙◌, ◌⊎◌, inl, inr, arith}
+use Rattle.std.proofs.Common.{◌≡◌, ℕ, Bool, true, false, ◌&&◌, not, cond, List, [], ◌∷◌, length, filter, map, Option}
+use Rattle.std.proofs.Common.{None, refl, sym, ap, ◌∙◌, ◌⊎◌, inl, inr, arith}
 use Rattle.std.proofs.lemmas.Bool.{cases_Bool}
-use Rattle.std.specs.List.{find, list_any, flat_map, AllByRecursion}
+use Rattle.std.specs.List.{find, list_any, flat_map}
 use Rattle.std.specs.Str.{bytes_eq}
 use Rattle.std.specs.FinMap.{get, keys, entries, empty, from_entries, values as map_values, len-entries, len-empty}
 use Rattle.blobref.specs.Blobref.{is_after}
 use Rattle.claim_verify.specs.Verifier.{Accepts}
 use Rattle.schema_date.specs.declared.date.When.{When}
 use Rattle.schema_date.specs.declared.date.When.TheVariants.{Always, At}
-use Rattle.schema_fact.specs.declared.kinds.Fact.{Fact}
-use Rattle.claim_model.specs.Facts.{Facts, Entry, passes, is_permanode}
+use Rattle.claim_model.specs.Facts.{Facts, passes, is_permanode}
 use Rattle.claim_model.specs.Ready.{ready_fact}
 use Rattle.claim_model.specs.Genuine.{is_genuine_permanode}
 use Rattle.claim_model.specs.Deleted.{is_deleted}
 use Rattle.schema_fact.specs.declared.changes.Change.{Change}
 use Rattle.claim_model.specs.Changes.{values_after}
-use Rattle.claim_model.specs.Claims.{Moment, moment_cmp, stands_at, changes_on, values, last_change, has_value, holders as holders_of, member_attribute, parents}
+use Rattle.claim_model.specs.Claims.{Moment, moment_cmp, stands_at, changes_on, values, last_change, has_value}
+use Rattle.claim_model.specs.Claims.{holders as holders_of, member_attribute, parents}
 use Rattle.claim_model.specs.Trees.{is_file, tree_size, file_size}
 use Rattle.index_look.specs.Look.{permanode_after}
-use Rattle.index_look.specs.Walk.{entries_after}
 use Rattle.index_look.specs.Claims.{is_holder}
-use Rattle.index_look.proofs.Entries.{entries_had}
 use Rattle.index_look.proofs.Lasts.{no_change}
 use Rattle.index_rows.specs.Changes.{Changes}
 use Rattle.index_rows.specs.Deletes.{Deletes, row_deleted}
@@ -28,7 +27,6 @@ use Rattle.index_rows.specs.States.{States, says_genuine}
 use Rattle.index_rows.specs.Waiting.{Waiters}
 use Rattle.index_rows.specs.Values.{IsListed, row_values, row_last_change}
 use Rattle.index_rows.specs.Holders.{Holders, says_permanode, rows_holding}
-use Rattle.index_rows.proofs.DeletionEnds.{all_filter}
 use Rattle.index_meaning.specs.Meaning.{IsAtRest}
 use Rattle.index_meaning.specs.Laws.{TellStates}
 use Rattle.index_meaning.proofs.Deletions.{rows_tell_deletion}
@@ -37,17 +35,7 @@ use Rattle.index_meaning.proofs.Listing.{rows_are_listed}
 use Rattle.index_meaning.proofs.Resting.{rows_tell_states}
 use Rattle.index_meaning.proofs.Values.{rows_tell_values, rows_tell_last_change}
 use Rattle.plain_answers.proofs.Moments.{holders_are}
-use Rattle.claim_index.specs.Told.{told_fact, told_after, told_values, told_change, told_size, told_holds, told_parents}
-
--- the next entry of a walk is one of the map
-pub walk_had : (facts : Facts) (o : Option (List ℕ)) (r : List ℕ) (fact : Fact) (rest : List Entry)
-    → entries_after facts o ≡ (r, fact) ∷ rest → get facts r ≡ Some fact
-walk_had facts o r fact rest h =
-    let all = all_filter (λ (e : Entry). get facts e.0
-    ≡ Some e.1) (λ (e : Entry). is_after o e.0) (entries facts) (entries_had facts) in
-    let here : AllByRecursion (λ (e : Entry). (get facts e.0 ≡ Some e.1) × (is_after o e.0
-    ≡ true)) ((r, fact) ∷ rest) = rw h at all in
-    here.0.0
+use Rattle.row_answers.specs.Told.{told_fact, told_after, told_values, told_change, told_size, told_holds, told_parents}
 
 and_swap : (a b : Bool) → (a && b) ≡ (b && a)
 and_swap true true = refl

@@ -1,5 +1,6 @@
 -- What is found out of a ref that became ready.
-use Rattle.std.specs.Prelude.{◌≡◌, ℕ, ◌&&◌, ◌||◌, Bool, true, false, not, List, ◌∷◌, Option, Some, None, ℤ, if◌then◌else◌, option_map, slice_get}
+use Rattle.std.specs.Prelude.{◌≡◌, ℕ, ◌&&◌, ◌||◌, Bool, true, false, not, List, ◌∷◌, Option, Some, None, ℤ}
+use Rattle.std.specs.Prelude.{if◌then◌else◌, option_map, slice_get}
 use Rattle.std.specs.List.{list_any}
 use Rattle.std.specs.Str.{bytes_eq}
 use Rattle.std.specs.Ordering.{is_eq, int_cmp}
@@ -9,7 +10,8 @@ use Rattle.schema_fact.specs.declared.kinds.Fact.{Fact}
 use Rattle.schema_fact.specs.declared.kinds.What.{What}
 use Rattle.schema_fact.specs.declared.kinds.What.TheVariants.{Set, Add, Del, Delete, Multi}
 use Rattle.schema_fact.specs.declared.kinds.Kind.{Kind}
-use Rattle.schema_fact.specs.declared.kinds.Kind.TheVariants.{Plain, Key, File, Bytes, Directory, StaticSet, Permanode, Claim, Unread}
+use Rattle.schema_fact.specs.declared.kinds.Kind.TheVariants.{Plain, Key, File, Bytes, Directory, StaticSet, Permanode}
+use Rattle.schema_fact.specs.declared.kinds.Kind.TheVariants.{Claim, Unread}
 use Rattle.claim_model.specs.Facts.{Facts, passes}
 use Rattle.claim_model.specs.Ready.{is_ready}
 use Rattle.claim_model.specs.Least.{IsWithin, has_all}
@@ -21,12 +23,9 @@ use Rattle.index_rows.specs.declared.rows.StateRow.{StateRow}
 use Rattle.index_rows.specs.Changes.{Changes}
 use Rattle.index_rows.specs.States.{States}
 use Rattle.index_meaning.specs.Meaning.{is_change_on}
+use Rattle.row_answers.specs.Told.{says_sound}
 use Rattle.claim_index.specs.declared.judging.Judged.{Judged}
 use Rattle.claim_index.specs.declared.judging.Judged.TheVariants as judged
-
--- whether the row of y says that it is a sound tree
-abbrev pub says_sound : States → List ℕ → Bool
-says_sound state y = passes (λ row. row.sound) (get state y)
 
 -- what a genuine claim is to an index
 abbrev pub what_judged : What → Judged
@@ -58,7 +57,13 @@ judged_in facts accepts x = fact_judged facts accepts (get facts x)
 
 -- a row with what was found
 abbrev pub with_marks : Bool → Bool → StateRow → StateRow
-with_marks genuine sound row = record { ready = row.ready; genuine = genuine; sound = sound; missing = row.missing; deleters = row.deleters }
+with_marks genuine sound row = record {
+  ready = row.ready;
+  genuine = genuine;
+  sound = sound;
+  missing = row.missing;
+  deleters = row.deleters;
+}
 
 -- a row after what was found was written into it, if it is that of the ref. Where neither was found it stays
 abbrev pub marked : Bool → Bool → Bool → Option StateRow → Option StateRow

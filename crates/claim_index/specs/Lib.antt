@@ -2,6 +2,5 @@ pub mod Numbers
 pub mod Judging
 pub mod Halfway
 pub mod Indexed
-pub mod Told
 pub mod Costs
 pub mod Following

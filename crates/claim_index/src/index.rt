@@ -6,7 +6,6 @@ ghost use Rattle.claim_model.specs.Facts.{AreValid};
 ghost use Rattle.index_rows.specs.Touched.{touched};
 ghost use Rattle.claim_index.specs.Indexed.{Inserts, IsPut, IsSame, with_all};
 
-use crate::answers;
 use crate::moving::{put_in_order, renew, settle};
 use crate::numbers::Numbers;
 use crate::rebuilding::{rebuild, take_up};
@@ -284,7 +283,7 @@ impl<V: Verifier> Look for Index<V> {
         if self.stale {
             plain_answers::fact_of(&self.rows.facts, &self.keys, r, steps)
         } else {
-            answers::fact_of(&self.rows, r, steps)
+            row_answers::fact_of(&self.rows, r, steps)
         }
     }
 
@@ -293,7 +292,7 @@ impl<V: Verifier> Look for Index<V> {
         if self.stale {
             plain_answers::is_permanode(&self.rows.facts, &self.keys, r, steps)
         } else {
-            answers::is_genuine_permanode(&self.rows, r, steps)
+            row_answers::is_genuine_permanode(&self.rows, r, steps)
         }
     }
 
@@ -302,7 +301,7 @@ impl<V: Verifier> Look for Index<V> {
         if self.stale {
             plain_answers::permanode_after(&self.rows.facts, &self.keys, after, steps)
         } else {
-            answers::permanode_after(&self.rows, after, steps)
+            row_answers::permanode_after(&self.rows, after, steps)
         }
     }
 
@@ -312,7 +311,7 @@ impl<V: Verifier> Look for Index<V> {
         if self.stale {
             plain_answers::deleted(&self.rows.facts, &self.keys, r, when, steps)
         } else {
-            answers::deleted(&self.rows, r, when, steps)
+            row_answers::deleted(&self.rows, r, when, steps)
         }
     }
 
@@ -328,7 +327,7 @@ impl<V: Verifier> Look for Index<V> {
             let facts = &self.rows.facts;
             plain_answers::values(self.alloc, facts, &self.keys, p, attr, when, steps)
         } else {
-            answers::values(self.alloc, &self.rows, p, attr, when, steps)
+            row_answers::values(self.alloc, &self.rows, p, attr, when, steps)
         }
     }
 
@@ -337,7 +336,7 @@ impl<V: Verifier> Look for Index<V> {
         if self.stale {
             plain_answers::last_change(&self.rows.facts, &self.keys, p, when, steps)
         } else {
-            answers::last_change(&self.rows, p, when, steps)
+            row_answers::last_change(&self.rows, p, when, steps)
         }
     }
 
@@ -346,7 +345,7 @@ impl<V: Verifier> Look for Index<V> {
         if self.stale {
             plain_answers::file_size(&self.rows.facts, &self.keys, r, steps)
         } else {
-            answers::file_size(&self.rows, r, steps)
+            row_answers::file_size(&self.rows, r, steps)
         }
     }
 
@@ -375,7 +374,7 @@ impl<V: Verifier> Look for Index<V> {
         if self.stale {
             plain_answers::parents(self.alloc, &self.rows.facts, &self.keys, child, when, steps)
         } else {
-            answers::parents(self.alloc, &self.rows, child, when, steps)
+            row_answers::parents(self.alloc, &self.rows, child, when, steps)
         }
     }
 }

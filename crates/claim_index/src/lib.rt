@@ -1,7 +1,6 @@
 //! An index of facts that come one by one, in any order.
 #![tactic(auto)]
 
-mod answers;
 mod finishing;
 mod following;
 mod genuine;
@@ -10,7 +9,6 @@ mod judging;
 mod moving;
 mod numbers;
 mod rebuilding;
-mod said;
 mod soundness;
 mod taking;
 mod touching;

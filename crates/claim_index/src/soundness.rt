@@ -5,13 +5,13 @@ ghost use Rattle.schema_fact.specs.Dependencies.{dependencies, part_refs};
 ghost use Rattle.schema_fact.specs.Limits.{IsShortPart};
 ghost use Rattle.schema_fact.specs.Validity.{IsValid};
 ghost use Rattle.claim_model.specs.Trees.{part_fits, parts_fit, tree_size};
-ghost use Rattle.claim_index.specs.Judging.{says_sound};
+ghost use Rattle.row_answers.specs.Told.{says_sound};
 
-use crate::said::says_sound;
 use blobref::Ref;
 use edge_base::Steps;
 use index_look::tree::{blob_holds, own_size, part_end, tree_holds, tree_parts};
 use index_rows::{OrderedFacts, RefRows, StateRow};
+use row_answers::says_sound;
 use schema_fact::{Fact, Origin, Part};
 use std::sync::ledger::Ledger;
 

@@ -3,10 +3,10 @@ ghost use Rattle.std.specs.Prelude.{◌≡◌, ◌≤◌, ◌+◌, ◌++◌, OnO
 ghost use Rattle.schema_fact.specs.Changes.{change_seen};
 ghost use Rattle.index_meaning.specs.Touching.{concerned_by, changes_concern};
 
-use crate::said::says_genuine;
 use blobref::{NoMemory, Ref, RefList};
 use edge_base::Steps;
 use index_rows::{RefRows, Rows, StateRow};
+use row_answers::says_genuine;
 use schema_fact::{ChangeView, Kind, What};
 use std::sync::ledger::Ledger;
 

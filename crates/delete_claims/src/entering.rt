@@ -1,7 +1,5 @@
 //! Delete claims that are entered, one after another.
 ghost use Rattle.std.specs.Prelude.{◌≡◌, ◌≤◌, ◌+◌, ◌*◌, IfOk, length};
-ghost use Rattle.schema_date.specs.declared.date.When.TheVariants.{Always};
-ghost use Rattle.index_rows.specs.Deletes.{row_deleted};
 ghost use Rattle.index_rows.specs.Counted.{has_deleters, IsCounted};
 ghost use Rattle.delete_claims.specs.Flipping.{IsFront};
 ghost use Rattle.delete_claims.specs.Entered.{delete_in, entered_targets, IsNewDelete, IsEntered};
@@ -9,7 +7,6 @@ ghost use Rattle.delete_claims.specs.Entered.{delete_in, entered_targets, IsNewD
 use crate::flipping::flip_from;
 use blobref::{NoMemory, Ref, RefList};
 use edge_base::Steps;
-use index_look::claim::can_be_deleted_at;
 use index_rows::{OrderedFacts, RefRows, Rows, StateRow};
 use schema_date::Date;
 use schema_fact::{Kind, What};
@@ -64,16 +61,6 @@ pub fn enter<L: Ledger>(
         &target,
         steps,
     )
-}
-
-/// Whether a blob is deleted at `When::Always` by the delete claims whose rows stand, where the counts of delete claims
-/// are right for these rows. At most two look-ups.
-pub fn is_gone<L: Ledger>(rows: &Rows, y: &Ref, steps: &mut Steps<L>) -> bool
-    requires { IsCounted rows.now.facts.ordered rows.now.deletes rows.now.state }
-    ensures gone { result ≡ row_deleted rows.now.facts.ordered rows.now.deletes Always y.now }
-    ensures ticks { steps.new ≤ steps.old + 2 }
-{
-    can_be_deleted_at(&rows.facts.ordered, y, steps) && has_deleters(&rows.state, y, steps)
 }
 
 fn has_deleters<L: Ledger>(state: &RefRows<StateRow>, y: &Ref, steps: &mut Steps<L>) -> bool

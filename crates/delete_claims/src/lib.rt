@@ -4,4 +4,4 @@
 mod entering;
 mod flipping;
 
-pub use entering::{enter, is_gone};
+pub use entering::enter;

@@ -2,7 +2,7 @@ use Rattle.std.proofs.Common.{◌≡◌, ◌≤◌, ◌+◌, ◌*◌, drop, leng
 use Rattle.std.specs.List.{list_all}
 use Rattle.schema_fact.specs.Dependencies.{part_refs}
 use Rattle.claim_model.specs.Trees.{part_fits}
-use Rattle.claim_index.specs.Judging.{says_sound}
+use Rattle.row_answers.specs.Told.{says_sound}
 use Rattle.claim_index.proofs.soundness.all_fit.Given as goal
 
 -- the answer is that for what is left

@@ -10,7 +10,10 @@ returns-else-self g c =
     let a = c.self.inside in
     let settled = c.self.invariant.1 c.if-self.false in
     let rest = settled.rest in
-    let facts = sym (all_ordered a.rows.facts settled.none) ∙ ap (λ (v : Indexed g.row.V.Denot). v.facts) c.self.view_is in
-    c.deleted-else-self.ensures
+    let facts = sym (all_ordered a.rows.facts settled.none) ∙ ap (λ (v : Indexed g.row.V.Denot). v.facts)
+    c.self.view_is in
+    c.deleted-else-self.ensures.deleted
     ∙ deletion_told a.rows.facts.ordered
-    (g.V.Verifier.accepts a.keys) a.rows.state a.rows.waiters a.rows.deletes a.rows.changes a.rows.holders rest c.args.when.now c.args.r.now ∙ (λ i. is_deleted (facts i) (g.V.Verifier.accepts (c.self.view_is i).keys) c.args.when.now c.args.r.now)
+    (g.V.Verifier.accepts a.keys) a.rows.state a.rows.waiters a.rows.deletes a.rows.changes a.rows.holders rest
+    c.args.when.now c.args.r.now ∙ (λ i. is_deleted (facts i) (g.V.Verifier.accepts (c.self.view_is i).keys)
+    c.args.when.now c.args.r.now)

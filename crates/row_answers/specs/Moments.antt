@@ -1,0 +1,43 @@
+-- The moments of the changes of a permanode, one after another.
+use Rattle.std.specs.Prelude.{ℕ, ◌+◌, ◌*◌, List, map, filter, Option, Some, None, ℤ, if◌then◌else◌}
+use Rattle.schema_date.specs.declared.date.When.{When}
+use Rattle.schema_fact.specs.declared.kinds.Kind.{Kind}
+use Rattle.schema_fact.specs.declared.kinds.Kind.TheVariants.{Plain, Key, File, Bytes, Directory, StaticSet, Permanode}
+use Rattle.schema_fact.specs.declared.kinds.Kind.TheVariants.{Claim, Unread}
+use Rattle.claim_model.specs.Facts.{Facts}
+use Rattle.claim_model.specs.Claims.{Moment}
+use Rattle.claim_model.specs.Deleted.{counts_at}
+use Rattle.index_look.specs.Claims.{values_with}
+use Rattle.index_rows.specs.Changes.{Changes, changes_after}
+use Rattle.index_rows.specs.Deletes.{Deletes, row_deleted, tree_rows}
+use Rattle.index_rows.specs.Values.{change_at}
+
+-- the moments of p behind one, or all, that are dated at or before that time
+abbrev pub moments_after : Changes → When → List ℕ → Option Moment → List Moment
+moments_after changes when p after = filter (λ k. counts_at when k.0) (map (λ e. e.0.1) (changes_after changes p after))
+
+-- what the change of a moment leaves of the values, unless its claim is deleted at that time
+abbrev pub moment_values : Facts → Deletes → When → List ℕ → List (List ℕ) → Moment → List (List ℕ)
+moment_values facts deletes when name found k =
+    if row_deleted facts deletes when k.1 then found else values_with name found (change_at facts k)
+
+-- the later moment, unless its claim is deleted at that time
+abbrev pub last_with : Facts → Deletes → When → Option Moment → Moment → Option Moment
+last_with facts deletes when found k = if row_deleted facts deletes when k.1 then found else Some k
+
+-- at most as many steps as a moment takes: one to come to it, one to look its change up, and those of seeing whether
+-- its claim is deleted
+abbrev pub moment_steps : Facts → Deletes → Moment → ℕ
+moment_steps facts deletes k = 6 + 6 * tree_rows facts deletes k.1
+
+-- the date of a claim
+abbrev pub claim_date : Kind → Option ℤ
+claim_date Plain = None
+claim_date (Key name) = None
+claim_date (File name parts) = None
+claim_date (Bytes parts) = None
+claim_date (Directory name entries) = None
+claim_date (StaticSet members) = None
+claim_date (Permanode signed) = None
+claim_date (Claim signed date what) = Some date
+claim_date (Unread name) = None
