@@ -1,11 +1,10 @@
 -- What a call of the home answered is the answer over what the pass has then seen.
-use Rattle.std.proofs.Common.{◌≡◌, ℕ, ◌+◌, ◌≤◌, ⊎_elim, List, [], ◌∷◌, ◌++◌, length, take, Bool, true, false, ◌||◌, eqb}
+use Rattle.std.proofs.Common.{◌≡◌, ℕ, ◌+◌, ◌≤◌, ⊎_elim, List, [], ◌∷◌, ◌++◌, length, take, Bool, true}
 use Rattle.std.proofs.Common.{All, Contains, refl, ap, sym, subst, ◌∙◌, arith, append_assoc, Option, Some, None}
 use Rattle.std.proofs.Common.{Result, Ok, Err, IsErr, inl, inr}
 use Rattle.std.specs.List.{filter_map}
 use Rattle.std.proofs.lemmas.List.{append-nil, take_all, take-take, length-take-le}
 use Rattle.std.proofs.lemmas.List.Elements.{Contains-append_right, All-nil, All-weaker}
-use Rattle.std.proofs.lemmas.Bool.{eq-eqb}
 use mathlib.Core.List.{IsPrefix}
 use Rattle.blobref.specs.declared.memory.NoMemory.{NoMemory}
 use Rattle.edge_base.specs.declared.answers.GetFault.{GetFault}
@@ -37,9 +36,9 @@ use Rattle.blob_routes.specs.declared.pages.Page.{Page}
 use Rattle.blob_http.specs.declared.entries.Outcome.{Outcome}
 use Rattle.blob_http.specs.declared.entries.Outcome.TheVariants.{Defined, Memory, Disk, Full, Damaged}
 use Rattle.blob_http.specs.declared.operations.Operation.{Operation}
-use Rattle.blob_http.specs.declared.operations.Operation.TheVariants as question
+use Rattle.blob_http.specs.declared.operations.Operation.TheVariants as operation
 use Rattle.blob_http.specs.declared.replies.ReplyText.{ReplyText}
-use Rattle.blob_http.specs.declared.replies.ReplyText.TheVariants as made
+use Rattle.blob_http.specs.declared.replies.ReplyText.TheVariants as reply_text
 use Rattle.http_exchange.specs.Replies.{json_reply, bytes_reply, refused_reply}
 use Rattle.http_exchange.specs.Written.{reply_bytes}
 use Rattle.blob_http.specs.Answers.{IsAnswer, IsBlobReply, IsDefined, reads_blobs, allow_text, outcome_of, IsTold}
@@ -142,7 +141,8 @@ pub looked_by : (found : Result (List (List ℕ × ℕ)) NoMemory) (refused : Ty
 looked_by found refused says v w so (inl turned) none = inl (turned_so says (λ before e. e ≡ None) v w none turned)
 looked_by found refused says v w so (inr spent) none = inr (so spent.0, spent.1)
 
-pub not_err : (found : Result (List (List ℕ × ℕ)) NoMemory) (entries : List (List ℕ × ℕ)) → found ≡ Ok entries → IsErr found → ⊥
+pub not_err : (found : Result (List (List ℕ × ℕ)) NoMemory) (entries : List (List ℕ × ℕ)) → found ≡ Ok entries
+    → IsErr found → ⊥
 not_err (Ok other) entries is none = cc none
 not_err (Err e) entries is none = absurd (cc is)
 
@@ -167,7 +167,7 @@ same_prefix xs ys e = ([], append-nil xs ∙ sym e)
 pub refused_answers : (tells closes : Bool) (why : Refusal) (allow : Option Allowed) (m : ReplyText) (v : Sight)
     (counts : ℕ × ℕ)
     → IsTold Defined (refused_reply closes (allow_text allow) why) m → Counts v counts
-    → Answers tells closes (question.Refused why allow) v v (entry_of counts.0 counts.1 0 m) m
+    → Answers tells closes (operation.Refused why allow) v v (entry_of counts.0 counts.1 0 m) m
 refused_answers tells closes why allow m v counts is count = record {
   turns = [];
   drawn = sym (append-nil v.store.turns);
@@ -177,7 +177,7 @@ refused_answers tells closes why allow m v counts is count = record {
   nothing = none_put;
   store_within = let p = count.puts in omega arith;
   index_within = let p = count.inserts in omega arith;
-  made = refused_made m is (take counts.0 (arrivals v.store.history)) (take counts.1 v.index.shown);
+  reply = refused_made m is (take counts.0 (arrivals v.store.history)) (take counts.1 v.index.shown);
   outcome = refl;
   kept = refl;
   cause = refused_cause m is;
@@ -188,26 +188,26 @@ refused_answers tells closes why allow m v counts is count = record {
 }
   where
     refused_looked : (m : ReplyText)
-        → Looked v.store.history (take counts.0 (arrivals v.store.history)) (question.Refused why allow) m []
-    refused_looked made.Memory = tt
-    refused_looked (made.Told o reply) = tt
+        → Looked v.store.history (take counts.0 (arrivals v.store.history)) (operation.Refused why allow) m []
+    refused_looked reply_text.Memory = tt
+    refused_looked (reply_text.Told o reply) = tt
 
     refused_made : (m : ReplyText) → IsTold Defined (refused_reply closes (allow_text allow) why) m
         → (blobs : List Blob) (g : List Insertion)
-        → IsMade tells v.index.accepts blobs g closes (question.Refused why allow) m
-    refused_made made.Memory is blobs g = tt
-    refused_made (made.Told o reply) is blobs g =
-        subst (λ (z : Outcome). IsAnswer tells v.index.accepts blobs g closes (question.Refused why allow) z
+        → IsMade tells v.index.accepts blobs g closes (operation.Refused why allow) m
+    refused_made reply_text.Memory is blobs g = tt
+    refused_made (reply_text.Told o reply) is blobs g =
+        subst (λ (z : Outcome). IsAnswer tells v.index.accepts blobs g closes (operation.Refused why allow) z
         (reply_bytes reply)) (sym is.0) is.1
 
     refused_cause : (m : ReplyText) → IsTold Defined (refused_reply closes (allow_text allow) why) m
         → HasCauseIn [] v.store.history (outcome_of m)
-    refused_cause made.Memory is = tt
-    refused_cause (made.Told o reply) is = subst (HasCauseIn [] v.store.history) (sym is.0) tt
+    refused_cause reply_text.Memory is = tt
+    refused_cause (reply_text.Told o reply) is = subst (HasCauseIn [] v.store.history) (sym is.0) tt
 
 -- there was no memory to find out what is asked
 pub memory_answers : (tells closes : Bool) (q : Operation) (v : Sight) (counts : ℕ × ℕ) → Counts v counts
-    → Answers tells closes q v v (entry_of counts.0 counts.1 0 made.Memory) made.Memory
+    → Answers tells closes q v v (entry_of counts.0 counts.1 0 reply_text.Memory) reply_text.Memory
 memory_answers tells closes q v counts count = record {
   turns = [];
   drawn = sym (append-nil v.store.turns);
@@ -217,7 +217,7 @@ memory_answers tells closes q v counts count = record {
   nothing = none_put;
   store_within = let p = count.puts in omega arith;
   index_within = let p = count.inserts in omega arith;
-  made = tt;
+  reply = tt;
   outcome = refl;
   kept = refl;
   cause = tt;
@@ -230,31 +230,31 @@ memory_answers tells closes q v counts count = record {
 memory_made : (tells : Bool) (accepts : Accepts) (blobs : List Blob) (g : List Insertion) (closes : Bool)
     (q : Operation) (m : ReplyText)
     → IsMemory m → IsMade tells accepts blobs g closes q m
-memory_made tells accepts blobs g closes q made.Memory is = tt
-memory_made tells accepts blobs g closes q (made.Told o reply) is = absurd is
+memory_made tells accepts blobs g closes q reply_text.Memory is = tt
+memory_made tells accepts blobs g closes q (reply_text.Told o reply) is = absurd is
 
 memory_cause : (turns : List ℕ) (h : List (Stamped StoreEvent)) (m : ReplyText) → IsMemory m
     → HasCauseIn turns h (outcome_of m)
-memory_cause turns h made.Memory is = tt
-memory_cause turns h (made.Told o reply) is = absurd is
+memory_cause turns h reply_text.Memory is = tt
+memory_cause turns h (reply_text.Told o reply) is = absurd is
 
 memory_looked : (h : List (Stamped StoreEvent)) (blobs : List Blob) (q : Operation) (turns : List ℕ) (m : ReplyText)
     → IsMemory m → Looked h blobs q m turns
-memory_looked h blobs q turns made.Memory is = tt
-memory_looked h blobs q turns (made.Told o reply) is = absurd is
+memory_looked h blobs q turns reply_text.Memory is = tt
+memory_looked h blobs q turns (reply_text.Told o reply) is = absurd is
 
 looks_at : (h : List (Stamped StoreEvent)) (blobs : List Blob) (q : Operation) (turns : List ℕ)
     → IsShown h blobs turns → LooksAt h blobs q turns
-looks_at h blobs (question.Refused why allow) turns is = tt
-looks_at h blobs (question.Blob r) turns is = is
-looks_at h blobs (question.Stat refs) turns is = is
-looks_at h blobs (question.Refs p) turns is = is
-looks_at h blobs (question.Search query) turns is = is
+looks_at h blobs (operation.Refused why allow) turns is = tt
+looks_at h blobs (operation.Blob r) turns is = is
+looks_at h blobs (operation.Stat refs) turns is = is
+looks_at h blobs (operation.Refs p) turns is = is
+looks_at h blobs (operation.Search query) turns is = is
 
 looked_at : (h : List (Stamped StoreEvent)) (blobs : List Blob) (q : Operation) (m : ReplyText) (turns : List ℕ)
     → IsShown h blobs turns → Looked h blobs q m turns
-looked_at h blobs q made.Memory turns is = tt
-looked_at h blobs q (made.Told o reply) turns is = looks_at h blobs q turns is
+looked_at h blobs q reply_text.Memory turns is = tt
+looked_at h blobs q (reply_text.Told o reply) turns is = looks_at h blobs q turns is
 
 -- what a look has shown is what is counted before anything else is done
 shown_by : (o v w : Sight) (n : ℕ) (further : List ℕ) (look : Looks o v) → n ≡ length (arrivals v.store.history)
@@ -290,7 +290,7 @@ module _ (tells closes : Bool) (q : Operation) (m : ReplyText) where
         nothing = none_put;
         store_within = let p = count.puts in omega arith;
         index_within = let p = count.inserts in omega arith;
-        made = memory_made tells w.index.accepts (take counts.0 (arrivals w.store.history))
+        reply = memory_made tells w.index.accepts (take counts.0 (arrivals w.store.history))
             (take counts.1 w.index.shown) closes q m is;
         outcome = refl;
         kept = refl;
@@ -340,7 +340,7 @@ module _ (tells closes : Bool) (q : Operation) (m : ReplyText) where
               (λ e is. troubles (arrivals ran.before) e (subst (says (arrivals ran.before)) is ran.said));
           store_within = let p = count.puts in omega arith;
           index_within = let p = count.inserts in omega arith;
-          made = replied w.index.accepts (arrivals ran.before) (take counts.0 (arrivals w.store.history))
+          reply = replied w.index.accepts (arrivals ran.before) (take counts.0 (arrivals w.store.history))
               (take counts.1 w.index.shown) ran.entry kept ran.said;
           outcome = refl;
           kept = refl;
@@ -381,20 +381,20 @@ module _ (tells closes : Bool) (q : Operation) (m : ReplyText) where
 fault_made : (tells : Bool) (accepts : Accepts) (blobs : List Blob) (g : List Insertion) (closes : Bool)
     (q : Operation) (f : GetFault) (m : ReplyText)
     → reads_blobs q ≡ true → FaultMade closes f m → IsMade tells accepts blobs g closes q m
-fault_made tells accepts blobs g closes q f made.Memory reads is = tt
-fault_made tells accepts blobs g closes q unread.Disk (made.Told o reply) reads is =
+fault_made tells accepts blobs g closes q f reply_text.Memory reads is = tt
+fault_made tells accepts blobs g closes q unread.Disk (reply_text.Told o reply) reads is =
     subst (λ (z : Outcome). IsAnswer tells accepts blobs g closes q z (reply_bytes reply)) (sym is.0) (reads, is.1)
-fault_made tells accepts blobs g closes q (unread.Damaged want was) (made.Told o reply) reads is =
+fault_made tells accepts blobs g closes q (unread.Damaged want was) (reply_text.Told o reply) reads is =
     subst (λ (z : Outcome). IsAnswer tells accepts blobs g closes q z (reply_bytes reply)) (sym is.0) (reads, is.1)
-fault_made tells accepts blobs g closes q unread.NoMemory (made.Told o reply) reads is = absurd is
+fault_made tells accepts blobs g closes q unread.NoMemory (reply_text.Told o reply) reads is = absurd is
 
 told_cause : (turns : List ℕ) (h : List (Stamped StoreEvent)) (closes : Bool) (f : GetFault) (m : ReplyText)
     → FaultMade closes f m
     → Caused f turns h → HasCauseIn turns h (outcome_of m)
-told_cause turns h closes f made.Memory is c = tt
-told_cause turns h closes unread.Disk (made.Told o reply) is c = subst (HasCauseIn turns h) (sym is.0) c
-told_cause turns h closes (unread.Damaged a b) (made.Told o reply) is c = subst (HasCauseIn turns h) (sym is.0) c
-told_cause turns h closes unread.NoMemory (made.Told o reply) is c = absurd is
+told_cause turns h closes f reply_text.Memory is c = tt
+told_cause turns h closes unread.Disk (reply_text.Told o reply) is c = subst (HasCauseIn turns h) (sym is.0) c
+told_cause turns h closes (unread.Damaged a b) (reply_text.Told o reply) is c = subst (HasCauseIn turns h) (sym is.0) c
+told_cause turns h closes unread.NoMemory (reply_text.Told o reply) is c = absurd is
 
 fails_caused : (tells : Bool) (asked : Option (List ℕ)) (f : GetFault) (h : List (Stamped StoreEvent)) (t : ℕ)
     (e : Option StoreEvent)
@@ -405,14 +405,14 @@ fails_caused tells asked unread.NoMemory h t e c = tt
 
 defined_cause : (turns : List ℕ) (h : List (Stamped StoreEvent)) (text : List ℕ) (m : ReplyText) → IsTold Defined text m
     → HasCauseIn turns h (outcome_of m)
-defined_cause turns h text made.Memory is = tt
-defined_cause turns h text (made.Told o reply) is = subst (HasCauseIn turns h) (sym is.0) tt
+defined_cause turns h text reply_text.Memory is = tt
+defined_cause turns h text (reply_text.Told o reply) is = subst (HasCauseIn turns h) (sym is.0) tt
 
 defined_made : (tells : Bool) (accepts : Accepts) (blobs : List Blob) (g : List Insertion) (closes : Bool)
     (q : Operation) (text : List ℕ) (m : ReplyText)
     → IsTold Defined text m → IsDefined tells accepts blobs g closes q text → IsMade tells accepts blobs g closes q m
-defined_made tells accepts blobs g closes q text made.Memory is d = tt
-defined_made tells accepts blobs g closes q text (made.Told o reply) is d =
+defined_made tells accepts blobs g closes q text reply_text.Memory is d = tt
+defined_made tells accepts blobs g closes q text (reply_text.Told o reply) is d =
     subst (λ (z : Outcome). IsAnswer tells accepts blobs g closes q z (reply_bytes reply)) (sym is.0)
     (subst (λ (t : List ℕ). IsDefined tells accepts blobs g closes q t) (sym is.1) d)
 
@@ -420,19 +420,19 @@ module _ (tells closes : Bool) (r : List ℕ) where
   blob_made : (result : Result (Option (List ℕ)) GetFault) (m : ReplyText) → BlobMade closes r result m
       → (accepts : Accepts) (before blobs : List Blob) (g : List Insertion) (e : Option StoreEvent)
       → (IsQuiet e → blobs ≡ before)
-      → GetSpec tells r before result e → IsMade tells accepts blobs g closes (question.Blob r) m
+      → GetSpec tells r before result e → IsMade tells accepts blobs g closes (operation.Blob r) m
   blob_made (Ok None) m is accepts before blobs g e same says =
       let here : bytes_of r blobs ≡ None = ap (bytes_of r) (same says.1) ∙ says.0 in
-      defined_made tells accepts blobs g closes (question.Blob r) (refused_reply closes [] (Absent r)) m is
+      defined_made tells accepts blobs g closes (operation.Blob r) (refused_reply closes [] (Absent r)) m is
       (subst (λ (z : Option (List ℕ)). IsBlobReply tells r closes z (refused_reply closes [] (Absent r)))
       (sym here) refl)
   blob_made (Ok (Some bytes)) m is accepts before blobs g e same says =
       let here : bytes_of r blobs ≡ Some says.0.0 = ap (bytes_of r) (same says.1) ∙ says.0.1 in
-      defined_made tells accepts blobs g closes (question.Blob r) (bytes_reply closes bytes) m is
+      defined_made tells accepts blobs g closes (operation.Blob r) (bytes_reply closes bytes) m is
       (subst (λ (z : Option (List ℕ)). IsBlobReply tells r closes z (bytes_reply closes bytes)) (sym here)
       (bytes, says.0.2, refl))
   blob_made (Err f) m is accepts before blobs g e same says = fault_made tells accepts blobs g closes
-      (question.Blob r) f m refl is
+      (operation.Blob r) f m refl is
 
   blob_cause : (result : Result (Option (List ℕ)) GetFault) (m : ReplyText) → BlobMade closes r result m
       → (before : List Blob) (h : List (Stamped StoreEvent)) (t : ℕ) (e : Option StoreEvent)
@@ -449,15 +449,16 @@ module _ (tells closes : Bool) (r : List ℕ) where
   pub blob_answers : (result : Result (Option (List ℕ)) GetFault) (m : ReplyText) (v w : Sight) (counts : ℕ × ℕ)
       → BlobMade closes r result m
       → StoreCall (result ≡ Err unread.NoMemory) (λ before e. GetSpec tells r before result e) v w → Counts w counts
-      → Answers tells closes (question.Blob r) v w (entry_of counts.0 counts.1 0 m) m
+      → Answers tells closes (operation.Blob r) v w (entry_of counts.0 counts.1 0 m) m
   blob_answers result m v w counts is call count =
-      call_answers tells closes (question.Blob r) m (λ before e. GetSpec tells r before result e)
+      call_answers tells closes (operation.Blob r) m (λ before e. GetSpec tells r before result e)
       (blob_made result m is) (blob_cause result m is) (get_troubles tells r result)
       (result ≡ Err unread.NoMemory) v w counts (blob_memory result m is) call count
 
 -- ---- stats and pages
 
-text_cause : {A : Type 0} (closes : Bool) (text : A → List ℕ) (found : Result A NoMemory) (m : ReplyText) (turns : List ℕ)
+text_cause : {A : Type 0} (closes : Bool) (text : A → List ℕ) (found : Result A NoMemory) (m : ReplyText)
+    (turns : List ℕ)
     (h : List (Stamped StoreEvent))
     → TextMade closes text found m → HasCauseIn turns h (outcome_of m)
 text_cause closes text (Ok found) m turns h is = defined_cause turns h _ m is
@@ -473,21 +474,21 @@ module _ (tells closes : Bool) where
       → TextMade closes stat_text result m
       → (accepts : Accepts) (before blobs : List Blob) (g : List Insertion) (e : Option StoreEvent)
       → (IsQuiet e → blobs ≡ before)
-      → StatSpec refs before result e → IsMade tells accepts blobs g closes (question.Stat refs) m
+      → StatSpec refs before result e → IsMade tells accepts blobs g closes (operation.Stat refs) m
   stat_made refs (Ok found) m is accepts before blobs g e same says =
-      defined_made tells accepts blobs g closes (question.Stat refs) _ m is
+      defined_made tells accepts blobs g closes (operation.Stat refs) _ m is
       (ap (λ (z : List (List ℕ × ℕ)). json_reply closes (stat_text z))
       (says.0 ∙ ap (λ (z : List Blob). filter_map (sized z) (each_once [] refs)) (sym (same (none_quiet e says.1)))))
   stat_made refs (Err f) m is accepts before blobs g e same says = memory_made tells accepts blobs g closes
-      (question.Stat refs) m is
+      (operation.Stat refs) m is
 
   pub stat_answers : (refs : List (List ℕ)) (result : Result (List (List ℕ × ℕ)) NoMemory) (m : ReplyText) (v w : Sight)
       (counts : ℕ × ℕ)
       → TextMade closes stat_text result m → StoreCall (IsErr result) (λ before e. StatSpec refs before result e) v w
       → Counts w counts
-      → Answers tells closes (question.Stat refs) v w (entry_of counts.0 counts.1 0 m) m
+      → Answers tells closes (operation.Stat refs) v w (entry_of counts.0 counts.1 0 m) m
   stat_answers refs result m v w counts is call count =
-      call_answers tells closes (question.Stat refs) m (λ before e. StatSpec refs before result e)
+      call_answers tells closes (operation.Stat refs) m (λ before e. StatSpec refs before result e)
       (stat_made refs result m is)
       (λ before h t e says. text_cause closes stat_text result m (t ∷ []) (h ++ stamped t e) is)
       (λ before e says. none_trouble e (stat_none refs result before (Some e) says))
@@ -504,21 +505,22 @@ module _ (tells closes : Bool) where
       → TextMade closes (cut_page p.limit) result m
       → (accepts : Accepts) (before blobs : List Blob) (g : List Insertion) (e : Option StoreEvent)
       → (IsQuiet e → blobs ≡ before)
-      → ListSpec p.after (p.limit + 1) before result e → IsMade tells accepts blobs g closes (question.Refs p) m
+      → ListSpec p.after (p.limit + 1) before result e → IsMade tells accepts blobs g closes (operation.Refs p) m
   page_made p (Ok found) m is accepts before blobs g e same says =
-      defined_made tells accepts blobs g closes (question.Refs p) _ m is
+      defined_made tells accepts blobs g closes (operation.Refs p) _ m is
       (ap (json_reply closes)
       (ap (cut_page p.limit) (says.0 ∙ ap (page p.after (p.limit + 1)) (sym (same (none_quiet e says.1))))
       ∙ cut_is p.after p.limit blobs))
   page_made p (Err f) m is accepts before blobs g e same says = memory_made tells accepts blobs g closes
-      (question.Refs p) m is
+      (operation.Refs p) m is
 
-  pub page_answers : (p : Page) (result : Result (List (List ℕ × ℕ)) NoMemory) (m : ReplyText) (v w : Sight) (counts : ℕ × ℕ)
+  pub page_answers : (p : Page) (result : Result (List (List ℕ × ℕ)) NoMemory) (m : ReplyText) (v w : Sight)
+      (counts : ℕ × ℕ)
       → TextMade closes (cut_page p.limit) result m
       → StoreCall (IsErr result) (λ before e. ListSpec p.after (p.limit + 1) before result e) v w → Counts w counts
-      → Answers tells closes (question.Refs p) v w (entry_of counts.0 counts.1 0 m) m
+      → Answers tells closes (operation.Refs p) v w (entry_of counts.0 counts.1 0 m) m
   page_answers p result m v w counts is call count =
-      call_answers tells closes (question.Refs p) m (λ before e. ListSpec p.after (p.limit + 1) before result e)
+      call_answers tells closes (operation.Refs p) m (λ before e. ListSpec p.after (p.limit + 1) before result e)
       (page_made p result m is)
       (λ before h t e says. text_cause closes (cut_page p.limit) result m (t ∷ []) (h ++ stamped t e) is)
       (λ before e says. none_trouble e (list_none p.after (p.limit + 1) result before (Some e) says))
@@ -555,7 +557,8 @@ module _ (tells closes : Bool) where
   pub looks : (result : Result (Unit {0}) NoMemory) (v w : Sight) → result ≡ Ok tt
       → StoreCall (IsErr result) (λ before e. e ≡ None) v w → Looks v w
   looks result v w is call =
-      ⊎_elim (λ (a : StoreTurned (λ before e. e ≡ None) v w). looks_turned v w (λ before e. e ≡ None) a (λ before e h. h))
+      ⊎_elim (λ (a : StoreTurned (λ before e. e ≡ None) v w). looks_turned v w (λ before e. e ≡ None) a
+      (λ before e h. h))
       (λ (b : IsErr result × Spends v w). not_both result is b.0) call
     where
       not_both : (r : Result (Unit {0}) NoMemory) → r ≡ Ok tt → IsErr r → Looks v w
@@ -565,9 +568,10 @@ module _ (tells closes : Bool) where
   -- it wasn't shown
   pub not_looked : (query : Query) (refused : Type 0) (v w : Sight) (counts : ℕ × ℕ)
       → StoreCall refused (λ before e. e ≡ None) v w → Counts w counts
-      → Answers tells closes (question.Search query) v w (entry_of counts.0 counts.1 0 made.Memory) made.Memory
+      → Answers tells closes (operation.Search query) v w (entry_of counts.0 counts.1 0 reply_text.Memory)
+      reply_text.Memory
   not_looked query refused v w counts call count =
-      call_answers tells closes (question.Search query) made.Memory (λ before e. e ≡ None)
+      call_answers tells closes (operation.Search query) reply_text.Memory (λ before e. e ≡ None)
       (λ accepts before blobs g e same said. tt)
       (λ before h t e said. tt) (λ before e said. none_trouble e said) refused v w counts
       (λ _. tt) call count
@@ -596,7 +600,7 @@ module _ (tells closes : Bool) where
 
   pub search_failed : (query : Query) (f : GetFault) (m : ReplyText) (o v w : Sight) (before after : ℕ × ℕ)
       → Looks o v → Settles (Err f) v w → FaultMade closes f m → Counts v before → Counts w after
-      → Answers tells closes (question.Search query) o w (entry_of before.0 after.1 0 m) m
+      → Answers tells closes (operation.Search query) o w (entry_of before.0 after.1 0 m) m
   search_failed query f m o v w before after look s is first last =
       let blobs = prefix_length (arrivals v.store.history) (arrivals w.store.history)
       (arrivals_prefix v.store.history w.store.history s.store.longer) in
@@ -613,8 +617,8 @@ module _ (tells closes : Bool) where
         nothing = s.store.each_is;
         store_within = let p = first.puts in omega arith;
         index_within = let p = last.inserts in omega arith;
-        made = fault_made tells w.index.accepts (take before.0 (arrivals w.store.history))
-            (take after.1 w.index.shown) closes (question.Search query) f m refl is;
+        reply = fault_made tells w.index.accepts (take before.0 (arrivals w.store.history))
+            (take after.1 w.index.shown) closes (operation.Search query) f m refl is;
         outcome = refl;
         kept = refl;
         cause = cause_behind look.turn s.store.further w.store.history (outcome_of m)
@@ -630,7 +634,7 @@ module _ (tells closes : Bool) where
           limits = s.limits;
           accepts = s.accepts;
         });
-        looked = looked_at w.store.history (take before.0 (arrivals w.store.history)) (question.Search query) m
+        looked = looked_at w.store.history (take before.0 (arrivals w.store.history)) (operation.Search query) m
             (look.turn ∷ s.store.further)
             (shown_by o v w before.0 s.store.further look first.puts s.store.longer s.store.later);
       }
@@ -639,19 +643,19 @@ module _ (tells closes : Bool) where
       → TextMade closes search_text found m
       → (accepts : Accepts) (blobs : List Blob) (g : List Insertion) → SearchSpec accepts query g found
       → HasAllBelow (length blobs) g
-      → IsMade tells accepts blobs g closes (question.Search query) m
+      → IsMade tells accepts blobs g closes (operation.Search query) m
   search_made query (Ok refs) m is accepts blobs g says all =
-      defined_made tells accepts blobs g closes (question.Search query) _ m is
+      defined_made tells accepts blobs g closes (operation.Search query) _ m is
       (all, ap (λ (z : List (List ℕ)). json_reply closes (search_text z)) says)
   search_made query (Err e) m is accepts blobs g says all = memory_made tells accepts blobs g closes
-      (question.Search query) m is
+      (operation.Search query) m is
 
   -- a search behind its look and its settling: what was inserted is shown
   pub search_answers : (u : Unit {0}) (query : Query) (found : Result (List (List ℕ)) NoMemory) (m : ReplyText)
       (o v x w : Sight) (before after : ℕ × ℕ)
       → Looks o v → Settles (Ok u) v x → IsSight x → Searches query found x w → TextMade closes search_text found m
       → Counts v before → Counts w after
-      → Answers tells closes (question.Search query) o w (entry_of before.0 after.1 0 m) m
+      → Answers tells closes (operation.Search query) o w (entry_of before.0 after.1 0 m) m
   search_answers u query found m o v x w before after look s legal a is first last =
       let grown : IsPrefix v.store.history w.store.history =
       prefix_trans v.store.history x.store.history w.store.history s.store.longer
@@ -684,7 +688,7 @@ module _ (tells closes : Bool) where
         nothing = s.store.each_is;
         store_within = let p = first.puts in omega arith;
         index_within = let p = last.inserts in omega arith;
-        made = search_made query found m is w.index.accepts (take before.0 (arrivals w.store.history))
+        reply = search_made query found m is w.index.accepts (take before.0 (arrivals w.store.history))
             (take after.1 w.index.shown)
             (subst (λ (z : List Insertion). SearchSpec w.index.accepts query z found) (sym all) a.search.answer)
             (subst (λ (n : ℕ). HasAllBelow n (take after.1 w.index.shown)) (sym count)
@@ -703,6 +707,6 @@ module _ (tells closes : Bool) where
           limits = ap (λ y. y.limits) a.store ∙ s.limits;
           accepts = a.search.accepts ∙ s.accepts;
         });
-        looked = looked_at w.store.history (take before.0 (arrivals w.store.history)) (question.Search query) m
+        looked = looked_at w.store.history (take before.0 (arrivals w.store.history)) (operation.Search query) m
             (look.turn ∷ s.store.further) (shown_by o v w before.0 s.store.further look first.puts grown later);
       }

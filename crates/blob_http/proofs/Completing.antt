@@ -34,8 +34,9 @@ use Rattle.blob_routes.specs.declared.routes.Route.{Route}
 use Rattle.blob_routes.specs.declared.routes.Route.TheVariants as route
 use Rattle.http_exchange.specs.Before.{most_body}
 use Rattle.blob_upload.specs.declared.upload_end.UploadEnd.{UploadEnd}
-use Rattle.blob_upload.specs.declared.upload_end.UploadEnd.TheVariants as came
-use Rattle.blob_upload.specs.Faults.{most_bytes, part_fault}
+use Rattle.blob_upload.specs.declared.upload_end.UploadEnd.TheVariants as upload_end
+use Rattle.multipart_read.specs.Limits.{most_bytes}
+use Rattle.blob_upload.specs.Faults.{part_fault}
 use Rattle.blob_upload.specs.Ends.{Told, Faulty, IsAll}
 use Rattle.blob_upload.specs.UploadOutcome.{UploadOutcome, HasFault, Refuses}
 use Rattle.blob_upload.proofs.Fronts.{told_first}
@@ -43,7 +44,7 @@ use Rattle.blob_http.specs.declared.entries.Outcome.{Outcome}
 use Rattle.blob_http.specs.declared.entries.Outcome.TheVariants.{Defined, Memory, Disk, Full, Damaged}
 use Rattle.blob_http.specs.declared.operations.Operation.{Operation}
 use Rattle.http_exchange.specs.Asked.{Asked, Whole, Front, Head as NoHead}
-use Rattle.blob_http.specs.Questions.{first_of}
+use Rattle.blob_http.specs.Operations.{first_of}
 use Rattle.blob_http.specs.Keeping.{boundary_at, Kept, IsUploadReply}
 use Rattle.blob_http.specs.Serving.{HasCauseIn, IsBodyRefusal, IsFrontDefined, IsReply}
 use Rattle.blob_http.specs.Complete.{IsGoodUpload, HasGoodBody, IsValid, IsOf, IsCalm}
@@ -261,20 +262,20 @@ module _ (r : Request) (b : Begun) (rest bytes : List ℕ) (after : Option (List
 
   no_body_refusal : length r.body ≤ most_body → (why : Refusal) → IsBodyRefusal b after why → ⊥
   no_body_refusal short why (inl long) = omega (arith, short, long.1, given_short)
-  no_body_refusal short why (inr breaks) = unbroken breaks.1
+  no_body_refusal short why (inr breaks) = unbroken breaks.2
 
-  question_short : (way : Route) → (way ≡ route.Upload → ⊥) → HasGoodBody r way → length r.body ≤ most_body
-  question_short (route.Blob ref) other good = good.short
-  question_short (route.Stat posted) other good = good.short
-  question_short route.Upload other good = absurd (other refl)
-  question_short route.Page other good = good.short
-  question_short route.Search other good = good.short
+  operation_short : (way : Route) → (way ≡ route.Upload → ⊥) → HasGoodBody r way → length r.body ≤ most_body
+  operation_short (route.Blob ref) other good = good.short
+  operation_short (route.Stat posted) other good = good.short
+  operation_short route.Upload other good = absurd (other refl)
+  operation_short route.Page other good = good.short
+  operation_short route.Search other good = good.short
 
   no_front : (found : Result Route Operation) (found_as : Route) → found ≡ Ok found_as → HasGoodBody r found_as
       → (text : List ℕ) → IsFrontDefined b after found text → ⊥
   no_front (Ok other) found_as is good text defined =
       let same : other ≡ found_as = cc is in
-      no_body_refusal (question_short found_as (λ e. defined.0 (same ∙ e)) good) defined.1.0 defined.1.1
+      no_body_refusal (operation_short found_as (λ e. defined.0 (same ∙ e)) good) defined.1.0 defined.1.1
   no_front (Err q) found_as is good text defined = absurd (cc is)
 
 -- ---- the law
@@ -329,13 +330,13 @@ module _ (tells : Bool) (accepts : Accepts) (h : List (Stamped StoreEvent)) (blo
     upload_served : (u : Kept b.head b.says blobs kept) (c : UploadEnd) (wire : WireView) → wire.body ≡ b.at
         → UploadOutcome u.boundary b.given u.parts wire after c → (outcome : Outcome) → HasCauseIn turns h outcome
         → IsUploadReply u.parts c outcome text → Served outcome
-    upload_served u (came.Refused why) wire at comes Defined cause reply =
+    upload_served u (upload_end.Refused why) wire at comes Defined cause reply =
         absurd (no_upload_refusal u wire at why comes)
-    upload_served u came.Whole wire at comes Defined cause reply = absurd reply
-    upload_served u (came.Full n pack) wire at comes Defined cause reply = absurd reply
-    upload_served u came.Disk wire at comes Defined cause reply = absurd reply
-    upload_served u came.Memory wire at comes Defined cause reply = absurd reply
-    upload_served u (came.Ended end) wire at comes Defined cause reply = absurd reply
+    upload_served u upload_end.Whole wire at comes Defined cause reply = absurd reply
+    upload_served u (upload_end.Full n pack) wire at comes Defined cause reply = absurd reply
+    upload_served u upload_end.Disk wire at comes Defined cause reply = absurd reply
+    upload_served u upload_end.Memory wire at comes Defined cause reply = absurd reply
+    upload_served u (upload_end.Ended end) wire at comes Defined cause reply = absurd reply
     upload_served u c wire at comes Memory cause reply = inl (refl, reply)
     upload_served u c wire at comes Disk cause reply = absurd (calm_disk h turns calm cause)
     upload_served u c wire at comes (Full n pack) cause reply = absurd (calm_full h turns calm n pack cause)

@@ -1,6 +1,6 @@
 -- One step of a connection.
 use Rattle.std.proofs.Common.{◌≡◌, ℕ, List, [], ◌∷◌, ◌++◌, Bool, true, false, Option, refl, sym, ◌∙◌}
-use Rattle.std.proofs.Common.{Some, None, inl, inr, ap, subst, append_assoc, ◌+◌, length, arith, length-append}
+use Rattle.std.proofs.Common.{Some, None, inl, inr, ap, subst, append_assoc, ◌+◌, ◌≤◌, length, arith, length-append}
 use Rattle.std.specs.Option.{IfSome}
 use Rattle.std.specs.List.{flat_map}
 use Rattle.edge_base.specs.Edge.{SourceGave, SinkTook, SinkTookFront}
@@ -97,31 +97,35 @@ module _ (tells : Bool) (v w : Sight) (noted noted' : List Answered → Type 0) 
       → SinkTook w1 w2 (text_of m)
       → Serves tells v x noted' (Open x0 x2 fresh_flow new.flow) (SinkTook w0 w2) HasNone
   step_goes_on x entry m x2 w2 new closes adds r still took =
-      serves_more tells v w x noted noted' (Open x0 x1 fresh_flow flow) (Open x0 x2 fresh_flow new.flow) (SinkTook w0 w1)
+      serves_more tells v w x noted noted' (Open x0 x1 fresh_flow flow) (Open x0 x2 fresh_flow new.flow)
+      (SinkTook w0 w1)
       (SinkTook w0 w2) r.asked entry (text_of m) s r.handles adds
       (λ before o. heard_more x0 x1 x2 flow new.flow before r.asked o r.comes (sym r.closing ∙ still))
       (λ texts t. SinkTook-chain w0 w1 w2 texts (text_of m) t took)
 
   -- a request was answered, and the connection closes
-  pub step_closes : (x : Sight) (entry : Answered) (m : ReplyText) (x2 w2 : Option (List ℕ)) (new : WireView) (closes : Bool)
-      → Adds entry → Replies x1 x2 flow new tells w x entry m closes → closes ≡ true
+  pub step_closes : (x : Sight) (entry : Answered) (m : ReplyText) (x2 w2 : Option (List ℕ)) (new : WireView)
+      (closes : Bool)
+      → Adds entry → Replies x1 x2 flow new tells w x entry m closes → length new.flow.bytes ≤ 32768 → closes ≡ true
       → SinkTook w1 w2 (text_of m)
       → Serves tells v x noted' (Heard x0 x2 ended.Closed) (Wrote w0 w2 ended.Closed) (IsRest x0 0 ended.Closed)
-  step_closes x entry m x2 w2 new closes adds r closed took =
+  step_closes x entry m x2 w2 new closes adds r few closed took =
       serves_more tells v w x noted noted' (Open x0 x1 fresh_flow flow) (Heard x0 x2 ended.Closed) (SinkTook w0 w1)
       (Wrote w0 w2 ended.Closed) r.asked entry (text_of m) s r.handles adds
-      (λ before o. heard_last IsFair x0 x1 x2 flow new.flow before r.asked o r.comes (sym r.closing ∙ closed))
+      (λ before o. heard_last IsFair x0 x1 x2 flow new.flow before r.asked o r.comes (sym r.closing ∙ closed) few)
       (λ texts t. SinkTook-chain w0 w1 w2 texts (text_of m) t took)
 
   -- the reply wasn't written whole
-  pub step_breaks : (x : Sight) (entry : Answered) (m : ReplyText) (x2 w2 : Option (List ℕ)) (new : WireView) (closes : Bool)
-      → Adds entry → Replies x1 x2 flow new tells w x entry m closes → SinkTookFront w1 w2 (text_of m)
+  pub step_breaks : (x : Sight) (entry : Answered) (m : ReplyText) (x2 w2 : Option (List ℕ)) (new : WireView)
+      (closes : Bool)
+      → Adds entry → Replies x1 x2 flow new tells w x entry m closes → length new.flow.bytes ≤ 32768
+      → SinkTookFront w1 w2 (text_of m)
       → Serves tells v x noted' (Heard x0 x2 ended.WriteFault) (Wrote w0 w2 ended.WriteFault)
       (IsRest x0 0 ended.WriteFault)
-  step_breaks x entry m x2 w2 new closes adds r took =
+  step_breaks x entry m x2 w2 new closes adds r few took =
       serves_more tells v w x noted noted' (Open x0 x1 fresh_flow flow) (Heard x0 x2 ended.WriteFault) (SinkTook w0 w1)
       (Wrote w0 w2 ended.WriteFault) r.asked entry (text_of m) s r.handles adds
-      (λ before o. heard_breaks IsFair x0 x1 x2 flow new.flow before r.asked closes o r.comes (sym r.closing))
+      (λ before o. heard_breaks IsFair x0 x1 x2 flow new.flow before r.asked closes o r.comes (sym r.closing) few)
       (λ texts t. SinkTookFront-chain w0 w1 w2 texts (text_of m) t took)
 
   -- no request came, or one that has no answer
@@ -148,12 +152,13 @@ module _ (tells : Bool) (v w : Sight) (noted noted' : List Answered → Type 0) 
       written ended.NoMemory none texts t = absurd none
 
   -- there was no memory for an entry, and nothing was read
-  pub step_full : Same
+  pub step_full : Same → length flow.bytes ≤ 32768
       → Serves tells v w noted' (Heard x0 x1 ended.NoMemory) (Wrote w0 w1 ended.NoMemory) (IsRest x0 0 ended.NoMemory)
-  step_full same =
+  step_full same few =
       serves_ends tells v w w noted noted' (Open x0 x1 fresh_flow flow) (Heard x0 x1 ended.NoMemory) (SinkTook w0 w1)
       (Wrote w0 w1 ended.NoMemory) (IsRest x0 0 ended.NoMemory) [] [] s same
-      (λ asked o. heard_full IsFair x0 x1 flow asked o) (λ texts t. t) (sym (append-nil w.store.turns)) (owns_none w)
+      (λ asked o. heard_full IsFair x0 x1 flow asked o few) (λ texts t. t) (sym (append-nil w.store.turns))
+      (owns_none w)
       (refl, refl) (longer_none w)
 
 -- a connection for which there was no memory
@@ -162,4 +167,4 @@ pub no_memory : (tells : Bool) (v : Sight) (noted : List Answered → Type 0) (x
 no_memory tells v noted x w none =
     step_full tells v v noted noted x x w w fresh_flow
     (serves_none tells v noted (Open x x fresh_flow fresh_flow) (SinkTook w w) none (open_none x) (took_none w))
-    (λ entries n. n)
+    (λ entries n. n) (let few : 0 ≤ 32768 = omega arith in few)

@@ -27,9 +27,9 @@ use Rattle.blob_routes.specs.Pages.{page_of}
 use Rattle.blob_http.specs.declared.entries.Outcome.{Outcome}
 use Rattle.blob_http.specs.declared.entries.Outcome.TheVariants.{Defined}
 use Rattle.blob_http.specs.declared.operations.Operation.{Operation}
-use Rattle.blob_http.specs.declared.operations.Operation.TheVariants as question
+use Rattle.blob_http.specs.declared.operations.Operation.TheVariants as operation
 use Rattle.http_exchange.specs.Asked.{Asked, Whole}
-use Rattle.blob_http.specs.Questions.{IsAskedBy, IsAsked, IsSearch, first_of, stat_of, refs_asked}
+use Rattle.blob_http.specs.Operations.{IsAskedBy, IsAsked, IsSearch, first_of, stat_of, refs_asked}
 use Rattle.http_exchange.specs.HeadPlaces.{piece}
 use Rattle.blob_http.specs.Answers.{IsAnswer}
 use Rattle.blob_http.specs.Serving.{IsShown, LooksAt, IsReply}
@@ -37,37 +37,39 @@ use Rattle.blob_http.specs.Finding.{IsPutAt, IsFound, FindsShown, SearchesFind}
 
 -- ---- what is asked is a search
 
-not_stat : (query : Query) (found : Result (List (List ℕ)) Refusal) → question.Search query ≡ stat_of found → ⊥
+not_stat : (query : Query) (found : Result (List (List ℕ)) Refusal) → operation.Search query ≡ stat_of found → ⊥
 not_stat query (Ok refs) e = absurd (cc e)
 not_stat query (Err why) e = absurd (cc e)
 
-not_page : (query : Query) (found : Result Page Refusal) → question.Search query ≡ refs_asked found → ⊥
+not_page : (query : Query) (found : Result Page Refusal) → operation.Search query ≡ refs_asked found → ⊥
 not_page query (Ok page) e = absurd (cc e)
 not_page query (Err why) e = absurd (cc e)
 
-search_asked : (query : Query) (body : List ℕ) (q : Operation) → IsSearch body (question.Search query) → IsSearch body q
-    → (other : Query) × (q ≡ question.Search other)
-search_asked query body (question.Search other) e f = (other, refl)
-search_asked query body (question.Refused why allow) e f = absurd (cc (sym e ∙ f.0))
-search_asked query body (question.Blob r) e f = absurd f
-search_asked query body (question.Stat refs) e f = absurd f
-search_asked query body (question.Refs page) e f = absurd f
+search_asked : (query : Query) (body : List ℕ) (q : Operation) → IsSearch body (operation.Search query)
+    → IsSearch body q
+    → (other : Query) × (q ≡ operation.Search other)
+search_asked query body (operation.Search other) e f = (other, refl)
+search_asked query body (operation.Refused why allow) e f = absurd (cc (sym e ∙ f.0))
+search_asked query body (operation.Blob r) e f = absurd f
+search_asked query body (operation.Stat refs) e f = absurd f
+search_asked query body (operation.Refs page) e f = absurd f
 
 -- two questions of one request are both searches, where one is
 both_search : (found : Result Route Operation) (framing : Framing) (query : Query) (text body : List ℕ) (q : Operation)
-    → IsAskedBy found framing text body (question.Search query) → IsAskedBy found framing text body q
-    → (other : Query) × (q ≡ question.Search other)
+    → IsAskedBy found framing text body (operation.Search query) → IsAskedBy found framing text body q
+    → (other : Query) × (q ≡ operation.Search other)
 both_search (Ok (route.Blob r)) framing query text body q e f = absurd (cc e)
-both_search (Ok (route.Stat posted)) framing query text body q e f = absurd (not_stat query (refs_of posted text body) e)
+both_search (Ok (route.Stat posted)) framing query text body q e f = absurd
+    (not_stat query (refs_of posted text body) e)
 both_search (Ok route.Page) framing query text body q e f = absurd (not_page query (page_of text) e)
 both_search (Ok route.Upload) framing query text body q e f = absurd e
 both_search (Ok route.Search) framing query text body q e f = search_asked query body q e f
 both_search (Err first) framing query text body q e f = (query, f.0 ∙ sym e.0)
 
 not_upload : (found : Result Route Operation) (framing : Framing) (query : Query) (text body : List ℕ)
-    → found ≡ Ok route.Upload → IsAskedBy found framing text body (question.Search query) → ⊥
+    → found ≡ Ok route.Upload → IsAskedBy found framing text body (operation.Search query) → ⊥
 not_upload found framing query text body is e =
-    subst (λ (z : Result Route Operation). IsAskedBy z framing text body (question.Search query)) is e
+    subst (λ (z : Result Route Operation). IsAskedBy z framing text body (operation.Search query)) is e
 
 -- ---- what was put has arrived
 
@@ -141,14 +143,16 @@ module _ (h : List (Stamped StoreEvent)) (g : List Insertion) (count : ℕ) (tur
 
 module _ (tells : Bool) (accepts : Accepts) (h : List (Stamped StoreEvent)) (g : List Insertion) (r : Request)
     (query : Query) (count kept : ℕ) (turns : List ℕ) (added : List (Stamped StoreEvent)) (text : List ℕ)
-    (low : count ≤ length (arrivals h)) (asked : IsAsked r.head r.says r.body (question.Search query)) where
+    (low : count ≤ length (arrivals h)) (asked : IsAsked r.head r.says r.body (operation.Search query)) where
   finds_by : IsReply tells accepts h (take count (arrivals h)) g (Whole r) kept turns added Defined text
       → FindsShown h g count turns
   finds_by (inl u) =
-      absurd (not_upload (first_of r.head r.says) r.says.framing query (piece r.head r.says.query) r.body u.0.upload asked)
+      absurd (not_upload (first_of r.head r.says) r.says.framing query (piece r.head r.says.query) r.body u.0.upload
+      asked)
   finds_by (inr a) =
       let q = a.2 in
-      let same = both_search (first_of r.head r.says) r.says.framing query (piece r.head r.says.query) r.body q.0 asked q.1 in
+      let same = both_search (first_of r.head r.says) r.says.framing query (piece r.head r.says.query) r.body q.0
+      asked q.1 in
       let answer = subst (λ (z : Operation). IsAnswer tells accepts (take count (arrivals h)) g r.says.closes z Defined
       text) same.1 q.2 in
       let looks = subst (λ (z : Operation). LooksAt h (take count (arrivals h)) z turns) same.1 q.3 in

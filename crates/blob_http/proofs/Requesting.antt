@@ -30,18 +30,18 @@ use Rattle.blob_http.specs.declared.entries.Outcome.{Outcome}
 use Rattle.blob_http.specs.declared.entries.Outcome.TheVariants.{Defined, Memory, Disk, Full, Damaged}
 use Rattle.blob_http.specs.declared.entries.Answered.{Answered}
 use Rattle.http_exchange.specs.declared.gathering.BodyFault.{BodyFault}
-use Rattle.http_exchange.specs.declared.gathering.BodyFault.TheVariants as stopped
+use Rattle.http_exchange.specs.declared.gathering.BodyFault.TheVariants as body_fault
 use Rattle.blob_http.specs.declared.operations.Operation.{Operation}
-use Rattle.blob_http.specs.declared.operations.Operation.TheVariants as question
+use Rattle.blob_http.specs.declared.operations.Operation.TheVariants as operation
 use Rattle.blob_http.specs.declared.replies.ReplyText.{ReplyText}
-use Rattle.blob_http.specs.declared.replies.ReplyText.TheVariants as made
+use Rattle.blob_http.specs.declared.replies.ReplyText.TheVariants as reply_text
 use Rattle.http_exchange.specs.declared.ended.Ended.{Ended}
 use Rattle.http_exchange.specs.declared.ended.Ended.TheVariants as ended
 use Rattle.http_exchange.specs.Asked.{Asked, Whole, Head as Refused, head_says}
 use Rattle.http_exchange.specs.Gathering.{Gathers}
-use Rattle.blob_http.specs.Questions.{is_upload, first_of, refused}
+use Rattle.blob_http.specs.Operations.{is_upload, first_of, refused}
 use Rattle.http_exchange.specs.HeadPlaces.{HasPieces, piece, ReadsHead}
-use Rattle.blob_http.specs.Questions.{IsAskedAt, IsAskedBy, IsAsked}
+use Rattle.blob_http.specs.Operations.{IsAskedAt, IsAskedBy, IsAsked}
 use Rattle.http_exchange.specs.Replies.{refused_reply, memory_reply}
 use Rattle.blob_http.specs.Answers.{allow_text, outcome_of, text_of}
 use Rattle.blob_http.specs.Serving.{HasCauseIn, IsRest, Passes, IsReply, IsFrontDefined, IsBodyRefusal, Handles}
@@ -80,7 +80,7 @@ handles_of tells closes q v w entry m asked a replied = record {
         (take entry.index_count w.index.shown) asked
         entry.kept a.turns a.added entry.outcome m a.kept a.outcome
         (replied w.index.accepts w.store.history (take entry.store_count (arrivals w.store.history))
-        (take entry.index_count w.index.shown) a.turns a.added a.made a.looked a.nothing);
+        (take entry.index_count w.index.shown) a.turns a.added a.reply a.looked a.nothing);
     cause = subst (λ (o : Outcome). HasCauseIn a.turns w.store.history o) (sym a.outcome) a.cause;
     placed = a.placed;
   };
@@ -102,14 +102,14 @@ handles_of tells closes q v w entry m asked a replied = record {
 refused_says : (tells : Bool) (accepts : Accepts) (blobs : List Blob) (g : List Insertion) (why : Refusal)
     (allow : Option Allowed)
     (P : Outcome → List ℕ → Type 0) → P Defined (refused_reply true (allow_text allow) why) → P Memory memory_reply
-    → (m : ReplyText) → IsMade tells accepts blobs g true (question.Refused why allow) m → P (outcome_of m) (text_of m)
-refused_says tells accepts blobs g why allow P defined memory made.Memory is = memory
-refused_says tells accepts blobs g why allow P defined memory (made.Told Defined reply) is = subst (P Defined)
+    → (m : ReplyText) → IsMade tells accepts blobs g true (operation.Refused why allow) m → P (outcome_of m) (text_of m)
+refused_says tells accepts blobs g why allow P defined memory reply_text.Memory is = memory
+refused_says tells accepts blobs g why allow P defined memory (reply_text.Told Defined reply) is = subst (P Defined)
     (sym is) defined
-refused_says tells accepts blobs g why allow P defined memory (made.Told Memory reply) is = absurd is
-refused_says tells accepts blobs g why allow P defined memory (made.Told Disk reply) is = absurd (cc is.0)
-refused_says tells accepts blobs g why allow P defined memory (made.Told (Full n pack) reply) is = absurd is
-refused_says tells accepts blobs g why allow P defined memory (made.Told (Damaged want was) reply) is = absurd
+refused_says tells accepts blobs g why allow P defined memory (reply_text.Told Memory reply) is = absurd is
+refused_says tells accepts blobs g why allow P defined memory (reply_text.Told Disk reply) is = absurd (cc is.0)
+refused_says tells accepts blobs g why allow P defined memory (reply_text.Told (Full n pack) reply) is = absurd is
+refused_says tells accepts blobs g why allow P defined memory (reply_text.Told (Damaged want was) reply) is = absurd
     (cc is.0)
 
 -- ---- a head that is refused
@@ -159,41 +159,43 @@ module _ (x0 x1 x2 : Option (List ℕ)) (flow : Flow) (mid new : WireView) (says
     }
 
     pub memory_replies : (closes with_closes : Bool) (q : Operation) → Answers tells with_closes q v w entry m
-        → m ≡ made.Memory
+        → m ≡ reply_text.Memory
         → closes ≡ true → Replies x0 x2 flow new tells v w entry m closes
     memory_replies closes with_closes q a none closing = front_replies closes with_closes q a
         (λ accepts h blobs g turns added is looked nothing. subst
-        (λ (z : ReplyText). IsReply tells accepts h blobs g asked_so 0 turns added (outcome_of z) (text_of z)) (sym none)
+        (λ (z : ReplyText). IsReply tells accepts h blobs g asked_so 0 turns added (outcome_of z) (text_of z))
+        (sym none)
         (inr (refl, nothing, refl))) closing
 
     refused_replies : (closes : Bool) (why : Refusal) (allow : Option Allowed)
-        → Answers tells true (question.Refused why allow) v w entry m
+        → Answers tells true (operation.Refused why allow) v w entry m
         → IsFrontDefined this (stream new.flow.bytes x2) (first_of mid.head says)
         (refused_reply true (allow_text allow) why)
         → closes ≡ true → Replies x0 x2 flow new tells v w entry m closes
-    refused_replies closes why allow a defined closing = front_replies closes true (question.Refused why allow) a
+    refused_replies closes why allow a defined closing = front_replies closes true (operation.Refused why allow) a
         (λ accepts h blobs g turns added is looked nothing. refused_says tells accepts blobs g why allow
         (λ o text. IsReply tells accepts h blobs g asked_so 0 turns added o text) (inr (refl, nothing, defined))
         (inr (refl, nothing, refl)) m is) closing
 
   -- the whole body was read
   module _ (tells : Bool) (v w : Sight) (entry : Answered) where
-    pub whole_replies : (m : ReplyText) (closes : Bool) (q : Operation) → new.body ≡ body.Done → IsAsked mid.head says given q
+    pub whole_replies : (m : ReplyText) (closes : Bool) (q : Operation) → new.body ≡ body.Done
+        → IsAsked mid.head says given q
         → Answers tells says.closes q v w entry m → closes ≡ (says.closes || is_memory m)
         → Replies x0 x2 flow new tells v w entry m closes
-    whole_replies made.Memory closes q done asked a closing =
-        memory_replies tells v w entry made.Memory closes says.closes q a refl (closing ∙ or_true says.closes)
+    whole_replies reply_text.Memory closes q done asked a closing =
+        memory_replies tells v w entry reply_text.Memory closes says.closes q a refl (closing ∙ or_true says.closes)
       where
         or_true : (b : Bool) → (b || true) ≡ true
         or_true true = refl
         or_true false = refl
-    whole_replies (made.Told o reply) closes q done asked a closing = record {
+    whole_replies (reply_text.Told o reply) closes q done asked a closing = record {
       asked = Whole request;
       comes = (
         request_read mid.head moved.0 given says head.lines head.read leads,
         passed x0 x1 x2 flow mid new says head given moved,
       );
-      handles = handles_of tells says.closes q v w entry (made.Told o reply) (Whole request) a
+      handles = handles_of tells says.closes q v w entry (reply_text.Told o reply) (Whole request) a
           (λ accepts h blobs g turns added is looked nothing. inr (refl, nothing, (q, asked, is, looked)));
       closing = closing ∙ or_false says.closes;
       ready = λ still. done;
@@ -229,7 +231,7 @@ early_replies x0 x1 flow mid says head tells v w entry m before closes q first i
     or_true true = refl
     or_true false = refl
 
-    refused_q : (why : Refusal) × (allow : Option Allowed) × (q ≡ question.Refused why allow)
+    refused_q : (why : Refusal) × (allow : Option Allowed) × (q ≡ operation.Refused why allow)
     refused_q = first_refused mid.head says q first
 
     asked : body_of says.framing ≡ body.Done → IsAsked mid.head says [] q
@@ -265,7 +267,7 @@ early_replies x0 x1 flow mid says head tells v w entry m before closes q first i
 pub none_read : (x0 x1 : Option (List ℕ)) (flow : Flow) (mid : WireView) (says : Head) → ReadsHead x0 x1 flow mid says
     → (tells : Bool) (v w : Sight) (entry : Answered) (m : ReplyText) (closes : Bool)
     → ((q : Operation) → Answers tells true q v w entry m)
-    → m ≡ made.Memory → closes ≡ true → Replies x0 x1 flow mid tells v w entry m closes
+    → m ≡ reply_text.Memory → closes ≡ true → Replies x0 x1 flow mid tells v w entry m closes
 none_read x0 x1 flow mid says head tells v w entry m closes a none closing =
     memory_replies x0 x1 x1 flow mid mid says head [] (moves_none x1 mid.flow mid.body) tells v w entry m closes true
     (refused refusal.Memory) (a _) none closing
@@ -283,7 +285,8 @@ along_replies x0 x1 x2 flow mid new says head bytes gathered tells v w entry m c
     let moved : Moves x1 x2 mid.flow new.flow mid.body new.body bytes =
     subst (λ (z : List ℕ). Moves x1 x2 mid.flow new.flow mid.body new.body z) gathered.says.0 gathered.moved in
     whole_replies x0 x1 x2 flow mid new says head bytes moved tells v w entry m closes q gathered.says.2
-    (subst (λ (z : Result Route Operation). IsAskedBy z says.framing (piece mid.head says.query) bytes q) (sym first) at)
+    (subst (λ (z : Result Route Operation). IsAskedBy z says.framing (piece mid.head says.query) bytes q) (sym first)
+    at)
     a closing
 along_replies x0 x1 x2 flow mid new says head bytes gathered tells v w entry m closes r (Err e) first at a closing =
     memory_replies x0 x1 x2 flow mid new says head gathered.given gathered.moved tells v w entry m closes says.closes
@@ -318,24 +321,26 @@ pub stop_replies : (x0 x1 x2 : Option (List ℕ)) (flow : Flow) (mid new : WireV
     → (tells : Bool) (v w : Sight) (entry : Answered) (m : ReplyText) (closes : Bool) (r : Route)
     → first_of mid.head says ≡ Ok r → is_upload r ≡ false → StopReplies tells why v w entry m → closes ≡ true
     → Replies x0 x2 flow new tells v w entry m closes
-stop_replies x0 x1 x2 flow mid new says head stopped.Long gathered tells v w entry m closes r first other a closing =
+stop_replies x0 x1 x2 flow mid new says head body_fault.Long gathered tells v w entry m closes r first other a closing =
     refused_replies x0 x1 x2 flow mid new says head gathered.given gathered.moved tells v w entry m closes
     (refusal.TooLong most_body) None a
     (body_defined (begun x0 x1 x2 flow mid new says head gathered.given gathered.moved) (stream new.flow.bytes x2)
     (first_of mid.head says) r
-    (refusal.TooLong most_body) first other (inl (refl, gathered.says))) closing
-stop_replies x0 x1 x2 flow mid new says head stopped.Broken gathered tells v w entry m closes r first other a closing =
+    (refusal.TooLong most_body) first other (inl (refl, gathered.says.0, gathered.says.1))) closing
+stop_replies x0 x1 x2 flow mid new says head body_fault.Broken gathered tells v w entry m closes r first other a
+    closing =
     refused_replies x0 x1 x2 flow mid new says head gathered.given gathered.moved tells v w entry m closes
     refusal.BadLength None a
     (body_defined (begun x0 x1 x2 flow mid new says head gathered.given gathered.moved) (stream new.flow.bytes x2)
     (first_of mid.head says) r
-    refusal.BadLength first other (inr (refl, gathered.says))) closing
-stop_replies x0 x1 x2 flow mid new says head stopped.Memory gathered tells v w entry m closes r first other a closing =
+    refusal.BadLength first other (inr (refl, gathered.says.0, gathered.says.1))) closing
+stop_replies x0 x1 x2 flow mid new says head body_fault.Memory gathered tells v w entry m closes r first other a
+    closing =
     memory_replies x0 x1 x2 flow mid new says head gathered.given gathered.moved tells v w entry m closes true
     (refused refusal.Memory) (a.1 _) a.0 closing
 stop_replies x0 x1 x2 flow mid new says head
-    (stopped.Cut n) gathered tells v w entry m closes r first other a closing = absurd a
-stop_replies x0 x1 x2 flow mid new says head stopped.ReadFault gathered tells v w entry m closes r first other a
+    (body_fault.Cut n) gathered tells v w entry m closes r first other a closing = absurd a
+stop_replies x0 x1 x2 flow mid new says head body_fault.ReadFault gathered tells v w entry m closes r first other a
     closing = absurd a
 
 -- ---- the source ended inside a body, or a read failed

@@ -1,6 +1,6 @@
 -- What was answered stays so as the histories grow.
 use Rattle.std.proofs.Common.{◌≡◌, ℕ, ◌≤◌, List, [], ◌∷◌, ◌++◌, take, Bool, Contains, refl, ap, sym, subst, ◌∙◌, arith}
-use Rattle.std.proofs.Common.{append_assoc, inl, inr, true, false, ◌||◌, eqb, All, ◌<◌}
+use Rattle.std.proofs.Common.{append_assoc, inl, inr, true, false, ◌||◌, eqb, All}
 use Rattle.std.specs.List.{flat_map}
 use Rattle.std.proofs.lemmas.List.{append-nil}
 use Rattle.std.proofs.lemmas.Bool.{eq-eqb}
@@ -21,7 +21,7 @@ use Rattle.blob_http.specs.declared.entries.Answered.{Answered}
 use Rattle.blob_http.specs.declared.entries.Outcome.{Outcome}
 use Rattle.blob_http.specs.declared.entries.Outcome.TheVariants.{Defined, Memory, Disk, Full, Damaged}
 use Rattle.blob_http.specs.declared.operations.Operation.{Operation}
-use Rattle.blob_http.specs.declared.operations.Operation.TheVariants as question
+use Rattle.blob_http.specs.declared.operations.Operation.TheVariants as operation
 use Rattle.http_exchange.specs.Asked.{Asked, Whole, Front, Head}
 use Rattle.blob_http.specs.Serving.{IsShown, LooksAt}
 use Rattle.blob_http.specs.Serving.{IsReply, HasCauseIn, IsAnswered, Longer, Answer, AnswerHolds, Climbs, Owns}
@@ -62,11 +62,11 @@ shown_stays h k blobs turns p later is = record {
 
 looks_stay : (h k : List (Stamped StoreEvent)) (blobs : List Blob) (q : Operation) (turns : List ℕ) → IsPrefix h k
     → AheadOf turns h k → LooksAt h blobs q turns → LooksAt k blobs q turns
-looks_stay h k blobs (question.Refused why allow) turns p later is = tt
-looks_stay h k blobs (question.Blob r) turns p later is = shown_stays h k blobs turns p later is
-looks_stay h k blobs (question.Stat refs) turns p later is = shown_stays h k blobs turns p later is
-looks_stay h k blobs (question.Refs page) turns p later is = shown_stays h k blobs turns p later is
-looks_stay h k blobs (question.Search query) turns p later is = shown_stays h k blobs turns p later is
+looks_stay h k blobs (operation.Refused why allow) turns p later is = tt
+looks_stay h k blobs (operation.Blob r) turns p later is = shown_stays h k blobs turns p later is
+looks_stay h k blobs (operation.Stat refs) turns p later is = shown_stays h k blobs turns p later is
+looks_stay h k blobs (operation.Refs page) turns p later is = shown_stays h k blobs turns p later is
+looks_stay h k blobs (operation.Search query) turns p later is = shown_stays h k blobs turns p later is
 
 reply_stays : (tells : Bool) (accepts : Accepts) (h k : List (Stamped StoreEvent)) (blobs : List Blob)
     (g : List Insertion) (asked : Asked) (kept : ℕ) (turns : List ℕ) (added : List (Stamped StoreEvent))

@@ -31,10 +31,11 @@ use Rattle.multipart_read.specs.Parameters.{if_boundary, is_boundary, value_of}
 use Rattle.blob_routes.specs.declared.routes.Route.TheVariants as route
 use Rattle.blob_routes.specs.Before.{boundary_in}
 use Rattle.blob_upload.specs.declared.upload_end.UploadEnd.{UploadEnd}
-use Rattle.blob_upload.specs.declared.upload_end.UploadEnd.TheVariants as came
+use Rattle.blob_upload.specs.declared.upload_end.UploadEnd.TheVariants as upload_end
 use Rattle.blob_upload.specs.UploadOutcome.{UploadOutcome}
 use Rattle.blob_upload.specs.Adds.{Adds, Turns, ShowsWhy, IsAddedBy, IsNext}
 use Rattle.blob_upload.specs.Puts.{IsArrivalOf}
+use Rattle.blob_upload.specs.Ends.{Reads}
 use Rattle.blob_upload.specs.Uploads.{Uploads}
 use Rattle.blob_upload.proofs.Adding.{uploads_add}
 use Rattle.blob_upload.proofs.Coming.{uploads_come}
@@ -42,11 +43,11 @@ use Rattle.blob_http.specs.declared.entries.Outcome.{Outcome}
 use Rattle.blob_http.specs.declared.entries.Outcome.TheVariants.{Defined, Disk, Full}
 use Rattle.blob_http.specs.declared.entries.Answered.{Answered}
 use Rattle.blob_http.specs.declared.replies.ReplyText.{ReplyText}
-use Rattle.blob_http.specs.declared.replies.ReplyText.TheVariants as made
+use Rattle.blob_http.specs.declared.replies.ReplyText.TheVariants as reply_text
 use Rattle.http_exchange.specs.declared.ended.Ended.{Ended}
 use Rattle.http_exchange.specs.declared.ended.Ended.TheVariants as ended
 use Rattle.http_exchange.specs.Asked.{Asked, Whole, Front}
-use Rattle.blob_http.specs.Questions.{first_of}
+use Rattle.blob_http.specs.Operations.{first_of}
 use Rattle.http_exchange.specs.HeadPlaces.{ReadsHead}
 use Rattle.http_exchange.specs.declared.replies.Reply.{Reply}
 use Rattle.http_exchange.specs.Written.{reply_bytes}
@@ -78,41 +79,41 @@ boundary_is (Some text) b is = by_value (value_of (codes "multipart/form-data") 
 told_cause : (turns : List ℕ) (h : List (Stamped StoreEvent)) (o : Outcome) (text : List ℕ) (m : ReplyText)
     → IsTold o text m → HasCauseIn turns h o
     → HasCauseIn turns h (outcome_of m)
-told_cause turns h o text made.Memory is c = tt
-told_cause turns h o text (made.Told p reply) is c = subst (HasCauseIn turns h) (sym is.0) c
+told_cause turns h o text reply_text.Memory is c = tt
+told_cause turns h o text (reply_text.Told p reply) is c = subst (HasCauseIn turns h) (sym is.0) c
 
 upload_cause : (closes : Bool) (kept : List (List ℕ × ℕ)) (c : UploadEnd) (m : ReplyText) (turns : List ℕ)
     (h : List (Stamped StoreEvent))
     → UploadMade closes kept c (Ok m) → ShowsWhy c turns h → HasCauseIn turns h (outcome_of m)
-upload_cause closes kept c made.Memory turns h is why = tt
-upload_cause closes kept came.Whole (made.Told o reply) turns h is why = told_cause turns h Defined _
-    (made.Told o reply) is tt
-upload_cause closes kept (came.Refused r) (made.Told o reply) turns h is why = told_cause turns h Defined _
-    (made.Told o reply) is tt
-upload_cause closes kept (came.Full n pack) (made.Told o reply) turns h is why = told_cause turns h
-    (Full n pack) _ (made.Told o reply) is why
-upload_cause closes kept came.Disk (made.Told o reply) turns h is why = told_cause turns h Disk _
-    (made.Told o reply) is why
-upload_cause closes kept came.Memory (made.Told o reply) turns h is why = absurd is
-upload_cause closes kept (came.Ended ends.Closed)
-    (made.Told o reply) turns h is why = told_cause turns h Defined _ (made.Told o reply) is tt
-upload_cause closes kept (came.Ended (ends.Cut n)) (made.Told o reply) turns h is why = absurd is
-upload_cause closes kept (came.Ended (ends.BadHead n))
-    (made.Told o reply) turns h is why = told_cause turns h Defined _ (made.Told o reply) is tt
-upload_cause closes kept (came.Ended (ends.BadLength n))
-    (made.Told o reply) turns h is why = told_cause turns h Defined _ (made.Told o reply) is tt
-upload_cause closes kept (came.Ended (ends.TooLong n))
-    (made.Told o reply) turns h is why = told_cause turns h Defined _ (made.Told o reply) is tt
-upload_cause closes kept (came.Ended ends.ReadFault) (made.Told o reply) turns h is why = absurd is
+upload_cause closes kept c reply_text.Memory turns h is why = tt
+upload_cause closes kept upload_end.Whole (reply_text.Told o reply) turns h is why = told_cause turns h Defined _
+    (reply_text.Told o reply) is tt
+upload_cause closes kept (upload_end.Refused r) (reply_text.Told o reply) turns h is why = told_cause turns h Defined _
+    (reply_text.Told o reply) is tt
+upload_cause closes kept (upload_end.Full n pack) (reply_text.Told o reply) turns h is why = told_cause turns h
+    (Full n pack) _ (reply_text.Told o reply) is why
+upload_cause closes kept upload_end.Disk (reply_text.Told o reply) turns h is why = told_cause turns h Disk _
+    (reply_text.Told o reply) is why
+upload_cause closes kept upload_end.Memory (reply_text.Told o reply) turns h is why = absurd is
+upload_cause closes kept (upload_end.Ended ends.Closed)
+    (reply_text.Told o reply) turns h is why = told_cause turns h Defined _ (reply_text.Told o reply) is tt
+upload_cause closes kept (upload_end.Ended (ends.Cut n)) (reply_text.Told o reply) turns h is why = absurd is
+upload_cause closes kept (upload_end.Ended (ends.BadHead n))
+    (reply_text.Told o reply) turns h is why = told_cause turns h Defined _ (reply_text.Told o reply) is tt
+upload_cause closes kept (upload_end.Ended (ends.BadLength n))
+    (reply_text.Told o reply) turns h is why = told_cause turns h Defined _ (reply_text.Told o reply) is tt
+upload_cause closes kept (upload_end.Ended (ends.TooLong n))
+    (reply_text.Told o reply) turns h is why = told_cause turns h Defined _ (reply_text.Told o reply) is tt
+upload_cause closes kept (upload_end.Ended ends.ReadFault) (reply_text.Told o reply) turns h is why = absurd is
 
-not_whole : is_whole came.Whole ≡ false → ⊥
+not_whole : is_whole upload_end.Whole ≡ false → ⊥
 not_whole e = true_not e
 
 -- ---- what was added
 
 -- an upload that ends where no more of its body is read added Puts of its parts alone
 arrival_of : (parts : List Part) (next : Part → Type 0) (end : WireEnd) (e : StoreEvent)
-    → IsAddedBy parts next (came.Ended end) e → IsArrivalOf parts e
+    → IsAddedBy parts next (upload_end.Ended end) e → IsArrivalOf parts e
 arrival_of parts next end (store.Put n r bytes) is = elim is [ inl stands ↦ stands | inr other ↦ absurd (cc other.0) ]
 arrival_of parts next end (store.Fault f) is = absurd (cc is)
 arrival_of parts next end (store.Damage want other) is = absurd is
@@ -127,9 +128,9 @@ added_by parts next c (store.Damage want other) is = absurd is
 added_by parts next c (store.Full blobs pack) is = absurd is
 
 module _ (boundary given : List ℕ) (parts : List Part) (end : WireEnd) (added : List (Stamped StoreEvent))
-    (all : AddsParts boundary given parts (came.Ended end) added) where
+    (all : AddsParts boundary given parts (upload_end.Ended end) added) where
   abbrev IsAdded : Stamped StoreEvent → Type 0
-  IsAdded s = IsAddedBy parts (IsNext boundary given parts) (came.Ended end) s.entry
+  IsAdded s = IsAddedBy parts (IsNext boundary given parts) (upload_end.Ended end) s.entry
 
   arrivals_alone : All (λ (s : Stamped StoreEvent). IsArrivalOf parts s.entry) added
   arrivals_alone = All-weaker IsAdded (λ (s : Stamped StoreEvent). IsArrivalOf parts s.entry)
@@ -145,61 +146,66 @@ module _ (boundary given : List ℕ) (parts : List Part) (end : WireEnd) (added 
 upload_said : (boundary given : List ℕ) (parts : List Part) (wire : WireView) (x : Option (List ℕ)) (closes : Bool)
     (c : UploadEnd) (m : ReplyText) (n t : ℕ) (added : List (Stamped StoreEvent))
     → UploadMade closes (sizes parts) c (Ok m) → UploadOutcome boundary given parts wire x c → Turns c n t
-    → (is_whole c ≡ false) ⊎ (m ≡ made.Memory) → AddsParts boundary given parts c added
-    → (d : UploadEnd) × UploadOutcome boundary given parts wire x d × Turns d n t × IsUploadReply parts d (outcome_of m) (text_of m)
+    → (is_whole c ≡ false) ⊎ (m ≡ reply_text.Memory) → AddsParts boundary given parts c added
+    → (d : UploadEnd) × UploadOutcome boundary given parts wire x d × Turns d n t
+    × IsUploadReply parts d (outcome_of m) (text_of m)
     × AddsParts boundary given parts d added
-upload_said boundary given parts wire x closes c made.Memory n t added is comes turns part adds =
+upload_said boundary given parts wire x closes c reply_text.Memory n t added is comes turns part adds =
     (c, comes, turns, refl, adds)
-upload_said boundary given parts wire x closes came.Whole (made.Told o reply) n t added is comes turns part adds =
+upload_said boundary given parts wire x closes upload_end.Whole (reply_text.Told o reply) n t added is comes turns
+    part adds =
     absurd (elim part [ inl e ↦ not_whole e | inr e ↦ cc e ])
-upload_said boundary given parts wire x closes (came.Refused why)
-    (made.Told o reply) n t added is comes turns part adds = (
-      came.Refused why,
+upload_said boundary given parts wire x closes (upload_end.Refused why)
+    (reply_text.Told o reply) n t added is comes turns part adds = (
+      upload_end.Refused why,
       comes,
       turns,
-      subst (λ (z : Outcome). IsUploadReply parts (came.Refused why) z (reply_bytes reply))
+      subst (λ (z : Outcome). IsUploadReply parts (upload_end.Refused why) z (reply_bytes reply))
           (sym is.0) is.1,
       adds,
     )
-upload_said boundary given parts wire x closes (came.Full k pack)
-    (made.Told o reply) n t added is comes turns part adds = (
-      came.Full k pack,
+upload_said boundary given parts wire x closes (upload_end.Full k pack)
+    (reply_text.Told o reply) n t added is comes turns part adds = (
+      upload_end.Full k pack,
       comes,
       turns,
-      subst (λ (z : Outcome). IsUploadReply parts (came.Full k pack) z (reply_bytes reply))
+      subst (λ (z : Outcome). IsUploadReply parts (upload_end.Full k pack) z (reply_bytes reply))
           (sym is.0) (refl, is.1),
       adds,
     )
-upload_said boundary given parts wire x closes came.Disk (made.Told o reply) n t added is comes turns part adds = (
-  came.Disk,
-  comes,
-  turns,
-  subst (λ (z : Outcome). IsUploadReply parts came.Disk z (reply_bytes reply)) (sym is.0)
-      (refl, is.1),
-  adds,
-)
-upload_said boundary given parts wire x closes came.Memory
-    (made.Told o reply) n t added is comes turns part adds = absurd is
-upload_said boundary given parts wire x closes (came.Ended ends.Closed)
-    (made.Told o reply) n t added is comes turns part adds = absurd comes.1
-upload_said boundary given parts wire x closes (came.Ended (ends.Cut k))
-    (made.Told o reply) n t added is comes turns part adds = absurd is
-upload_said boundary given parts wire x closes (came.Ended (ends.BadHead k))
-    (made.Told o reply) n t added is comes turns part adds = absurd comes.1
-upload_said boundary given parts wire x closes (came.Ended (ends.BadLength k))
-    (made.Told o reply) n t added is comes turns part adds = (
-      came.Refused refusal.BadLength,
+upload_said boundary given parts wire x closes upload_end.Disk (reply_text.Told o reply) n t added is comes turns part
+    adds = (
+      upload_end.Disk,
+      comes,
+      turns,
+      subst (λ (z : Outcome). IsUploadReply parts upload_end.Disk z (reply_bytes reply)) (sym is.0)
+          (refl, is.1),
+      adds,
+    )
+upload_said boundary given parts wire x closes upload_end.Memory
+    (reply_text.Told o reply) n t added is comes turns part adds = absurd is
+upload_said boundary given parts wire x closes (upload_end.Ended ends.Closed)
+    (reply_text.Told o reply) n t added is comes turns part adds = absurd comes.1
+upload_said boundary given parts wire x closes (upload_end.Ended (ends.Cut k))
+    (reply_text.Told o reply) n t added is comes turns part adds = absurd is
+upload_said boundary given parts wire x closes (upload_end.Ended (ends.BadHead k))
+    (reply_text.Told o reply) n t added is comes turns part adds = absurd comes.1
+upload_said boundary given parts wire x closes (upload_end.Ended (ends.BadLength k))
+    (reply_text.Told o reply) n t added is comes turns part adds = (
+      upload_end.Refused refusal.BadLength,
       (comes.0, comes.1.1),
       turns,
-      subst (λ (z : Outcome). IsUploadReply parts (came.Refused refusal.BadLength) z (reply_bytes reply)) (sym is.0) is.1,
-      broken_adds boundary given parts (ends.BadLength k) added adds (came.Refused refusal.BadLength),
+      subst (λ (z : Outcome). IsUploadReply parts (upload_end.Refused refusal.BadLength) z (reply_bytes reply))
+          (sym is.0) is.1,
+      broken_adds boundary given parts (ends.BadLength k) added adds (upload_end.Refused refusal.BadLength),
     )
-upload_said boundary given parts wire x closes (came.Ended (ends.TooLong k))
-    (made.Told o reply) n t added is comes turns part adds = absurd comes.1
-upload_said boundary given parts wire x closes (came.Ended ends.ReadFault)
-    (made.Told o reply) n t added is comes turns part adds = absurd is
+upload_said boundary given parts wire x closes (upload_end.Ended (ends.TooLong k))
+    (reply_text.Told o reply) n t added is comes turns part adds = absurd comes.1
+upload_said boundary given parts wire x closes (upload_end.Ended ends.ReadFault)
+    (reply_text.Told o reply) n t added is comes turns part adds = absurd is
 
-added_longer : (parts : List Part) (next : Part → Type 0) (c : UploadEnd) (v w : Sight) → Adds parts next c v w → Longer v w
+added_longer : (parts : List Part) (next : Part → Type 0) (c : UploadEnd) (v w : Sight) → Adds parts next c v w
+    → Longer v w
 added_longer parts next c v w adds = record {
   store = adds.grew.longer;
   turns = (adds.grew.further, sym adds.grew.drawn);
@@ -233,8 +239,8 @@ module _ (x0 x1 x2 : Option (List ℕ)) (flow : Flow) (mid new : WireView) (says
   abbrev turns : List ℕ
   turns = adds.grew.further
 
-  made_so : (m : ReplyText) → UploadMade says.closes listed c (Ok m) → UploadMade says.closes (sizes u.parts) c (Ok m)
-  made_so m is = subst (λ (k : List (List ℕ × ℕ)). UploadMade says.closes k c (Ok m)) u.keeps.listed is
+  reply_so : (m : ReplyText) → UploadMade says.closes listed c (Ok m) → UploadMade says.closes (sizes u.parts) c (Ok m)
+  reply_so m is = subst (λ (k : List (List ℕ × ℕ)). UploadMade says.closes k c (Ok m)) u.keeps.listed is
 
   counted : (k : ℕ) → k ≡ length listed → k ≡ length u.parts
   counted k is = is ∙ ap length u.keeps.listed ∙ length-map u.parts (λ (b : Blob). (b.0, length b.1))
@@ -291,13 +297,13 @@ module _ (x0 x1 x2 : Option (List ℕ)) (flow : Flow) (mid new : WireView) (says
   -- an upload that isn't whole, or without memory for the reply
   part_replies : (entry : Answered) (m : ReplyText) (closes : Bool) → UploadMade says.closes listed c (Ok m)
       → IsUploadEntry w (length listed) m entry
-      → (is_whole c ≡ false) ⊎ (m ≡ made.Memory) → closes ≡ true → Replies x0 x2 flow new tells v w entry m closes
+      → (is_whole c ≡ false) ⊎ (m ≡ reply_text.Memory) → closes ≡ true → Replies x0 x2 flow new tells v w entry m closes
   part_replies entry m closes is e part closing =
       let b = begun x0 x1 x2 flow mid new says head u.given u.moved in
       let after = stream new.flow.bytes x2 in
       let n : entry.kept ≡ length u.parts = counted entry.kept e.kept in
       let said = upload_said boundary u.given u.parts new (to_come new x2) says.closes c m entry.kept (length turns)
-      adds.grew.added (made_so m is) comes
+      adds.grew.added (reply_so m is) comes
       (subst (λ (k : ℕ). Turns c k (length turns)) (sym n) adds.turns) part adds.grew.each_is in
       record {
         asked = Front b after;
@@ -314,14 +320,15 @@ module _ (x0 x1 x2 : Option (List ℕ)) (flow : Flow) (mid new : WireView) (says
       }
 
   -- a whole upload
-  whole_replies : (entry : Answered) (o : Outcome) (reply : Reply) (closes : Bool) → c ≡ came.Whole
-      → UploadMade says.closes listed c (Ok (made.Told o reply))
-      → IsUploadEntry w (length listed) (made.Told o reply) entry
-      → closes ≡ says.closes → Replies x0 x2 flow new tells v w entry (made.Told o reply) closes
+  whole_replies : (entry : Answered) (o : Outcome) (reply : Reply) (closes : Bool) → c ≡ upload_end.Whole
+      → UploadMade says.closes listed c (Ok (reply_text.Told o reply))
+      → IsUploadEntry w (length listed) (reply_text.Told o reply) entry
+      → closes ≡ says.closes → Replies x0 x2 flow new tells v w entry (reply_text.Told o reply) closes
   whole_replies entry o reply closes whole is e closing =
       let done = subst (λ (z : UploadEnd). UploadOutcome boundary u.given u.parts new (to_come new x2) z) whole comes in
-      let told = subst (λ (z : UploadEnd). UploadMade says.closes (sizes u.parts) z (Ok (made.Told o reply))) whole
-      (made_so (made.Told o reply) is) in
+      let told = subst (λ (z : UploadEnd). UploadMade says.closes (sizes u.parts) z (Ok (reply_text.Told o reply)))
+      whole
+      (reply_so (reply_text.Told o reply) is) in
       let count = subst (λ (z : UploadEnd). Turns z (length u.parts) (length turns)) whole adds.turns in
       let r : Request = record { head = mid.head; says = says; framed = u.moved.0; body = u.given } in
       let begins = is_begun x0 x1 x2 flow mid new says head u.given u.moved in
@@ -334,7 +341,7 @@ module _ (x0 x1 x2 : Option (List ℕ)) (flow : Flow) (mid new : WireView) (says
           passed x0 x1 x2 flow mid new
               says head u.given u.moved,
         );
-        handles = handles (Whole r) entry (made.Told o reply) is e
+        handles = handles (Whole r) entry (reply_text.Told o reply) is e
             (λ g. inl (
               kept entry.kept e.kept,
               done.2,
@@ -350,13 +357,13 @@ module _ (x0 x1 x2 : Option (List ℕ)) (flow : Flow) (mid new : WireView) (says
   pub upload_replies : (entry : Answered) (m : ReplyText) (closes : Bool) → UploadMade says.closes listed c (Ok m)
       → IsUploadEntry w (length listed) m entry
       → closes ≡ ((says.closes || not (is_whole c)) || is_memory m) → Replies x0 x2 flow new tells v w entry m closes
-  upload_replies entry made.Memory closes is e closing =
-      part_replies entry made.Memory closes is e (inr refl) (closing ∙ or_true (says.closes || not (is_whole c)))
+  upload_replies entry reply_text.Memory closes is e closing =
+      part_replies entry reply_text.Memory closes is e (inr refl) (closing ∙ or_true (says.closes || not (is_whole c)))
     where
       or_true : (b : Bool) → (b || true) ≡ true
       or_true true = refl
       or_true false = refl
-  upload_replies entry (made.Told o reply) closes is e closing = by_whole (is_whole c) refl
+  upload_replies entry (reply_text.Told o reply) closes is e closing = by_whole (is_whole c) refl
     where
       or_true : (b : Bool) → ((b || true) || false) ≡ true
       or_true true = refl
@@ -366,22 +373,22 @@ module _ (x0 x1 x2 : Option (List ℕ)) (flow : Flow) (mid new : WireView) (says
       or_false true = refl
       or_false false = refl
 
-      whole_is : (d : UploadEnd) → is_whole d ≡ true → d ≡ came.Whole
-      whole_is came.Whole is = refl
-      whole_is (came.Refused why) is = absurd (true_not (sym is))
-      whole_is (came.Full n pack) is = absurd (true_not (sym is))
-      whole_is came.Disk is = absurd (true_not (sym is))
-      whole_is came.Memory is = absurd (true_not (sym is))
-      whole_is (came.Ended end) is = absurd (true_not (sym is))
+      whole_is : (d : UploadEnd) → is_whole d ≡ true → d ≡ upload_end.Whole
+      whole_is upload_end.Whole is = refl
+      whole_is (upload_end.Refused why) is = absurd (true_not (sym is))
+      whole_is (upload_end.Full n pack) is = absurd (true_not (sym is))
+      whole_is upload_end.Disk is = absurd (true_not (sym is))
+      whole_is upload_end.Memory is = absurd (true_not (sym is))
+      whole_is (upload_end.Ended end) is = absurd (true_not (sym is))
 
-      by_whole : (b : Bool) → is_whole c ≡ b → Replies x0 x2 flow new tells v w entry (made.Told o reply) closes
+      by_whole : (b : Bool) → is_whole c ≡ b → Replies x0 x2 flow new tells v w entry (reply_text.Told o reply) closes
       by_whole true whole = whole_replies entry o reply closes (whole_is c whole) is e
           (closing ∙ ap (λ (b : Bool). (says.closes || not b) || false) whole ∙ or_false says.closes)
-      by_whole false part = part_replies entry (made.Told o reply) closes is e (inl part)
+      by_whole false part = part_replies entry (reply_text.Told o reply) closes is e (inl part)
           (closing ∙ ap (λ (b : Bool). (says.closes || not b) || false) part ∙ or_true says.closes)
 
   -- an upload in which the connection ends leaves the turns that it drew, and what they added
-  cut_upload : (end : WireEnd) (place : ℕ) → c ≡ came.Ended end → place ≡ flow.taken
+  cut_upload : (end : WireEnd) (place : ℕ) → c ≡ upload_end.Ended end → place ≡ flow.taken
       → CutUpload (stream flow.bytes x0) flow.taken place turns adds.grew.added
   cut_upload end place ends_so at = record {
     begun = begun x0 x1 x2 flow mid new says head u.given u.moved;
@@ -412,72 +419,73 @@ module _ (x0 x1 x2 : Option (List ℕ)) (flow : Flow) (mid new : WireView) (says
     where
       may_rest : (d : UploadEnd) (end : Ended) → c ≡ d → UploadMade says.closes listed d (Err end)
           → IsRest (stream flow.bytes x0) flow.taken end turns adds.grew.added
-      may_rest came.Whole end same is = absurd is
-      may_rest (came.Refused why) end same is = absurd is
-      may_rest (came.Full n pack) end same is = absurd is
-      may_rest came.Disk end same is = absurd is
-      may_rest came.Memory end same is = absurd is
-      may_rest (came.Ended ends.Closed) end same is = absurd is
-      may_rest (came.Ended (ends.Cut n)) end same is =
-          let place = (subst (λ (z : UploadEnd). UploadOutcome boundary u.given u.parts new (to_come new x2) z) same comes).1.0 in
+      may_rest upload_end.Whole end same is = absurd is
+      may_rest (upload_end.Refused why) end same is = absurd is
+      may_rest (upload_end.Full n pack) end same is = absurd is
+      may_rest upload_end.Disk end same is = absurd is
+      may_rest upload_end.Memory end same is = absurd is
+      may_rest (upload_end.Ended ends.Closed) end same is = absurd is
+      may_rest (upload_end.Ended (ends.Cut n)) end same is =
+          let place = (subst (λ (z : UploadEnd). UploadOutcome boundary u.given u.parts new (to_come new x2) z) same
+          comes).1.0 in
           subst (λ (e : Ended). IsRest (stream flow.bytes x0) flow.taken e turns adds.grew.added) (sym is)
           (inr (cut_upload (ends.Cut n) n same (place ∙ begun_so ∙ head.begun)))
-      may_rest (came.Ended (ends.BadHead n)) end same is = absurd is
-      may_rest (came.Ended (ends.BadLength n)) end same is = absurd is
-      may_rest (came.Ended (ends.TooLong n)) end same is = absurd is
-      may_rest (came.Ended ends.ReadFault) end same is =
+      may_rest (upload_end.Ended (ends.BadHead n)) end same is = absurd is
+      may_rest (upload_end.Ended (ends.BadLength n)) end same is = absurd is
+      may_rest (upload_end.Ended (ends.TooLong n)) end same is = absurd is
+      may_rest (upload_end.Ended ends.ReadFault) end same is =
           subst (λ (e : Ended). IsRest (stream flow.bytes x0) flow.taken e turns adds.grew.added) (sym is)
           (inr (flow.taken, cut_upload ends.ReadFault flow.taken same refl))
 
   pub upload_none : (new.begun ≡ mid.begun) → (end : Ended) → UploadMade says.closes listed c (Err end)
       → NoneComes (stream flow.bytes x0) x2 flow.taken end
-  upload_none same end is = by_came c end is comes
+  upload_none same end is = by_end c end is comes
     where
-      by_came : (d : UploadEnd) (end : Ended) → UploadMade says.closes listed d (Err end)
+      fair : Reads boundary u.given u.parts → IsFair (begun x0 x1 x2 flow mid new says head u.given u.moved)
+      fair reads = subst (HadNoRefusal (begun x0 x1 x2 flow mid new says head u.given u.moved)) (sym first)
+          (boundary, bounds, record { parts = u.parts; sound = u.keeps.sound; reads = reads })
+
+      by_end : (d : UploadEnd) (end : Ended) → UploadMade says.closes listed d (Err end)
           → UploadOutcome boundary u.given u.parts new (to_come new x2) d
           → NoneComes (stream flow.bytes x0) x2 flow.taken end
-      by_came came.Whole end is said = absurd is
-      by_came (came.Refused why) end is said = absurd is
-      by_came (came.Full n pack) end is said = absurd is
-      by_came came.Disk end is said = absurd is
-      by_came came.Memory end is said = absurd is
-      by_came (came.Ended ends.Closed) end is said = absurd is
-      by_came (came.Ended (ends.Cut n)) end is said =
+      by_end upload_end.Whole end is said = absurd is
+      by_end (upload_end.Refused why) end is said = absurd is
+      by_end (upload_end.Full n pack) end is said = absurd is
+      by_end upload_end.Disk end is said = absurd is
+      by_end upload_end.Memory end is said = absurd is
+      by_end (upload_end.Ended ends.Closed) end is said = absurd is
+      by_end (upload_end.Ended (ends.Cut n)) end is said =
           subst (NoneComes (stream flow.bytes x0) x2 flow.taken) (sym is)
           (cut_body IsFair (stream flow.bytes x0) (stream new.flow.bytes x2) flow.taken n
           (begun x0 x1 x2 flow mid new says head u.given u.moved)
           (is_begun x0 x1 x2 flow mid new says head u.given u.moved)
           (passed x0 x1 x2 flow mid new says head u.given u.moved).gave
-          (said.1.0 ∙ same ∙ head.begun) said.1.1
-          (subst (HadNoRefusal (begun x0 x1 x2 flow mid new says head u.given u.moved)) (sym first) (
-            boundary,
-            bounds,
-            record { parts = u.parts; sound = u.keeps.sound; reads = said.0 },
-          )))
-      by_came (came.Ended (ends.BadHead n)) end is said = absurd is
-      by_came (came.Ended (ends.BadLength n)) end is said = absurd is
-      by_came (came.Ended (ends.TooLong n)) end is said = absurd is
-      by_came (came.Ended ends.ReadFault) end is said =
+          (said.1.0 ∙ same ∙ head.begun) said.1.1 (fair said.0))
+      by_end (upload_end.Ended (ends.BadHead n)) end is said = absurd is
+      by_end (upload_end.Ended (ends.BadLength n)) end is said = absurd is
+      by_end (upload_end.Ended (ends.TooLong n)) end is said = absurd is
+      by_end (upload_end.Ended ends.ReadFault) end is said =
           subst (NoneComes (stream flow.bytes x0) x2 flow.taken) (sym is)
-          (read_short_of_body (stream flow.bytes x0) x2 new.flow.bytes
+          (read_short_of_body IsFair (stream flow.bytes x0) x2 new.flow.bytes
           (begun x0 x1 x2 flow mid new says head u.given u.moved)
           (is_begun x0 x1 x2 flow mid new says head u.given u.moved)
-          (passed x0 x1 x2 flow mid new says head u.given u.moved).gave (said.2 refl))
+          (passed x0 x1 x2 flow mid new says head u.given u.moved).gave (said.2 refl) (fair said.0))
 
 -- where the connection ends with a failed read, that is what the upload ended with
-pub ended_so : (closes : Bool) (kept : List (List ℕ × ℕ)) (c : UploadEnd) → UploadMade closes kept c (Err ended.ReadFault)
-    → c ≡ came.Ended ends.ReadFault
-ended_so closes kept came.Whole is = absurd is
-ended_so closes kept (came.Refused why) is = absurd is
-ended_so closes kept (came.Full n pack) is = absurd is
-ended_so closes kept came.Disk is = absurd is
-ended_so closes kept came.Memory is = absurd is
-ended_so closes kept (came.Ended ends.Closed) is = absurd is
-ended_so closes kept (came.Ended (ends.Cut n)) is = absurd (cc is)
-ended_so closes kept (came.Ended (ends.BadHead n)) is = absurd is
-ended_so closes kept (came.Ended (ends.BadLength n)) is = absurd is
-ended_so closes kept (came.Ended (ends.TooLong n)) is = absurd is
-ended_so closes kept (came.Ended ends.ReadFault) is = refl
+pub ended_so : (closes : Bool) (kept : List (List ℕ × ℕ)) (c : UploadEnd)
+    → UploadMade closes kept c (Err ended.ReadFault)
+    → c ≡ upload_end.Ended ends.ReadFault
+ended_so closes kept upload_end.Whole is = absurd is
+ended_so closes kept (upload_end.Refused why) is = absurd is
+ended_so closes kept (upload_end.Full n pack) is = absurd is
+ended_so closes kept upload_end.Disk is = absurd is
+ended_so closes kept upload_end.Memory is = absurd is
+ended_so closes kept (upload_end.Ended ends.Closed) is = absurd is
+ended_so closes kept (upload_end.Ended (ends.Cut n)) is = absurd (cc is)
+ended_so closes kept (upload_end.Ended (ends.BadHead n)) is = absurd is
+ended_so closes kept (upload_end.Ended (ends.BadLength n)) is = absurd is
+ended_so closes kept (upload_end.Ended (ends.TooLong n)) is = absurd is
+ended_so closes kept (upload_end.Ended ends.ReadFault) is = refl
 
 -- what is said of a value in three clauses
 pub if_ok_three : {X Y : Type 0} (r : Result X Y) (P Q R S : X → Type 0) → ((x : X) → P x → Q x → R x → S x)
@@ -488,6 +496,6 @@ if_ok_three (Err y) P Q R S f p q t = tt
 
 -- where an upload ends with a failed read, that is what it came to
 pub fault_so : {X : Type 0} (closes : Bool) (kept : List (List ℕ × ℕ)) (c : UploadEnd) (r : Result X Ended)
-    → IfErr r (λ e. UploadMade closes kept c (Err e)) → IsErrOf r ended.ReadFault → c ≡ came.Ended ends.ReadFault
+    → IfErr r (λ e. UploadMade closes kept c (Err e)) → IsErrOf r ended.ReadFault → c ≡ upload_end.Ended ends.ReadFault
 fault_so closes kept c r is e =
     ended_so closes kept c (subst (λ (z : Result _ Ended). IfErr z (λ y. UploadMade closes kept c (Err y))) e is)

@@ -1,4 +1,4 @@
--- What is answered to a question, over the blobs that arrived and the Inserts.
+-- What is answered to an operation, over the blobs that arrived and the Inserts.
 use Rattle.std.specs.Prelude.{◌≡◌, ℕ, ◌+◌, ◌-◌, List, [], length, take, slice_get, Bool, true, false, nat_lt}
 use Rattle.std.specs.Prelude.{if◌then◌else◌, Option, Some, None, Result, Ok, Err}
 use Rattle.std.specs.Option.{option_map}
@@ -20,9 +20,9 @@ use Rattle.blob_routes.specs.Routes.{allowed_text}
 use Rattle.blob_http.specs.declared.entries.Outcome.{Outcome}
 use Rattle.blob_http.specs.declared.entries.Outcome.TheVariants.{Defined, Memory, Disk, Full, Damaged}
 use Rattle.blob_http.specs.declared.operations.Operation.{Operation}
-use Rattle.blob_http.specs.declared.operations.Operation.TheVariants as question
+use Rattle.blob_http.specs.declared.operations.Operation.TheVariants as operation
 use Rattle.blob_http.specs.declared.replies.ReplyText.{ReplyText}
-use Rattle.blob_http.specs.declared.replies.ReplyText.TheVariants as made
+use Rattle.blob_http.specs.declared.replies.ReplyText.TheVariants as reply_text
 use Rattle.http_exchange.specs.Replies.{json_reply, bytes_reply, refused_reply, memory_reply}
 use Rattle.http_exchange.specs.Written.{reply_bytes}
 
@@ -55,22 +55,22 @@ stat_answer refs blobs = stat_text (filter_map (sized blobs) (each_once [] refs)
 
 -- The reply as it is defined. A search has found all of these blobs inserted.
 abbrev pub IsDefined : Bool → Accepts → List Blob → List Insertion → Bool → Operation → List ℕ → Type 0
-IsDefined tells accepts blobs g closes (question.Refused why allow) text =
+IsDefined tells accepts blobs g closes (operation.Refused why allow) text =
     text ≡ refused_reply closes (allow_text allow) why
-IsDefined tells accepts blobs g closes (question.Blob r) text = IsBlobReply tells r closes (bytes_of r blobs) text
-IsDefined tells accepts blobs g closes (question.Stat refs) text = text ≡ json_reply closes (stat_answer refs blobs)
-IsDefined tells accepts blobs g closes (question.Refs p) text =
+IsDefined tells accepts blobs g closes (operation.Blob r) text = IsBlobReply tells r closes (bytes_of r blobs) text
+IsDefined tells accepts blobs g closes (operation.Stat refs) text = text ≡ json_reply closes (stat_answer refs blobs)
+IsDefined tells accepts blobs g closes (operation.Refs p) text =
     text ≡ json_reply closes (page_answer p.after p.limit blobs)
-IsDefined tells accepts blobs g closes (question.Search query) text =
+IsDefined tells accepts blobs g closes (operation.Search query) text =
     HasAllBelow (length blobs) g × (text ≡ json_reply closes (search_text (answer (indexed g) accepts query)))
 
 -- whether the answer needs bytes of blobs
 abbrev pub reads_blobs : Operation → Bool
-reads_blobs (question.Refused why allow) = false
-reads_blobs (question.Blob r) = true
-reads_blobs (question.Stat refs) = false
-reads_blobs (question.Refs p) = false
-reads_blobs (question.Search query) = true
+reads_blobs (operation.Refused why allow) = false
+reads_blobs (operation.Blob r) = true
+reads_blobs (operation.Stat refs) = false
+reads_blobs (operation.Refs p) = false
+reads_blobs (operation.Search query) = true
 
 -- the reply to what can't be answered as it is defined
 abbrev pub IsFailed : Bool → Outcome → List ℕ → Type 0
@@ -80,7 +80,7 @@ IsFailed closes Disk text = text ≡ refused_reply closes [] refusal.Disk
 IsFailed closes (Full blobs pack) text = ⊥
 IsFailed closes (Damaged want is) text = text ≡ refused_reply closes [] (refusal.Damaged want is)
 
--- the reply to a question with this outcome
+-- the reply to an operation with this outcome
 abbrev pub IsAnswer : Bool → Accepts → List Blob → List Insertion → Bool → Operation → Outcome → List ℕ → Type 0
 IsAnswer tells accepts blobs g closes q Defined text = IsDefined tells accepts blobs g closes q text
 IsAnswer tells accepts blobs g closes q Memory text = IsFailed closes Memory text
@@ -92,20 +92,20 @@ IsAnswer tells accepts blobs g closes q (Damaged want is) text =
 -- ---- as a reply is made
 
 abbrev pub outcome_of : ReplyText → Outcome
-outcome_of (made.Told outcome reply) = outcome
-outcome_of made.Memory = Memory
+outcome_of (reply_text.Told outcome reply) = outcome
+outcome_of reply_text.Memory = Memory
 
 abbrev pub text_of : ReplyText → List ℕ
-text_of (made.Told outcome reply) = reply_bytes reply
-text_of made.Memory = memory_reply
+text_of (reply_text.Told outcome reply) = reply_bytes reply
+text_of reply_text.Memory = memory_reply
 
 abbrev pub IsTold : Outcome → List ℕ → ReplyText → Type 0
-IsTold outcome text (made.Told o reply) = (o ≡ outcome) × (reply_bytes reply ≡ text)
-IsTold outcome text made.Memory = Unit {0}
+IsTold outcome text (reply_text.Told o reply) = (o ≡ outcome) × (reply_bytes reply ≡ text)
+IsTold outcome text reply_text.Memory = Unit {0}
 
 abbrev pub IsMemory : ReplyText → Type 0
-IsMemory (made.Told o reply) = ⊥
-IsMemory made.Memory = Unit {0}
+IsMemory (reply_text.Told o reply) = ⊥
+IsMemory reply_text.Memory = Unit {0}
 
 abbrev pub FaultMade : Bool → GetFault → ReplyText → Type 0
 FaultMade closes unread.Disk m = IsTold Disk (refused_reply closes [] refusal.Disk) m

@@ -17,13 +17,14 @@ use Rattle.blob_routes.specs.declared.routes.Allowed.{Allowed}
 use Rattle.blob_routes.specs.declared.routes.Route.{Route}
 use Rattle.blob_routes.specs.declared.routes.Route.TheVariants as route
 use Rattle.http_exchange.specs.Before.{most_body}
-use Rattle.blob_upload.specs.Faults.{most_bytes, part_fault}
+use Rattle.multipart_read.specs.Limits.{most_bytes}
+use Rattle.blob_upload.specs.Faults.{part_fault}
 use Rattle.blob_http.specs.declared.entries.Outcome.{Outcome}
 use Rattle.blob_http.specs.declared.entries.Outcome.TheVariants.{Defined, Memory}
 use Rattle.blob_http.specs.declared.operations.Operation.{Operation}
 use Rattle.blob_http.specs.declared.operations.Operation.TheVariants.{Refused}
 use Rattle.http_exchange.specs.Asked.{Asked, Whole, Front, Head}
-use Rattle.blob_http.specs.Questions.{IsAsked, first_of}
+use Rattle.blob_http.specs.Operations.{IsAsked, first_of}
 use Rattle.blob_http.specs.Answers.{IsDefined}
 use Rattle.http_exchange.specs.Replies.{json_reply, memory_reply}
 use Rattle.blob_http.specs.Keeping.{boundary_at}
@@ -39,17 +40,17 @@ pub record IsGoodUpload (boundary body : List ℕ) : Type 0 where
   pub sound : All (λ (part : Part). part_fault part ≡ None) parts
 
 -- the body of another request isn't too long, and what is asked with it isn't refused
-pub record IsGoodQuestion (r : Request) : Type 0 where
+pub record IsGoodOperation (r : Request) : Type 0 where
   pub short : length r.body ≤ most_body
   pub fits : (why : Refusal) (allow : Option Allowed) → IsAsked r.head r.says r.body (Refused why allow) → ⊥
 
 abbrev pub HasGoodBody : Request → Route → Type 0
-HasGoodBody r (route.Blob ref) = IsGoodQuestion r
-HasGoodBody r (route.Stat posted) = IsGoodQuestion r
+HasGoodBody r (route.Blob ref) = IsGoodOperation r
+HasGoodBody r (route.Stat posted) = IsGoodOperation r
 HasGoodBody r route.Upload =
     (boundary : List ℕ) × (boundary_at r.head r.says ≡ Some boundary) × IsGoodUpload boundary r.body
-HasGoodBody r route.Page = IsGoodQuestion r
-HasGoodBody r route.Search = IsGoodQuestion r
+HasGoodBody r route.Page = IsGoodOperation r
+HasGoodBody r route.Search = IsGoodOperation r
 
 -- no refusal fits the request, neither by its head nor by its body
 pub record IsValid (r : Request) : Type 0 where
@@ -78,7 +79,7 @@ is_put (store.Full blobs pack) = false
 abbrev pub IsCalm : List (Stamped StoreEvent) → List ℕ → Type 0
 IsCalm h turns = (t : ℕ) (e : StoreEvent) → has turns t ≡ true → Contains h (stamp t e) → is_put e ≡ true
 
--- the reply that is defined: all parts of an upload were received, or the question is answered
+-- the reply that is defined: all parts of an upload were received, or the operation is answered
 abbrev pub IsDefinedReply : Bool → Accepts → List Blob → List Insertion → Request → List ℕ → Type 0
 IsDefinedReply tells accepts blobs g r text =
     ((boundary : List ℕ) × (parts : List Part) × (boundary_at r.head r.says ≡ Some boundary)

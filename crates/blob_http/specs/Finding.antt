@@ -13,7 +13,7 @@ use Rattle.http_wire.specs.Speaking.{Request}
 use Rattle.blob_http.specs.declared.entries.Outcome.TheVariants.{Defined}
 use Rattle.blob_http.specs.declared.operations.Operation.TheVariants.{Search}
 use Rattle.http_exchange.specs.Asked.{Whole}
-use Rattle.blob_http.specs.Questions.{IsAsked}
+use Rattle.blob_http.specs.Operations.{IsAsked}
 use Rattle.blob_http.specs.Serving.{IsShown, Answer, AnswerHolds}
 
 -- the blob was put in this turn

@@ -13,7 +13,7 @@ use Rattle.multipart_read.specs.PartLists.{Part}
 use Rattle.blob_routes.specs.declared.routes.Route.TheVariants.{Upload}
 use Rattle.blob_routes.specs.Before.{boundary_in}
 use Rattle.blob_upload.specs.declared.upload_end.UploadEnd.{UploadEnd}
-use Rattle.blob_upload.specs.declared.upload_end.UploadEnd.TheVariants as came
+use Rattle.blob_upload.specs.declared.upload_end.UploadEnd.TheVariants as upload_end
 use Rattle.blob_upload.specs.Faults.{part_fault}
 use Rattle.blob_http.specs.declared.entries.Outcome.{Outcome}
 use Rattle.blob_http.specs.declared.entries.Outcome.TheVariants.{Defined, Memory, Disk, Full, Damaged}
@@ -21,7 +21,7 @@ use Rattle.blob_http.specs.declared.replies.ReplyText.{ReplyText}
 use Rattle.http_exchange.specs.declared.replies.Kind.TheVariants.{Json}
 use Rattle.http_exchange.specs.declared.ended.Ended.{Ended}
 use Rattle.http_exchange.specs.declared.ended.Ended.TheVariants as ended
-use Rattle.blob_http.specs.Questions.{first_of}
+use Rattle.blob_http.specs.Operations.{first_of}
 use Rattle.http_exchange.specs.HeadPlaces.{piece}
 use Rattle.http_exchange.specs.Replies.{reply_text, json_reply, memory_reply}
 use Rattle.blob_http.specs.Answers.{IsTold, IsMemory}
@@ -46,19 +46,19 @@ upload_reply kept why = reply_text (code_of why) Json true [] (upload_text kept 
 
 -- the reply to an upload that was refused
 abbrev pub IsUploadRefused : List (List ℕ × ℕ) → UploadEnd → List ℕ → Type 0
-IsUploadRefused kept (came.Refused why) text = text ≡ upload_reply kept why
-IsUploadRefused kept came.Whole text = ⊥
-IsUploadRefused kept (came.Full blobs pack) text = ⊥
-IsUploadRefused kept came.Disk text = ⊥
-IsUploadRefused kept came.Memory text = ⊥
-IsUploadRefused kept (came.Ended end) text = ⊥
+IsUploadRefused kept (upload_end.Refused why) text = text ≡ upload_reply kept why
+IsUploadRefused kept upload_end.Whole text = ⊥
+IsUploadRefused kept (upload_end.Full blobs pack) text = ⊥
+IsUploadRefused kept upload_end.Disk text = ⊥
+IsUploadRefused kept upload_end.Memory text = ⊥
+IsUploadRefused kept (upload_end.Ended end) text = ⊥
 
 abbrev pub IsUploadReply : List Part → UploadEnd → Outcome → List ℕ → Type 0
 IsUploadReply parts c Defined text = IsUploadRefused (sizes parts) c text
 IsUploadReply parts c Memory text = text ≡ memory_reply
-IsUploadReply parts c Disk text = (c ≡ came.Disk) × (text ≡ upload_reply (sizes parts) refusal.Disk)
+IsUploadReply parts c Disk text = (c ≡ upload_end.Disk) × (text ≡ upload_reply (sizes parts) refusal.Disk)
 IsUploadReply parts c (Full blobs pack) text =
-    (c ≡ came.Full blobs pack) × (text ≡ upload_reply (sizes parts) (refusal.Full blobs pack))
+    (c ≡ upload_end.Full blobs pack) × (text ≡ upload_reply (sizes parts) (refusal.Full blobs pack))
 IsUploadReply parts c (Damaged want is) text = ⊥
 
 -- ---- as a reply is made
@@ -66,35 +66,38 @@ IsUploadReply parts c (Damaged want is) text = ⊥
 -- What is made of how an upload came; none where the connection ends in it. An upload ends with no other ends than
 -- these two and a break of its chunks.
 abbrev pub UploadMade : Bool → List (List ℕ × ℕ) → UploadEnd → Result ReplyText Ended → Type 0
-UploadMade closes kept came.Whole (Ok m) = IsTold Defined (json_reply closes (upload_text kept None)) m
-UploadMade closes kept (came.Refused why) (Ok m) = IsTold Defined (upload_reply kept why) m
-UploadMade closes kept (came.Full blobs pack) (Ok m) =
+UploadMade closes kept upload_end.Whole (Ok m) = IsTold Defined (json_reply closes (upload_text kept None)) m
+UploadMade closes kept (upload_end.Refused why) (Ok m) = IsTold Defined (upload_reply kept why) m
+UploadMade closes kept (upload_end.Full blobs pack) (Ok m) =
     IsTold (Full blobs pack) (upload_reply kept (refusal.Full blobs pack)) m
-UploadMade closes kept came.Disk (Ok m) = IsTold Disk (upload_reply kept refusal.Disk) m
-UploadMade closes kept came.Memory (Ok m) = IsMemory m
-UploadMade closes kept (came.Ended (ends.Cut n)) (Err e) = e ≡ ended.Cut n
-UploadMade closes kept (came.Ended ends.ReadFault) (Err e) = e ≡ ended.ReadFault
-UploadMade closes kept (came.Ended (ends.BadLength n)) (Ok m) = IsTold Defined (upload_reply kept refusal.BadLength) m
-UploadMade closes kept (came.Ended ends.Closed) (Ok m) = IsTold Defined (upload_reply kept refusal.BadLength) m
-UploadMade closes kept (came.Ended (ends.BadHead n)) (Ok m) = IsTold Defined (upload_reply kept refusal.BadLength) m
-UploadMade closes kept (came.Ended (ends.TooLong n)) (Ok m) = IsTold Defined (upload_reply kept refusal.BadLength) m
-UploadMade closes kept came.Whole (Err e) = ⊥
-UploadMade closes kept (came.Refused why) (Err e) = ⊥
-UploadMade closes kept (came.Full blobs pack) (Err e) = ⊥
-UploadMade closes kept came.Disk (Err e) = ⊥
-UploadMade closes kept came.Memory (Err e) = ⊥
-UploadMade closes kept (came.Ended (ends.Cut n)) (Ok m) = ⊥
-UploadMade closes kept (came.Ended ends.ReadFault) (Ok m) = ⊥
-UploadMade closes kept (came.Ended (ends.BadLength n)) (Err e) = ⊥
-UploadMade closes kept (came.Ended ends.Closed) (Err e) = ⊥
-UploadMade closes kept (came.Ended (ends.BadHead n)) (Err e) = ⊥
-UploadMade closes kept (came.Ended (ends.TooLong n)) (Err e) = ⊥
+UploadMade closes kept upload_end.Disk (Ok m) = IsTold Disk (upload_reply kept refusal.Disk) m
+UploadMade closes kept upload_end.Memory (Ok m) = IsMemory m
+UploadMade closes kept (upload_end.Ended (ends.Cut n)) (Err e) = e ≡ ended.Cut n
+UploadMade closes kept (upload_end.Ended ends.ReadFault) (Err e) = e ≡ ended.ReadFault
+UploadMade closes kept (upload_end.Ended (ends.BadLength n)) (Ok m) = IsTold Defined
+    (upload_reply kept refusal.BadLength) m
+UploadMade closes kept (upload_end.Ended ends.Closed) (Ok m) = IsTold Defined (upload_reply kept refusal.BadLength) m
+UploadMade closes kept (upload_end.Ended (ends.BadHead n)) (Ok m) = IsTold Defined
+    (upload_reply kept refusal.BadLength) m
+UploadMade closes kept (upload_end.Ended (ends.TooLong n)) (Ok m) = IsTold Defined
+    (upload_reply kept refusal.BadLength) m
+UploadMade closes kept upload_end.Whole (Err e) = ⊥
+UploadMade closes kept (upload_end.Refused why) (Err e) = ⊥
+UploadMade closes kept (upload_end.Full blobs pack) (Err e) = ⊥
+UploadMade closes kept upload_end.Disk (Err e) = ⊥
+UploadMade closes kept upload_end.Memory (Err e) = ⊥
+UploadMade closes kept (upload_end.Ended (ends.Cut n)) (Ok m) = ⊥
+UploadMade closes kept (upload_end.Ended ends.ReadFault) (Ok m) = ⊥
+UploadMade closes kept (upload_end.Ended (ends.BadLength n)) (Err e) = ⊥
+UploadMade closes kept (upload_end.Ended ends.Closed) (Err e) = ⊥
+UploadMade closes kept (upload_end.Ended (ends.BadHead n)) (Err e) = ⊥
+UploadMade closes kept (upload_end.Ended (ends.TooLong n)) (Err e) = ⊥
 
 -- whether an upload was whole
 abbrev pub is_whole : UploadEnd → Bool
-is_whole came.Whole = true
-is_whole (came.Refused why) = false
-is_whole (came.Full blobs pack) = false
-is_whole came.Disk = false
-is_whole came.Memory = false
-is_whole (came.Ended end) = false
+is_whole upload_end.Whole = true
+is_whole (upload_end.Refused why) = false
+is_whole (upload_end.Full blobs pack) = false
+is_whole upload_end.Disk = false
+is_whole upload_end.Memory = false
+is_whole (upload_end.Ended end) = false

@@ -1,4 +1,4 @@
-pub mod Questions
+pub mod Operations
 pub mod Answers
 pub mod Keeping
 pub mod Serving

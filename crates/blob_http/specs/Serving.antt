@@ -1,5 +1,6 @@
 -- What a connection leaves: the requests, their entries, and the replies over the histories.
-use Rattle.std.specs.Prelude.{◌≡◌, ◌≤◌, ◌<◌, ◌⊎◌, ℕ, List, [], ◌∷◌, ◌++◌, map, length, take, All, Bool, Option, Some}
+use Rattle.std.specs.Prelude.{◌≡◌, ◌≤◌, ◌<◌, ◌+◌, ◌⊎◌, ℕ, List, [], ◌∷◌, ◌++◌, map, length, take, All, Bool, Option}
+use Rattle.std.specs.Prelude.{Some}
 use Rattle.std.specs.Prelude.{None, IfSome, Result, Ok, Err, true, Contains}
 use Rattle.std.specs.List.{flat_map}
 use mathlib.Core.List.{IsPrefix}
@@ -19,19 +20,20 @@ use Rattle.http_wire.specs.declared.ends.WireEnd.{WireEnd}
 use Rattle.http_wire.specs.Stream.{Flow, counted}
 use Rattle.http_wire.specs.Bodies.{IsMalformed}
 use Rattle.http_wire.specs.Wires.{WireView, body_of}
-use Rattle.http_wire.specs.Speaking.{Request, Begun, IsBegun, Refused}
+use Rattle.http_wire.specs.Speaking.{Request, Begun, IsBegun}
 use Rattle.blob_http.specs.declared.entries.Outcome.{Outcome}
 use Rattle.blob_http.specs.declared.entries.Outcome.TheVariants.{Defined, Memory, Disk, Full, Damaged}
 use Rattle.blob_http.specs.declared.entries.Answered.{Answered}
 use Rattle.blob_http.specs.declared.operations.Operation.{Operation}
-use Rattle.blob_http.specs.declared.operations.Operation.TheVariants as question
+use Rattle.blob_http.specs.declared.operations.Operation.TheVariants as operation
 use Rattle.http_exchange.specs.declared.ended.Ended.{Ended}
 use Rattle.http_exchange.specs.declared.ended.Ended.TheVariants as ended
 use Rattle.http_exchange.specs.Asked.{Asked, Whole, Front, Head, head_says}
 use Rattle.http_exchange.specs.Hearing as hearing
 use Rattle.blob_routes.specs.declared.routes.Route.{Route}
 use Rattle.http_exchange.specs.Before.{most_body}
-use Rattle.blob_http.specs.Questions.{IsAsked, first_of}
+use Rattle.http_exchange.specs.Gathering.{most_piece}
+use Rattle.blob_http.specs.Operations.{IsAsked, first_of}
 use Rattle.blob_http.specs.Answers.{IsAnswer, allow_text}
 use Rattle.http_exchange.specs.Replies.{json_reply, refused_reply, memory_reply}
 use Rattle.blob_http.specs.Keeping.{boundary_at, Kept, IsUploadReply}
@@ -40,7 +42,7 @@ use Rattle.histories.specs.StoreCalls.{sizes}
 use Rattle.multipart_read.specs.PartLists.{IsMultipart}
 use Rattle.blob_routes.specs.declared.routes.Route.TheVariants as route
 use Rattle.blob_upload.specs.declared.upload_end.UploadEnd.{UploadEnd}
-use Rattle.blob_upload.specs.declared.upload_end.UploadEnd.TheVariants as came
+use Rattle.blob_upload.specs.declared.upload_end.UploadEnd.TheVariants as upload_end
 use Rattle.blob_upload.specs.Ends.{IsNotOver}
 use Rattle.blob_upload.specs.UploadOutcome.{UploadOutcome}
 use Rattle.blob_upload.specs.Adds.{Turns, IsAddedBy, IsNext}
@@ -50,21 +52,22 @@ use Rattle.multipart_read.specs.PartLists.{Part}
 
 -- ---- replies
 
--- what the body of a request is refused for as it is read: it is too long, or it breaks
+-- What the body of a request is refused for as it is read: it is too long, or it breaks before that. Beyond its limit
+-- no further piece of it is read.
 abbrev pub IsBodyRefusal : Begun → Option (List ℕ) → Refusal → Type 0
 IsBodyRefusal b after r =
-    ((r ≡ refusal.TooLong most_body) × (most_body < length b.given))
-    ⊎ ((r ≡ refusal.BadLength) × IfSome after (IsMalformed b.at))
+    ((r ≡ refusal.TooLong most_body) × (most_body < length b.given) × (length b.given ≤ most_body + most_piece))
+    ⊎ ((r ≡ refusal.BadLength) × (length b.given ≤ most_body) × IfSome after (IsMalformed b.at))
 
 -- a reply that keeps nothing: the request is refused by its body as that is read, or before anything of it is read,
 -- where there is a body to read
 abbrev pub IsFrontDefined : Begun → Option (List ℕ) → Result Route Operation → List ℕ → Type 0
-IsFrontDefined b after (Err (question.Refused why allow)) text =
+IsFrontDefined b after (Err (operation.Refused why allow)) text =
     (text ≡ refused_reply true (allow_text allow) why) × (b.framed ≡ []) × (body_of b.says.framing ≡ Done → ⊥)
-IsFrontDefined b after (Err (question.Blob r)) text = ⊥
-IsFrontDefined b after (Err (question.Stat refs)) text = ⊥
-IsFrontDefined b after (Err (question.Refs page)) text = ⊥
-IsFrontDefined b after (Err (question.Search query)) text = ⊥
+IsFrontDefined b after (Err (operation.Blob r)) text = ⊥
+IsFrontDefined b after (Err (operation.Stat refs)) text = ⊥
+IsFrontDefined b after (Err (operation.Refs page)) text = ⊥
+IsFrontDefined b after (Err (operation.Search query)) text = ⊥
 IsFrontDefined b after (Ok r) text =
     (r ≡ route.Upload → ⊥) × ((why : Refusal) × IsBodyRefusal b after why × (text ≡ refused_reply true [] why))
 
@@ -85,8 +88,8 @@ IsHeadReply end (Damaged want is) text = ⊥
 -- An upload of which these bytes came, and these parts were kept, has added these entries to the store: Puts of its
 -- parts, and what shows why it ended.
 abbrev pub AddsParts : List ℕ → List ℕ → List Part → UploadEnd → List (Stamped StoreEvent) → Type 0
-AddsParts boundary given parts came =
-    All (λ (s : Stamped StoreEvent). IsAddedBy parts (IsNext boundary given parts) came s.entry)
+AddsParts boundary given parts end =
+    All (λ (s : Stamped StoreEvent). IsAddedBy parts (IsNext boundary given parts) end s.entry)
 
 -- no Put is among these entries: they show why a blob couldn't be read
 abbrev pub PutsNothing : List (Stamped StoreEvent) → Type 0
@@ -97,15 +100,16 @@ abbrev pub IsWholeUpload : List Blob → Request → ℕ → List ℕ → List (
 IsWholeUpload blobs r kept turns added outcome text = (u : Kept r.head r.says blobs kept)
     × IsMultipart u.boundary r.body u.parts (Ok tt) × (length turns ≡ kept) × (outcome ≡ Defined)
     × (text ≡ json_reply r.says.closes (upload_text (sizes u.parts) None))
-    × AddsParts u.boundary r.body u.parts came.Whole added
+    × AddsParts u.boundary r.body u.parts upload_end.Whole added
 
 -- the reply to an upload that ended before it was whole, or for which there was no memory to reply
 abbrev pub IsFrontUpload : List Blob → Begun → Option (List ℕ) → ℕ → List ℕ → List (Stamped StoreEvent) → Outcome
     → List ℕ → Type 0
 IsFrontUpload blobs b after kept turns added outcome text = (u : Kept b.head b.says blobs kept)
-    × ((came : UploadEnd) × (wire : WireView) × (wire.body ≡ b.at) × UploadOutcome u.boundary b.given u.parts wire after came
-    × Turns came kept (length turns) × IsUploadReply u.parts came outcome text
-    × AddsParts u.boundary b.given u.parts came added)
+    × ((end : UploadEnd) × (wire : WireView) × (wire.body ≡ b.at)
+    × UploadOutcome u.boundary b.given u.parts wire after end
+    × Turns end kept (length turns) × IsUploadReply u.parts end outcome text
+    × AddsParts u.boundary b.given u.parts end added)
 
 -- The first turn shows what has arrived: these blobs are the arrivals of the history before it, which begins what is
 -- seen in the end, and has smaller turns alone. What joined it since came in this turn or in later ones.
@@ -121,11 +125,11 @@ pub record IsShown (h : List (Stamped StoreEvent)) (blobs : List Blob) (turns : 
 
 -- what is answered from the store draws a turn of it first, and so does a search; it is over the blobs that this shows
 abbrev pub LooksAt : List (Stamped StoreEvent) → List Blob → Operation → List ℕ → Type 0
-LooksAt h blobs (question.Refused why allow) turns = Unit {0}
-LooksAt h blobs (question.Blob r) turns = IsShown h blobs turns
-LooksAt h blobs (question.Stat refs) turns = IsShown h blobs turns
-LooksAt h blobs (question.Refs page) turns = IsShown h blobs turns
-LooksAt h blobs (question.Search query) turns = IsShown h blobs turns
+LooksAt h blobs (operation.Refused why allow) turns = Unit {0}
+LooksAt h blobs (operation.Blob r) turns = IsShown h blobs turns
+LooksAt h blobs (operation.Stat refs) turns = IsShown h blobs turns
+LooksAt h blobs (operation.Refs page) turns = IsShown h blobs turns
+LooksAt h blobs (operation.Search query) turns = IsShown h blobs turns
 
 -- the reply over the blobs that arrived and the Inserts; an upload alone keeps parts, and nothing else puts a blob
 abbrev pub IsReply : Bool → Accepts → List (Stamped StoreEvent) → List Blob → List Insertion → Asked → ℕ → List ℕ

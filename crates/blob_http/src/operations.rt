@@ -3,8 +3,8 @@ ghost use Rattle.std.specs.Prelude.{◌≡◌, false, IfOk, IfErr};
 ghost use Rattle.blob_routes.specs.Stats.{refs_of};
 ghost use Rattle.blob_routes.specs.Pages.{page_of};
 ghost use Rattle.http_exchange.specs.HeadPlaces.{HasPieces};
-ghost use Rattle.blob_http.specs.Questions.{IsFew, routed_of, refused_by, refused, stat_of, refs_asked};
-ghost use Rattle.blob_http.specs.Questions.{IsSearch, IsAskedAt, is_upload};
+ghost use Rattle.blob_http.specs.Operations.{IsFew, routed_of, refused_by, refused, stat_of, refs_asked};
+ghost use Rattle.blob_http.specs.Operations.{IsSearch, IsAskedAt, is_upload};
 
 use answer_text::Refusal;
 use blob_routes::{
@@ -95,7 +95,7 @@ pub(crate) fn operation_of(
     }
 }
 
-/// The question that is refused so, without methods to tell.
+/// The operation that is refused so, without methods to tell.
 pub(crate) fn refused(refusal: Refusal) -> Operation
     ensures { result ≡ refused refusal }
 {

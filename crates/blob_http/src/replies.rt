@@ -189,16 +189,16 @@ fn last_ref(shown: &[(Ref, u64)]) -> Option<&Ref>
 }
 
 /// Writes the reply.
-pub(crate) fn write_made<K: Sink>(
+pub(crate) fn write_reply_text<K: Sink>(
     alloc: Global,
     sink: &mut K,
-    made: &ReplyText,
+    reply: &ReplyText,
 ) -> Result<(), Failed>
-    ensures whole { OnOk result (SinkTook (K.written sink.old) (K.written sink.new) (text_of made.now)) }
-    ensures front { SinkTookFront (K.written sink.old) (K.written sink.new) (text_of made.now) }
+    ensures whole { OnOk result (SinkTook (K.written sink.old) (K.written sink.new) (text_of reply.now)) }
+    ensures front { SinkTookFront (K.written sink.old) (K.written sink.new) (text_of reply.now) }
     ensures cause { HasCause (K.faults sink.old) (K.faults sink.new) result }
 {
-    match made {
+    match reply {
         ReplyText::Told { reply, .. } => write_reply(alloc, sink, reply),
         ReplyText::Memory => write_memory_reply(sink),
     }

@@ -9,8 +9,9 @@ ghost use Rattle.http_exchange.specs.Hearing.{Open, fresh_flow, Wrote, EndCause,
 ghost use Rattle.blob_http.specs.Serving.{IsRest, HasNone, RestBy};
 
 use crate::entries::Answered;
-use crate::replies::write_made;
+use crate::replies::write_reply_text;
 use crate::requests::reply_next;
+use blob_upload::Service;
 use edge_base::{Sink, Source};
 use home_places::Home;
 use http_exchange::{AnswerLog, Ended};
@@ -23,7 +24,9 @@ use std::sync::Wait;
 /// histories that the pass has seen at the end. The log takes the entry before the reply is written.
 ///
 /// At `Closed`, `Cut` and `ReadFault` each whole reply was written; at `WriteFault` a front of them, where the last
-/// entries may lack their replies. `NoMemory` comes before anything of a request is read.
+/// entries may lack their replies. `Cut` and `ReadFault` come only where no refusal was due by what had come. At
+/// `Closed` behind a reply, at `WriteFault` and at `NoMemory` no more than 32,768 bytes were read behind what was
+/// answered; `NoMemory` comes before anything of a request is taken.
 ///
 /// It takes memory for its buffers at once (some 219 KiB), and then for a body of at most 1 MiB, for the text of a
 /// reply, and for what the calls of the home and of the log take. Between two requests it holds its buffers alone.
@@ -47,8 +50,9 @@ pub fn serve_connection<H: Home, S: Source, K: Sink, L: AnswerLog<Answered>, R: 
     let Ok(mut wire) = Wire::make(alloc) else {
         return Ended::NoMemory;
     };
+    let service = Service { rt, alloc, home };
     'requests: for _ in rt.forever() {
-        if let Some(ended) = serve_one(rt, alloc, home, pass, &mut wire, source, sink, log) {
+        if let Some(ended) = serve_one(&service, pass, &mut wire, source, sink, log) {
             return ended;
         }
     }
@@ -57,23 +61,21 @@ pub fn serve_connection<H: Home, S: Source, K: Sink, L: AnswerLog<Answered>, R: 
 
 // Serves one request, or says why there is none. Whatever was served before, it goes on from there.
 fn serve_one<H: Home, S: Source, K: Sink, L: AnswerLog<Answered>, R: Wait>(
-    rt: &R,
-    alloc: Global,
-    home: &H,
+    service: &Service<H, R>,
     pass: &mut H::Pass,
     wire: &mut Wire,
     source: &mut S,
     sink: &mut K,
     log: &mut L,
 ) -> Option<Ended>
-    requires belongs { H.belongs home.now pass.old }
+    requires belongs { H.belongs service.now.home.now pass.old }
     requires ready { wire.old.body ≡ Body.Done }
-    ensures own { H.belongs home.now pass.new }
+    ensures own { H.belongs service.now.home.now pass.new }
     ensures ready { result ≡ None → wire.new.body ≡ Body.Done }
     ensures serves { (v : Sight) (log0 : L) (x0 w0 : Option (List ℕ))
-        → Serves (H.tells home.now) v (H.sight pass.old) (Notes L.tells log0 log.old)
+        → Serves (H.tells service.now.home.now) v (H.sight pass.old) (Notes L.tells log0 log.old)
         (Open x0 (S.left source.old) fresh_flow wire.old.flow) (SinkTook w0 (K.written sink.old)) HasNone
-        → Serves (H.tells home.now) v (H.sight pass.new) (Notes L.tells log0 log.new)
+        → Serves (H.tells service.now.home.now) v (H.sight pass.new) (Notes L.tells log0 log.new)
         (HeardBy x0 (S.left source.new) fresh_flow wire.new.flow result) (WroteBy w0 (K.written sink.new) result)
         (RestBy x0 result) }
     ensures read { S.faults source.old ≤ S.faults source.new }
@@ -81,18 +83,20 @@ fn serve_one<H: Home, S: Source, K: Sink, L: AnswerLog<Answered>, R: Wait>(
     ensures cause { StepCause (S.faults source.old) (S.faults source.new) (K.faults sink.old) (K.faults sink.new)
         result }
 {
+    wire.few_ahead();
     let Ok(()) = log.make_room() else {
         return Some(Ended::NoMemory);
     };
-    let replied = match reply_next(rt, alloc, home, pass, wire, source) {
-        Ok(replied) => replied,
+    let response = match reply_next(service, pass, wire, source) {
+        Ok(response) => response,
         Err(ended) => return Some(ended),
     };
-    log.note(replied.entry);
-    let Ok(()) = write_made(alloc, sink, &replied.made) else {
+    wire.few_ahead();
+    log.note(response.entry);
+    let Ok(()) = write_reply_text(service.alloc, sink, &response.reply) else {
         return Some(Ended::WriteFault);
     };
-    if replied.closes {
+    if response.closes {
         return Some(Ended::Closed);
     }
     None

@@ -1,14 +1,13 @@
 -- One number above the limit tells as much as any further ones.
-use Rattle.std.proofs.Common.{◌≡◌, ◌⊎◌, ℕ, zero, suc, ◌+◌, ◌<◌, ◌≤◌, Bool, true, false, cond, not, List, [], ◌∷◌}
-use Rattle.std.proofs.Common.{map, inl, inr, length, take, Result, Err, refl, sym, ap, ◌∙◌, arith}
+use Rattle.std.proofs.Common.{◌≡◌, ◌⊎◌, ℕ, zero, suc, ◌+◌, ◌≤◌, Bool, true, false, cond, not, List, [], ◌∷◌}
+use Rattle.std.proofs.Common.{map, inl, inr, length, take, Err, refl, sym, ap, ◌∙◌, arith}
 use Rattle.std.specs.List.{before_first, position_or_len, range_with_len}
 use Rattle.std.proofs.lemmas.Bool.{cond-true, lt-ltb}
 use Rattle.std.proofs.lemmas.List.FromFn.{take-map-range_with_len}
-use Rattle.answer_text.specs.declared.refusal.Refusal.{Refusal}
 use Rattle.answer_text.specs.declared.refusal.Refusal.TheVariants.{TooLong}
 use Rattle.blob_routes.specs.declared.places.AskedRef.{AskedRef}
 use Rattle.blob_routes.specs.Places.{asked_at, places_of}
-use Rattle.blob_routes.specs.Stats.{is_missing, refs_at, refs_in}
+use Rattle.blob_routes.specs.Stats.{is_missing, refs_at}
 use Rattle.blob_routes.specs.Laws.{FurtherTellNothing}
 
 -- what is taken of a list whose first element passes or not

@@ -1,5 +1,6 @@
 -- What is refused before the body of a request is read.
 use Rattle.std.specs.Prelude.{ℕ, List, Option, Some, None, option_and_then, Result, Ok, Err}
+use Rattle.multipart_read.specs.Limits.{most_bytes}
 use Rattle.multipart_read.specs.Parameters.{boundary_of}
 use Rattle.http_wire.specs.declared.head.Framing.{Framing}
 use Rattle.answer_text.specs.declared.refusal.Refusal.{Refusal}
@@ -7,10 +8,6 @@ use Rattle.answer_text.specs.declared.refusal.Refusal.TheVariants.{BadMultipart}
 use Rattle.http_exchange.specs.Before.{most_body, within}
 use Rattle.blob_routes.specs.declared.routes.Route.{Route}
 use Rattle.blob_routes.specs.declared.routes.Route.TheVariants.{Blob, Stat, Upload, Page, Search}
-
--- the most bytes that an upload may announce
-abbrev pub most_upload : ℕ
-most_upload = 17000000000
 
 -- the boundary that the content type gives, where there is one
 abbrev pub boundary_in : Option (List ℕ) → Option (List ℕ)
@@ -21,10 +18,10 @@ abbrev pub unless : Result (Unit {0}) Refusal → List ℕ → Result (List ℕ)
 unless (Ok fine) boundary = Ok boundary
 unless (Err why) boundary = Err why
 
--- of an upload with this boundary
+-- of an upload with this boundary, which may announce as many bytes as a body may have
 abbrev pub upload_of : Framing → Option (List ℕ) → Result (List ℕ) Refusal
 upload_of framing None = Err (BadMultipart 0)
-upload_of framing (Some boundary) = unless (within most_upload framing) boundary
+upload_of framing (Some boundary) = unless (within most_bytes framing) boundary
 
 -- what an upload is refused for, or else its boundary
 abbrev pub upload_early : Framing → Option (List ℕ) → Result (List ℕ) Refusal

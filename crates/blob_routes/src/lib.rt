@@ -11,7 +11,7 @@ mod queries;
 mod routes;
 mod stats;
 
-pub use before::{MOST_UPLOAD, boundary_of_upload};
+pub use before::boundary_of_upload;
 pub use faults::AskFault;
 pub use laws::further_numbers_tell_nothing;
 pub use pages::{MOST_PAGE, Page, page_asked};

@@ -31,7 +31,8 @@ use Rattle.home_places.specs.Passes.{Sight, StoreTurned, Spends}
 use Rattle.answer_text.specs.declared.refusal.Refusal.TheVariants.{BadRef, TooLong}
 use Rattle.blob_upload.specs.declared.upload_end.UploadEnd.{UploadEnd}
 use Rattle.blob_upload.specs.declared.upload_end.UploadEnd.TheVariants.{Whole, Refused, Full, Disk, Memory}
-use Rattle.blob_upload.specs.Faults.{most_bytes, came_of_part, came_of_wire, came_of_put}
+use Rattle.multipart_read.specs.Limits.{most_bytes}
+use Rattle.blob_upload.specs.Faults.{end_of_part, end_of_wire, end_of_put}
 use Rattle.blob_upload.specs.Puts.{IsArrivalOf, Puts, EndsBy, LastPut}
 use Rattle.blob_upload.specs.Ends.{StopsAt, Told, StopsIn, Ends}
 use Rattle.blob_upload.specs.Adds.{IsAddedBy, Turns, ShowsWhy, IsNext, Adds, UploadsAdd}
@@ -42,15 +43,15 @@ use Rattle.blob_upload.proofs.Putting.{stands, stands_longer, settled_by}
 
 -- no turn more is drawn, and no entry shows why
 abbrev Quiet : UploadEnd → Type 0
-Quiet came = ((n : ℕ) → Turns came n n) × ((turns : List ℕ) (h : List (Stamped StoreEvent)) → ShowsWhy came turns h)
+Quiet end = ((n : ℕ) → Turns end n n) × ((turns : List ℕ) (h : List (Stamped StoreEvent)) → ShowsWhy end turns h)
 
-quiet_part : (fault : PartFault) → Quiet (came_of_part fault)
+quiet_part : (fault : PartFault) → Quiet (end_of_part fault)
 quiet_part part_faults.BadBoundary = (λ n. refl, λ turns h. tt)
 quiet_part (part_faults.Bad at) = (λ n. refl, λ turns h. tt)
 quiet_part (part_faults.TooLong limit) = (λ n. refl, λ turns h. tt)
 quiet_part part_faults.NoMemory = (λ n. inl refl, λ turns h. tt)
 
-quiet_wire : (end : WireEnd) → Quiet (came_of_wire end)
+quiet_wire : (end : WireEnd) → Quiet (end_of_wire end)
 quiet_wire ends.Closed = (λ n. refl, λ turns h. tt)
 quiet_wire (ends.Cut at) = (λ n. refl, λ turns h. tt)
 quiet_wire (ends.BadHead at) = (λ n. refl, λ turns h. tt)
@@ -59,31 +60,31 @@ quiet_wire (ends.TooLong limit) = (λ n. refl, λ turns h. tt)
 quiet_wire ends.ReadFault = (λ n. refl, λ turns h. tt)
 
 -- what was put, said of how the upload ended
-abbrev wider : (parts : List Part) (next : Part → Type 0) (came : UploadEnd) (v w : Sight)
-    → StoreGrew (IsArrivalOf parts) v.store w.store → StoreGrew (IsAddedBy parts next came) v.store w.store
-wider parts next came v w g = record {
+abbrev wider : (parts : List Part) (next : Part → Type 0) (end : UploadEnd) (v w : Sight)
+    → StoreGrew (IsArrivalOf parts) v.store w.store → StoreGrew (IsAddedBy parts next end) v.store w.store
+wider parts next end v w g = record {
   longer = g.longer;
   further = g.further;
   drawn = g.drawn;
   added = g.added;
   owned = g.owned;
   each_is = All-weaker (λ (s : Stamped StoreEvent). IsArrivalOf parts s.entry)
-      (λ (s : Stamped StoreEvent). IsAddedBy parts next came s.entry) (λ s is. arrived s.entry is) g.added g.each_is;
+      (λ (s : Stamped StoreEvent). IsAddedBy parts next end s.entry) (λ s is. arrived s.entry is) g.added g.each_is;
   placed = g.placed;
   later = g.later;
 }
   where
-    arrived : (e : StoreEvent) → IsArrivalOf parts e → IsAddedBy parts next came e
+    arrived : (e : StoreEvent) → IsArrivalOf parts e → IsAddedBy parts next end e
     arrived (store.Put n r bytes) is = inl is
     arrived (store.Fault f) is = absurd is
     arrived (store.Damage want other) is = absurd is
     arrived (store.Full blobs pack) is = absurd is
 
 module _ (parts : List Part) (next : Part → Type 0) (v m w : Sight) (puts : Puts parts v m) where
-  adds_same : (came : UploadEnd) → Quiet came → Adds parts next came v m
-  adds_same came quiet = record {
-    grew = wider parts next came v m puts.grew;
-    turns = subst (λ n. Turns came (length parts) n) (sym puts.turns) (quiet.0 (length parts));
+  adds_same : (end : UploadEnd) → Quiet end → Adds parts next end v m
+  adds_same end quiet = record {
+    grew = wider parts next end v m puts.grew;
+    turns = subst (λ n. Turns end (length parts) n) (sym puts.turns) (quiet.0 (length parts));
     why = quiet.1 puts.grew.further m.store.history;
     stand = puts.stand;
     index = puts.index;
@@ -91,9 +92,9 @@ module _ (parts : List Part) (next : Part → Type 0) (v m w : Sight) (puts : Pu
     spent = inl puts.spent;
   }
 
-  adds_quiet : (came is : UploadEnd) → Quiet is → came ≡ is → w ≡ m → Adds parts next came v w
-  adds_quiet came is quiet ends same =
-      subst (λ x. Adds parts next came v x) (sym same)
+  adds_quiet : (end is : UploadEnd) → Quiet is → end ≡ is → w ≡ m → Adds parts next end v w
+  adds_quiet end is quiet ends same =
+      subst (λ x. Adds parts next end v x) (sym same)
       (subst (λ c. Adds parts next c v m) (sym ends) (adds_same is quiet))
 
 -- ---- an upload that ends with a put
@@ -109,19 +110,19 @@ stamped_stands h t entry e is =
 
 -- the entry that a put adds
 put_adds : (limits : StoreLimits) (parts : List Part) (next : Part → Type 0) (part : Part) (before : List Blob)
-    (o : Option (Result Put PutFault)) (answer : Result Put PutFault) (came : UploadEnd) (e : StoreEvent) → next part
-    → EndsBy answer came → PutAnswers limits part.0 part.1 before o answer (Some e) → IsAddedBy parts next came e
-put_adds limits parts next part before (Some settled) answer came e told ends said = absurd (cc (said.1))
-put_adds limits parts next part before None (Ok (Stored n)) came e told ends said =
-    let is : e ≡ store.Put n part.0 part.1 = cc (said.2) in subst (IsAddedBy parts next came) (sym is) (inr (ends, told))
-put_adds limits parts next part before None (Ok (Already n)) came e told ends said = absurd said
-put_adds limits parts next part before None (Err (put.TooBig size)) came e told ends said = absurd said
-put_adds limits parts next part before None (Err (put.BadDigest a b)) came e told ends said = absurd said
-put_adds limits parts next part before None (Err (put.Full blobs pack)) came e told ends said =
-    let is : e ≡ store.Full blobs pack = cc (said.1) in subst (IsAddedBy parts next came) (sym is) ends
-put_adds limits parts next part before None (Err put.Disk) came e told ends said =
-    let is : e ≡ store.Fault (said.1.0) = cc (said.1.1) in subst (IsAddedBy parts next came) (sym is) ends
-put_adds limits parts next part before None (Err put.NoMemory) came e told ends said = absurd (cc (said.1))
+    (o : Option (Result Put PutFault)) (answer : Result Put PutFault) (end : UploadEnd) (e : StoreEvent) → next part
+    → EndsBy answer end → PutAnswers limits part.0 part.1 before o answer (Some e) → IsAddedBy parts next end e
+put_adds limits parts next part before (Some settled) answer end e told ends said = absurd (cc (said.1))
+put_adds limits parts next part before None (Ok (Stored n)) end e told ends said =
+    let is : e ≡ store.Put n part.0 part.1 = cc (said.2) in subst (IsAddedBy parts next end) (sym is) (inr (ends, told))
+put_adds limits parts next part before None (Ok (Already n)) end e told ends said = absurd said
+put_adds limits parts next part before None (Err (put.TooBig size)) end e told ends said = absurd said
+put_adds limits parts next part before None (Err (put.BadDigest a b)) end e told ends said = absurd said
+put_adds limits parts next part before None (Err (put.Full blobs pack)) end e told ends said =
+    let is : e ≡ store.Full blobs pack = cc (said.1) in subst (IsAddedBy parts next end) (sym is) ends
+put_adds limits parts next part before None (Err put.Disk) end e told ends said =
+    let is : e ≡ store.Fault (said.1.0) = cc (said.1.1) in subst (IsAddedBy parts next end) (sym is) ends
+put_adds limits parts next part before None (Err put.NoMemory) end e told ends said = absurd (cc (said.1))
 
 -- a part that is told of a body isn't too big
 big_by : (limits : StoreLimits) (part : Part) (before : List Blob) (long other : Bool) (place : Option ℕ) (size : ℕ)
@@ -143,19 +144,19 @@ never_big limits part before size entry few said =
     absurd (omega (arith, few, many))
 
 turned : (limits : StoreLimits) (part : Part) (before : List Blob) (answer : Result Put PutFault)
-    (entry : Option StoreEvent) (came : UploadEnd) (n : ℕ)
-    → length part.1 ≤ max_size → PutSpec limits part.0 part.1 before answer entry → EndsBy answer came
-    → Turns came n (n + 1)
-turned limits part before answer entry came n few said ends = by answer ends said
+    (entry : Option StoreEvent) (end : UploadEnd) (n : ℕ)
+    → length part.1 ≤ max_size → PutSpec limits part.0 part.1 before answer entry → EndsBy answer end
+    → Turns end n (n + 1)
+turned limits part before answer entry end n few said ends = by answer ends said
   where
-    at : (is : UploadEnd) → Turns is n (n + 1) → came ≡ is → Turns came n (n + 1)
+    at : (is : UploadEnd) → Turns is n (n + 1) → end ≡ is → Turns end n (n + 1)
     at is turns same = subst (λ c. Turns c n (n + 1)) (sym same) turns
 
-    by : (answer : Result Put PutFault) → EndsBy answer came → PutSpec limits part.0 part.1 before answer entry
-        → Turns came n (n + 1)
+    by : (answer : Result Put PutFault) → EndsBy answer end → PutSpec limits part.0 part.1 before answer entry
+        → Turns end n (n + 1)
     by (Ok stored) ends said = at Memory (inr refl) ends
     by (Err (put.TooBig size)) ends said = absurd (never_big limits part before size entry few said)
-    by (Err (put.BadDigest a b)) ends said = at (came_of_put (put.BadDigest a b)) refl ends
+    by (Err (put.BadDigest a b)) ends said = at (end_of_put (put.BadDigest a b)) refl ends
     by (Err (put.Full blobs pack)) ends said = at (Full blobs pack) refl ends
     by (Err put.Disk) ends said = at Disk refl ends
     by (Err put.NoMemory) ends said = at Memory (inr refl) ends
@@ -178,20 +179,20 @@ disk_by limits part before false true place entry said = absurd (cc (said.0))
 disk_by limits part before false false None entry said = said.1
 disk_by limits part before false false (Some n) entry said = absurd (cc (said.0))
 
-shows_why : (limits : StoreLimits) (part : Part) (answer : Result Put PutFault) (came : UploadEnd)
-    (h : List (Stamped StoreEvent)) (turns : List ℕ) (t : ℕ) (entry : Option StoreEvent) → EndsBy answer came
-    → PutSpec limits part.0 part.1 (arrivals h) answer entry → ShowsWhy came (turns ++ t ∷ []) (h ++ stamped t entry)
-shows_why limits part answer came h turns t entry ends said = by answer ends said
+shows_why : (limits : StoreLimits) (part : Part) (answer : Result Put PutFault) (end : UploadEnd)
+    (h : List (Stamped StoreEvent)) (turns : List ℕ) (t : ℕ) (entry : Option StoreEvent) → EndsBy answer end
+    → PutSpec limits part.0 part.1 (arrivals h) answer entry → ShowsWhy end (turns ++ t ∷ []) (h ++ stamped t entry)
+shows_why limits part answer end h turns t entry ends said = by answer ends said
   where
-    at : (is : UploadEnd) → ShowsWhy is (turns ++ t ∷ []) (h ++ stamped t entry) → came ≡ is
-        → ShowsWhy came (turns ++ t ∷ []) (h ++ stamped t entry)
+    at : (is : UploadEnd) → ShowsWhy is (turns ++ t ∷ []) (h ++ stamped t entry) → end ≡ is
+        → ShowsWhy end (turns ++ t ∷ []) (h ++ stamped t entry)
     at is shows same = subst (λ c. ShowsWhy c (turns ++ t ∷ []) (h ++ stamped t entry)) (sym same) shows
 
-    by : (answer : Result Put PutFault) → EndsBy answer came → PutSpec limits part.0 part.1 (arrivals h) answer entry
-        → ShowsWhy came (turns ++ t ∷ []) (h ++ stamped t entry)
+    by : (answer : Result Put PutFault) → EndsBy answer end → PutSpec limits part.0 part.1 (arrivals h) answer entry
+        → ShowsWhy end (turns ++ t ∷ []) (h ++ stamped t entry)
     by (Ok stored) ends said = at Memory tt ends
-    by (Err (put.TooBig size)) ends said = at (came_of_put (put.TooBig size)) tt ends
-    by (Err (put.BadDigest a b)) ends said = at (came_of_put (put.BadDigest a b)) tt ends
+    by (Err (put.TooBig size)) ends said = at (end_of_put (put.TooBig size)) tt ends
+    by (Err (put.BadDigest a b)) ends said = at (end_of_put (put.BadDigest a b)) tt ends
     by (Err (put.Full blobs pack)) ends said =
         let is = full_by limits part (arrivals h) (nat_lt max_size (length part.1)) (not (is_own_ref part.0 part.1))
         (number_of part.0 (arrivals h)) blobs pack entry said in
@@ -204,11 +205,12 @@ shows_why limits part answer came h turns t entry ends said = by answer ends sai
         at Disk (t, is.0, has_rest turns (t ∷ []) t (has_one t), stands) ends
     by (Err put.NoMemory) ends said = at Memory tt ends
 
-module _ (parts : List Part) (next : Part → Type 0) (part : Part) (came : UploadEnd) (v m w : Sight) (puts : Puts parts v m)
+module _ (parts : List Part) (next : Part → Type 0) (part : Part) (end : UploadEnd) (v m w : Sight)
+    (puts : Puts parts v m)
     (told : next part) (few : length part.1 ≤ max_size) where
-  adds_turned : (answer : Result Put PutFault) → EndsBy answer came
+  adds_turned : (answer : Result Put PutFault) → EndsBy answer end
       → StoreTurned (λ before entry. PutSpec m.store.limits part.0 part.1 before answer entry) m w
-      → Adds parts next came v w
+      → Adds parts next end v w
   adds_turned answer ends t =
       let r = t.turn.ran in
       let longer : IsPrefix m.store.history w.store.history =
@@ -216,26 +218,27 @@ module _ (parts : List Part) (next : Part → Type 0) (part : Part) (came : Uplo
       let count : length (puts.grew.further ++ (r.ticket + 1) ∷ []) ≡ length parts + 1 =
       length-append puts.grew.further ((r.ticket + 1) ∷ []) ∙ ap (λ n. n + 1) puts.turns in
       record {
-        grew = grew_chain (IsAddedBy parts next came) v.store.history m.store.history w.store.history v.store.turns
+        grew = grew_chain (IsAddedBy parts next end) v.store.history m.store.history w.store.history v.store.turns
             m.store.turns
-            w.store.turns (wider parts next came v m puts.grew)
+            w.store.turns (wider parts next end v m puts.grew)
             (ran_grew (λ before turn entry. PutSpec m.store.limits part.0 part.1 (arrivals before) answer entry)
-            (IsAddedBy parts next came)
+            (IsAddedBy parts next end)
             m.store.history w.store.history m.store.turns w.store.turns
             (λ h n e said.
-            put_adds m.store.limits parts next part (arrivals h) (put_settled part.0 part.1 (arrivals h)) answer came e told
+            put_adds m.store.limits parts next part (arrivals h) (put_settled part.0 part.1 (arrivals h)) answer end e
+            told
             ends said) r);
-        turns = subst (λ n. Turns came (length parts) n) (sym count)
-            (turned m.store.limits part (arrivals r.before) answer r.entry came (length parts) few r.said ends);
-        why = subst (λ h. ShowsWhy came (puts.grew.further ++ (r.ticket + 1) ∷ []) h) (sym r.added)
-            (shows_why m.store.limits part answer came r.before puts.grew.further (r.ticket + 1) r.entry ends r.said);
+        turns = subst (λ n. Turns end (length parts) n) (sym count)
+            (turned m.store.limits part (arrivals r.before) answer r.entry end (length parts) few r.said ends);
+        why = subst (λ h. ShowsWhy end (puts.grew.further ++ (r.ticket + 1) ∷ []) h) (sym r.added)
+            (shows_why m.store.limits part answer end r.before puts.grew.further (r.ticket + 1) r.entry ends r.said);
         stand = All-weaker (stands m) (stands w) (λ other stood. stands_longer m w other longer stood) parts puts.stand;
         index = t.index ∙ puts.index;
         limits = t.turn.limits ∙ puts.limits;
         spent = inl (t.spent ∙ puts.spent);
       }
 
-  adds_spent : came ≡ Memory → Spends m w → Adds parts next came v w
+  adds_spent : end ≡ Memory → Spends m w → Adds parts next end v w
   adds_spent ends s =
       let left : Sight = record { store = m.store; index = m.index; spent = true } in
       let same : w ≡ left = λ i. record { store = s.store i; index = s.index i; spent = s.spent i } in
@@ -248,50 +251,52 @@ module _ (parts : List Part) (next : Part → Type 0) (part : Part) (came : Uplo
         limits = puts.limits;
         spent = inr (refl, refl);
       } in
-      subst (λ x. Adds parts next came v x) (sym same) (subst (λ c. Adds parts next c v left) (sym ends) adds)
+      subst (λ x. Adds parts next end v x) (sym same) (subst (λ c. Adds parts next c v left) (sym ends) adds)
 
-  adds_last : LastPut part came m w → Adds parts next came v w
+  adds_last : LastPut part end m w → Adds parts next end v w
   adds_last last = by last.call
     where
-      memory : (answer : Result Put PutFault) → answer ≡ Err put.NoMemory → EndsBy answer came → came ≡ Memory
-      memory answer is ends = subst (λ a. EndsBy a came) is ends
+      memory : (answer : Result Put PutFault) → answer ≡ Err put.NoMemory → EndsBy answer end → end ≡ Memory
+      memory answer is ends = subst (λ a. EndsBy a end) is ends
 
       by : StoreTurned (λ before entry. PutSpec m.store.limits part.0 part.1 before last.answer entry) m w
-          ⊎ ((last.answer ≡ Err put.NoMemory) × Spends m w) → Adds parts next came v w
+          ⊎ ((last.answer ≡ Err put.NoMemory) × Spends m w) → Adds parts next end v w
       by (inl turn) = adds_turned last.answer last.ends turn
       by (inr spent) = adds_spent (memory last.answer (spent.0) last.ends) (spent.1)
 
-module _ (parts : List Part) (came : UploadEnd) (v m w : Sight) (puts : Puts parts v m) where
-  adds_at : (boundary given : List ℕ) (after : List Token) → Told boundary given parts after → StopsAt after came m w
-      → Adds parts (IsNext boundary given parts) came v w
+module _ (parts : List Part) (end : UploadEnd) (v m w : Sight) (puts : Puts parts v m) where
+  adds_at : (boundary given : List ℕ) (after : List Token) → Told boundary given parts after → StopsAt after end m w
+      → Adds parts (IsNext boundary given parts) end v w
   adds_at boundary given after front (StopsAt.AtName name later told bad ends same) =
-      adds_quiet parts (IsNext boundary given parts) v m w puts came (Refused BadRef) (λ n. refl, λ turns h. tt) ends same
+      adds_quiet parts (IsNext boundary given parts) v m w puts end (Refused BadRef) (λ n. refl, λ turns h. tt) ends
+      same
   adds_at boundary given after front (StopsAt.AtPart part later told good last) =
       let whole = subst (λ ts. Told boundary given parts ts) told front in
-      adds_last parts (IsNext boundary given parts) part came v m w puts (later, whole)
+      adds_last parts (IsNext boundary given parts) part end v m w puts (later, whole)
       (contents_fit boundary given parts part later whole) last
   adds_at boundary given after front (StopsAt.ForMemory ends same) =
-      adds_quiet parts (IsNext boundary given parts) v m w puts came Memory (λ n. inl refl, λ turns h. tt) ends same
+      adds_quiet parts (IsNext boundary given parts) v m w puts end Memory (λ n. inl refl, λ turns h. tt) ends same
 
-  adds_in : (boundary given : List ℕ) → StopsIn boundary given parts came m w
-      → Adds parts (IsNext boundary given parts) came v w
+  adds_in : (boundary given : List ℕ) → StopsIn boundary given parts end m w
+      → Adds parts (IsNext boundary given parts) end v w
   adds_in boundary given (StopsIn.AtToken after told stops) = adds_at boundary given after told stops
   adds_in boundary given (StopsIn.AtFault fault faulty ends same) =
-      adds_quiet parts (IsNext boundary given parts) v m w puts came (came_of_part fault) (quiet_part fault) ends same
+      adds_quiet parts (IsNext boundary given parts) v m w puts end (end_of_part fault) (quiet_part fault) ends same
   adds_in boundary given (StopsIn.AtLimit front rest whole full some reads ends same) =
-      adds_quiet parts (IsNext boundary given parts) v m w puts came (Refused (TooLong most_bytes)) (λ n. refl, λ turns h. tt) ends same
+      adds_quiet parts (IsNext boundary given parts) v m w puts end (Refused (TooLong most_bytes))
+      (λ n. refl, λ turns h. tt) ends same
 
   adds_ends : (boundary given : List ℕ) (wire : WireView) (x : Option (List ℕ))
-      → Ends boundary given parts wire x came m w
-      → Adds parts (IsNext boundary given parts) came v w
+      → Ends boundary given parts wire x end m w
+      → Adds parts (IsNext boundary given parts) end v w
   adds_ends boundary given wire x (Ends.Inside front piece whole few over stops) = adds_in boundary given stops
   adds_ends boundary given wire x (Ends.AtClose done short is ends same) =
-      adds_quiet parts (IsNext boundary given parts) v m w puts came Whole (λ n. refl, λ turns h. tt) ends same
+      adds_quiet parts (IsNext boundary given parts) v m w puts end Whole (λ n. refl, λ turns h. tt) ends same
   adds_ends boundary given wire x (Ends.AtEnd fault done all ends same) =
-      adds_quiet parts (IsNext boundary given parts) v m w puts came (came_of_part fault) (quiet_part fault) ends same
-  adds_ends boundary given wire x (Ends.AtBreak end reads says short ends same) =
-      adds_quiet parts (IsNext boundary given parts) v m w puts came (came_of_wire end) (quiet_wire end) ends same
+      adds_quiet parts (IsNext boundary given parts) v m w puts end (end_of_part fault) (quiet_part fault) ends same
+  adds_ends boundary given wire x (Ends.AtBreak stop reads says short ends same) =
+      adds_quiet parts (IsNext boundary given parts) v m w puts end (end_of_wire stop) (quiet_wire stop) ends same
 
 pub uploads_add : UploadsAdd
-uploads_add boundary left left' wire wire' v w kept kept' came u =
-    adds_ends u.parts came v u.middle w u.keeps.puts boundary u.given wire' (to_come wire' left') u.ends
+uploads_add boundary left left' wire wire' v w kept kept' end u =
+    adds_ends u.parts end v u.middle w u.keeps.puts boundary u.given wire' (to_come wire' left') u.ends

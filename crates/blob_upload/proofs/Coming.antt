@@ -21,7 +21,8 @@ use Rattle.home_places.specs.Passes.{Sight, StoreTurned, Spends}
 use Rattle.answer_text.specs.declared.refusal.Refusal.TheVariants.{BadRef, BadDigest, TooLong}
 use Rattle.blob_upload.specs.declared.upload_end.UploadEnd.{UploadEnd}
 use Rattle.blob_upload.specs.declared.upload_end.UploadEnd.TheVariants.{Whole, Refused, Full, Disk, Memory}
-use Rattle.blob_upload.specs.Faults.{most_bytes, part_fault, came_of_part, came_of_wire}
+use Rattle.multipart_read.specs.Limits.{most_bytes}
+use Rattle.blob_upload.specs.Faults.{part_fault, end_of_part, end_of_wire}
 use Rattle.blob_upload.specs.Puts.{EndsBy}
 use Rattle.blob_upload.specs.Ends.{StopsAt, Told, Reads, StopsIn, EndsShort, Ends}
 use Rattle.blob_upload.specs.UploadOutcome.{HasFault, UploadOutcome, UploadsCome}
@@ -89,10 +90,10 @@ module _ (limits : StoreLimits) (part : Part) (before : List Blob) (named : is_b
 
 module _ (boundary given : List ℕ) (parts : List Part) (wire : WireView) (x : Option (List ℕ)) where
   abbrev comes : UploadEnd → Type 0
-  comes came = UploadOutcome boundary given parts wire x came
+  comes end = UploadOutcome boundary given parts wire x end
 
-  as_told : (came is : UploadEnd) → comes is → came ≡ is → comes came
-  as_told came is holds same = subst comes (sym same) holds
+  as_told : (end is : UploadEnd) → comes is → end ≡ is → comes end
+  as_told end is holds same = subst comes (sym same) holds
 
   -- a body has no fault of these
   no_boundary : HasFault boundary given parts wire x part_faults.BadBoundary → ⊥
@@ -103,14 +104,14 @@ module _ (boundary given : List ℕ) (parts : List Part) (wire : WireView) (x : 
   no_memory (inl f) = bodies_end boundary (f.fed ++ []) _ (Err part_faults.NoMemory) (f.tells [])
   no_memory (inr (done, all)) = bodies_end boundary given _ (Err part_faults.NoMemory) all.tells
 
-  at_fault : (fault : PartFault) → HasFault boundary given parts wire x fault → comes (came_of_part fault)
+  at_fault : (fault : PartFault) → HasFault boundary given parts wire x fault → comes (end_of_part fault)
   at_fault part_faults.BadBoundary has = absurd (no_boundary has)
   at_fault (part_faults.Bad at) has = has
   at_fault (part_faults.TooLong limit) has = inl has
   at_fault part_faults.NoMemory has = absurd (no_memory has)
 
   at_break : (end : WireEnd) → Reads boundary given parts → BodyEnds x wire.body wire.begun end
-      → EndsShort wire end → comes (came_of_wire end)
+      → EndsShort wire end → comes (end_of_wire end)
   at_break ends.Closed reads says short = absurd says
   at_break (ends.Cut at) reads says short = (reads, says, short)
   at_break (ends.BadHead at) reads says short = absurd says
@@ -126,52 +127,52 @@ module _ (boundary given : List ℕ) (parts : List Part) (wire : WireView) (x : 
         subst (λ name. comes (Refused (BadDigest name is))) (sym (found.0)) (part.1, (later, told), found.1)
 
     at_put : (limits : StoreLimits) (answer : Result Put PutFault) (before : List Blob) (entry : Option StoreEvent)
-        (came : UploadEnd) → EndsBy answer came → PutSpec limits part.0 part.1 before answer entry → comes came
-    at_put limits (Ok stored) before entry came by says = as_told came Memory (part_tokens part ++ later, told) by
-    at_put limits (Err (put.TooBig size)) before entry came by says =
+        (end : UploadEnd) → EndsBy answer end → PutSpec limits part.0 part.1 before answer entry → comes end
+    at_put limits (Ok stored) before entry end by says = as_told end Memory (part_tokens part ++ later, told) by
+    at_put limits (Err (put.TooBig size)) before entry end by says =
         absurd (never_big limits part before size entry (contents_fit boundary given parts part later told) says)
-    at_put limits (Err (put.BadDigest said is)) before entry came by says =
-        as_told came (Refused (BadDigest said is))
+    at_put limits (Err (put.BadDigest said is)) before entry end by says =
+        as_told end (Refused (BadDigest said is))
         (at_digest said is (digest_fault limits part before named said is entry says)) by
-    at_put limits (Err (put.Full blobs pack)) before entry came by says =
-        as_told came (Full blobs pack) (part, (later, told), full_sound limits part before named blobs pack entry says)
+    at_put limits (Err (put.Full blobs pack)) before entry end by says =
+        as_told end (Full blobs pack) (part, (later, told), full_sound limits part before named blobs pack entry says)
         by
-    at_put limits (Err put.Disk) before entry came by says =
-        as_told came Disk (part, (later, told), disk_sound limits part before named entry says) by
-    at_put limits (Err put.NoMemory) before entry came by says = as_told came Memory (part_tokens part ++ later, told) by
+    at_put limits (Err put.Disk) before entry end by says =
+        as_told end Disk (part, (later, told), disk_sound limits part before named entry says) by
+    at_put limits (Err put.NoMemory) before entry end by says = as_told end Memory (part_tokens part ++ later, told) by
 
-    at_part : (came : UploadEnd) (v w : Sight) (answer : Result Put PutFault) → EndsBy answer came
+    at_part : (end : UploadEnd) (v w : Sight) (answer : Result Put PutFault) → EndsBy answer end
         → StoreTurned (λ before entry. PutSpec v.store.limits part.0 part.1 before answer entry) v w
-        ⊎ ((answer ≡ Err put.NoMemory) × Spends v w) → comes came
-    at_part came v w answer by (inl t) =
-        at_put v.store.limits answer (arrivals t.turn.ran.before) t.turn.ran.entry came by t.turn.ran.said
-    at_part came v w answer by (inr (none, spends)) =
-        as_told came Memory (part_tokens part ++ later, told) (subst (λ a. EndsBy a came) none by)
+        ⊎ ((answer ≡ Err put.NoMemory) × Spends v w) → comes end
+    at_part end v w answer by (inl t) =
+        at_put v.store.limits answer (arrivals t.turn.ran.before) t.turn.ran.entry end by t.turn.ran.said
+    at_part end v w answer by (inr (none, spends)) =
+        as_told end Memory (part_tokens part ++ later, told) (subst (λ a. EndsBy a end) none by)
 
-  at_token : (after : List Token) (came : UploadEnd) (v w : Sight) → Told boundary given parts after
-      → StopsAt after came v w → comes came
-  at_token after came v w told (StopsAt.AtName name later is bad by same) =
-      as_told came (Refused BadRef) (name, later, subst (λ ts. Told boundary given parts ts) is told, bad) by
-  at_token after came v w told (StopsAt.AtPart part later is good last) =
-      at_part part later (subst (λ ts. Told boundary given parts ts) is told) good came v w last.answer last.ends
+  at_token : (after : List Token) (end : UploadEnd) (v w : Sight) → Told boundary given parts after
+      → StopsAt after end v w → comes end
+  at_token after end v w told (StopsAt.AtName name later is bad by same) =
+      as_told end (Refused BadRef) (name, later, subst (λ ts. Told boundary given parts ts) is told, bad) by
+  at_token after end v w told (StopsAt.AtPart part later is good last) =
+      at_part part later (subst (λ ts. Told boundary given parts ts) is told) good end v w last.answer last.ends
       last.call
-  at_token after came v w told (StopsAt.ForMemory by same) = as_told came Memory (after, told) by
+  at_token after end v w told (StopsAt.ForMemory by same) = as_told end Memory (after, told) by
 
-  inside : (came : UploadEnd) (v w : Sight) → StopsIn boundary given parts came v w → comes came
-  inside came v w (StopsIn.AtToken after told stops) = at_token after came v w told stops
-  inside came v w (StopsIn.AtFault fault faulty by same) =
-      as_told came (came_of_part fault) (at_fault fault (inl faulty)) by
-  inside came v w (StopsIn.AtLimit front rest whole full some reads by same) =
-      as_told came (Refused (TooLong most_bytes)) (inr (refl, (front, rest, whole, full, some, reads))) by
+  inside : (end : UploadEnd) (v w : Sight) → StopsIn boundary given parts end v w → comes end
+  inside end v w (StopsIn.AtToken after told stops) = at_token after end v w told stops
+  inside end v w (StopsIn.AtFault fault faulty by same) =
+      as_told end (end_of_part fault) (at_fault fault (inl faulty)) by
+  inside end v w (StopsIn.AtLimit front rest whole full some reads by same) =
+      as_told end (Refused (TooLong most_bytes)) (inr (refl, (front, rest, whole, full, some, reads))) by
 
-  at_last : (came : UploadEnd) (v w : Sight) → Ends boundary given parts wire x came v w → comes came
-  at_last came v w (Ends.Inside front piece whole few over stops) = inside came v w stops
-  at_last came v w (Ends.AtClose done short is by same) = as_told came Whole (done, short, is) by
-  at_last came v w (Ends.AtEnd fault done all by same) =
-      as_told came (came_of_part fault) (at_fault fault (inr (done, all))) by
-  at_last came v w (Ends.AtBreak end reads says short by same) =
-      as_told came (came_of_wire end) (at_break end reads says short) by
+  at_last : (end : UploadEnd) (v w : Sight) → Ends boundary given parts wire x end v w → comes end
+  at_last end v w (Ends.Inside front piece whole few over stops) = inside end v w stops
+  at_last end v w (Ends.AtClose done short is by same) = as_told end Whole (done, short, is) by
+  at_last end v w (Ends.AtEnd fault done all by same) =
+      as_told end (end_of_part fault) (at_fault fault (inr (done, all))) by
+  at_last end v w (Ends.AtBreak stop reads says short by same) =
+      as_told end (end_of_wire stop) (at_break stop reads says short) by
 
 pub uploads_come : UploadsCome
-uploads_come boundary left left' wire wire' v w kept kept' came u =
-    at_last boundary u.given u.parts wire' (to_come wire' left') came u.middle w u.ends
+uploads_come boundary left left' wire wire' v w kept kept' end u =
+    at_last boundary u.given u.parts wire' (to_come wire' left') end u.middle w u.ends

@@ -136,27 +136,27 @@ parts_told boundary fed parts after reader tells = by (ltb 1000 (length parts)) 
         let many = ltb-true 1000 (length parts) is in
         omega (arith, all, count, front, each, many)))
 
-stops_few : (boundary given : List ℕ) (parts : List Part) (came : UploadEnd) (v w : Sight)
-    → StopsIn boundary given parts came v w → length parts ≤ 1000
-stops_few boundary given parts came v w (StopsIn.AtToken after told stops) =
+stops_few : (boundary given : List ℕ) (parts : List Part) (end : UploadEnd) (v w : Sight)
+    → StopsIn boundary given parts end v w → length parts ≤ 1000
+stops_few boundary given parts end v w (StopsIn.AtToken after told stops) =
     parts_told boundary told.fed parts after told.reader told.tells
-stops_few boundary given parts came v w (StopsIn.AtFault fault faulty ends same) =
+stops_few boundary given parts end v w (StopsIn.AtFault fault faulty ends same) =
     parts_of_body boundary (faulty.fed ++ []) parts (cut_tokens faulty.cut) (Err fault) (faulty.tells [])
-stops_few boundary given parts came v w (StopsIn.AtLimit front rest whole full some reads ends same) =
+stops_few boundary given parts end v w (StopsIn.AtLimit front rest whole full some reads ends same) =
     parts_told boundary front parts (cut_tokens reads.cut) reads.reader reads.tells
 
-ends_few : (boundary given : List ℕ) (parts : List Part) (wire : WireView) (x : Option (List ℕ)) (came : UploadEnd)
+ends_few : (boundary given : List ℕ) (parts : List Part) (wire : WireView) (x : Option (List ℕ)) (end : UploadEnd)
     (v w : Sight)
-    → Ends boundary given parts wire x came v w → length parts ≤ 1000
-ends_few boundary given parts wire x came v w (Ends.Inside front piece whole few over stops) =
-    stops_few boundary given parts came v w stops
-ends_few boundary given parts wire x came v w (Ends.AtClose done short is ends same) =
+    → Ends boundary given parts wire x end v w → length parts ≤ 1000
+ends_few boundary given parts wire x end v w (Ends.Inside front piece whole few over stops) =
+    stops_few boundary given parts end v w stops
+ends_few boundary given parts wire x end v w (Ends.AtClose done short is ends same) =
     parts_in parts (cut_tokens (is.1)) (is.0) (is.3) (body_few boundary given (is.0) (Ok tt) (is.2))
-ends_few boundary given parts wire x came v w (Ends.AtEnd fault done all ends same) =
+ends_few boundary given parts wire x end v w (Ends.AtEnd fault done all ends same) =
     parts_of_body boundary given parts (cut_tokens all.cut) (Err fault) all.tells
-ends_few boundary given parts wire x came v w (Ends.AtBreak end reads says short ends same) =
+ends_few boundary given parts wire x end v w (Ends.AtBreak stop reads says short ends same) =
     parts_told boundary given parts (cut_tokens reads.cut) reads.reader reads.tells
 
 pub parts_are_few : PartsAreFew
-parts_are_few boundary left left' wire wire' v w kept kept' came u =
-    ends_few boundary u.given u.parts wire' (to_come wire' left') came u.middle w u.ends
+parts_are_few boundary left left' wire wire' v w kept kept' end u =
+    ends_few boundary u.given u.parts wire' (to_come wire' left') end u.middle w u.ends

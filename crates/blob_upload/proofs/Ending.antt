@@ -26,11 +26,12 @@ use Rattle.home_places.specs.Passes.{Sight}
 use Rattle.blob_upload.specs.declared.upload_end.UploadEnd.{UploadEnd}
 use Rattle.blob_upload.specs.declared.upload_end.UploadEnd.TheVariants.{Memory, Ended}
 use Rattle.blob_upload.specs.declared.uploading.Reading.{Reading}
-use Rattle.blob_upload.specs.Faults.{most_bytes, came_of_put, came_of_part, came_of_wire}
+use Rattle.multipart_read.specs.Limits.{most_bytes}
+use Rattle.blob_upload.specs.Faults.{end_of_put, end_of_part, end_of_wire}
 use Rattle.blob_upload.specs.Puts.{EndsBy}
 use Rattle.blob_upload.specs.Ends.{StopsAt, IsFed, IsSound, Reads, StopsIn, EndsShort, Ends}
 use Rattle.blob_upload.specs.Uploads.{Uploads}
-use Rattle.blob_upload.specs.Taking.{cut_of, Going, TakesPiece, came_of_end, Finishes}
+use Rattle.blob_upload.specs.Taking.{cut_of, Going, TakesPiece, end_of_body, Finishes}
 use Rattle.blob_upload.proofs.Putting.{keeps_none}
 
 -- ---- before the first byte
@@ -62,42 +63,43 @@ moves_none left flow at =
 
 -- ---- inside a body an upload doesn't end for the source
 
-put_otherwise : (fault : PutFault) (end : WireEnd) → came_of_put fault ≡ Ended end → ⊥
+put_otherwise : (fault : PutFault) (end : WireEnd) → end_of_put fault ≡ Ended end → ⊥
 put_otherwise (put.TooBig size) end is = absurd cc
 put_otherwise (put.BadDigest said other) end is = absurd cc
 put_otherwise (put.Full blobs pack) end is = absurd cc
 put_otherwise put.Disk end is = absurd cc
 put_otherwise put.NoMemory end is = absurd cc
 
-part_otherwise : (fault : PartFault) (end : WireEnd) → came_of_part fault ≡ Ended end → ⊥
+part_otherwise : (fault : PartFault) (end : WireEnd) → end_of_part fault ≡ Ended end → ⊥
 part_otherwise BadBoundary end is = absurd cc
 part_otherwise (Bad at) end is = absurd cc
 part_otherwise (TooLong limit) end is = absurd cc
 part_otherwise NoMemory end is = absurd cc
 
-end_otherwise : (last : End) (end : WireEnd) → came_of_end last ≡ Ended end → ⊥
+end_otherwise : (last : End) (end : WireEnd) → end_of_body last ≡ Ended end → ⊥
 end_otherwise (Ok closed) end is = absurd cc
 end_otherwise (Err fault) end is = part_otherwise fault end is
 
-last_otherwise : (answer : Result Put PutFault) (came : UploadEnd) (end : WireEnd) → EndsBy answer came → came ≡ Ended end
+last_otherwise : (answer : Result Put PutFault) (end : UploadEnd) (stop : WireEnd) → EndsBy answer end
+    → end ≡ Ended stop
     → ⊥
-last_otherwise (Ok stored) came end ends is = absurd (cc (ends, is))
-last_otherwise (Err fault) came end ends is = put_otherwise fault end (sym ends ∙ is)
+last_otherwise (Ok stored) end stop ends is = absurd (cc (ends, is))
+last_otherwise (Err fault) end stop ends is = put_otherwise fault stop (sym ends ∙ is)
 
-at_otherwise : (after : List Token) (came : UploadEnd) (v w : Sight) (end : WireEnd) → StopsAt after came v w
-    → came ≡ Ended end → ⊥
-at_otherwise after came v w end (StopsAt.AtName name later told bad ends same) is = absurd (cc (ends, is))
-at_otherwise after came v w end (StopsAt.AtPart part later told good last) is =
-    last_otherwise last.answer came end last.ends is
-at_otherwise after came v w end (StopsAt.ForMemory ends same) is = absurd (cc (ends, is))
+at_otherwise : (after : List Token) (end : UploadEnd) (v w : Sight) (stop : WireEnd) → StopsAt after end v w
+    → end ≡ Ended stop → ⊥
+at_otherwise after end v w stop (StopsAt.AtName name later told bad ends same) is = absurd (cc (ends, is))
+at_otherwise after end v w stop (StopsAt.AtPart part later told good last) is =
+    last_otherwise last.answer end stop last.ends is
+at_otherwise after end v w stop (StopsAt.ForMemory ends same) is = absurd (cc (ends, is))
 
-stops_otherwise : (boundary given : List ℕ) (parts : List Part) (came : UploadEnd) (v w : Sight) (end : WireEnd)
-    → StopsIn boundary given parts came v w → came ≡ Ended end → ⊥
-stops_otherwise boundary given parts came v w end (StopsIn.AtToken after told stops) is =
-    at_otherwise after came v w end stops is
-stops_otherwise boundary given parts came v w end (StopsIn.AtFault fault faulty ends same) is =
-    part_otherwise fault end (sym ends ∙ is)
-stops_otherwise boundary given parts came v w end (StopsIn.AtLimit front rest whole full some reads ends same) is =
+stops_otherwise : (boundary given : List ℕ) (parts : List Part) (end : UploadEnd) (v w : Sight) (stop : WireEnd)
+    → StopsIn boundary given parts end v w → end ≡ Ended stop → ⊥
+stops_otherwise boundary given parts end v w stop (StopsIn.AtToken after told stops) is =
+    at_otherwise after end v w stop stops is
+stops_otherwise boundary given parts end v w stop (StopsIn.AtFault fault faulty ends same) is =
+    part_otherwise fault stop (sym ends ∙ is)
+stops_otherwise boundary given parts end v w stop (StopsIn.AtLimit front rest whole full some reads ends same) is =
     absurd (cc (ends, is))
 
 -- ---- after some pieces
@@ -202,10 +204,10 @@ module _ (boundary : List ℕ) (left left' left'' : Option (List ℕ)) (wire wir
   }
 
   -- the upload ends inside a piece
-  pub uploading_stops : (piece : List ℕ) (x : Sight) (kept'' : List (List ℕ × ℕ)) (reading' : Reading) (came : UploadEnd)
-      → moves piece → length piece ≤ 65536 → TakesPiece piece reading reading' kept' kept'' w x (Err came)
-      → Uploads boundary left left'' wire wire'' v x kept kept'' came
-  uploading_stops piece x kept'' reading' came moved few takes =
+  pub uploading_stops : (piece : List ℕ) (x : Sight) (kept'' : List (List ℕ × ℕ)) (reading' : Reading) (end : UploadEnd)
+      → moves piece → length piece ≤ 65536 → TakesPiece piece reading reading' kept' kept'' w x (Err end)
+      → Uploads boundary left left'' wire wire'' v x kept kept'' end
+  uploading_stops piece x kept'' reading' end moved few takes =
       let halted = takes boundary kept v so_far.given so_far.count so_far.going in
       record {
         given = so_far.given ++ piece;
@@ -221,22 +223,22 @@ module _ (boundary : List ℕ) (left left' left'' : Option (List ℕ)) (wire wir
       }
 
   -- it doesn't end there for the source
-  pub never_ended : (piece : List ℕ) (x : Sight) (kept'' : List (List ℕ × ℕ)) (reading' : Reading) (came : UploadEnd)
-      (end : WireEnd)
-      → TakesPiece piece reading reading' kept' kept'' w x (Err came) → came ≡ Ended end → ⊥
-  never_ended piece x kept'' reading' came end takes is =
+  pub never_ended : (piece : List ℕ) (x : Sight) (kept'' : List (List ℕ × ℕ)) (reading' : Reading) (end : UploadEnd)
+      (stop : WireEnd)
+      → TakesPiece piece reading reading' kept' kept'' w x (Err end) → end ≡ Ended stop → ⊥
+  never_ended piece x kept'' reading' end stop takes is =
       let halted = takes boundary kept v so_far.given so_far.count so_far.going in
-      stops_otherwise boundary (so_far.given ++ piece) halted.parts came halted.middle x end halted.stops is
+      stops_otherwise boundary (so_far.given ++ piece) halted.parts end halted.middle x stop halted.stops is
 
   -- nor at the body's end
-  pub never_finished : (came : UploadEnd) (end : WireEnd) → Finishes reading.parts came → came ≡ Ended end → ⊥
-  never_finished came end finishes is =
+  pub never_finished : (end : UploadEnd) (stop : WireEnd) → Finishes reading.parts end → end ≡ Ended stop → ⊥
+  never_finished end stop finishes is =
       let finished = finishes boundary so_far.given so_far.going.tokens so_far.going.tells so_far.sound in
-      end_otherwise (finished.0) end (sym (finished.2) ∙ is)
+      end_otherwise (finished.0) stop (sym (finished.2) ∙ is)
 
   -- no more of the body is read
   pub uploading_breaks : (end : WireEnd) → moves [] → BodyEnds (to_come wire'' left'') wire''.body wire''.begun end
-      → EndsShort wire'' end → Uploads boundary left left'' wire wire'' v w kept kept' (came_of_wire end)
+      → EndsShort wire'' end → Uploads boundary left left'' wire wire'' v w kept kept' (end_of_wire end)
   uploading_breaks end moved says short = record {
     given = so_far.given;
     moved = no_further moved;
@@ -246,12 +248,13 @@ module _ (boundary : List ℕ) (left left' left'' : Option (List ℕ)) (wire wir
     ends = Ends.AtBreak end reads_given says short refl refl;
   }
 
-  ends_by : (end : End) (came : UploadEnd) → wire''.body ≡ Done → IsBody boundary so_far.given so_far.going.tokens end
-      → came ≡ came_of_end end
-      → Ends boundary so_far.given so_far.going.took.parts wire'' (to_come wire'' left'') came w w
-  ends_by (Ok closed) came done is ends =
+  ends_by : (closing : End) (end : UploadEnd) → wire''.body ≡ Done
+      → IsBody boundary so_far.given so_far.going.tokens closing
+      → end ≡ end_of_body closing
+      → Ends boundary so_far.given so_far.going.took.parts wire'' (to_come wire'' left'') end w w
+  ends_by (Ok closed) end done is ends =
       Ends.AtClose done short_given (so_far.going.tokens, cut_of reading.opened, is, so_far.going.took.told) ends refl
-  ends_by (Err fault) came done is ends = Ends.AtEnd fault done (record {
+  ends_by (Err fault) end done is ends = Ends.AtEnd fault done (record {
     short = short_given;
     cut = cut_of reading.opened;
     is_named = so_far.going.took.is_named;
@@ -259,9 +262,9 @@ module _ (boundary : List ℕ) (left left' left'' : Option (List ℕ)) (wire wir
   }) ends refl
 
   -- the body's end
-  pub uploading_ends : (came : UploadEnd) → moves [] → wire''.body ≡ Done → Finishes reading.parts came
-      → Uploads boundary left left'' wire wire'' v w kept kept' came
-  uploading_ends came moved done finishes =
+  pub uploading_ends : (end : UploadEnd) → moves [] → wire''.body ≡ Done → Finishes reading.parts end
+      → Uploads boundary left left'' wire wire'' v w kept kept' end
+  uploading_ends end moved done finishes =
       let finished = finishes boundary so_far.given so_far.going.tokens so_far.going.tells so_far.sound in
       record {
         given = so_far.given;
@@ -269,13 +272,13 @@ module _ (boundary : List ℕ) (left left' left'' : Option (List ℕ)) (wire wir
         parts = so_far.going.took.parts;
         middle = w;
         keeps = so_far.going.took.keeps;
-        ends = ends_by (finished.0) came done (finished.1) (finished.2);
+        ends = ends_by (finished.0) end done (finished.1) (finished.2);
       }
 
 -- ---- what a reader says at the end
 
 pub finishes : (reader : Reader) (end : End) → (end ≡ Err NoMemory → reader.stage ≡ stages.Refused NoMemory)
-    → ((end ≡ Err NoMemory → ⊥) → Gives reader [] [] end) → Finishes reader (came_of_end end)
+    → ((end ≡ Err NoMemory → ⊥) → Gives reader [] [] end) → Finishes reader (end_of_body end)
 finishes reader end memory gives boundary given tokens tells sound = (
   end,
   whole_body boundary given tokens reader end tells

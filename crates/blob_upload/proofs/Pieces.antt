@@ -18,7 +18,8 @@ use Rattle.answer_text.specs.declared.refusal.Refusal.TheVariants as refusal
 use Rattle.blob_upload.specs.declared.upload_end.UploadEnd.{UploadEnd}
 use Rattle.blob_upload.specs.declared.upload_end.UploadEnd.TheVariants.{Refused, Memory}
 use Rattle.blob_upload.specs.declared.opened.Opened.{Opened}
-use Rattle.blob_upload.specs.Faults.{most_bytes, came_of_part}
+use Rattle.multipart_read.specs.Limits.{most_bytes}
+use Rattle.blob_upload.specs.Faults.{end_of_part}
 use Rattle.blob_upload.specs.Ends.{StopsAt, Told, IsFed, IsSound, Faulty, StopsIn}
 use Rattle.blob_upload.specs.Taking.{cut_of, After, IsInOrder, Takes, Going, Halted, Feeds, SoundAtLast}
 
@@ -48,24 +49,24 @@ faulty_longer boundary given more parts fault f = record {
   tells = f.tells;
 }
 
-stops_further : (boundary given more : List ℕ) (parts : List Part) (came : UploadEnd) (v w : Sight)
-    → StopsIn boundary given parts came v w → StopsIn boundary (given ++ more) parts came v w
-stops_further boundary given more parts came v w (StopsIn.AtToken after told stops) =
+stops_further : (boundary given more : List ℕ) (parts : List Part) (end : UploadEnd) (v w : Sight)
+    → StopsIn boundary given parts end v w → StopsIn boundary (given ++ more) parts end v w
+stops_further boundary given more parts end v w (StopsIn.AtToken after told stops) =
     StopsIn.AtToken after (told_longer boundary given more parts after told) stops
-stops_further boundary given more parts came v w (StopsIn.AtFault fault faulty ends same) =
+stops_further boundary given more parts end v w (StopsIn.AtFault fault faulty ends same) =
     StopsIn.AtFault fault (faulty_longer boundary given more parts fault faulty) ends same
-stops_further boundary given more parts came v w (StopsIn.AtLimit front rest whole full some reads ends same) =
+stops_further boundary given more parts end v w (StopsIn.AtLimit front rest whole full some reads ends same) =
     StopsIn.AtLimit front (rest ++ more) (ap (λ l. l ++ more) whole ∙ append_assoc front rest more) full
     (omega (arith, length-append rest more, some)) reads ends same
 
-pub halted_longer : (boundary : List ℕ) (first : List (List ℕ × ℕ)) (u : Sight) (given more : List ℕ) (came : UploadEnd)
-    (kept : List (List ℕ × ℕ)) (w : Sight) → Halted boundary first u given came kept w
-    → Halted boundary first u (given ++ more) came kept w
-halted_longer boundary first u given more came kept w h = record {
+pub halted_longer : (boundary : List ℕ) (first : List (List ℕ × ℕ)) (u : Sight) (given more : List ℕ) (end : UploadEnd)
+    (kept : List (List ℕ × ℕ)) (w : Sight) → Halted boundary first u given end kept w
+    → Halted boundary first u (given ++ more) end kept w
+halted_longer boundary first u given more end kept w h = record {
   parts = h.parts;
   middle = h.middle;
   keeps = h.keeps;
-  stops = stops_further boundary given more h.parts came h.middle w h.stops;
+  stops = stops_further boundary given more h.parts end h.middle w h.stops;
 }
 
 -- ---- one piece
@@ -126,10 +127,10 @@ module _ (piece : List ℕ) (r s : Reader) (o p : Option Opened) (k l : List (Li
       )
 
   -- the upload ended at it
-  pub feed_stops : (these taken : List Token) (came : UploadEnd) → taken ≡ these → Tells r piece these s
-      → Takes taken o p k l v w (Err came) → Feeds SoundAtLast piece r s o p k l v w (Err came)
-  feed_stops these taken came same tells take boundary first u given short going =
-      let takes : Takes these o p k l v w (Err came) = subst (λ ts. Takes ts o p k l v w (Err came)) same take in
+  pub feed_stops : (these taken : List Token) (end : UploadEnd) → taken ≡ these → Tells r piece these s
+      → Takes taken o p k l v w (Err end) → Feeds SoundAtLast piece r s o p k l v w (Err end)
+  feed_stops these taken end same tells take boundary first u given short going =
+      let takes : Takes these o p k l v w (Err end) = subst (λ ts. Takes ts o p k l v w (Err end)) same take in
       let all = joined boundary given going.tokens these going.tells tells in
       let order : IsInOrder (going.tokens ++ (these ++ [])) =
       subst IsInOrder (append_assoc going.tokens these [])
@@ -176,7 +177,7 @@ module _ (piece : List ℕ) (r s : Reader) (o : Option Opened) (k : List (List �
   }
 
   faulty : (fault : PartFault) → Tells r piece [] s → s.stage ≡ stages.Refused fault
-      → Feeds SoundAtLast piece r s o o k k v v (Err (came_of_part fault))
+      → Feeds SoundAtLast piece r s o o k k v v (Err (end_of_part fault))
   faulty fault tells is boundary first u given short going =
       let all : Tells (fresh boundary) (given ++ piece) (going.tokens ++ []) s =
       pieces_join (fresh boundary) r s given piece going.tokens [] going.tells tells in
@@ -198,7 +199,7 @@ module _ (piece : List ℕ) (r s : Reader) (o : Option Opened) (k : List (List �
       }
 
   pub feed_refuses : (fault : PartFault) → (fault ≢ NoMemory → Tells r piece [] s) → s.stage ≡ stages.Refused fault
-      → Feeds SoundAtLast piece r s o o k k v v (Err (came_of_part fault))
+      → Feeds SoundAtLast piece r s o o k k v v (Err (end_of_part fault))
   feed_refuses BadBoundary tells is = faulty BadBoundary (tells (λ e. absurd cc)) is
   feed_refuses (Bad at) tells is = faulty (Bad at) (tells (λ e. absurd cc)) is
   feed_refuses (TooLong limit) tells is = faulty (TooLong limit) (tells (λ e. absurd cc)) is
@@ -227,7 +228,7 @@ feeds_more holds then xs ys r s t o p q k l m u v w done result f g boundary fir
     omega (arith, short, ap length (sym same), length-append (given ++ xs) ys) in
     let mid = f boundary first start given front going in
     subst (λ given. After result (λ done. Going boundary first start given t q m w × then done t)
-    (λ came. Halted boundary first start given came m w)) same
+    (λ end. Halted boundary first start given end m w)) same
     (g boundary first start (given ++ xs) (subst (λ l. length l ≤ most_bytes) (sym same) short) (mid.0))
 
 pub feeds_on : (xs : List ℕ) (r s : Reader) (o p : Option Opened) (k l : List (List ℕ × ℕ)) (v w : Sight) (more : Bool)
@@ -253,7 +254,7 @@ module _ (piece : List ℕ) (n taken : ℕ) (within : n ≡ min (length piece) (
     says result = (boundary : List ℕ) (first : List (List ℕ × ℕ)) (u : Sight) (given : List ℕ) → length given ≡ taken
         → Going boundary first u given r o k v
         → After result (λ done. Going boundary first u (given ++ piece) s p l w × IsSound s)
-        (λ came. Halted boundary first u (given ++ piece) came l w)
+        (λ end. Halted boundary first u (given ++ piece) end l w)
 
     pub piece_whole : length piece ≤ n → Feeds (λ (done : Unit {0}). IsSound) (take n piece) r s o p k l v w (Ok tt)
         → says (Ok tt)
@@ -261,12 +262,12 @@ module _ (piece : List ℕ) (n taken : ℕ) (within : n ≡ min (length piece) (
         subst (λ l'. Going boundary first u (given ++ l') s p l w × IsSound s) (take_all n piece all)
         (f boundary first u given (front_short given count) going)
 
-    pub piece_stops : (came : UploadEnd) → Feeds (λ (done : Unit {0}). IsSound) (take n piece) r s o p k l v w (Err came)
-        → says (Err came)
-    piece_stops came f boundary first u given count going =
-        subst (λ l'. Halted boundary first u l' came l w)
+    pub piece_stops : (end : UploadEnd) → Feeds (λ (done : Unit {0}). IsSound) (take n piece) r s o p k l v w (Err end)
+        → says (Err end)
+    piece_stops end f boundary first u given count going =
+        subst (λ l'. Halted boundary first u l' end l w)
         (append_assoc given (take n piece) (drop n piece) ∙ ap (λ l'. given ++ l') (take-append-drop n piece))
-        (halted_longer boundary first u (given ++ take n piece) (drop n piece) came l w
+        (halted_longer boundary first u (given ++ take n piece) (drop n piece) end l w
         (f boundary first u given (front_short given count) going))
 
     pub piece_long : n < length piece → Feeds (λ (done : Unit {0}). IsSound) (take n piece) r s o p k l v w (Ok tt)

@@ -74,7 +74,7 @@ bytes_named bytes (inside n front) is = is
 pub name_takes : (n : List ℕ) (o o' : Option Opened) (k : List (List ℕ × ℕ)) (v : Sight)
     (result : Result (Unit {0}) UploadEnd)
     → OnOk result ((is_blobref n ≡ true) × (cut_of o' ≡ inside n []))
-    → IfErr result (λ came. (came ≡ Refused BadRef) × (is_blobref n ≡ false)) → Takes (named n ∷ []) o o' k k v v result
+    → IfErr result (λ end. (end ≡ Refused BadRef) × (is_blobref n ≡ false)) → Takes (named n ∷ []) o o' k k v v result
 name_takes n o o' k v (Ok done) ok err first u tokens later order took =
     let told = name_told tokens took.parts n (cut_of o)
     (fits tokens later (Name n) took.parts (cut_of o) order took.told) took.told in
@@ -84,7 +84,7 @@ name_takes n o o' k v (Ok done) ok err first u tokens later order took =
       is_named = subst IsNamed (sym (ok.1)) (ok.0);
       keeps = took.keeps;
     }
-name_takes n o o' k v (Err came) ok err first u tokens later order took =
+name_takes n o o' k v (Err end) ok err first u tokens later order took =
     record {
       parts = took.parts;
       after = named n ∷ [];
@@ -97,7 +97,7 @@ name_takes n o o' k v (Err came) ok err first u tokens later order took =
 
 pub content_takes : (bytes : List ℕ) (o o' : Option Opened) (k : List (List ℕ × ℕ)) (v : Sight)
     (result : Result (Unit {0}) UploadEnd)
-    → OnOk result (cut_of o' ≡ with_bytes bytes (cut_of o)) → IfErr result (λ came. came ≡ Memory)
+    → OnOk result (cut_of o' ≡ with_bytes bytes (cut_of o)) → IfErr result (λ end. end ≡ Memory)
     → Takes (content bytes) o o' k k v v result
 content_takes bytes o o' k v (Ok done) ok err first u tokens later order took =
     let fit = fits tokens later (Content bytes) took.parts (cut_of o) order took.told in
@@ -108,7 +108,7 @@ content_takes bytes o o' k v (Ok done) ok err first u tokens later order took =
       is_named = subst IsNamed (sym ok) (bytes_named bytes (cut_of o) took.is_named);
       keeps = took.keeps;
     }
-content_takes bytes o o' k v (Err came) ok err first u tokens later order took =
+content_takes bytes o o' k v (Err end) ok err first u tokens later order took =
     record {
       parts = took.parts;
       after = cut_tokens (cut_of o) ++ content bytes;
@@ -124,7 +124,7 @@ end_by : (cut : Cut) (o' : Option Opened) (k k' first : List (List ℕ × ℕ)) 
     → Fits cut PartEnd
     → AreParts tokens parts cut → IsNamed cut → Keeps parts first k u v
     → After result (λ done. Took first u (tokens ++ ended ∷ []) o' k' w)
-    (λ came. Stopped first u (tokens ++ ended ∷ []) came k' w)
+    (λ end. Stopped first u (tokens ++ ended ∷ []) end k' w)
 end_by between o' k k' first u v w tokens parts result none puts fit told is keeps = absurd fit
 end_by (inside n front) o' k k' first u v w tokens parts (Ok done) none puts fit told is keeps =
     let part : Part = (n, front) in
@@ -135,7 +135,7 @@ end_by (inside n front) o' k k' first u v w tokens parts (Ok done) none puts fit
       is_named = subst IsNamed (sym none) tt;
       keeps = keeps_more parts part (puts.0) first k k' u v w keeps is (puts.1) (puts.2);
     }
-end_by (inside n front) o' k k' first u v w tokens parts (Err came) none puts fit told is keeps =
+end_by (inside n front) o' k k' first u v w tokens parts (Err end) none puts fit told is keeps =
     record {
       parts = parts;
       after = part_tokens (n, front);
@@ -164,22 +164,22 @@ takes_more xs ys o p q k l m v w x result h g first u tokens later order took =
     subst (λ ts. IsInOrder (tokens ++ ts)) (append_assoc xs ys later) order in
     let near : IsInOrder ((tokens ++ xs) ++ (ys ++ later)) =
     subst IsInOrder (sym (append_assoc tokens xs (ys ++ later))) far in
-    subst (λ ts. After result (λ done. Took first u ts q m x) (λ came. Stopped first u ts came m x))
+    subst (λ ts. After result (λ done. Took first u ts q m x) (λ end. Stopped first u ts end m x))
     (append_assoc tokens xs ys)
     (g first u (tokens ++ xs) later near (h first u tokens (ys ++ later) far took))
 
 -- what is told behind a stop changes nothing
-pub stops_longer : (after more : List Token) (came : UploadEnd) (v w : Sight) → StopsAt after came v w
-    → StopsAt (after ++ more) came v w
-stops_longer after more came v w (StopsAt.AtName n later is bad ends same) =
+pub stops_longer : (after more : List Token) (end : UploadEnd) (v w : Sight) → StopsAt after end v w
+    → StopsAt (after ++ more) end v w
+stops_longer after more end v w (StopsAt.AtName n later is bad ends same) =
     StopsAt.AtName n (later ++ more) (ap (λ ts. ts ++ more) is) bad ends same
-stops_longer after more came v w (StopsAt.AtPart part later is good put) =
+stops_longer after more end v w (StopsAt.AtPart part later is good put) =
     StopsAt.AtPart part (later ++ more) (ap (λ ts. ts ++ more) is ∙ append_assoc (part_tokens part) later more) good put
-stops_longer after more came v w (StopsAt.ForMemory ends same) = StopsAt.ForMemory ends same
+stops_longer after more end v w (StopsAt.ForMemory ends same) = StopsAt.ForMemory ends same
 
-pub takes_stop : (xs ys : List Token) (o p : Option Opened) (k l : List (List ℕ × ℕ)) (v w : Sight) (came : UploadEnd)
-    → Takes xs o p k l v w (Err came) → Takes (xs ++ ys) o p k l v w (Err came)
-takes_stop xs ys o p k l v w came h first u tokens later order took =
+pub takes_stop : (xs ys : List Token) (o p : Option Opened) (k l : List (List ℕ × ℕ)) (v w : Sight) (end : UploadEnd)
+    → Takes xs o p k l v w (Err end) → Takes (xs ++ ys) o p k l v w (Err end)
+takes_stop xs ys o p k l v w end h first u tokens later order took =
     let stopped = h first u tokens (ys ++ later)
     (subst (λ ts. IsInOrder (tokens ++ ts)) (append_assoc xs ys later) order) took in
     record {
@@ -189,7 +189,7 @@ takes_stop xs ys o p k l v w came h first u tokens later order took =
           ∙ append_assoc (flat stopped.parts) stopped.after ys;
       middle = stopped.middle;
       keeps = stopped.keeps;
-      stops = stops_longer stopped.after ys came stopped.middle w stopped.stops;
+      stops = stops_longer stopped.after ys end stopped.middle w stopped.stops;
     }
 
 -- the tokens of the first events, and of one more

@@ -20,10 +20,10 @@ use Rattle.blob_upload.specs.Uploads.{Uploads}
 -- Arrivals of parts that were kept, and where memory was wanting of one that wasn't, as is said of the next. And why
 -- the upload ended, where the store or the disk is why.
 abbrev pub IsAddedBy : List Part → (Part → Type 0) → UploadEnd → StoreEvent → Type 0
-IsAddedBy parts next came (store.Put n r bytes) = Contains parts (r, bytes) ⊎ ((came ≡ Memory) × next (r, bytes))
-IsAddedBy parts next came (store.Fault f) = came ≡ Disk
-IsAddedBy parts next came (store.Damage want is) = ⊥
-IsAddedBy parts next came (store.Full blobs pack) = came ≡ Full blobs pack
+IsAddedBy parts next end (store.Put n r bytes) = Contains parts (r, bytes) ⊎ ((end ≡ Memory) × next (r, bytes))
+IsAddedBy parts next end (store.Fault f) = end ≡ Disk
+IsAddedBy parts next end (store.Damage want is) = ⊥
+IsAddedBy parts next end (store.Full blobs pack) = end ≡ Full blobs pack
 
 -- how many turns of the store are drawn where a body is refused behind so many parts that were kept
 abbrev pub TurnsRefused : Refusal → ℕ → ℕ → Type 0
@@ -53,18 +53,18 @@ abbrev pub IsNext : List ℕ → List ℕ → List Part → Part → Type 0
 IsNext boundary given parts part = (later : List Token) × Told boundary given parts (part_tokens part ++ later)
 
 -- `parts` are those that were kept, `next` says what may come next, and the pass was `v` before and is `w`
-pub record Adds (parts : List Part) (next : Part → Type 0) (came : UploadEnd) (v w : Sight) : Type 0 where
-  pub grew : StoreGrew (IsAddedBy parts next came) v.store w.store
-  pub turns : Turns came (length parts) (length grew.further)
-  pub why : ShowsWhy came grew.further w.store.history
+pub record Adds (parts : List Part) (next : Part → Type 0) (end : UploadEnd) (v w : Sight) : Type 0 where
+  pub grew : StoreGrew (IsAddedBy parts next end) v.store w.store
+  pub turns : Turns end (length parts) (length grew.further)
+  pub why : ShowsWhy end grew.further w.store.history
   pub stand : All (λ (part : Part). has_ref part.0 (arrivals w.store.history) ≡ true) parts
   pub index : w.index ≡ v.index
   pub limits : w.store.limits ≡ v.store.limits
-  pub spent : (w.spent ≡ v.spent) ⊎ ((came ≡ Memory) × (w.spent ≡ true))
+  pub spent : (w.spent ≡ v.spent) ⊎ ((end ≡ Memory) × (w.spent ≡ true))
 
 -- each upload has added this; next is the part that its body tells behind those that were kept
 abbrev pub UploadsAdd : Type 0
 UploadsAdd = (boundary : List ℕ) (left left' : Option (List ℕ)) (wire wire' : WireView) (v w : Sight)
-    (kept kept' : List (List ℕ × ℕ)) (came : UploadEnd)
-    → (upload : Uploads boundary left left' wire wire' v w kept kept' came)
-    → Adds upload.parts (IsNext boundary upload.given upload.parts) came v w
+    (kept kept' : List (List ℕ × ℕ)) (end : UploadEnd)
+    → (upload : Uploads boundary left left' wire wire' v w kept kept' end)
+    → Adds upload.parts (IsNext boundary upload.given upload.parts) end v w

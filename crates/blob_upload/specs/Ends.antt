@@ -18,19 +18,20 @@ use Rattle.home_places.specs.Passes.{Sight}
 use Rattle.answer_text.specs.declared.refusal.Refusal.TheVariants.{BadRef, TooLong}
 use Rattle.blob_upload.specs.declared.upload_end.UploadEnd.{UploadEnd}
 use Rattle.blob_upload.specs.declared.upload_end.UploadEnd.TheVariants.{Whole, Refused, Memory}
-use Rattle.blob_upload.specs.Faults.{most_bytes, part_fault, came_of_part, came_of_wire}
+use Rattle.multipart_read.specs.Limits.{most_bytes}
+use Rattle.blob_upload.specs.Faults.{part_fault, end_of_part, end_of_wire}
 use Rattle.blob_upload.specs.Puts.{LastPut}
 
 -- ---- at what was told behind the parts
 
 -- At a name that is no blobref, as soon as it is told. At a part that wasn't put, or not kept, as soon as its end is
 -- told. Or memory was wanting.
-pub data StopsAt (after : List Token) (came : UploadEnd) (v w : Sight) : Type 0 where
+pub data StopsAt (after : List Token) (end : UploadEnd) (v w : Sight) : Type 0 where
   AtName : (name : List ℕ) (later : List Token) → after ≡ named name ∷ later → is_blobref name ≡ false
-      → came ≡ Refused BadRef → w ≡ v → StopsAt after came v w
+      → end ≡ Refused BadRef → w ≡ v → StopsAt after end v w
   AtPart : (part : Part) (later : List Token) → after ≡ part_tokens part ++ later → is_blobref part.0 ≡ true
-      → LastPut part came v w → StopsAt after came v w
-  ForMemory : came ≡ Memory → w ≡ v → StopsAt after came v w
+      → LastPut part end v w → StopsAt after end v w
+  ForMemory : end ≡ Memory → w ≡ v → StopsAt after end v w
 
 -- ---- in the bytes of the body that came
 
@@ -81,13 +82,13 @@ pub record Faulty (boundary given : List ℕ) (parts : List Part) (fault : PartF
 
 -- Before the end of the body was looked for: at what was told, at a fault of the multipart body, or behind as many
 -- bytes as there may be
-pub data StopsIn (boundary given : List ℕ) (parts : List Part) (came : UploadEnd) (v w : Sight) : Type 0 where
-  AtToken : (after : List Token) → Told boundary given parts after → StopsAt after came v w
-      → StopsIn boundary given parts came v w
-  AtFault : (fault : PartFault) → Faulty boundary given parts fault → came ≡ came_of_part fault → w ≡ v
-      → StopsIn boundary given parts came v w
+pub data StopsIn (boundary given : List ℕ) (parts : List Part) (end : UploadEnd) (v w : Sight) : Type 0 where
+  AtToken : (after : List Token) → Told boundary given parts after → StopsAt after end v w
+      → StopsIn boundary given parts end v w
+  AtFault : (fault : PartFault) → Faulty boundary given parts fault → end ≡ end_of_part fault → w ≡ v
+      → StopsIn boundary given parts end v w
   AtLimit : (front rest : List ℕ) → given ≡ front ++ rest → length front ≡ most_bytes → 0 < length rest
-      → Reads boundary front parts → came ≡ Refused (TooLong most_bytes) → w ≡ v → StopsIn boundary given parts came v w
+      → Reads boundary front parts → end ≡ Refused (TooLong most_bytes) → w ≡ v → StopsIn boundary given parts end v w
 
 -- ---- at the end of the body, or where no more of it is read
 
@@ -111,13 +112,13 @@ EndsShort wire end = end ≡ wire_ends.ReadFault → EndsEarly wire.body wire.fl
 -- Inside the body: in the last piece that was read, of at most 64 KiB. At its close, at its end where its parts aren't
 -- closed, or at a break of what carries it.
 -- `wire` is the reader of the connection in the end, and `x` what is then still to come on the connection
-pub data Ends (boundary given : List ℕ) (parts : List Part) (wire : WireView) (x : Option (List ℕ)) (came : UploadEnd)
+pub data Ends (boundary given : List ℕ) (parts : List Part) (wire : WireView) (x : Option (List ℕ)) (end : UploadEnd)
     (v w : Sight) : Type 0 where
   Inside : (front piece : List ℕ) → given ≡ front ++ piece → length piece ≤ 65536 → IsNotOver boundary front
-      → StopsIn boundary given parts came v w → Ends boundary given parts wire x came v w
-  AtClose : wire.body ≡ Done → length given ≤ most_bytes → IsMultipart boundary given parts (Ok tt) → came ≡ Whole
-      → w ≡ v → Ends boundary given parts wire x came v w
-  AtEnd : (fault : PartFault) → wire.body ≡ Done → IsAll boundary given parts (Err fault) → came ≡ came_of_part fault
-      → w ≡ v → Ends boundary given parts wire x came v w
-  AtBreak : (end : WireEnd) → Reads boundary given parts → BodyEnds x wire.body wire.begun end
-      → EndsShort wire end → came ≡ came_of_wire end → w ≡ v → Ends boundary given parts wire x came v w
+      → StopsIn boundary given parts end v w → Ends boundary given parts wire x end v w
+  AtClose : wire.body ≡ Done → length given ≤ most_bytes → IsMultipart boundary given parts (Ok tt) → end ≡ Whole
+      → w ≡ v → Ends boundary given parts wire x end v w
+  AtEnd : (fault : PartFault) → wire.body ≡ Done → IsAll boundary given parts (Err fault) → end ≡ end_of_part fault
+      → w ≡ v → Ends boundary given parts wire x end v w
+  AtBreak : (stop : WireEnd) → Reads boundary given parts → BodyEnds x wire.body wire.begun stop
+      → EndsShort wire stop → end ≡ end_of_wire stop → w ≡ v → Ends boundary given parts wire x end v w

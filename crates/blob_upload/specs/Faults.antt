@@ -1,5 +1,5 @@
 -- Why the parts of an upload are refused, and what the upload then ends with.
-use Rattle.std.specs.Prelude.{ℕ, not, if◌then◌else◌, Option, Some, None}
+use Rattle.std.specs.Prelude.{not, if◌then◌else◌, Option, Some, None}
 use Rattle.blobref.specs.Blobref.{is_blobref, is_own_ref, ref_like}
 use Rattle.edge_base.specs.declared.answers.PutFault.{PutFault}
 use Rattle.edge_base.specs.declared.answers.PutFault.TheVariants as put
@@ -14,10 +14,6 @@ use Rattle.answer_text.specs.declared.refusal.Refusal.TheVariants.{BadRef, BadDi
 use Rattle.blob_upload.specs.declared.upload_end.UploadEnd.{UploadEnd}
 use Rattle.blob_upload.specs.declared.upload_end.UploadEnd.TheVariants.{Refused, Full, Disk, Memory, Ended}
 
--- the most bytes that the body of an upload may have
-abbrev pub most_bytes : ℕ
-most_bytes = 17000000000
-
 -- why a whole part is refused, if it is: its name is no ref, or another one than its content has
 abbrev pub part_fault : Part → Option Refusal
 part_fault part =
@@ -26,25 +22,25 @@ part_fault part =
     else None
 
 -- What an upload ends with where a part isn't put. No part that is told of a body is too big.
-abbrev pub came_of_put : PutFault → UploadEnd
-came_of_put (put.TooBig size) = Refused (TooLong max_size)
-came_of_put (put.BadDigest said is) = Refused (BadDigest said is)
-came_of_put (put.Full blobs pack) = Full blobs pack
-came_of_put put.Disk = Disk
-came_of_put put.NoMemory = Memory
+abbrev pub end_of_put : PutFault → UploadEnd
+end_of_put (put.TooBig size) = Refused (TooLong max_size)
+end_of_put (put.BadDigest said is) = Refused (BadDigest said is)
+end_of_put (put.Full blobs pack) = Full blobs pack
+end_of_put put.Disk = Disk
+end_of_put put.NoMemory = Memory
 
 -- what it ends with at a fault of the multipart body
-abbrev pub came_of_part : PartFault → UploadEnd
-came_of_part part.BadBoundary = Refused (BadMultipart 0)
-came_of_part (part.Bad at) = Refused (BadMultipart at)
-came_of_part (part.TooLong limit) = Refused (TooLong limit)
-came_of_part part.NoMemory = Memory
+abbrev pub end_of_part : PartFault → UploadEnd
+end_of_part part.BadBoundary = Refused (BadMultipart 0)
+end_of_part (part.Bad at) = Refused (BadMultipart at)
+end_of_part (part.TooLong limit) = Refused (TooLong limit)
+end_of_part part.NoMemory = Memory
 
 -- what it ends with where no more of the body is read
-abbrev pub came_of_wire : WireEnd → UploadEnd
-came_of_wire (wire.BadLength at) = Refused BadLength
-came_of_wire wire.Closed = Ended wire.Closed
-came_of_wire (wire.Cut at) = Ended (wire.Cut at)
-came_of_wire (wire.BadHead at) = Ended (wire.BadHead at)
-came_of_wire (wire.TooLong limit) = Ended (wire.TooLong limit)
-came_of_wire wire.ReadFault = Ended wire.ReadFault
+abbrev pub end_of_wire : WireEnd → UploadEnd
+end_of_wire (wire.BadLength at) = Refused BadLength
+end_of_wire wire.Closed = Ended wire.Closed
+end_of_wire (wire.Cut at) = Ended (wire.Cut at)
+end_of_wire (wire.BadHead at) = Ended (wire.BadHead at)
+end_of_wire (wire.TooLong limit) = Ended (wire.TooLong limit)
+end_of_wire wire.ReadFault = Ended wire.ReadFault

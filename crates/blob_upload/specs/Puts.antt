@@ -12,7 +12,7 @@ use Rattle.home_places.specs.Seats.{StoreGrew}
 use Rattle.home_places.specs.Passes.{Sight, StoreCall}
 use Rattle.blob_upload.specs.declared.upload_end.UploadEnd.{UploadEnd}
 use Rattle.blob_upload.specs.declared.upload_end.UploadEnd.TheVariants.{Memory}
-use Rattle.blob_upload.specs.Faults.{part_fault, came_of_put}
+use Rattle.blob_upload.specs.Faults.{part_fault, end_of_put}
 
 -- the arrival of one of these parts
 abbrev pub IsArrivalOf : List Part → StoreEvent → Type 0
@@ -40,12 +40,12 @@ pub record Keeps (parts : List Part) (kept kept' : List (List ℕ × ℕ)) (v w 
 -- What an upload ends with by the answer to its last put. A part that was put isn't kept where there is no memory to
 -- list it.
 abbrev pub EndsBy : Result Put PutFault → UploadEnd → Type 0
-EndsBy (Ok put) came = came ≡ Memory
-EndsBy (Err fault) came = came ≡ came_of_put fault
+EndsBy (Ok put) end = end ≡ Memory
+EndsBy (Err fault) end = end ≡ end_of_put fault
 
 -- the put of a part that wasn't kept, within the limits of the store
-pub record LastPut (part : Part) (came : UploadEnd) (v w : Sight) : Type 0 where
+pub record LastPut (part : Part) (end : UploadEnd) (v w : Sight) : Type 0 where
   pub answer : Result Put PutFault
-  pub ends : EndsBy answer came
+  pub ends : EndsBy answer end
   pub call : StoreCall (answer ≡ Err NoMemory)
       (λ before entry. PutSpec v.store.limits part.0 part.1 before answer entry) v w

@@ -12,7 +12,8 @@ use Rattle.blob_upload.specs.declared.upload_end.UploadEnd.{UploadEnd}
 use Rattle.blob_upload.specs.declared.upload_end.UploadEnd.TheVariants.{Whole}
 use Rattle.blob_upload.specs.declared.opened.Opened.{Opened}
 use Rattle.blob_upload.specs.declared.uploading.Reading.{Reading}
-use Rattle.blob_upload.specs.Faults.{most_bytes, came_of_part}
+use Rattle.multipart_read.specs.Limits.{most_bytes}
+use Rattle.blob_upload.specs.Faults.{end_of_part}
 use Rattle.blob_upload.specs.Puts.{Keeps, LastPut}
 use Rattle.blob_upload.specs.Ends.{StopsAt, IsNamed, IsFed, IsSound, StopsIn}
 
@@ -33,7 +34,7 @@ abbrev pub PutsPart : List ℕ → List ℕ → List (List ℕ × ℕ) → List 
     → Result (Unit {0}) UploadEnd → Type 0
 PutsPart name content kept kept' v w (Ok done) = (put : Put) × (kept' ≡ kept ++ (name, length content) ∷ [])
     × StoreTurned (λ before entry. PutSpec v.store.limits name content before (Ok put) entry) v w
-PutsPart name content kept kept' v w (Err came) = (kept' ≡ kept) × LastPut (name, content) came v w
+PutsPart name content kept kept' v w (Err end) = (kept' ≡ kept) × LastPut (name, content) end v w
 
 -- the same of what is open; nothing is, where none is
 abbrev pub PutsOpen : Cut → List (List ℕ × ℕ) → List (List ℕ × ℕ) → Sight → Sight → Result (Unit {0}) UploadEnd → Type 0
@@ -45,7 +46,7 @@ PutsOpen (inside name content) kept kept' v w result = PutsPart name content kep
 -- what a step leads to: it goes on so, or the upload ends so
 abbrev pub After : {T : Type 0} → Result T UploadEnd → (T → Type 0) → (UploadEnd → Type 0) → Type 0
 After (Ok done) next stops = next done
-After (Err came) next stops = stops came
+After (Err end) next stops = stops end
 
 -- these tokens are those of parts and of the front of a further one
 abbrev pub IsInOrder : List Token → Type 0
@@ -60,14 +61,14 @@ pub record Took (kept : List (List ℕ × ℕ)) (v : Sight) (tokens : List Token
   pub keeps : Keeps parts kept kept' v w
 
 -- the first parts of these tokens were put and kept, and at what follows the upload ends
-pub record Stopped (kept : List (List ℕ × ℕ)) (v : Sight) (tokens : List Token) (came : UploadEnd)
+pub record Stopped (kept : List (List ℕ × ℕ)) (v : Sight) (tokens : List Token) (end : UploadEnd)
     (kept' : List (List ℕ × ℕ)) (w : Sight) : Type 0 where
   pub parts : List Part
   pub after : List Token
   pub told : tokens ≡ flat_map part_tokens parts ++ after
   pub middle : Sight
   pub keeps : Keeps parts kept kept' v middle
-  pub stops : StopsAt after came middle w
+  pub stops : StopsAt after end middle w
 
 -- these tokens were taken, whatever was taken before, where they are in order
 abbrev pub Takes : List Token → Option Opened → Option Opened → List (List ℕ × ℕ) → List (List ℕ × ℕ) → Sight
@@ -75,7 +76,7 @@ abbrev pub Takes : List Token → Option Opened → Option Opened → List (List
 Takes these opened opened' kept kept' v w result = (first : List (List ℕ × ℕ)) (u : Sight) (tokens later : List Token)
     → IsInOrder (tokens ++ (these ++ later)) → Took first u tokens opened kept v
     → After result (λ done. Took first u (tokens ++ these) opened' kept' w)
-    (λ came. Stopped first u (tokens ++ these) came kept' w)
+    (λ end. Stopped first u (tokens ++ these) end kept' w)
 
 -- ---- what was given
 
@@ -88,12 +89,12 @@ pub record Going (boundary : List ℕ) (kept : List (List ℕ × ℕ)) (v : Sigh
   pub took : Took kept v tokens opened kept' w
 
 -- the upload ends inside these bytes
-pub record Halted (boundary : List ℕ) (kept : List (List ℕ × ℕ)) (v : Sight) (given : List ℕ) (came : UploadEnd)
+pub record Halted (boundary : List ℕ) (kept : List (List ℕ × ℕ)) (v : Sight) (given : List ℕ) (end : UploadEnd)
     (kept' : List (List ℕ × ℕ)) (w : Sight) : Type 0 where
   pub parts : List Part
   pub middle : Sight
   pub keeps : Keeps parts kept kept' v middle
-  pub stops : StopsIn boundary given parts came middle w
+  pub stops : StopsIn boundary given parts end middle w
 
 -- A piece was read, whatever was read before: all that it tells was taken, and `then` holds of the answer and of the
 -- reader; or the upload ends inside it.
@@ -103,7 +104,7 @@ Feeds then piece reader reader' opened opened' kept kept' v w result =
     (boundary : List ℕ) (first : List (List ℕ × ℕ)) (u : Sight) (given : List ℕ)
     → length (given ++ piece) ≤ most_bytes → Going boundary first u given reader opened kept v
     → After result (λ done. Going boundary first u (given ++ piece) reader' opened' kept' w × then done reader')
-    (λ came. Halted boundary first u (given ++ piece) came kept' w)
+    (λ end. Halted boundary first u (given ++ piece) end kept' w)
 
 -- nothing was told, so no fault waits
 abbrev pub SoundAtLast : Bool → Reader → Type 0
@@ -117,14 +118,14 @@ TakesPiece piece reading reading' kept kept' v w result =
     → length given ≡ reading.taken → Going boundary first u given reading.parts reading.opened kept v
     → After result (λ done. Going boundary first u (given ++ piece) reading'.parts reading'.opened kept' w
     × IsSound reading'.parts)
-    (λ came. Halted boundary first u (given ++ piece) came kept' w)
+    (λ end. Halted boundary first u (given ++ piece) end kept' w)
 
 -- what an upload ends with at the end of its body
-abbrev pub came_of_end : End → UploadEnd
-came_of_end (Ok closed) = Whole
-came_of_end (Err fault) = came_of_part fault
+abbrev pub end_of_body : End → UploadEnd
+end_of_body (Ok closed) = Whole
+end_of_body (Err fault) = end_of_part fault
 
 -- what an upload ends with where the body ends behind what was read
 abbrev pub Finishes : Reader → UploadEnd → Type 0
-Finishes reader came = (boundary given : List ℕ) (tokens : List Token) → Tells (fresh boundary) given tokens reader
-    → IsSound reader → (end : End) × IsBody boundary given tokens end × (came ≡ came_of_end end)
+Finishes reader end = (boundary given : List ℕ) (tokens : List Token) → Tells (fresh boundary) given tokens reader
+    → IsSound reader → (closing : End) × IsBody boundary given tokens closing × (end ≡ end_of_body closing)

@@ -14,7 +14,8 @@ use Rattle.answer_text.specs.declared.refusal.Refusal.{Refusal}
 use Rattle.answer_text.specs.declared.refusal.Refusal.TheVariants.{BadRef, BadDigest, BadMultipart, TooLong, BadLength}
 use Rattle.blob_upload.specs.declared.upload_end.UploadEnd.{UploadEnd}
 use Rattle.blob_upload.specs.declared.upload_end.UploadEnd.TheVariants.{Whole, Refused, Full, Disk, Memory, Ended}
-use Rattle.blob_upload.specs.Faults.{most_bytes, part_fault}
+use Rattle.multipart_read.specs.Limits.{most_bytes}
+use Rattle.blob_upload.specs.Faults.{part_fault}
 use Rattle.blob_upload.specs.Ends.{Told, Reads, Faulty, IsAll, EndsShort}
 use Rattle.blob_upload.specs.Uploads.{Uploads}
 
@@ -57,12 +58,12 @@ module _ (boundary given : List ℕ) (parts : List Part) (wire : WireView) (x : 
 -- each upload came to this
 abbrev pub UploadsCome : Type 0
 UploadsCome = (boundary : List ℕ) (left left' : Option (List ℕ)) (wire wire' : WireView) (v w : Sight)
-    (kept kept' : List (List ℕ × ℕ)) (came : UploadEnd)
-    → (upload : Uploads boundary left left' wire wire' v w kept kept' came)
-    → UploadOutcome boundary upload.given upload.parts wire' (to_come wire' left') came
+    (kept kept' : List (List ℕ × ℕ)) (end : UploadEnd)
+    → (upload : Uploads boundary left left' wire wire' v w kept kept' end)
+    → UploadOutcome boundary upload.given upload.parts wire' (to_come wire' left') end
 
 -- no upload keeps more than 1,000 parts
 abbrev pub PartsAreFew : Type 0
 PartsAreFew = (boundary : List ℕ) (left left' : Option (List ℕ)) (wire wire' : WireView) (v w : Sight)
-    (kept kept' : List (List ℕ × ℕ)) (came : UploadEnd)
-    → (upload : Uploads boundary left left' wire wire' v w kept kept' came) → length upload.parts ≤ 1000
+    (kept kept' : List (List ℕ × ℕ)) (end : UploadEnd)
+    → (upload : Uploads boundary left left' wire wire' v w kept kept' end) → length upload.parts ≤ 1000

@@ -11,10 +11,10 @@ use Rattle.blob_upload.specs.Ends.{Ends}
 -- AN UPLOAD: bytes of a body with this boundary were given; the first of its parts, none of which has a fault, were put
 -- and listed behind what was kept before; and then it ended.
 pub record Uploads (boundary : List ℕ) (left left' : Option (List ℕ)) (wire wire' : WireView) (v w : Sight)
-    (kept kept' : List (List ℕ × ℕ)) (came : UploadEnd) : Type 0 where
+    (kept kept' : List (List ℕ × ℕ)) (end : UploadEnd) : Type 0 where
   pub given : List ℕ
   pub moved : Moves left left' wire.flow wire'.flow wire.body wire'.body given
   pub parts : List Part
   pub middle : Sight
   pub keeps : Keeps parts kept kept' v middle
-  pub ends : Ends boundary given parts wire' (to_come wire' left') came middle w
+  pub ends : Ends boundary given parts wire' (to_come wire' left') end middle w

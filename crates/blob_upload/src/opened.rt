@@ -19,7 +19,7 @@ pub struct Opened {
 /// Opens the part of this name, which has to be a blobref.
 pub fn open(alloc: Global, name: &[u8], opened: &mut Option<Opened>) -> Result<(), UploadEnd>
     ensures ok { OnOk result ((is_blobref name.now ≡ true) × (cut_of opened.new ≡ inside name.now [])) }
-    ensures err { IfErr result (λ came. (came ≡ UploadEnd.Refused Refusal.BadRef) × (is_blobref name.now ≡ false)) }
+    ensures err { IfErr result (λ end. (end ≡ UploadEnd.Refused Refusal.BadRef) × (is_blobref name.now ≡ false)) }
 {
     let Some(r) = Ref::read(name) else {
         return Err(UploadEnd::Refused(Refusal::BadRef));
@@ -34,7 +34,7 @@ pub fn open(alloc: Global, name: &[u8], opened: &mut Option<Opened>) -> Result<(
 /// Puts bytes behind the content of the open part, if one is open.
 pub fn extend(bytes: &[u8], opened: &mut Option<Opened>) -> Result<(), UploadEnd>
     ensures ok { OnOk result (cut_of opened.new ≡ with_bytes bytes.now (cut_of opened.old)) }
-    ensures err { IfErr result (λ came. came ≡ UploadEnd.Memory) }
+    ensures err { IfErr result (λ end. end ≡ UploadEnd.Memory) }
 {
     let Some(mut part) = opened.take() else {
         return Ok(());

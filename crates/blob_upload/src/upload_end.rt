@@ -1,6 +1,6 @@
 //! How an upload ends.
 ghost use Rattle.std.specs.Prelude.{◌≡◌};
-ghost use Rattle.blob_upload.specs.Faults.{came_of_put, came_of_part, came_of_wire};
+ghost use Rattle.blob_upload.specs.Faults.{end_of_put, end_of_part, end_of_wire};
 
 use answer_text::Refusal;
 use edge_base::PutFault;
@@ -25,8 +25,8 @@ pub enum UploadEnd {
 }
 
 /// What an upload ends with where a part isn't put. No part that is told of a body is too big.
-pub(crate) fn came_of_put(fault: PutFault) -> UploadEnd
-    ensures { result ≡ came_of_put fault }
+pub(crate) fn end_of_put(fault: PutFault) -> UploadEnd
+    ensures { result ≡ end_of_put fault }
 {
     match fault {
         PutFault::TooBig { .. } => UploadEnd::Refused(Refusal::TooLong { limit: 16_777_216 }),
@@ -38,8 +38,8 @@ pub(crate) fn came_of_put(fault: PutFault) -> UploadEnd
 }
 
 /// What an upload ends with at a fault of the multipart body. A body's fault is never its boundary's.
-pub(crate) fn came_of_part(fault: PartFault) -> UploadEnd
-    ensures { result ≡ came_of_part fault }
+pub(crate) fn end_of_part(fault: PartFault) -> UploadEnd
+    ensures { result ≡ end_of_part fault }
 {
     match fault {
         PartFault::BadBoundary => UploadEnd::Refused(Refusal::BadMultipart { at: 0 }),
@@ -50,8 +50,8 @@ pub(crate) fn came_of_part(fault: PartFault) -> UploadEnd
 }
 
 /// What an upload ends with where no more of the body is read.
-pub(crate) fn came_of_wire(end: WireEnd) -> UploadEnd
-    ensures { result ≡ came_of_wire end }
+pub(crate) fn end_of_wire(end: WireEnd) -> UploadEnd
+    ensures { result ≡ end_of_wire end }
 {
     match end {
         WireEnd::BadLength { .. } => UploadEnd::Refused(Refusal::BadLength),

@@ -1,26 +1,23 @@
 //! A whole upload.
-ghost use Rattle.std.specs.Prelude.{◌≡◌, ◌+◌, ◌<◌, ◌≤◌, true, length, IfOk, IfSome, OnOk, None};
+ghost use Rattle.std.specs.Prelude.{◌≡◌, ◌+◌, ◌<◌, ◌≤◌, ℕ, List, length, IfOk, OnOk};
 ghost use Rattle.edge_base.specs.Edge.{FaultsRose};
-ghost use Rattle.multipart_read.specs.Parameters.{is_boundary};
 ghost use Rattle.multipart_read.specs.Reader.{fresh};
-ghost use Rattle.blob_upload.specs.Faults.{most_bytes};
+ghost use Rattle.multipart_read.specs.Limits.{most_bytes};
 ghost use Rattle.blob_upload.specs.Uploads.{Uploads};
 ghost use Rattle.blob_upload.specs.Taking.{TakesPiece, Finishes};
 
 use crate::feeding::feed;
 use crate::opened::Opened;
-use crate::upload_end::{UploadEnd, came_of_part, came_of_wire};
+use crate::service::Service;
+use crate::upload_end::{UploadEnd, end_of_part, end_of_wire};
 use answer_text::Refusal;
 use blobref::Listing;
 use edge_base::Source;
 use home_places::Home;
 use http_wire::{Body, Wire, WireEnd};
-use multipart_read::Parts;
+use multipart_read::{MOST_BYTES, Parts};
 use std::alloc::{AllocError, Global};
 use std::sync::Wait;
-
-// The most bytes that a body may have.
-const MOST_BYTES: u64 = 17_000_000_000;
 
 // What was read of a body: its parts, the one that is open, and how many bytes came.
 #[derive(Drop)]
@@ -28,19 +25,6 @@ struct Reading {
     parts: Parts,
     opened: Option<Opened>,
     taken: u64,
-}
-
-// A reading of a body with this boundary, before its first byte.
-fn begin(alloc: Global, boundary: &[u8]) -> Option<Reading>
-    requires { is_boundary boundary.now ≡ true }
-    ensures { IfSome result (λ reading. reading ≡ record { parts = fresh boundary.now; opened = None; taken = 0 }) }
-{
-    let parts = Parts::make(alloc, boundary).ok()?;
-    Some(Reading {
-        parts,
-        opened: None,
-        taken: 0,
-    })
 }
 
 // Room for a piece of a body of which so much is to come: for all of a short one.
@@ -57,18 +41,16 @@ fn room(alloc: Global, rest: Body) -> Result<Vec<u8>, AllocError>
 
 // Takes a piece, as far as the limit allows.
 fn take_piece<H: Home, R: Wait>(
-    rt: &R,
-    alloc: Global,
-    home: &H,
+    service: &Service<H, R>,
     pass: &mut H::Pass,
     piece: &[u8],
     reading: &mut Reading,
     kept: &mut Listing,
 ) -> Result<(), UploadEnd>
-    requires own { H.belongs home.now pass.old }
+    requires own { H.belongs service.now.home.now pass.old }
     requires counted { reading.old.parts.fed ≡ reading.old.taken }
     requires short { reading.old.taken ≤ most_bytes }
-    ensures own { H.belongs home.now pass.new }
+    ensures own { H.belongs service.now.home.now pass.new }
     ensures takes { TakesPiece piece.now reading.old reading.new kept.old kept.new
         (H.sight pass.old) (H.sight pass.new) result }
     ensures counted { OnOk result (reading.new.parts.fed ≡ reading.new.taken) }
@@ -77,9 +59,7 @@ fn take_piece<H: Home, R: Wait>(
 {
     let within = piece.len().min((MOST_BYTES - reading.taken) as usize);
     match feed(
-        rt,
-        alloc,
-        home,
+        service,
         pass,
         &piece[..within],
         &mut reading.parts,
@@ -87,7 +67,7 @@ fn take_piece<H: Home, R: Wait>(
         kept,
     ) {
         Ok(()) => {}
-        Err(came) => return Err(came),
+        Err(end) => return Err(end),
     }
     if within < piece.len() {
         return Err(UploadEnd::Refused(Refusal::TooLong { limit: MOST_BYTES }));
@@ -102,12 +82,13 @@ fn finish(reading: Reading) -> UploadEnd
 {
     match reading.parts.end() {
         Ok(()) => UploadEnd::Whole,
-        Err(fault) => came_of_part(fault),
+        Err(fault) => end_of_part(fault),
     }
 }
 
-/// Reads the present body of a connection, which is multipart with this boundary, and puts each of its parts as soon as
-/// its content has ended, under the ref that its name is. `docs/http.md` has the rules, and what ends an upload.
+/// Reads the present body of a connection, which is multipart with the boundary of a reader that was fed nothing, and
+/// puts each of its parts as soon as its content has ended, under the ref that its name is. `docs/http.md` has the
+/// rules, and what ends an upload.
 ///
 /// Each part that was put is listed in `kept`, behind what stood there, with its size, also where its blob stood
 /// before. However the upload ends, these stay, and no further piece of the body is read; a piece has at most 64 KiB.
@@ -117,42 +98,44 @@ fn finish(reading: Reading) -> UploadEnd
 /// In memory are the content of one part, a piece with its events, and `kept`, to which an upload adds at most 1,000
 /// entries. The time is linear in the body, beside that of the puts.
 pub fn take_parts<H: Home, S: Source, R: Wait>(
-    rt: &R,
-    alloc: Global,
-    home: &H,
+    service: &Service<H, R>,
     pass: &mut H::Pass,
     wire: &mut Wire,
     source: &mut S,
-    boundary: &[u8],
+    parts: Parts,
     kept: &mut Listing,
 ) -> UploadEnd
-    requires own { H.belongs home.now pass.old }
-    requires boundary { is_boundary boundary.now ≡ true }
-    ensures own { H.belongs home.now pass.new }
-    ensures uploads { Uploads boundary.now (S.left source.old) (S.left source.new) wire.old wire.new
+    requires own { H.belongs service.now.home.now pass.old }
+    requires fresh { (boundary : List ℕ) × (parts ≡ fresh boundary) }
+    ensures own { H.belongs service.now.home.now pass.new }
+    ensures uploads { (boundary : List ℕ) → parts ≡ fresh boundary
+        → Uploads boundary (S.left source.old) (S.left source.new) wire.old wire.new
         (H.sight pass.old) (H.sight pass.new) kept.old kept.new result }
     ensures head { (wire.new.head ≡ wire.old.head) × (wire.new.begun ≡ wire.old.begun) }
-    ensures fault { result ≡ UploadEnd.Ended WireEnd.ReadFault → FaultsRose (S.faults source.old) (S.faults source.new) }
+    ensures fault { result ≡ UploadEnd.Ended WireEnd.ReadFault
+        → FaultsRose (S.faults source.old) (S.faults source.new) }
     ensures later { S.faults source.old ≤ S.faults source.new }
 {
-    let Some(mut reading) = begin(alloc, boundary) else {
-        return UploadEnd::Memory;
+    let mut reading = Reading {
+        parts,
+        opened: None,
+        taken: 0,
     };
-    let Ok(mut space) = room(alloc, wire.rest()) else {
+    let Ok(mut space) = room(service.alloc, wire.rest()) else {
         return UploadEnd::Memory;
     };
     let space = space.as_mut_slice();
     'pieces: loop {
         let n = match wire.body(source, space) {
             Ok(n) => n,
-            Err(end) => return came_of_wire(end),
+            Err(end) => return end_of_wire(end),
         };
         if n == 0 {
             return finish(reading);
         }
-        match take_piece(rt, alloc, home, pass, &space[..n], &mut reading, kept) {
+        match take_piece(service, pass, &space[..n], &mut reading, kept) {
             Ok(()) => {}
-            Err(came) => return came,
+            Err(end) => return end,
         }
     }
 }

@@ -1,5 +1,6 @@
 -- Small bodies.
-use Rattle.std.proofs.Common.{◌≡◌, ℕ, ◌≤◌, ◌<◌, List, [], ◌++◌, ◌-◌, length, length-append, take, Option, Some, None}
+use Rattle.std.proofs.Common.{◌≡◌, ℕ, ◌+◌, ◌≤◌, ◌<◌, List, [], ◌++◌, ◌-◌, length, length-append, take, Option, Some}
+use Rattle.std.proofs.Common.{None}
 use Rattle.std.proofs.Common.{Result, Err, refl, sym, subst, ◌∙◌, arith}
 use Rattle.std.proofs.lemmas.List.{append-nil, length-take-le}
 use Rattle.http_wire.specs.declared.body.Body.{Body}
@@ -13,7 +14,7 @@ use Rattle.http_wire.proofs.Leading.{BodyRun-none, Moves-chain}
 use Rattle.edge_base.specs.Edge.{SourceGave}
 use Rattle.http_exchange.specs.Before.{most_body}
 use Rattle.http_exchange.specs.declared.gathering.BodyFault.{BodyFault}
-use Rattle.http_exchange.specs.declared.gathering.BodyFault.TheVariants as stopped
+use Rattle.http_exchange.specs.declared.gathering.BodyFault.TheVariants as body_fault
 use Rattle.http_exchange.specs.Gathering.{Gathers, GatherSpec, CanStop, StopSpec}
 
 gave_none : (x : Option (List ℕ)) → SourceGave x x []
@@ -50,16 +51,19 @@ can_stop x at place ends.ReadFault h = tt
 
 pub stop_says : (x : Option (List ℕ)) (ahead : List ℕ) (at : Body) (place : ℕ) (given : List ℕ) (why : BodyFault)
     → length given ≤ most_body → StopSpec x ahead at place why → GatherSpec x ahead at place given (Err why)
-stop_says x ahead at place given stopped.Long few h = absurd h
-stop_says x ahead at place given stopped.Broken few h = h
-stop_says x ahead at place given stopped.Memory few h = tt
-stop_says x ahead at place given (stopped.Cut n) few h = (few, h)
-stop_says x ahead at place given stopped.ReadFault few h = h
+stop_says x ahead at place given body_fault.Long few h = absurd h
+stop_says x ahead at place given body_fault.Broken few h = (few, h)
+stop_says x ahead at place given body_fault.Memory few h = few
+stop_says x ahead at place given (body_fault.Cut n) few h = (few, h)
+stop_says x ahead at place given body_fault.ReadFault few h = (few, h)
 
 -- a piece that is too long for what is left
-pub too_long : (all buf : List ℕ) (n most : ℕ) → n ≤ length buf → most - length all < n
-    → most < length (all ++ take n buf)
-too_long all buf n most within long = omega (arith, length-append all (take n buf), length-take-le n buf within)
+pub too_long : (all buf : List ℕ) (n most room : ℕ) → n ≤ length buf → length buf ≡ room → length all ≤ most
+    → most - length all < n → (most < length (all ++ take n buf)) × (length (all ++ take n buf) ≤ most + room)
+too_long all buf n most room within full few long = (
+  omega (arith, length-append all (take n buf), length-take-le n buf within),
+  omega (arith, length-append all (take n buf), length-take-le n buf within, full, few),
+)
 
 pub still_few : (all buf : List ℕ) (n most : ℕ) → n ≤ length buf → length all ≤ most → n ≤ most - length all
     → length (all ++ take n buf) ≤ most

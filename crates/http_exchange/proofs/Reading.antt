@@ -20,7 +20,7 @@ use Rattle.http_wire.proofs.Passing.{Passed-chain}
 use Rattle.http_wire.proofs.Refusals.{short_head}
 use Rattle.http_wire.proofs.Unfinished.{no_whole_request}
 use Rattle.http_exchange.specs.declared.gathering.BodyFault.{BodyFault}
-use Rattle.http_exchange.specs.declared.gathering.BodyFault.TheVariants as stopped
+use Rattle.http_exchange.specs.declared.gathering.BodyFault.TheVariants as body_fault
 use Rattle.http_exchange.specs.declared.ended.Ended.{Ended}
 use Rattle.http_exchange.specs.declared.ended.Ended.TheVariants as ended
 use Rattle.http_exchange.specs.Before.{most_body, is_read}
@@ -71,15 +71,16 @@ gave_same None b h = h
 gave_same (Some x) b h = h.1 ∙ ap Some (sym h.2)
 
 -- the bytes that were read ahead of the source
-gave_ahead : (left : Option (List ℕ)) (ahead x : List ℕ) → stream ahead left ≡ Some x → SourceGave (Some x) left ahead
+pub gave_ahead : (left : Option (List ℕ)) (ahead x : List ℕ) → stream ahead left ≡ Some x
+    → SourceGave (Some x) left ahead
 gave_ahead None ahead x is = absurd (cc is)
 gave_ahead (Some rest) ahead x is = (rest, refl, sym (cc is))
 
-read_short_of_head : (o left : Option (List ℕ)) (ahead : List ℕ) → stream ahead left ≡ o → LacksHead ahead
-    → IfSome o (IsReadShort left)
-read_short_of_head None left ahead is lacks = tt
-read_short_of_head (Some x) left ahead is lacks =
-    (ahead, gave_ahead left ahead x is, short_head ahead lacks, inl lacks)
+-- behind a text that stands there
+pub gave_behind : (left : Option (List ℕ)) (text ahead after x : List ℕ) → x ≡ text ++ after
+    → SourceGave (Some after) left ahead → SourceGave (Some x) left (text ++ ahead)
+gave_behind left text ahead after x is gave =
+    (gave.0, gave.1, is ∙ ap (λ (z : List ℕ). text ++ z) gave.2 ∙ sym (append_assoc text ahead gave.0))
 
 -- ---- a request, as far as it was read
 
@@ -105,21 +106,27 @@ module _ (x0 x1 x2 : Option (List ℕ)) (flow : Flow) (mid new : WireView) (says
   pub front_comes : RequestComes x0 x2 flow new.flow front
   front_comes = (is_begun, passed, refl)
 
--- a read failed inside the body
-pub read_short_of_body : (before left : Option (List ℕ)) (ahead : List ℕ) (b : Begun) → IsBegun b
-    → SourceGave before (stream ahead left) (b.head ++ b.framed) → EndsEarly b.at ahead → IfSome before (IsReadShort left)
-read_short_of_body None left ahead b is gave stops = tt
-read_short_of_body (Some x) left ahead b is gave stops =
-    let all : List ℕ = b.head ++ (b.framed ++ ahead) in
-    let more : SourceGave (Some gave.0) left ahead = gave_ahead left ahead gave.0 gave.1 in
-    let whole : x ≡ all ++ more.0 = gave.2 ∙ ap (λ (z : List ℕ). (b.head ++ b.framed) ++ z) more.2
-    ∙ sym (append_assoc (b.head ++ b.framed) ahead more.0)
-    ∙ ap (λ (z : List ℕ). z ++ more.0) (append_assoc b.head b.framed ahead) in
-    (all, (more.0, more.1, whole), no_whole_request all ahead b is refl (inl stops), inr (b, ahead, is, refl, stops))
-
 -- ---- nothing is answered
 
 module _ (fair : Begun → Type 0) where
+  read_short_of_head : (o left : Option (List ℕ)) (ahead : List ℕ) → stream ahead left ≡ o → LacksHead ahead
+      → IfSome o (IsReadShort fair left)
+  read_short_of_head None left ahead is lacks = tt
+  read_short_of_head (Some x) left ahead is lacks =
+      (ahead, gave_ahead left ahead x is, short_head ahead lacks, inl lacks)
+
+  -- a read failed inside the body
+  pub read_short_of_body : (before left : Option (List ℕ)) (ahead : List ℕ) (b : Begun) → IsBegun b
+      → SourceGave before (stream ahead left) (b.head ++ b.framed) → EndsEarly b.at ahead → fair b
+      → IfSome before (IsReadShort fair left)
+  read_short_of_body None left ahead b is gave stops due = tt
+  read_short_of_body (Some x) left ahead b is gave stops due =
+      let all : List ℕ = b.head ++ (b.framed ++ ahead) in
+      let more = gave_behind left (b.head ++ b.framed) ahead gave.0 x gave.2 (gave_ahead left ahead gave.0 gave.1) in
+      let read : SourceGave (Some x) left all = subst (λ (z : List ℕ). SourceGave (Some x) left z)
+      (append_assoc b.head b.framed ahead) more in
+      (all, read, no_whole_request all ahead b is refl (inl stops), inr (b, ahead, is, refl, stops, due))
+
   cut_head : (o : Option (List ℕ)) (place n : ℕ) → HeadEnds o place (ends.Cut n) → IfSome o (IsCut fair place n)
   cut_head None place n h = tt
   cut_head (Some x) place n h = inl h
@@ -131,13 +138,14 @@ module _ (fair : Begun → Type 0) where
       → (end ≡ ends.ReadFault → LacksHead new.flow.bytes)
       → NoneComes fair (stream flow.bytes x0) x1 flow.taken ends_so
   head_none x0 x1 flow new end ends_so says passed stood short =
-      let same : to_come new x1 ≡ stream flow.bytes x0 = gave_same (stream flow.bytes x0) (to_come new x1) passed.gave in
+      let same : to_come new x1 ≡ stream flow.bytes x0 = gave_same (stream flow.bytes x0) (to_come new x1) passed.gave
+      in
       none_at (stream flow.bytes x0) flow.taken end ends_so says
       (subst (λ (z : Option (List ℕ)). HeadEnds z flow.taken end) same stood)
       (λ is. read_short_of_head (stream flow.bytes x0) x1 new.flow.bytes same (short is))
     where
       none_at : (o : Option (List ℕ)) (place : ℕ) (end : WireEnd) (e : Ended) → head_says end ≡ Err e
-          → HeadEnds o place end → (end ≡ ends.ReadFault → IfSome o (IsReadShort x1)) → NoneComes fair o x1 place e
+          → HeadEnds o place end → (end ≡ ends.ReadFault → IfSome o (IsReadShort fair x1)) → NoneComes fair o x1 place e
       none_at o place ends.Closed e says h s =
           let is : ended.Closed ≡ e = cc says in subst (NoneComes fair o x1 place) is h
       none_at o place (ends.Cut n) e says h s =
@@ -172,19 +180,20 @@ module _ (fair : Begun → Type 0) where
       → (length gathered.given ≤ most_body
       → fair (begun x0 x1 x2 flow mid new says head gathered.given gathered.moved))
       → (end : Ended) → StopEnds why end → NoneComes fair (stream flow.bytes x0) x2 flow.taken end
-  stop_none x0 x1 x2 flow mid new says head stopped.Long gathered fits end is = absurd is
-  stop_none x0 x1 x2 flow mid new says head stopped.Broken gathered fits end is = absurd is
-  stop_none x0 x1 x2 flow mid new says head stopped.Memory gathered fits end is = absurd is
-  stop_none x0 x1 x2 flow mid new says head (stopped.Cut n) gathered fits end is =
+  stop_none x0 x1 x2 flow mid new says head body_fault.Long gathered fits end is = absurd is
+  stop_none x0 x1 x2 flow mid new says head body_fault.Broken gathered fits end is = absurd is
+  stop_none x0 x1 x2 flow mid new says head body_fault.Memory gathered fits end is = absurd is
+  stop_none x0 x1 x2 flow mid new says head (body_fault.Cut n) gathered fits end is =
       subst (NoneComes fair (stream flow.bytes x0) x2 flow.taken) (sym is)
       (cut_body (stream flow.bytes x0) (stream new.flow.bytes x2) flow.taken n
       (begun x0 x1 x2 flow mid new says head gathered.given gathered.moved)
       (is_begun x0 x1 x2 flow mid new says head gathered.given gathered.moved)
       (passed x0 x1 x2 flow mid new says head gathered.given gathered.moved).gave
       (gathered.says.1.0 ∙ head.begun) gathered.says.1.1 (fits gathered.says.0))
-  stop_none x0 x1 x2 flow mid new says head stopped.ReadFault gathered fits end is =
+  stop_none x0 x1 x2 flow mid new says head body_fault.ReadFault gathered fits end is =
       subst (NoneComes fair (stream flow.bytes x0) x2 flow.taken) (sym is)
       (read_short_of_body (stream flow.bytes x0) x2 new.flow.bytes
       (begun x0 x1 x2 flow mid new says head gathered.given gathered.moved)
       (is_begun x0 x1 x2 flow mid new says head gathered.given gathered.moved)
-      (passed x0 x1 x2 flow mid new says head gathered.given gathered.moved).gave gathered.says)
+      (passed x0 x1 x2 flow mid new says head gathered.given gathered.moved).gave gathered.says.1
+      (fits gathered.says.0))

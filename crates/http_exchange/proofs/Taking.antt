@@ -1,5 +1,5 @@
 -- What a sink took, and why a connection ended, step by step.
-use Rattle.std.proofs.Common.{◌≡◌, ℕ, ◌≤◌, List, [], ◌++◌, refl, ap, sym, ◌∙◌, arith, append_assoc, Option, Some, None}
+use Rattle.std.proofs.Common.{ℕ, ◌≤◌, List, [], ◌++◌, refl, ap, sym, ◌∙◌, arith, append_assoc, Option, Some, None}
 use Rattle.std.proofs.lemmas.List.{append-nil}
 use Rattle.edge_base.specs.Edge.{SinkTook, SinkTookFront, FaultsRose, one_more}
 use Rattle.edge_base.proofs.Moves.{SinkTook-chain}

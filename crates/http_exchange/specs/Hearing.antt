@@ -1,6 +1,6 @@
 -- What a connection hears, writes and ends with: its stream as requests that were answered. `fair` says of a request
 -- that was begun that no refusal was due by what came of it.
-use Rattle.std.specs.Prelude.{◌≡◌, ◌⊎◌, ℕ, List, [], ◌∷◌, ◌++◌, map, All, Option, Some, None, IfSome}
+use Rattle.std.specs.Prelude.{◌≡◌, ◌≤◌, ◌⊎◌, ℕ, List, [], ◌∷◌, ◌++◌, length, map, All, Option, Some, None, IfSome}
 use Rattle.std.specs.List.{flat_map}
 use Rattle.edge_base.specs.Edge.{SourceGave, SinkTook, SinkTookFront, FaultsRose}
 use Rattle.http_wire.specs.declared.ends.WireEnd.TheVariants as ends
@@ -12,7 +12,7 @@ use Rattle.http_wire.specs.Speaking.{IsOpen, GoesOn, HasNoRequest, ClosesAtLast,
 use Rattle.http_exchange.specs.declared.ended.Ended.{Ended}
 use Rattle.http_exchange.specs.declared.ended.Ended.TheVariants as ended
 use Rattle.http_exchange.specs.declared.gathering.BodyFault.{BodyFault}
-use Rattle.http_exchange.specs.declared.gathering.BodyFault.TheVariants as stopped
+use Rattle.http_exchange.specs.declared.gathering.BodyFault.TheVariants as body_fault
 use Rattle.http_exchange.specs.Asked.{Asked, Whole, Front, Head}
 
 -- ---- the stream
@@ -47,14 +47,25 @@ IsCut fair place n rest = HeadEnds (Some rest) place (ends.Cut n)
     ⊎ ((n ≡ place) × ((b : Begun) × (after : List ℕ) × IsBegun b × (rest ≡ b.head ++ (b.framed ++ after))
     × EndsEarly b.at after × fair b))
 
--- these bytes end before a request does: before or inside its head, or inside its body
-abbrev pub EndsShort : List ℕ → Type 0
-EndsShort bytes = LacksHead bytes ⊎ ((b : Begun) × (after : List ℕ) × IsBegun b
-    × (bytes ≡ b.head ++ (b.framed ++ after)) × EndsEarly b.at after)
+-- these bytes end before a request does: before or inside its head; or inside its body, where no refusal was due
+abbrev pub EndsShort : (Begun → Type 0) → List ℕ → Type 0
+EndsShort fair bytes = LacksHead bytes ⊎ ((b : Begun) × (after : List ℕ) × IsBegun b
+    × (bytes ≡ b.head ++ (b.framed ++ after)) × EndsEarly b.at after × fair b)
 
 -- what was read of these bytes, of which this is left in the source, ends before a request does
-abbrev pub IsReadShort : Option (List ℕ) → List ℕ → Type 0
-IsReadShort left rest = (ahead : List ℕ) × SourceGave (Some rest) left ahead × HasNoRequest ahead × EndsShort ahead
+abbrev pub IsReadShort : (Begun → Type 0) → Option (List ℕ) → List ℕ → Type 0
+IsReadShort fair left rest =
+    (ahead : List ℕ) × SourceGave (Some rest) left ahead × HasNoRequest ahead × EndsShort fair ahead
+
+-- what was read of these bytes, of which this is left in the source: that text, and at most 32,768 bytes behind it
+abbrev pub IsReadUpTo : List ℕ → Option (List ℕ) → List ℕ → Type 0
+IsReadUpTo text left rest = (ahead : List ℕ) × SourceGave (Some rest) left (text ++ ahead) × (length ahead ≤ 32768)
+
+-- what was taken behind the whole requests
+abbrev pub taken_by : Last → List ℕ
+taken_by Nothing = []
+taken_by (Refused end) = []
+taken_by (Unfinished b) = b.head ++ b.framed
 
 -- no further request was taken, and the connection was open
 abbrev pub StoodOpen : List Request → Last → Type 0
@@ -66,16 +77,19 @@ ClosesBehind requests Nothing = ClosesAtLast requests
 ClosesBehind requests (Refused end) = Unit {0}
 ClosesBehind requests (Unfinished b) = Unit {0}
 
--- what follows the requests that were answered, and what is left of that in the source
+-- What follows the requests that were answered, and what is left of that in the source. Where the connection is closed
+-- behind a reply, where that wasn't written, and where there was no memory, no more than 32,768 bytes were read behind
+-- what was answered.
 abbrev pub Follows : (Begun → Type 0) → Ended → ℕ → List Request → Last → List ℕ → Option (List ℕ) → Type 0
 Follows fair ended.Closed place requests last rest left =
-    GoesOn place requests last rest × ((StoodOpen requests last × (rest ≡ [])) ⊎ ClosesBehind requests last)
+    GoesOn place requests last rest × ((StoodOpen requests last × (rest ≡ []))
+    ⊎ (ClosesBehind requests last × IsReadUpTo (taken_by last) left rest))
 Follows fair (ended.Cut n) place requests last rest left =
     StoodOpen requests last × HasNoRequest rest × IsCut fair place n rest
-Follows fair ended.ReadFault place requests last rest left = StoodOpen requests last × IsReadShort left rest
+Follows fair ended.ReadFault place requests last rest left = StoodOpen requests last × IsReadShort fair left rest
 Follows fair ended.WriteFault place requests last rest left =
-    StoodOpen requests last ⊎ GoesOn place requests last rest
-Follows fair ended.NoMemory place requests last rest left = StoodOpen requests last
+    (StoodOpen requests last ⊎ GoesOn place requests last rest) × IsReadUpTo (taken_by last) left rest
+Follows fair ended.NoMemory place requests last rest left = StoodOpen requests last × IsReadUpTo [] left rest
 
 -- the stream is these requests, of which each was answered, and what follows them. Where the connection was closed,
 -- `speaks` and `follows` are that the stream speaks to the requests and the last, and that nothing follows them or the
@@ -96,17 +110,17 @@ Heard fair x left end asked = IfSome x (λ bytes. Hears fair bytes left asked en
 abbrev pub NoneComes : (Begun → Type 0) → Option (List ℕ) → Option (List ℕ) → ℕ → Ended → Type 0
 NoneComes fair x left place ended.Closed = IfSome x (λ bytes. bytes ≡ [])
 NoneComes fair x left place (ended.Cut n) = IfSome x (IsCut fair place n)
-NoneComes fair x left place ended.ReadFault = IfSome x (IsReadShort left)
+NoneComes fair x left place ended.ReadFault = IfSome x (IsReadShort fair left)
 NoneComes fair x left place ended.WriteFault = ⊥
 NoneComes fair x left place ended.NoMemory = ⊥
 
 -- how the connection ends in a body that isn't read to its end
 abbrev pub StopEnds : BodyFault → Ended → Type 0
-StopEnds stopped.Long end = ⊥
-StopEnds stopped.Broken end = ⊥
-StopEnds stopped.Memory end = ⊥
-StopEnds (stopped.Cut n) end = end ≡ ended.Cut n
-StopEnds stopped.ReadFault end = end ≡ ended.ReadFault
+StopEnds body_fault.Long end = ⊥
+StopEnds body_fault.Broken end = ⊥
+StopEnds body_fault.Memory end = ⊥
+StopEnds (body_fault.Cut n) end = end ≡ ended.Cut n
+StopEnds body_fault.ReadFault end = end ≡ ended.ReadFault
 
 -- ---- the replies
 

@@ -63,7 +63,7 @@ fn gather_on<S: Source>(alloc: Global, wire: &mut Wire, source: &mut S) -> Resul
     'reads: loop {
         let n = match wire.body(source, buf) {
             Ok(n) => n,
-            Err(end) => return Err(stopped_by(end)),
+            Err(end) => return Err(fault_of(end)),
         };
         if n == 0 {
             return Ok(Octets::from_vec(bytes));
@@ -85,7 +85,7 @@ fn zeros(alloc: Global) -> Result<Vec<u8>, AllocError>
 }
 
 // Why no more of a body was given.
-fn stopped_by(end: WireEnd) -> BodyFault
+fn fault_of(end: WireEnd) -> BodyFault
     requires { CanStop end }
     ensures says { (x : Option (List ℕ)) (ahead : List ℕ) (at : Body) (place : ℕ) → BodyEnds x at place end
         → (end ≡ WireEnd.ReadFault → EndsEarly at ahead) → StopSpec x ahead at place result }

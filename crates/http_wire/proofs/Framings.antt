@@ -5,7 +5,7 @@ use Rattle.http_wire.specs.declared.body.Body.TheVariants as body
 use Rattle.http_wire.specs.declared.head.Framing.{Framing}
 use Rattle.http_wire.specs.declared.head.Framing.TheVariants.{Empty, Length, Chunked, ToEnd}
 use Rattle.http_wire.specs.declared.head.Head.{Head}
-use Rattle.http_wire.specs.Heads.{HeadSpec, framing_by, framing_of, headers_of, length_in, same_text, values}
+use Rattle.http_wire.specs.Heads.{HeadSpec, framing_by, headers_of, length_in, same_text, values}
 use Rattle.http_wire.specs.Wires.{body_of}
 
 by_headers : (lengths codings : List (List ℕ)) → framing_by lengths codings ≡ Some ToEnd → ⊥

@@ -9,13 +9,14 @@ use Rattle.http_wire.specs.declared.head.HeadFault.TheVariants as fault
 use Rattle.http_wire.specs.declared.line_state.LineState.TheVariants.{Start}
 use Rattle.http_wire.specs.declared.ends.WireEnd.{WireEnd}
 use Rattle.http_wire.specs.declared.ends.WireEnd.TheVariants as ends
-use Rattle.http_wire.specs.Lines.{Lacks}
+use Rattle.http_wire.specs.Lines.{Reaches, Lacks}
 use Rattle.http_wire.specs.Stream.{Flow, Begins, stream}
 use Rattle.http_wire.specs.Heads.{IsHeadText, HeadSpec}
 use Rattle.http_wire.specs.ReplyHeads.{ReplySpec}
 use Rattle.http_wire.specs.Bodies.{EndsEarly, IsMalformed}
 
--- what was read ahead, the text of the present head, how many bytes of the stream were taken before it, and what is to come of the body
+-- what was read ahead, the text of the present head, how many bytes of the stream were taken before it, and what is to
+-- come of the body
 pub record WireView : Type 0 where
   pub flow : Flow
   pub head : List ℕ
@@ -49,6 +50,10 @@ abbrev pub Refuses : Message → HeadFault → List ℕ → Type 0
 Refuses Request = RefusesHead
 Refuses Reply = RefusesReply
 
+-- the lines of a head end within these bytes
+abbrev pub HasHead : List ℕ → Type 0
+HasHead bytes = (n : ℕ) × Reaches Start 16384 bytes n
+
 -- these bytes end inside a head, or before one
 abbrev pub LacksHead : List ℕ → Type 0
 LacksHead bytes = (length bytes < 16384) × Lacks Start 16384 bytes
@@ -56,10 +61,15 @@ LacksHead bytes = (length bytes < 16384) × Lacks Start 16384 bytes
 -- why no head was read, where the message begins at that place
 abbrev pub MessageEnds : Message → Option (List ℕ) → ℕ → WireEnd → Type 0
 MessageEnds message x place ends.Closed = IfSome x (λ bytes. bytes ≡ [])
-MessageEnds message x place (ends.Cut n) = (n ≡ place) × IfSome x (λ bytes. (0 < length bytes) × (length bytes < 16384) × Lacks Start 16384 bytes)
-MessageEnds message x place (ends.BadHead n) = (n ≡ place) × IfSome x (λ bytes. Begins bytes (Refuses message fault.BadHead))
-MessageEnds message x place (ends.BadLength n) = (n ≡ place) × IfSome x (λ bytes. Begins bytes (Refuses message fault.BadLength))
-MessageEnds message x place (ends.TooLong limit) = ((limit ≡ 16384) × IfSome x (λ bytes. (16384 ≤ length bytes) × Lacks Start 16384 bytes)) ⊎ ((limit ≡ 64) × IfSome x (λ bytes. Begins bytes (Refuses message fault.TooMany)))
+MessageEnds message x place (ends.Cut n) = (n ≡ place) × IfSome x
+    (λ bytes. (0 < length bytes) × (length bytes < 16384) × Lacks Start 16384 bytes)
+MessageEnds message x place (ends.BadHead n) = (n ≡ place) × IfSome x
+    (λ bytes. Begins bytes (Refuses message fault.BadHead))
+MessageEnds message x place (ends.BadLength n) = (n ≡ place)
+    × IfSome x (λ bytes. Begins bytes (Refuses message fault.BadLength))
+MessageEnds message x place (ends.TooLong limit) = ((limit ≡ 16384)
+    × IfSome x (λ bytes. (16384 ≤ length bytes) × Lacks Start 16384 bytes))
+    ⊎ ((limit ≡ 64) × IfSome x (λ bytes. Begins bytes (Refuses message fault.TooMany)))
 MessageEnds message x place ends.ReadFault = Unit {0}
 
 -- why no head of a request was read

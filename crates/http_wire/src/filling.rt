@@ -1,5 +1,5 @@
 //! Reading on until some lines end.
-ghost use Rattle.std.specs.Prelude.{◌≡◌, ◌<◌, ◌≤◌, [], length, take, IfOk, IfSome, IsErrOf};
+ghost use Rattle.std.specs.Prelude.{◌≡◌, ◌<◌, ◌≤◌, ℕ, [], length, take, IfOk, IfSome, IsErrOf};
 ghost use Rattle.edge_base.specs.Edge.{FaultsRose};
 ghost use Rattle.http_wire.specs.Lines.{Reaches, Lacks};
 ghost use Rattle.http_wire.specs.Stream.{stream, Fetched, AtEnd, Passed};
@@ -20,7 +20,7 @@ pub enum FillFault {
     Failed,
 }
 
-// The body doesn't need `fetched_twice`. With it a body that reads once more is refused for `short` alone.
+// The body doesn't need `fetched_twice`. With it a body that reads once more is refused for `short` and `ready` alone.
 /// Reads on until the lines end, and says behind how many bytes. Nothing is taken from the stream.
 #[tactic(auto, using(crate::proofs::Passing::none_passed, crate::proofs::Fetching::fetched_twice))]
 pub fn fill<S: Source>(
@@ -31,6 +31,7 @@ pub fn fill<S: Source>(
 ) -> Result<usize, FillFault>
     requires { limit ≤ 16384 }
     ensures same { Passed (S.left source.old) (S.left source.new) ahead.old ahead.new [] }
+    ensures ready { (n : ℕ) → Reaches place limit ahead.old.bytes n → source.new ≡ source.old }
     ensures within { IfOk result (λ n. n ≤ length ahead.new.bytes) }
     ensures found { IfOk result (λ n. Reaches place limit (take n ahead.new.bytes) (length (take n ahead.new.bytes))) }
     ensures long { IsErrOf result FillFault.Long
@@ -55,9 +56,12 @@ fn fill_on<S: Source>(
 ) -> Result<usize, FillFault>
     requires { limit ≤ 16384 }
     ensures fetched { Fetched (S.left source.old) (S.left source.new) ahead.old.bytes ahead.new.bytes }
+    ensures ready { (n : ℕ) → Reaches place limit ahead.old.bytes n → source.new ≡ source.old }
     ensures found { IfOk result (λ n. Reaches place limit ahead.new.bytes n) }
-    ensures long { IsErrOf result FillFault.Long → Lacks place limit ahead.new.bytes × (limit ≤ length ahead.new.bytes) }
-    ensures ended { IsErrOf result FillFault.Ended → Lacks place limit ahead.new.bytes × (length ahead.new.bytes < limit)
+    ensures long { IsErrOf result FillFault.Long → Lacks place limit ahead.new.bytes
+        × (limit ≤ length ahead.new.bytes) }
+    ensures ended { IsErrOf result FillFault.Ended → Lacks place limit ahead.new.bytes
+        × (length ahead.new.bytes < limit)
         × AtEnd (S.left source.new) }
     ensures short { IsErrOf result FillFault.Failed
         → (length ahead.new.bytes < limit) × Lacks place limit ahead.new.bytes }

@@ -1,5 +1,6 @@
 //! Reading a body from any place in it.
-ghost use Rattle.std.specs.Prelude.{◌≡◌, ◌<◌, ◌≤◌, ◌⊎◌, [], length, take, Ok, IfOk, IfErr, IfSome, OnOk, OnErr, IsErrOf};
+ghost use Rattle.std.specs.Prelude.{◌≡◌, ◌<◌, ◌≤◌, ◌⊎◌, [], length, take, Ok, IfOk, IfErr, IfSome, OnOk, OnErr};
+ghost use Rattle.std.specs.Prelude.{IsErrOf};
 ghost use Rattle.edge_base.specs.Edge.{FaultsRose};
 ghost use Rattle.http_wire.specs.Stream.{stream, Passed};
 ghost use Rattle.http_wire.specs.Bodies.{Moves, BodyRun, EndsEarly, StopSpec, IsPastEnd, IsPastLine, IsReady, given_by};
@@ -24,6 +25,8 @@ pub fn read_body<S: Source>(
         (S.left source.old) (S.left source.new) ahead.old ahead.new body.old body.new (given_by result buf.new) }
     ensures bound { IfOk result (λ n. n ≤ length buf.old) }
     ensures end { IfOk result (λ n. n ≡ 0 → 0 < length buf.old → body.new ≡ Body.Done) }
+    ensures whole { body.old ≡ Body.Exactly 0 → (ahead.new ≡ ahead.old) × (source.new ≡ source.old) }
+    ensures done { body.old ≡ Body.Done → (ahead.new ≡ ahead.old) × (source.new ≡ source.old) }
     ensures err { IfErr result (λ stop. StopSpec (stream ahead.new.bytes (S.left source.new)) body.new stop) }
     ensures to_end { body.old ≡ Body.ToEnd → OnErr result (IsErrOf result Stop.Failed) }
     ensures stays { body.old ≡ Body.ToEnd → (body.new ≡ Body.ToEnd) ⊎ (body.new ≡ Body.Done) }
@@ -44,6 +47,10 @@ fn get_ready<S: Source>(ahead: &mut ReadAhead, source: &mut S, body: &mut Body) 
     ensures moved { Moves (S.left source.old) (S.left source.new) ahead.old ahead.new body.old body.new [] }
     ensures past { OnOk result (IsReady body.new) }
     ensures stays { body.old ≡ Body.ToEnd → (result ≡ Ok tt) × (body.new ≡ Body.ToEnd) }
+    ensures done { body.old ≡ Body.Done → (result ≡ Ok tt) × (body.new ≡ Body.Done)
+        × (ahead.new ≡ ahead.old) × (source.new ≡ source.old) }
+    ensures whole { body.old ≡ Body.Exactly 0 → (result ≡ Ok tt) × (body.new ≡ Body.Exactly 0)
+        × (ahead.new ≡ ahead.old) × (source.new ≡ source.old) }
     ensures err { IfErr result (λ stop. StopSpec (stream ahead.new.bytes (S.left source.new)) body.new stop) }
     ensures short { IsErrOf result Stop.Failed → EndsEarly body.new ahead.new.bytes }
     ensures fault { IsErrOf result Stop.Failed → FaultsRose (S.faults source.old) (S.faults source.new) }
@@ -60,6 +67,10 @@ fn pass_end<S: Source>(ahead: &mut ReadAhead, source: &mut S, body: &mut Body) -
     ensures moved { Moves (S.left source.old) (S.left source.new) ahead.old ahead.new body.old body.new [] }
     ensures past { OnOk result (IsPastEnd body.new) }
     ensures stays { body.old ≡ Body.ToEnd → (result ≡ Ok tt) × (body.new ≡ Body.ToEnd) }
+    ensures done { body.old ≡ Body.Done → (result ≡ Ok tt) × (body.new ≡ Body.Done)
+        × (ahead.new ≡ ahead.old) × (source.new ≡ source.old) }
+    ensures whole { body.old ≡ Body.Exactly 0 → (result ≡ Ok tt) × (body.new ≡ Body.Exactly 0)
+        × (ahead.new ≡ ahead.old) × (source.new ≡ source.old) }
     ensures err { IfErr result (λ stop. StopSpec (stream ahead.new.bytes (S.left source.new)) body.new stop) }
     ensures short { IsErrOf result Stop.Failed → EndsEarly body.new ahead.new.bytes }
     ensures fault { IsErrOf result Stop.Failed → FaultsRose (S.faults source.old) (S.faults source.new) }
@@ -84,6 +95,10 @@ fn pass_line<S: Source>(ahead: &mut ReadAhead, source: &mut S, body: &mut Body) 
     ensures moved { Moves (S.left source.old) (S.left source.new) ahead.old ahead.new body.old body.new [] }
     ensures past { OnOk result (IsPastLine body.new) }
     ensures stays { body.old ≡ Body.ToEnd → (result ≡ Ok tt) × (body.new ≡ Body.ToEnd) }
+    ensures done { body.old ≡ Body.Done → (result ≡ Ok tt) × (body.new ≡ Body.Done)
+        × (ahead.new ≡ ahead.old) × (source.new ≡ source.old) }
+    ensures whole { body.old ≡ Body.Exactly 0 → (result ≡ Ok tt) × (body.new ≡ Body.Exactly 0)
+        × (ahead.new ≡ ahead.old) × (source.new ≡ source.old) }
     ensures err { IfErr result (λ stop. StopSpec (stream ahead.new.bytes (S.left source.new)) body.new stop) }
     ensures short { IsErrOf result Stop.Failed → EndsEarly body.new ahead.new.bytes }
     ensures fault { IsErrOf result Stop.Failed → FaultsRose (S.faults source.old) (S.faults source.new) }
@@ -121,6 +136,10 @@ fn pass_trailers<S: Source>(
     ensures moved { Moves (S.left source.old) (S.left source.new) ahead.old ahead.new body.old body.new [] }
     ensures past { OnOk result (IsReady body.new) }
     ensures stays { body.old ≡ Body.ToEnd → (result ≡ Ok tt) × (body.new ≡ Body.ToEnd) }
+    ensures done { body.old ≡ Body.Done → (result ≡ Ok tt) × (body.new ≡ Body.Done)
+        × (ahead.new ≡ ahead.old) × (source.new ≡ source.old) }
+    ensures whole { body.old ≡ Body.Exactly 0 → (result ≡ Ok tt) × (body.new ≡ Body.Exactly 0)
+        × (ahead.new ≡ ahead.old) × (source.new ≡ source.old) }
     ensures err { IfErr result (λ stop. StopSpec (stream ahead.new.bytes (S.left source.new)) body.new stop) }
     ensures short { IsErrOf result Stop.Failed → EndsEarly body.new ahead.new.bytes }
     ensures fault { IsErrOf result Stop.Failed → FaultsRose (S.faults source.old) (S.faults source.new) }
@@ -148,6 +167,8 @@ fn give<S: Source>(
         (S.left source.old) (S.left source.new) ahead.old ahead.new body.old body.new (given_by result buf.new) }
     ensures bound { IfOk result (λ n. n ≤ length buf.old) }
     ensures end { IfOk result (λ n. n ≡ 0 → 0 < length buf.old → body.new ≡ Body.Done) }
+    ensures whole { body.old ≡ Body.Exactly 0 → (ahead.new ≡ ahead.old) × (source.new ≡ source.old) }
+    ensures done { body.old ≡ Body.Done → (ahead.new ≡ ahead.old) × (source.new ≡ source.old) }
     ensures err { IfErr result (λ stop. StopSpec (stream ahead.new.bytes (S.left source.new)) body.new stop) }
     ensures to_end { body.old ≡ Body.ToEnd → OnErr result (IsErrOf result Stop.Failed) }
     ensures stays { body.old ≡ Body.ToEnd → (body.new ≡ Body.ToEnd) ⊎ (body.new ≡ Body.Done) }

@@ -1,11 +1,13 @@
 //! Taking the head of a message.
-ghost use Rattle.std.specs.Prelude.{◌≡◌, ◌<◌, ◌≤◌, ℕ, List, Option, [], length, take, IfOk, IfErr, IfSome, OnErr, IsErrOf, Ok};
+ghost use Rattle.std.specs.Prelude.{◌≡◌, ◌<◌, ◌≤◌, ℕ, List, Option, [], length, take, IfOk, IfErr, IfSome, OnErr};
+ghost use Rattle.std.specs.Prelude.{IsErrOf};
+ghost use Rattle.std.specs.Prelude.{Ok};
 ghost use Rattle.edge_base.specs.Edge.{FaultsRose};
 ghost use Rattle.http_wire.specs.Lines.{Lacks};
 ghost use Rattle.http_wire.specs.Stream.{Passed, AtEnd, stream};
 ghost use Rattle.http_wire.specs.Heads.{IsHeadText, HeadSpec};
 ghost use Rattle.http_wire.specs.ReplyHeads.{ReplySpec};
-ghost use Rattle.http_wire.specs.Wires.{Message, MessageEnds, Refuses, HeadEnds, ReplyEnds, LacksHead};
+ghost use Rattle.http_wire.specs.Wires.{Message, MessageEnds, Refuses, HeadEnds, ReplyEnds, HasHead, LacksHead};
 
 use crate::ahead::ReadAhead;
 use crate::ends::WireEnd;
@@ -28,6 +30,7 @@ pub fn take_head<S: Source>(
     requires { length headers.old ≡ 5462 }
     ensures ok { IfOk result (λ head. Passed (S.left source.old) (S.left source.new) ahead.old ahead.new kept.new
         × IsHeadText kept.new × HeadSpec kept.new (Ok head)) }
+    ensures ready { HasHead ahead.old.bytes → source.new ≡ source.old }
     ensures same { OnErr result (Passed (S.left source.old) (S.left source.new) ahead.old ahead.new []) }
     ensures err { IfErr result (λ end. HeadEnds (stream ahead.new.bytes (S.left source.new)) ahead.old.taken end) }
     ensures short { IsErrOf result WireEnd.ReadFault → LacksHead ahead.new.bytes }
@@ -57,6 +60,7 @@ pub fn take_reply<S: Source>(
     requires { length headers.old ≡ 5462 }
     ensures ok { IfOk result (λ head. Passed (S.left source.old) (S.left source.new) ahead.old ahead.new kept.new
         × IsHeadText kept.new × ReplySpec kept.new (Ok head)) }
+    ensures ready { HasHead ahead.old.bytes → source.new ≡ source.old }
     ensures same { OnErr result (Passed (S.left source.old) (S.left source.new) ahead.old ahead.new []) }
     ensures err { IfErr result (λ end. ReplyEnds (stream ahead.new.bytes (S.left source.new)) ahead.old.taken end) }
     ensures short { IsErrOf result WireEnd.ReadFault → LacksHead ahead.new.bytes }
@@ -79,6 +83,7 @@ pub fn take_reply<S: Source>(
 // Behind how many bytes the lines of a head end, or why they don't.
 fn lines_end<S: Source>(ahead: &mut ReadAhead, source: &mut S) -> Result<usize, WireEnd>
     ensures same { Passed (S.left source.old) (S.left source.new) ahead.old ahead.new [] }
+    ensures ready { HasHead ahead.old.bytes → source.new ≡ source.old }
     ensures within { IfOk result (λ n. n ≤ length ahead.new.bytes) }
     ensures found { IfOk result (λ n. IsHeadText (take n ahead.new.bytes)) }
     ensures request { IfErr result

@@ -1,11 +1,12 @@
 //! The reader of a connection.
-ghost use Rattle.std.specs.Prelude.{◌≡◌, ◌<◌, ◌≤◌, ◌⊎◌, [], length, IfOk, IfErr, IfSome, OnOk, OnErr, IsErrOf, slice_range, Ok};
+ghost use Rattle.std.specs.Prelude.{◌≡◌, ◌<◌, ◌≤◌, ◌⊎◌, [], length, IfOk, IfErr, IfSome, OnOk, OnErr, IsErrOf};
+ghost use Rattle.std.specs.Prelude.{slice_range, Ok};
 ghost use Rattle.edge_base.specs.Edge.{FaultsRose};
 ghost use Rattle.http_wire.specs.Stream.{Passed};
 ghost use Rattle.http_wire.specs.Heads.{IsHeadText, HeadSpec, IsPlaceIn};
 ghost use Rattle.http_wire.specs.ReplyHeads.{ReplySpec};
 ghost use Rattle.http_wire.specs.Bodies.{Moves, EndsEarly, given_by};
-ghost use Rattle.http_wire.specs.Wires.{to_come, body_of, HeadEnds, ReplyEnds, BodyEnds, LacksHead};
+ghost use Rattle.http_wire.specs.Wires.{to_come, body_of, HeadEnds, ReplyEnds, BodyEnds, HasHead, LacksHead};
 
 use crate::ahead::ReadAhead;
 use crate::body::Body;
@@ -68,6 +69,13 @@ impl Wire {
         &self.head.as_slice()[p.start..p.end]
     }
 
+    /// At most 32,768 bytes are read ahead.
+    pub fn few_ahead(&self)
+        ensures { length self.now.flow.bytes ≤ 32768 }
+    {
+        self.ahead.few();
+    }
+
     /// What is still to come of the present body.
     pub fn rest(&self) -> Body
         ensures { result ≡ self.now.body }
@@ -81,13 +89,16 @@ impl Wire {
     /// It ends with `Cut` where the source ends inside the body, with `BadLength` where what comes is no body, both
     /// with the number of bytes before the message, and with `ReadFault` where a read failed and what was read before
     /// ends inside the body. After each the bytes given so far are those of the body, and what it tells is what the
-    /// stream then has. A body that goes to the source's end ends there, and with nothing but `ReadFault` before.
+    /// stream then has. A body that goes to the source's end ends there, and with nothing but `ReadFault` before. Where
+    /// all bytes of a body of a given length were given nothing more is read.
     pub fn body<S: Source>(&mut self, source: &mut S, buf: &mut [u8]) -> Result<usize, WireEnd>
         ensures moved { Moves (S.left source.old) (S.left source.new) self.old.flow self.new.flow
             self.old.body self.new.body (given_by result buf.new) }
         ensures kept { (self.new.head ≡ self.old.head) × (self.new.begun ≡ self.old.begun) }
         ensures bound { IfOk result (λ n. n ≤ length buf.old) }
         ensures end { IfOk result (λ n. n ≡ 0 → 0 < length buf.old → self.new.body ≡ Body.Done) }
+        ensures whole { self.old.body ≡ Body.Exactly 0 → (self.new.flow ≡ self.old.flow) × (source.new ≡ source.old) }
+        ensures done { self.old.body ≡ Body.Done → (self.new.flow ≡ self.old.flow) × (source.new ≡ source.old) }
         ensures err { IfErr result
             (λ end. BodyEnds (to_come self.new (S.left source.new)) self.new.body self.old.begun end) }
         ensures to_end { self.old.body ≡ Body.ToEnd → OnErr result (IsErrOf result WireEnd.ReadFault) }
@@ -109,13 +120,14 @@ impl Wire {
     ///
     /// It ends with `Closed` where the source ends before the first byte, with `Cut` where it ends inside the head, and
     /// with `BadHead`, `TooLong` and `BadLength` where the head is refused, in this order. `at` is the number of bytes
-    /// before the request. With `ReadFault` a read failed, and what was read before ends inside the head. An error takes
-    /// nothing from the stream.
+    /// before the request. With `ReadFault` a read failed, and what was read before ends inside the head. An error
+    /// takes nothing from the stream. Where its lines were read ahead nothing is read.
     pub fn next_head<S: Source>(&mut self, source: &mut S) -> Result<Head, WireEnd>
         requires { self.old.body ≡ Body.Done }
         ensures ok { IfOk result
             (λ head. Passed (S.left source.old) (S.left source.new) self.old.flow self.new.flow self.new.head
             × IsHeadText self.new.head × HeadSpec self.new.head (Ok head) × (self.new.body ≡ body_of head.framing)) }
+        ensures ready { HasHead self.old.flow.bytes → source.new ≡ source.old }
         ensures begun { self.new.begun ≡ self.old.flow.taken }
         ensures same { OnErr result (Passed (S.left source.old) (S.left source.new) self.old.flow self.new.flow []
             × (self.new.body ≡ Body.Done)) }
@@ -138,6 +150,7 @@ impl Wire {
         ensures ok { IfOk result
             (λ head. Passed (S.left source.old) (S.left source.new) self.old.flow self.new.flow self.new.head
             × IsHeadText self.new.head × ReplySpec self.new.head (Ok head) × (self.new.body ≡ body_of head.framing)) }
+        ensures ready { HasHead self.old.flow.bytes → source.new ≡ source.old }
         ensures begun { self.new.begun ≡ self.old.flow.taken }
         ensures same { OnErr result (Passed (S.left source.old) (S.left source.new) self.old.flow self.new.flow []
             × (self.new.body ≡ self.old.body)) }

@@ -8,3 +8,4 @@ pub mod Body
 pub mod Reader
 pub mod PartLists
 pub mod Laws
+pub mod Limits

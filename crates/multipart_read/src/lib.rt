@@ -4,6 +4,7 @@
 mod events;
 mod heads;
 mod laws;
+mod limits;
 mod marks;
 mod parameters;
 mod reader;
@@ -11,5 +12,6 @@ mod steps;
 
 pub use events::{PartEvent, PartEvents, PartFault};
 pub use laws::{bodies_and_parts, bodies_and_pieces, marks_and_texts, parameters_and_texts};
+pub use limits::MOST_BYTES;
 pub use parameters::boundary_of;
 pub use reader::Parts;

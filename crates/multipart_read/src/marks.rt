@@ -4,6 +4,7 @@ ghost use Rattle.std.specs.List.{position_or_len};
 ghost use Rattle.multipart_read.specs.Marks.{is_pad, mark_from, mark_behind, first_mark, Lies};
 ghost use Rattle.multipart_read.specs.Marks.{after_dash, after_pad, after_return};
 
+use crate::limits::MAX_PAD;
 use memchr::memchr;
 
 /// Which mark begins at a place.
@@ -81,7 +82,7 @@ fn mark_behind(taken: usize, bytes: &[u8]) -> Mark
     match bytes {
         [] => Mark::Undecided,
         [b'-', rest @ ..] => after_dash(taken + 1, rest),
-        _ => after_pad(16, taken, bytes),
+        _ => after_pad(MAX_PAD, taken, bytes),
     }
 }
 

@@ -1,5 +1,5 @@
 //! The reader of parts.
-ghost use Rattle.std.specs.Prelude.{◌≡◌, ◌≢◌, ◌+◌, ◌<◌, ◌^◌, ◌++◌, ◌↔◌, ◌⊎◌, [], length, false, slice_index};
+ghost use Rattle.std.specs.Prelude.{◌≡◌, ◌≢◌, ◌+◌, ◌<◌, ◌^◌, ◌++◌, ◌↔◌, ◌⊎◌, [], length, false, true, slice_index};
 ghost use Rattle.std.specs.Prelude.{IfOk, IfErr, OnOk, Err, codes};
 ghost use Rattle.multipart_read.specs.Parameters.{is_boundary};
 ghost use Rattle.multipart_read.specs.Tokens.{tokens_of};
@@ -111,12 +111,19 @@ impl Parts {
         if !is_boundary(boundary) {
             return Err(PartFault::BadBoundary);
         }
-        let Ok(start) = start_of(alloc, boundary) else {
-            return Err(PartFault::NoMemory);
-        };
-        let Ok(held) = first_held(alloc) else {
-            return Err(PartFault::NoMemory);
-        };
+        match Parts::with_boundary(alloc, boundary) {
+            Ok(parts) => Ok(parts),
+            Err(NoMemory) => Err(PartFault::NoMemory),
+        }
+    }
+
+    /// The same for a text that is a boundary, as `boundary_of` gives it.
+    pub fn with_boundary(alloc: Global, boundary: &[u8]) -> Result<Parts, NoMemory>
+        requires { is_boundary boundary.now ≡ true }
+        ensures { IfOk result (λ parts. parts ≡ fresh boundary.now) }
+    {
+        let start = start_of(alloc, boundary)?;
+        let held = first_held(alloc)?;
         Ok(Parts {
             alloc,
             start,

@@ -6,16 +6,11 @@ ghost use Rattle.multipart_read.specs.Tokens.{tokens_of, content};
 
 use crate::events::{PartEvent, PartEvents, PartFault};
 use crate::heads::{Section, part_name, section_in};
+use crate::limits::{MAX_BEFORE, MAX_FIELDS, MAX_HEAD, MAX_PART, MAX_PARTS};
 use crate::marks::{Mark, first_mark};
 use blobref::{NoMemory, Octets};
 use httparse::spans::EMPTY_HEADER_SPAN;
 use std::alloc::Global;
-
-// The bytes of a preamble, with the CR LF that is thought before the body.
-const MAX_BEFORE: u64 = 4_098;
-
-// The bytes of a part's content.
-const MAX_PART: u64 = 16_777_216;
 
 /// Where a reader stands.
 #[derive(Clone, Copy)]
@@ -61,7 +56,8 @@ fn in_preamble(start: &[u8], total: u64, passed: u64, work: &[u8]) -> Step
     ensures moves { result.stops ≡ false → 0 < result.used }
     ensures passable { Passable result.stage }
     ensures waits { result.stops ≡ true → Waits start.now result.stage (drop result.used work.now) }
-    ensures leads { BodyRun start.now total (Stage.Preamble passed) work.now [] result.stage (drop result.used work.now) }
+    ensures leads { BodyRun start.now total (Stage.Preamble passed) work.now [] result.stage
+        (drop result.used work.now) }
 {
     let seen = first_mark(start, work);
     if seen.sure as u64 > MAX_BEFORE - passed {
@@ -73,7 +69,7 @@ fn in_preamble(start: &[u8], total: u64, passed: u64, work: &[u8]) -> Step
     }
     match seen.mark {
         Mark::Delimiter(len) => Step {
-            stage: Stage::Head { left: 1_000 },
+            stage: Stage::Head { left: MAX_PARTS },
             used: seen.sure + len,
             stops: false,
         },
@@ -187,13 +183,15 @@ fn in_head(
 {
     if left == 0 {
         return Ok(Step {
-            stage: Stage::Refused(PartFault::TooLong { limit: 1_000 }),
+            stage: Stage::Refused(PartFault::TooLong {
+                limit: MAX_PARTS as u64,
+            }),
             used: work.len(),
             stops: true,
         });
     }
-    let mut headers = [EMPTY_HEADER_SPAN; 16];
-    let most = work.len().min(4_096);
+    let mut headers = [EMPTY_HEADER_SPAN; MAX_FIELDS];
+    let most = work.len().min(MAX_HEAD);
     let front = &work[..most];
     match section_in(front, &mut headers) {
         Section::Whole { len, count } => {
@@ -213,7 +211,7 @@ fn in_head(
             })
         }
         Section::Open => {
-            if work.len() >= 4_096 {
+            if work.len() >= MAX_HEAD {
                 return Ok(bad(total, work.len()));
             }
             Ok(Step {

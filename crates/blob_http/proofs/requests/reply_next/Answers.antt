@@ -7,28 +7,33 @@ use Rattle.blob_http.proofs.Requesting.{head_replies, passes_none}
 use Rattle.http_exchange.proofs.Reading.{head_none}
 use Rattle.blob_http.proofs.requests.reply_next.Goals as goal
 
-pub returns-in-Ok-head_says-clause-replies : goal.returns-in-Ok-head_says-clause-replies
-returns-in-Ok-head_says-clause-replies g c =
-    let tells = g.H.Home.tells c.args.home.now in
+pub returns-in-Ok-head_says-clause-comes : goal.returns-in-Ok-head_says-clause-comes
+returns-in-Ok-head_says-clause-comes g c =
+    let tells = g.H.Home.tells c.args.service.now.home.now in
     let v = g.H.Home.sight c.args.pass.now in
     let w = g.H.Home.sight c.reply_along.new.pass in
-    head_replies (g.S.Source.left c.args.source.now)
-    (g.S.Source.left c.next_head.new.source) c.args.wire.now.flow c.next_head.new.self tells v w
-    c.reply_along.result.entry c.reply_along.result.made c.in-Err.end c.in-Ok-head_says.refusal
-    c.reply_along.result.closes (sym c.in-Ok-head_says.ensures)
-    c.in-Err.ensures.same.0 c.in-Err.ensures.err
-    (subst (λ (q : Operation). Answers tells true q v w c.reply_along.result.entry c.reply_along.result.made)
-    c.refused.ensures c.reply_along.ensures.answers)
-    c.reply_along.ensures.closes
+    record {
+      replies = head_replies (g.S.Source.left c.args.source.now)
+          (g.S.Source.left c.next_head.new.source) c.args.wire.now.flow c.next_head.new.self tells v w
+          c.reply_along.result.entry c.reply_along.result.reply c.in-Err.end c.in-Ok-head_says.refusal
+          c.reply_along.result.closes (sym c.in-Ok-head_says.ensures)
+          c.in-Err.ensures.same.0 c.in-Err.ensures.err
+          (subst (λ (q : Operation). Answers tells true q v w c.reply_along.result.entry c.reply_along.result.reply)
+          c.refused.ensures c.reply_along.ensures.answers)
+          c.reply_along.ensures.closes;
+      passes = tt;
+      none = tt;
+    }
 
-pub returns-in-Err-head_says-clause-none : goal.returns-in-Err-head_says-clause-none
-returns-in-Err-head_says-clause-none g c =
-    head_none IsFair (g.S.Source.left c.args.source.now)
-    (g.S.Source.left c.next_head.new.source) c.args.wire.now.flow c.next_head.new.self
-    c.in-Err.end c.in-Err-head_says.ended (sym c.in-Err-head_says.ensures) c.in-Err.ensures.same.0 c.in-Err.ensures.err
-    (λ is. c.in-Err.ensures.short (ap Err is))
-
-pub returns-in-Err-head_says-clause-passes : goal.returns-in-Err-head_says-clause-passes
-returns-in-Err-head_says-clause-passes g c =
-    passes_none (stream c.args.wire.now.flow.bytes (g.S.Source.left c.args.source.now)) c.args.wire.now.flow.taken
-    c.in-Err-head_says.ended (g.H.Home.sight c.args.pass.now)
+pub returns-in-Err-head_says-clause-comes : goal.returns-in-Err-head_says-clause-comes
+returns-in-Err-head_says-clause-comes g c =
+    let before = g.S.Source.left c.args.source.now in
+    record {
+      replies = tt;
+      passes = passes_none (stream c.args.wire.now.flow.bytes before) c.args.wire.now.flow.taken
+          c.in-Err-head_says.ended (g.H.Home.sight c.args.pass.now);
+      none = head_none IsFair before
+          (g.S.Source.left c.next_head.new.source) c.args.wire.now.flow c.next_head.new.self
+          c.in-Err.end c.in-Err-head_says.ended (sym c.in-Err-head_says.ensures) c.in-Err.ensures.same.0
+          c.in-Err.ensures.err (λ is. c.in-Err.ensures.short (ap Err is));
+    }

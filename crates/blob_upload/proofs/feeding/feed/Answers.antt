@@ -50,8 +50,8 @@ returns-in-Err-clause-feeds g c =
     let so_far = c.asking.invariant.3 in
     let P : List ℕ → Type 0 = λ l.
     Feeds SoundAtLast l c.args.parts.now c.feed_once.new.parts c.args.opened.now c.feed_once.new.opened
-    c.args.kept.now c.feed_once.new.kept v x (Err c.in-Err.came) in
+    c.args.kept.now c.feed_once.new.kept v x (Err c.in-Err.end) in
     subst P (so_far.1)
     (feeds_more (λ (done : Unit {0}) reader. Unit {0}) SoundAtLast (so_far.0) c.asking.rest.now
     _ _ c.feed_once.new.parts _ _ c.feed_once.new.opened _ _ _ _ _ _ tt
-    (Err c.in-Err.came) (so_far.2) c.in-Err.ensures.feeds)
+    (Err c.in-Err.end) (so_far.2) c.in-Err.ensures.feeds)

@@ -16,15 +16,15 @@ returns-in-Ok-take_events-clause-feeds g c =
 pub returns-in-Ok-clause-feeds : goal.returns-in-Ok-clause-feeds
 returns-in-Ok-clause-feeds g c =
     feed_stops c.args.piece.now c.args.parts.now c.feed.new.self _ c.take_events.new.opened _ _ _ _
-    (tokens_of c.in-Ok.events) (tokens_of c.as_slice.result.now) c.in-Err-take_events.came
+    (tokens_of c.in-Ok.events) (tokens_of c.as_slice.result.now) c.in-Err-take_events.end
     (ap tokens_of c.as_slice.ensures) c.in-Ok.ensures.reads c.in-Err-take_events.ensures.takes
 
 pub returns-clause-feeds : goal.returns-clause-feeds
 returns-clause-feeds g c =
     let v = g.H.Home.sight c.args.pass.now in
-    let P : UploadEnd → Type 0 = λ came.
+    let P : UploadEnd → Type 0 = λ end.
     Feeds SoundAtLast c.args.piece.now c.args.parts.now c.feed.new.self c.args.opened.now c.args.opened.now
-    c.args.kept.now c.args.kept.now v v (Err came) in
-    subst P (sym c.came_of_part.ensures)
+    c.args.kept.now c.args.kept.now v v (Err end) in
+    subst P (sym c.end_of_part.ensures)
     (feed_refuses c.args.piece.now c.args.parts.now c.feed.new.self c.args.opened.now c.args.kept.now v c.in-Err.fault
     c.in-Err.ensures.reads c.in-Err.ensures.refused)

@@ -28,13 +28,13 @@ returns-in-Err-clause-takes g c =
     let i = c.events.event-index in
     let event = c.event-item.result in
     let front = tokens_of (take i c.args.events.now) in
-    let came = c.in-Err.came in
+    let end = c.in-Err.end in
     let opened = c.take_event.new.opened in
     let P : List Token → Type 0 = λ ts.
-    Takes ts c.args.opened.now opened c.args.kept.now c.take_event.new.kept v x (Err came) in
+    Takes ts c.args.opened.now opened c.args.kept.now c.take_event.new.kept v x (Err end) in
     subst P (tokens_from c.args.events.now i event c.events-test.true c.event-item.is)
-    (takes_stop (front ++ tokens_in event) (tokens_of (drop (i + 1) c.args.events.now)) _ opened _ _ _ _ came
-    (takes_more front (tokens_in event) _ _ opened _ _ _ _ _ _ (Err came) c.events.invariant.1
+    (takes_stop (front ++ tokens_in event) (tokens_of (drop (i + 1) c.args.events.now)) _ opened _ _ _ _ end
+    (takes_more front (tokens_in event) _ _ opened _ _ _ _ _ _ (Err end) c.events.invariant.1
     c.in-Err.ensures.takes))
 
 pub returns-clause-takes : goal.returns-clause-takes

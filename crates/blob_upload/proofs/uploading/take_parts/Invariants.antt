@@ -1,12 +1,14 @@
-use Rattle.std.proofs.Common.{◌≡◌, ◌<◌, ◌≤◌, ◌-◌, length}
-use Rattle.blob_upload.specs.Faults.{most_bytes}
+use Rattle.std.proofs.Common.{◌≡◌, ◌<◌, ◌≤◌, ◌-◌, ℕ, List, length}
+use Rattle.multipart_read.specs.Limits.{most_bytes}
+use Rattle.multipart_read.specs.Reader.{fresh}
 use Rattle.blob_upload.proofs.Ending.{Uploading}
 use Rattle.blob_upload.proofs.uploading.take_parts.Given as goal
 
 abbrev pub invariant-pieces : goal.invariant-pieces
 invariant-pieces g l = record {
-  own : g.H.Home.belongs l.home l.pass;
-  so_far : Uploading l.boundary (g.S.Source.left l.fn.source) (g.S.Source.left l.source) l.fn.wire l.wire
+  own : g.H.Home.belongs l.service.home.now l.pass;
+  so_far : (boundary : List ℕ) → l.fn.parts ≡ fresh boundary
+      → Uploading boundary (g.S.Source.left l.fn.source) (g.S.Source.left l.source) l.fn.wire l.wire
       (g.H.Home.sight l.fn.pass) (g.H.Home.sight l.pass) l.fn.kept l.kept l.reading;
   counted : l.reading.parts.fed ≡ l.reading.taken;
   head : l.wire.head ≡ l.fn.wire.head;

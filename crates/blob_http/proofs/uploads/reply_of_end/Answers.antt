@@ -1,7 +1,7 @@
 use Rattle.std.proofs.Common.{sym, subst}
 use Rattle.blob_upload.specs.declared.upload_end.UploadEnd.{UploadEnd}
 use Rattle.blob_http.specs.Keeping.{UploadMade}
-use Rattle.blob_http.proofs.uploads.upload_made.Goals as goal
+use Rattle.blob_http.proofs.uploads.reply_of_end.Goals as goal
 
 pub returns-in-Ended : goal.returns-in-Ended
 returns-in-Ended c =
