@@ -1,0 +1,9 @@
+pub mod Written
+pub mod Writable
+pub mod Opening
+pub mod Fewest
+pub mod Pushed
+pub mod Escapes
+pub mod Lines
+pub mod Layered
+pub mod Worded

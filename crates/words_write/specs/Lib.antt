@@ -1,0 +1,4 @@
+pub mod Writing
+pub mod Parentheses
+pub mod Pushing
+pub mod Laws
