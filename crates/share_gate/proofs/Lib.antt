@@ -1,9 +1,9 @@
 mod Small
-mod Verdicts
+pub mod Verdicts
 mod Paths
 mod Facts
 mod Blobs
 mod Rows
 mod Targets
 mod Whole
-mod Reading
+pub mod Reading

@@ -1,0 +1,5 @@
+pub mod Stepping
+mod Connecting
+mod Judging
+mod Pieces
+mod Requesting

@@ -1,0 +1,15 @@
+//! What is told of each request that is answered.
+use blobref::Ref;
+
+/// How a request was answered.
+#[derive(Clone, Copy)]
+pub enum ShareTold {
+    /// As it is defined, which may be a refusal.
+    Defined,
+    /// No memory was left.
+    Memory,
+    /// The shelf failed.
+    Disk,
+    /// The bytes of a blob had another ref than the wanted one.
+    Damaged { want: Ref, is: Ref },
+}
