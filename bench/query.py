@@ -4,7 +4,8 @@
 
 The folder holds what make_pack.py has written for the kind `store`. What a query takes is its processor time, less that
 of a query over the same store whose answer is the first permanode alone: so the opening, and the filling of the index,
-are left out. Each time is the best of five.
+are left out. A line of search words is timed against the same query as JSON, each with the opening. Each time is the
+best of five.
 """
 
 import json
@@ -32,6 +33,11 @@ BY_VALUE = {"constraint": {"permanode": {"attr": "tag", "value": "t0"}}, "limit"
 BY_RELATION = {"constraint": {"permanode": {"relation": {"relation": "child", "all": {"blobRefPrefix": "x"}}}}, "limit": MOST}
 # As many permanodes, each with those that are so many places before and behind it as members.
 RING, REACH, LEVELS = 1_000, 10, 5
+# A line of search words, and the query that it asks.
+LINE = "tag:t0 -has:camliMember"
+LEAVES = {"permanode": {"attr": "tag", "value": "t0"}}, {"permanode": {"attr": "camliMember"}}
+ASKED = {"logical": {"op": "and", "a": LEAVES[0], "b": {"logical": {"op": "not", "a": LEAVES[1]}}}}
+BY_WORDS = {"constraint": ASKED, "limit": 200, "sort": "blobref"}
 DATE = "2020-01-01T00:00:00Z"
 
 
@@ -42,13 +48,21 @@ def processor_time(job):
 class Program:
     def __init__(self, program, store):
         self.words = [program, "query", str(store)]
+        self.words_of_line = [program, "words", str(store), LINE]
 
     def answer(self, query):
         """The refs of an answer, and the processor time."""
+        return self.run(self.words, json.dumps(query))
+
+    def answer_to_words(self):
+        """The same for the line of search words."""
+        return self.run(self.words_of_line, "")
+
+    def run(self, words, text):
         with tempfile.TemporaryFile() as source, tempfile.TemporaryFile() as sink:
-            source.write(json.dumps(query).encode())
+            source.write(text.encode())
             source.seek(0)
-            child = subprocess.Popen(self.words, stdin=source, stdout=sink)
+            child = subprocess.Popen(words, stdin=source, stdout=sink)
             _, status, usage = os.wait4(child.pid, 0)
             child.returncode = os.waitstatus_to_exitcode(status)
             sink.seek(0)
@@ -97,6 +111,17 @@ def per_ref(what, program, query, base, statement):
     memory = peak(program.words, json.dumps(query).encode())
     told = "" if memory is None else f"; peak memory {memory / MIB:.0f} MiB"
     print(f"{what}, {len(wanted)} refs: {rows / max(beyond, 1e-9):.2f} of the speed of SQLite, per ref{told}")
+
+
+def by_words(program):
+    """Prints how a line of search words compares with the query that it asks."""
+    wanted, _ = program.answer(BY_WORDS)
+    asked, _ = program.answer_to_words()
+    if not wanted or asked != wanted:
+        sys.exit(f"{LINE}: not the answer that is wanted")
+    query = processor_time(lambda: program.answer(BY_WORDS)[1])
+    words = processor_time(lambda: program.answer_to_words()[1])
+    print(f"search words, {len(wanted)} refs: {query / words:.2f} of the speed of the same query as JSON, with the opening")
 
 
 def ring_store(folder):
@@ -151,6 +176,7 @@ def main(path, folder):
     base, program = tables(pack), Program(path, store)
     per_ref("a query by value", program, BY_VALUE, base, VALUE_ROWS)
     per_ref("a query by relation", program, BY_RELATION, base, RELATION_ROWS)
+    by_words(program)
     ring = folder / "ring"
     nest(Program(path, ring), ring_store(ring))
 

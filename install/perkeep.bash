@@ -9,6 +9,7 @@ _perkeep_words() {
     stat) positions=(DIR REF) options=() ;;
     list) positions=(DIR) options=(--after --limit) ;;
     search) positions=(DIR) options=(--attr --value --at) ;;
+    words) positions=(DIR TEXT) options=(--at) ;;
     query) positions=(DIR) options=() ;;
     salvage) positions=(DIR) options=() ;;
     search-pack) positions=(A V) options=() ;;
@@ -37,7 +38,7 @@ _perkeep() {
   _perkeep_join
   word=${words[-1]} name=${words[0]}
   if [ "${#words[@]}" -eq 1 ]; then
-    _perkeep_offer -W 'put get stat list search query salvage search-pack permanode claim multi delete get-file put-file push pull mirror load serve'
+    _perkeep_offer -W 'put get stat list search words query salvage search-pack permanode claim multi delete get-file put-file push pull mirror load serve'
     return
   fi
   _perkeep_words "$name"

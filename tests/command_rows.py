@@ -176,6 +176,8 @@ def reads():
     yield Row("search", ("search", FOLDER, *found), NOTHING_FOUND, NOTES)
     yield Row("search at a date", ("search", FOLDER, *found, f"--at={NOON}"), FOUND, NOTES)
     yield Row("query", ("query", FOLDER), FOUND, NOTES, TAGGED)
+    yield Row("words", ("words", FOLDER, "tag:a"), NOTHING_FOUND, NOTES)
+    yield Row("words at a date", ("words", FOLDER, "tag:a -has:title", f"--at={NOON}"), FOUND, NOTES)
 
 
 def notes():

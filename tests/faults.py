@@ -77,7 +77,7 @@ def spelled(calls, folder):
 def readers_sync(program):
     """Opening syncs every pack, also torn ones, before it is read, and writes to none."""
     store = Store(program, {0: pack(b"abc"), 3: TORN, 4: b""})
-    for command in ("put", "get", "stat", "list", "search"):
+    for command in ("put", "get", "stat", "list", "search", "words"):
         calls = traced(program, command, lines_of(store.path)[command], b"abc")
         for path in (store.path / pack_name(number) for number in store.packs):
             first_read = min(places(calls, READS, path) + places(calls, WRITES, file=1))
@@ -91,8 +91,8 @@ def each_byte_is_read_once(program):
     packs = {0: pack(*blobs), 3: inputs.EXAMPLE + record(inputs.DELETE), 4: pack(b"abc")[:-1]}
     store = Store(program, packs, {"keyring": inputs.KEYRING})
     query = b'{"constraint":{"permanode":{"attr":"tag","value":"a"}}}'
-    searched = store.words("search", "--attr", "tag", "--value", "a")
-    for words, source in [(store.words("list"), b""), (searched, b""), (store.words("query"), query)]:
+    searches = [store.words("search", "--attr", "tag", "--value", "a"), store.words("words", "tag:a")]
+    for words, source in [(store.words("list"), b""), *((line, b"") for line in searches), (store.words("query"), query)]:
         calls = traced(program, words[0], words, source)
         for number, content in packs.items():
             got = [result_of(calls[place]) for place in places(calls, READS, store.path / pack_name(number))]

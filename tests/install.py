@@ -18,7 +18,7 @@ from harness import SECONDS, LeftOut, check, compare
 TOP = pathlib.Path(__file__).resolve().parent.parent
 INSTALL = TOP / "install"
 MADE = ["_perkeep", "perkeep.1", "perkeep.bash"]
-COMMANDS = "put get stat list search query salvage search-pack permanode claim multi delete get-file put-file".split()
+COMMANDS = "put get stat list search words query salvage search-pack permanode claim multi delete get-file put-file".split()
 COMMANDS += "push pull mirror load serve".split()
 # What is written, each as bash divides it, and what is offered for the last word. There are the folders
 # `a folder` and `archive`, which has the keys `me` and `mine`, and a file `arrow`. PORT is one that is listened to.
@@ -49,6 +49,9 @@ OFFERS = [
     (["list", "--", "archive", "--"], []),
     (["list", "archive", "--", "-"], []),
     (["search", "archive", "--attr", "tag", "--"], ["--value", "--at"]),
+    (["wo"], ["words"]),
+    (["words", "ar"], ["archive"]),
+    (["words", "archive", "tag:a", ""], ["--at"]),
     (["claim", "archive", ""], ["set", "add", "del"]),
     (["claim", "archive", "de"], ["del"]),
     (["claim", "--key", "me", "archive", "s"], ["set"]),

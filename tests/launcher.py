@@ -955,6 +955,8 @@ HANDED = [
     (["list", "--", "--"], ["list", "--", "@/--"]),
     (["put-file", "d", "--", "-d"], ["put-file", "@/d", "--", "-d"]),
     (["search", "--attr", "d", "d", "--value=d"], ["search", "--attr", "d", "@/d", "--value=d"]),
+    (["words", "d", "tag:d", "--at", "d"], ["words", "@/d", "tag:d", "--at", "d"]),
+    (["words", "--at", "d", "--", "d", "-tag:d"], ["words", "--at", "d", "--", "@/d", "-tag:d"]),
     (["claim", "--key", "me", "d", "set", "--", "R", "tag", "-a"], ["claim", "--key", "me", "@/d", "set", "--", "R", "tag", "-a"]),
     (["search-pack", "d", "d"], ["search-pack", "d", "d"]),
     (["search-pack", "--", "d", "d"], ["search-pack", "--", "d", "d"]),

@@ -8,6 +8,7 @@ workers answer at once, and the packs hold what was put and nothing else.
 
 import contextlib
 import json
+import pathlib
 import subprocess
 import time
 from typing import Callable, NamedTuple
@@ -144,13 +145,13 @@ class Asked:
         return was_refused
 
     def is_still(self):
-        """Waits until nothing is done any more."""
+        """Waits until nothing is done any more: no memory is asked for, and no thread has anything to do."""
         made, since = self.page.made(), time.monotonic()
         until = since + SOON
         while time.monotonic() < since + STILL:
             check(f"{self.case.what}: the server asks for memory without end", time.monotonic() < until)
             time.sleep(MOMENT)
-            if self.page.made() != made:
+            if self.page.made() != made or is_busy(self.server.process.pid):
                 made, since = self.page.made(), time.monotonic()
 
     def takes_in(self, what, due, is_whole):
@@ -179,6 +180,16 @@ class Asked:
         compare(self.case.what, "broken places", [], broken)
         added = [ref for ref in self.blobs if ref not in self.records]
         compare(self.case.what, "the refs in the packs", sorted([*self.records, *added]), sorted(records_of(packs)))
+
+
+def is_busy(pid):
+    """Whether a thread of the process runs, or waits for a processor or for the disk."""
+    try:
+        texts = [one.read_text() for one in pathlib.Path(f"/proc/{pid}/task").glob("*/stat")]
+    except OSError:
+        # One has ended meanwhile.
+        return True
+    return any(text.rpartition(")")[2].split()[0] in "RD" for text in texts)
 
 
 def is_answer(what, texts, got, was_refused):

@@ -89,7 +89,7 @@ def page(program):
     shelf = Shelf(program, {0: pack(*query_inputs.lives())})
     rows = re.findall(r"^\| `(.*)` \| `(\w+)` at (?:the (empty) place|`(.*)`) \|$", grammar, re.MULTILINE)
     checks = [lambda row=row: page_fault(shelf, *row) for row in rows]
-    examples = ["".join(lines) for lines in re.findall(r"(?:^    .*\n)+", text, re.MULTILINE)]
+    examples = re.findall(r"^    \{.*\n(?:    .*\n)*", text, re.MULTILINE)
     check("the pages have a table of faults and the examples", len(rows) >= 8 and len(examples) == len(EXAMPLES))
     blobs, refs = example_store()
     of_examples = Shelf(program, {0: pack(*blobs)})

@@ -100,6 +100,15 @@ def bad_lines(folder, ref):
         ("search", folder, *query, "--at", DATE, "--at", DATE),
         ("search", folder, *query, "--limit", "1"),
         ("search", folder, "--", *query),
+        ("words", folder),
+        ("words", "tag:a"),
+        ("words", folder, "tag:a", "tag:b"),
+        ("words", folder, "-tag:a"),
+        ("words", folder, "tag:a", "-tag:b"),
+        ("words", folder, "tag:a", "--at"),
+        ("words", folder, "tag:a", "--at", DATE, "--at", DATE),
+        ("words", folder, "tag:a", "--limit", "1"),
+        ("words", folder, "--at", DATE),
         ("salvage",),
         ("salvage", folder, folder),
         ("salvage", folder, "--x", "1"),
@@ -132,6 +141,9 @@ BAD_REFS += ["sha224-" + OLDER_ABC[5:], "sha1-" + ABC[7:47] + "A", "sha1_" + OLD
 BAD_NUMBERS = ["", "0", "0" * 30, "4194305", "04194305", "4294967297", "18446744073709551617", "9" * 40]
 BAD_NUMBERS += ["-1", "+1", "1 ", " 1", "1x", "0x1", "1.0", "1e3", "1_000", "\u0661"]
 
+BAD_SEARCH_WORDS = ["", " ", "a", "tga:x", "or tag:a", "tag:a or", "(tag:a", "tag:a)", "- tag:a", "tag:a:b", 'tag:"a', 'has:""']
+BAD_SEARCH_WORDS += ["tag:a\ttag:b:", "tag:" + "a" * 1_021, " ".join(["tag:a"] * 33)]
+
 
 def texts(program):
     """Texts that can't be used: status 4, whatever the disk and the source hold."""
@@ -149,6 +161,8 @@ def texts(program):
     lines += [("search", store.path, *query, "--at", "1970-01-01"), ("search", store.path, *query, "--at", "x")]
     lines += [("search", store.path, "--attr=", "--value=a"), ("search", file, "--value=", "--attr", "")]
     lines += [("search", "--at=x", "--attr=", "--value=a", store.path), ("search", "--attr=", "--value=a", store.path, "--at=x")]
+    lines += [("words", "--", store.path, text) for text in BAD_SEARCH_WORDS]
+    lines += [("words", store.path, "or", "--at=x"), ("words", "--at=x", file, "or"), ("words", file, "tag:a", "--at=x")]
     lines = [tuple(map(str, line)) for line in lines]
     return [lambda line=line: store.keeps(f"texts {line}", list(line), status=4) for line in lines] + [
         lambda text=text: store.reads(f"the date {text}", "search", *query, f"--at={text}", out=NOTHING_FOUND)
@@ -330,7 +344,8 @@ def folders(program):
 
 def no_folder(program):
     """A folder that isn't there is a store without packs, and no command that reads makes it."""
-    endings = {"get": (b"", 3), "stat": (b"", 3), "list": (b"", 0), "salvage": (b"", 0), "search": (NOTHING_FOUND, 0)}
+    endings = {"get": (b"", 3), "stat": (b"", 3), "list": (b"", 0), "salvage": (b"", 0)}
+    endings |= {"search": (NOTHING_FOUND, 0), "words": (NOTHING_FOUND, 0)}
     for what, store in [("without a folder", Store(program)), ("in an empty folder", Store(program, {}))]:
         for command, (out, status) in endings.items():
             store.keeps(f"{command} {what}", lines_of(store.path)[command], out, status)
@@ -386,7 +401,8 @@ def no_parent(program):
     """A folder without a parent isn't there either, so it reads as a store without packs; put can't make it."""
     above = program.new_path()
     what = "a folder without a parent"
-    endings = {"put": (b"", 7), "get": (b"", 3), "stat": (b"", 3), "list": (b"", 0), "salvage": (b"", 0), "search": (NOTHING_FOUND, 0)}
+    endings = {"put": (b"", 7), "get": (b"", 3), "stat": (b"", 3), "list": (b"", 0), "salvage": (b"", 0)}
+    endings |= {"search": (NOTHING_FOUND, 0), "words": (NOTHING_FOUND, 0)}
     for command, line in lines_of(str(above / "store")).items():
         out, expected = endings[command]
         status, got, err = program.run(f"{command}, {what}", line, b"abc", program.working_folder(None))

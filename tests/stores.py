@@ -14,7 +14,7 @@ from harness import compare
 from reference import pack_name
 from writing import pack
 
-READING = ("get", "stat", "list", "search", "salvage")
+READING = ("get", "stat", "list", "search", "words", "salvage")
 EMPTY = "sha224-d14a028c2a3a2bc9476102bb288234c415a2b01f828ea62ac5b3e42f"
 ABC = "sha224-23097d223405d8228642a477bda255b32aadbce4bda0b3f7e36c9da7"
 NOWHERE = inputs.ABSENT
@@ -113,6 +113,7 @@ def lines_of(folder):
         "stat": ["stat", folder, ABC],
         "list": ["list", folder],
         "search": ["search", folder, "--attr", "tag", "--value", "a"],
+        "words": ["words", folder, "tag:a"],
         "salvage": ["salvage", folder],
     }
 

@@ -1,29 +1,33 @@
 """What a person is told at a terminal (docs/commands.md, "On a terminal"), by a terminal of the system's for standard
-error. What is told elsewhere all other scripts compare.
+error. For each hint the status and the word without a terminal are compared too; what else is told there all other
+scripts compare.
 """
 
 import contextlib
 import os
 import pty
+import re
 import subprocess
+import tempfile
 import termios
 import time
 
 import harness
 import reference
 import tracing
-from harness import check, compare
-from inputs import ABSENT
-from peers import FalsePeer
+from harness import check, compare, compare_ending
+from inputs import ABSENT, KEYRING
+from peers import FalsePeer, plainly
 from reference import pack_name, ref_of
 from serving import HOST, PORTS, is_listened_to
 from stores import Store
 from writers import Locked
-from writing import pack
+from writing import file_blob, pack, part
 
 # So many seconds each read of a pack is held up, and so many packs there are.
 HELD_UP, PACKS = 1.2, 6
-BAD_KEYRING = b"me abc\n"
+# What stands in front of a passing line, and clears it.
+PASSING = "\r\x1b[K"
 # The number of a user who has nothing.
 OTHER = 65_534
 
@@ -38,9 +42,9 @@ class Terminal:
         modes[1] &= ~termios.OPOST
         termios.tcsetattr(self.theirs, termios.TCSANOW, modes)
 
-    def start(self, program, words, front=()):
-        """Starts the program at the terminal; its output is to be read."""
-        streams = {"stdin": subprocess.DEVNULL, "stdout": subprocess.PIPE, "stderr": self.theirs}
+    def start(self, program, words, front=(), **others):
+        """Starts the program at the terminal; its output is to be read, unless it goes elsewhere."""
+        streams = {"stdin": subprocess.DEVNULL, "stdout": subprocess.PIPE, "stderr": self.theirs, **others}
         process = subprocess.Popen([*front, program.path, *words], cwd=program.working, **streams)
         os.close(self.theirs)
         return process
@@ -56,52 +60,160 @@ class Terminal:
         return b"".join(iter(self.read, b""))
 
 
-def told(program, words, front=()):
+def told(program, words, front=(), source=b""):
     """The status, the output, and what is told at a terminal."""
     terminal = Terminal()
-    with terminal.start(program, words, front) as process:
-        text = terminal.read_all()
-        out = process.stdout.read()
+    with tempfile.TemporaryFile() as stdin:
+        stdin.write(source)
+        stdin.seek(0)
+        with terminal.start(program, words, front, stdin=stdin) as process:
+            text = terminal.read_all()
+            out = process.stdout.read()
     return process.returncode, out, text
+
+
+QUOTES = "words (TEXT is one word: put quotes around it, and -- before it where it begins with a dash)"
+NO_LINE = "input (from the mark on TEXT is no line of search words)"
+DIGITS = "0123456789" * 6
+MIDDLE, LATE, EARLY = f"tag:{DIGITS}({DIGITS}", f"(tag:{DIGITS}{DIGITS}", f"tga:{DIGITS}{DIGITS}"
+# Lines of search words that aren't, what is shown of them, and the place in that at which they go wrong.
+MARKED = [
+    ((), "tag:a or or", "tag:a or or", 9),
+    ((), "", "", 0),
+    ((), "  ", "  ", 2),
+    ((), "tag:é(", "tag:é(", 5),
+    (("--",), "- tag:a", "- tag:a", 1),
+    ((), "tag:\t\x1b:", "tag:\\u{9}\\u{1b}:", 15),
+    ((), MIDDLE, MIDDLE[64 - 30 : 64 + 30], 30),
+    ((), LATE, LATE[-60:], 60),
+    ((), EARLY, EARLY[:60], 1),
+]
 
 
 def hints(program):
     """Each word, with what stands behind it."""
     store = Store(program, {0: pack(b"abc", b"{")})
-    bad = Store(program, {0: pack(b"abc")}, {"keyring": BAD_KEYRING})
-    keyed = Store(program, {}, {"keyring": b"me 00\n"})
-    nowhere, folder = str(program.new_path()), str(store.path)
-    no_blob = "the store has no such blob; a folder that isn't there reads as an empty store"
-    no_keyring = "each line of the keyring is a name, a space, hexadecimal digits and a line feed"
+    keyed = Store(program, {}, {"keyring": KEYRING})
+    folder = str(store.path)
     rows = [
-        (["put"], 2, "words (no line of a command has these words; docs/commands.md has them all)"),
-        (["get", nowhere, ABSENT], 3, f"absent ({no_blob})"),
+        (["get", folder, ABSENT], 3, f"absent (the store has no blob {ABSENT})"),
         (["get", folder, "abc"], 4, "input (a text that should be a blobref is none)"),
         (["search", folder, "--attr=a", "--value=b", "--at=x"], 4, "input (a text that should be a date is none)"),
         (["list", folder, "--limit=x"], 4, "input (a text that should be a number is none, or out of range)"),
         (["search", folder, "--attr=", "--value=b"], 4, "input (the name of an attribute is empty)"),
+        (["words", folder, "tag:a", "--at=x"], 4, "input (a text that should be a date is none)"),
+        (["words", folder, "tag:a", "tag:b"], 2, QUOTES),
+        (["words", folder, "tag:a", "or", "tag:b", "--at", "2025-06-01"], 2, QUOTES),
+        (["words", folder, "tag:a", "-tag:b"], 2, QUOTES),
+        (["words", folder, "-tag:a"], 2, QUOTES),
+        (["words", folder], 2, "words (a word is missing, too many or wrong; man perkeep has those of words)"),
+        (["words", folder, "tag:a", "--at"], 2, 'words ("--at" can\'t stand there; man perkeep has the words of words)'),
+        (["words", folder, "tag:" + "a" * 1_021], 4, "input (TEXT is longer than 1,024 bytes)"),
+        (["words", folder, " ".join(["tag:a"] * 33)], 4, "input (TEXT asks more than 32 constraints in one another)"),
+        *((["words", *front, folder, text], 4, f"{NO_LINE}\n{shown}\n{' ' * place}^") for front, text, shown, place in MARKED),
+        (["permanode", folder, "--key=a b"], 4, 'input ("a b" can\'t be the name of a key)'),
+        (["permanode", folder, "--key", ""], 4, 'input ("" can\'t be the name of a key)'),
         (["get-file", folder, ref_of(b"abc")], 4, "input (a blob that should be a file, or a part of one, is none)"),
-        (["permanode", folder, "--key=me"], 4, "input (the keyring doesn't hold the key)"),
-        (["query", folder], 4, "input (standard input is no query)"),
-        (["multi", str(keyed.path), "--key=me"], 4, "input (standard input is no list of changes)"),
-        (["push", folder, "nowhere"], 8, "peer (nobody answers at ADDR, which is HOST:PORT, or the way there broke)"),
-        (["list", str(bad.path)], 4, f"input ({no_keyring})"),
+        (["permanode", folder, "--key=me"], 4, f"input ({folder}/keyring isn't there)"),
+        (["permanode", str(keyed.path), "--key=you"], 4, f"input ({keyed.path}/keyring has no key you)"),
+        (["multi", str(keyed.path), "--key=jefe"], 4, "input (standard input is no list of changes)"),
     ]
-    return [lambda row=row: is_told(program, *row) for row in rows] + [lambda: held(program), lambda: done(program)]
+    checks = [lambda row=row: is_told(program, *row) for row in rows]
+    checks += [lambda check=check: check(program) for check in (misfits, keyrings, queries, damaged_chunk)]
+    return checks + [lambda check=check: check(program) for check in (folders, held, done)]
 
 
-def is_told(program, words, status, text):
-    expected = status, b"", f"perkeep: {text}\n".encode()
-    compare(words, "status, output and what is told", expected, told(program, words))
+def is_told(program, words, status, text, before="", source=b""):
+    """The hint at a terminal, behind other lines; and without one the status and its word alone."""
+    expected = status, b"", f"{before}perkeep: {text}\n".encode()
+    compare(words, "status, output and what is told", expected, told(program, words, source=source))
+    is_plain(program, words, status, source)
+
+
+def is_plain(program, words, status, source=b""):
+    what = f"{words}, without a terminal"
+    is_status, out, err = program.run(what, words, source)
+    compare_ending(what, status, is_status, err)
+    compare(what, "standard output", b"", out)
+
+
+def misfits(program):
+    """Which of the words is to blame."""
+    those = "man perkeep has"
+    rows = [
+        ([], f"a command is missing, or a word isn't UTF-8; {those} them all"),
+        (["puts", "d"], f'"puts" is no command; {those} them all'),
+        (["put"], f"a word is missing, too many or wrong; {those} those of put"),
+        (["get", "d", ABSENT, "more"], f'"more" can\'t stand there; {those} the words of get'),
+        (["list", "d", "--first", "1"], f'"--first" can\'t stand there; {those} the words of list'),
+        (["list", "d", "--limit"], f'"--limit" can\'t stand there; {those} the words of list'),
+        (["search", "d", "--attr=a"], f"a word is missing, too many or wrong; {those} those of search"),
+        (["serve", "d"], f"a word is missing, too many or wrong; {those} those of serve"),
+    ]
+    for words, text in rows:
+        is_told(program, words, 2, f"words ({text})")
+
+
+def keyrings(program):
+    """Which line of the keyring is to blame."""
+    no_key = "is no name, space and hexadecimal digits"
+    for content, line, text in [
+        (b"me abc\n", 1, no_key),
+        (b"me 00\nyou\n", 2, no_key),
+        (b"me 00\nyou 00\nme 01\n", 3, "has the name of an earlier one"),
+    ]:
+        store = Store(program, {0: pack(b"abc")}, {"keyring": content})
+        is_told(program, store.words("list"), 4, f"input (line {line} of {store.path}/keyring {text})")
+
+
+def queries(program):
+    """The kind and the place of a fault, by the table of docs/formats/queries.md."""
+    store = Store(program, {0: pack(b"abc")})
+    for query, fault in [
+        ("", "NotJson"),
+        ('{"constraint":{"anything":true},"limit":0}', 'BadValue at "limit"'),
+        ('{"limit":5}', 'BadValue at ""'),
+        ('{"constraint":{"logical":{"op":"not","a":{"x":1},"b":2}}}', 'BadKey at "constraint/logical/a/x"'),
+    ]:
+        text = f"input (standard input is no query: {fault})"
+        is_told(program, store.words("query"), 4, text, source=query.encode())
+
+
+def damaged_chunk(program):
+    """A file of which a chunk isn't whole: its ref is named."""
+    chunk = b"a chunk of a file"
+    file = file_blob("n", [part(len(chunk), ref_of(chunk))])
+    store = Store(program, {0: pack(chunk, file).replace(chunk, b"b" + chunk[1:])})
+    text = f"absent (the store lacks {ref_of(chunk)}, a part of it: see salvage, and the backup)"
+    is_told(program, store.words("get-file", ref_of(file)), 3, text)
+
+
+def folders(program):
+    """A folder that isn't there reads as an empty store, or is made; a file is no folder."""
+    nowhere, made, file = (str(program.new_path()) for _ in range(3))
+    empty = f"perkeep: {nowhere} isn't there, and reads as an empty store\n"
+    is_told(program, ["get", nowhere, ABSENT], 3, f"absent (the store has no blob {ABSENT})", empty)
+    got = told(program, ["list", nowhere])
+    compare("a list of nothing", "status, output and what is told", (0, b"", empty.encode()), got)
+    is_made = f"perkeep: {made} wasn't there, and was made\n".encode()
+    ref = f"{ref_of(b'abc')}\n".encode()
+    compare("a put", "status, output and what is told", (0, ref, is_made), told(program, ["put", made], source=b"abc"))
+    compare("another", "status, output and what is told", (0, ref, b""), told(program, ["put", made], source=b"abc"))
+    with open(file, "wb"):
+        pass
+    is_told(program, ["list", file], 7, f"disk ({file} is no folder)")
+    within = f"{program.new_path()}/store"
+    is_told(program, ["put", within], 7, f"disk ({within}, or what it stands in, isn't there)")
 
 
 def held(program):
-    store = Store(program, {0: pack(b"abc")})
-    text = "disk (the folder can't be read or written, the disk is full, or another program holds the store)"
+    """A lock is waited for."""
+    store = Store(program, {0: pack(b"abc")}, {"keyring": KEYRING})
     words = store.words("delete", ref_of(b"abc"), "--key=me")
+    waits = f"{PASSING}perkeep: waits for another program that holds {store.path}, ten seconds at most{PASSING}"
     with Locked(store.path):
-        is_told(program, words, 4, "input (the keyring doesn't hold the key)")
-        is_told(program, store.words("put-file", "name"), 7, text)
+        is_told(program, words, 4, f"input ({store.path}/keyring has no key me)")
+        is_told(program, store.words("put-file", "name"), 7, f"disk (another program holds {store.path})", waits)
 
 
 def done(program):
@@ -181,6 +293,22 @@ def folder_of_others(program):
     compare("a folder of another user's", "status and what is told", expected, (status, text))
 
 
+def refusals(program):
+    """Why the disk failed. Its calls are refused by strace."""
+    tracing.need_strace(program)
+    no_right = "you have no right to read or write {}, or a file in it"
+    rows = [("ENOSPC", "no room is left where {} is"), ("EACCES", no_right)]
+    return [lambda row=row: is_refused(program, *row) for row in rows]
+
+
+def is_refused(program, error, text):
+    store, log = Store(program, {}), program.new_path()
+    names = "fsync,fdatasync"
+    front = ("strace", "-f", "-o", str(log), "-e", f"trace={names}", "-e", f"inject={names}:error={error}")
+    expected = 7, b"", f"perkeep: disk ({text.format(store.path)})\n".encode()
+    compare(error, "status, output and what is told", expected, told(program, store.words("put"), front, b"abc"))
+
+
 def openings(program):
     """How far a long opening is. Reads of the packs are held up by strace."""
     tracing.need_strace(program)
@@ -196,39 +324,58 @@ def long_opening(program):
     status, out, text = told(program, store.words("stat", ref_of(blobs[0])), front)
     compare("a long opening", "status", 0, status)
     check("a long opening: its output", out.startswith(ref_of(blobs[0]).encode()))
-    lines = text.split(b"\r")
-    compare("a long opening", "what comes first", b"", lines[0])
+    lines = text.split(PASSING.encode())
     percents = [int(line.split()[4]) for line in lines[1:-1]]
     texts = [b"perkeep: reading the store, %d %% of 6 MB" % percent for percent in percents]
-    compare("a long opening", "what is told", [*texts, b"\x1b[K"], lines[1:])
+    compare("a long opening", "what is told", [b"", *texts, b""], lines)
     check(f"a long opening: {percents} %", len(percents) >= 2 and percents == sorted(percents) and percents[-1] < 100)
 
 
 def rounds(program):
-    """Whose turn it is in a round, how many blobs were copied, and at whose address it was refused."""
-    return [lambda: turns(program), lambda: copied_so_far(program), lambda: named(program)]
+    """Whose turn it is in a round, how far the copying is, and at whose address it was refused."""
+    return [lambda check=check: check(program) for check in (turns, copied_so_far, named, pulled, pushed)]
 
 
 def turn(way, address):
-    return f"\r\x1b[Kperkeep: copies {way} {address}\n".encode()
+    return f"perkeep: copies {way} {address}\n"
+
+
+def copied(number, blob):
+    """How far copying is at a blob: by the first byte of its digest, in hundredths of all."""
+    percent = int(ref_of(blob).split("-")[1][:2], 16) * 100 // 256
+    return f"{PASSING}perkeep: copied {number} so far, {percent} % through the sha224 refs"
+
+
+def in_order(blobs):
+    return sorted(blobs, key=ref_of)
+
+
+BLOBS = in_order([b"a", b"b", b"c"])
+
+
+def slow_peer(blobs=()):
+    """Each of its replies is held up, so that a blob takes more than a second."""
+    return FalsePeer({ref_of(blob): blob for blob in blobs}, before=lambda _: time.sleep(HELD_UP))
 
 
 def turns(program):
     store = Store(program, {0: pack(b"abc")})
     with FalsePeer() as one, FalsePeer({ref_of(b"E"): b"E"}) as other:
         got = told(program, store.words("mirror", one.address, other.address))
-        text = b"".join(turn(way, peer.address) for way in ("from", "to") for peer in (one, other))
-        compare("a round", "status, output and what is told", (0, b"stores 3 blobs 2\n", text), got)
+        text = "".join(turn(way, peer.address) for way in ("from", "to") for peer in (one, other))
+        compare("a round", "status, output and what is told", (0, b"stores 3 blobs 2\n", text.encode()), got)
 
 
 def copied_so_far(program):
-    """Each reply is held up, so that a blob takes more than a second."""
-    store, blobs = Store(program, {}), {ref_of(blob): blob for blob in (b"a", b"b", b"c")}
-    with FalsePeer(blobs, before=lambda _: time.sleep(HELD_UP)) as peer:
-        got = told(program, store.words("mirror", peer.address))
-        copied = b"".join(b"\rperkeep: copied %d so far" % number for number in (1, 2))
-        text = turn("from", peer.address) + copied + turn("to", peer.address) + b"\r\x1b[K"
-        compare("a slow round", "status, output and what is told", (0, b"stores 2 blobs 3\n", text), got)
+    with slow_peer(BLOBS) as peer:
+        got = told(program, Store(program, {}).words("mirror", peer.address))
+        status, out, text = got
+        compare("a slow round", "status and output", (0, b"stores 2 blobs 3\n"), (status, out))
+        lines = copied(2, BLOBS[1]), copied(3, BLOBS[2])
+        text = text.decode()
+        begun = turn("from", peer.address) + "".join(lines)
+        check(f"a slow round: {text!r}", text.startswith(begun) and turn("to", peer.address) in text)
+        check(f"a slow round isn't cleared: {text!r}", text.endswith((PASSING, "\n")))
 
 
 def named(program):
@@ -236,9 +383,122 @@ def named(program):
     hint = "nobody answers at ADDR, which is HOST:PORT, or the way there broke"
     with FalsePeer() as peer:
         got = told(program, store.words("mirror", peer.address, nowhere))
-        refused = f"perkeep: peer ({nowhere}: {hint})\n".encode()
-        text = turn("from", peer.address) + turn("from", nowhere) + refused
-        compare("nobody", "status, output and what is told", (8, b"", text), got)
+        refused = f"perkeep: peer ({nowhere}: {hint})\n"
+        text = unanswered(nowhere) + turn("from", peer.address) + turn("from", nowhere) + refused
+        compare("nobody", "status, output and what is told", (8, b"", text.encode()), got)
+
+
+def unanswered(address):
+    return f"perkeep: {address} answers no connection\n"
+
+
+def on_one_terminal(program, words):
+    """The status, and all that the terminal gets that is standard output too."""
+    terminal = Terminal()
+    with terminal.start(program, words, stdout=terminal.theirs) as process:
+        text = terminal.read_all()
+    return process.returncode, text.decode()
+
+
+def pulled(program):
+    """The last passing line is cleared before the result, which comes to the same terminal."""
+    with slow_peer(BLOBS) as peer:
+        got = on_one_terminal(program, Store(program, {}).words("pull", peer.address))
+    is_copied("a pull", got)
+
+
+def pushed(program):
+    with slow_peer() as peer:
+        got = on_one_terminal(program, Store(program, {0: pack(*BLOBS)}).words("push", peer.address))
+    is_copied("a push", got)
+
+
+def is_copied(what, got):
+    status, text = got
+    compare(what, "status", 0, status)
+    lines = copied(2, BLOBS[1]), copied(3, BLOBS[2])
+    compare(what, "what is told", "".join(lines) + f"{PASSING}copied 3 already 0\n", text)
+
+
+def waits(program):
+    """What is waited for: a server, what is typed, and the bytes of files; and who answers no connection."""
+    return [lambda check=check: check(program) for check in (first_byte, nobody, typed, file_read, file_written)]
+
+
+def first_byte(program):
+    """A reply that takes more than three seconds."""
+    with FalsePeer(rights={0: late}) as peer:
+        status, out, text = told(program, Store(program, {}).words("pull", peer.address))
+        compare("a late reply", "status and output", (0, b"copied 0 already 0\n"), (status, out))
+        lines = text.decode().split(PASSING)
+        texts = [f"perkeep: waits for a reply of {peer.address}, {seconds} s so far" for seconds in (2, 3)]
+        compare("a late reply", "what is told", ["", *texts, ""], lines)
+
+
+def late(wire, due):
+    time.sleep(3.5)
+    return plainly(wire, due)
+
+
+def nobody(program):
+    """Said before the store is read, and whatever becomes of that; and nothing of it without a terminal."""
+    store, nowhere = Store(program, {0: pack(b"abc")}), f"{HOST}:{PORTS.free()}"
+    hint = "peer (nobody answers at ADDR, which is HOST:PORT, or the way there broke)"
+    for address in (nowhere, "nowhere"):
+        for command in ("push", "pull"):
+            is_told(program, store.words(command, address), 8, hint, unanswered(address))
+    (store.path / pack_name(3)).mkdir()
+    is_told(program, store.words("push", nowhere), 7, odd_pack(store, 3), unanswered(nowhere))
+
+
+def typed(program):
+    """Standard input that is typed is said to be read, once."""
+    store, terminal, typing = Store(program, {}), Terminal(), Terminal()
+    os.write(typing.ours, b"abc\n\x04")
+    with terminal.start(program, store.words("put"), stdin=typing.theirs) as process:
+        text = terminal.read_all()
+        out = process.stdout.read()
+    ref = ref_of(b"abc\n").encode() + b"\n"
+    compare("what is typed", "status and output", (0, ref), (process.returncode, out))
+    told_line = b"perkeep: reads what is typed, until Ctrl-D at the beginning of a line\n"
+    compare("what is typed", "what is told", told_line, text)
+
+
+def file_read(program):
+    """A file that comes slowly."""
+    store, terminal = Store(program, {}), Terminal()
+    with terminal.start(program, store.words("put-file", "n"), stdin=subprocess.PIPE) as process:
+        for _ in range(4):
+            process.stdin.write(bytes(1_000_000))
+            process.stdin.flush()
+            time.sleep(HELD_UP)
+        process.stdin.close()
+        text = terminal.read_all()
+        process.stdout.read()
+    is_counted("a file that is put", process.returncode, text, "read", 4)
+
+
+def file_written(program):
+    """A file that is read slowly."""
+    blobs = [b"%d" % number + bytes(999_999) for number in range(4)]
+    file = file_blob("n", [part(len(blob), ref_of(blob)) for blob in blobs])
+    store, terminal = Store(program, {0: pack(*blobs, file)}), Terminal()
+    with terminal.start(program, store.words("get-file", ref_of(file))) as process:
+        for _ in blobs:
+            process.stdout.read(1_000_000)
+            time.sleep(HELD_UP)
+        process.stdout.read()
+        text = terminal.read_all()
+    is_counted("a file that is got", process.returncode, text, "wrote", 4)
+
+
+def is_counted(what, status, text, verb, most):
+    compare(what, "status", 0, status)
+    lines = text.decode().split(PASSING)
+    counts = [re.fullmatch(rf"perkeep: {verb} ([0-9]+) MB so far", line) for line in lines[1:-1]]
+    check(f"{what}: {lines}", lines[0] == lines[-1] == "" and counts and all(counts))
+    numbers = [int(count[1]) for count in counts]
+    check(f"{what}: {numbers}", numbers == sorted(numbers) and 1 <= numbers[-1] <= most)
 
 
 def servers(program):
@@ -262,4 +522,4 @@ def server(program):
 
 
 if __name__ == "__main__":
-    harness.main("terminal.sh", [hints, files, openings, rounds, servers])
+    harness.main("terminal.sh", [hints, files, refusals, openings, rounds, waits, servers])

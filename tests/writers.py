@@ -149,7 +149,7 @@ class Beside:
             compare(what, "its bytes", blob, out)
         elif command == "stat":
             compare(what, "its line", reference.entry(ref, blob), out)
-        elif command == "search":
+        elif command in ("search", "words"):
             found = {one["blob"] for one in json.loads(out)["blobs"]}
             compare(what, "permanodes that are missing", set(), self.nodes(known) - found)
             compare(what, "permanodes that are too many", set(), found - self.nodes(len(self.blobs)))
@@ -170,7 +170,7 @@ def readers(program):
 
 def read_beside(program):
     beside = Beside(program)
-    reading = ("get", "stat", "list", "search", "salvage")
+    reading = ("get", "stat", "list", "search", "words", "salvage")
     tasks = [lambda command=command: beside.read(command, chance("readers", command)) for command in reading]
     counts = at_once([beside.write, *tasks], len(reading) + 1)[1:]
     found_in("readers beside a put", beside.store, beside.blobs)
@@ -236,7 +236,8 @@ def waits_and_puts(program):
 
 def reads_on(program):
     store = locked_store(program)
-    endings = {"get": (b"abc", 0), "stat": (reference.entry(ref_of(b"abc"), b"abc"), 0), "search": (NOTHING_FOUND, 0)}
+    endings = {"get": (b"abc", 0), "stat": (reference.entry(ref_of(b"abc"), b"abc"), 0)}
+    endings |= {"search": (NOTHING_FOUND, 0), "words": (NOTHING_FOUND, 0)}
     endings |= {"list": (reference.listing(store.blobs()), 0), "salvage": (reference.salvage_text(store.packs), 0)}
     with Locked(store.path):
         for command, (out, status) in endings.items():

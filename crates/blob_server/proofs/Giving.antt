@@ -1,5 +1,6 @@
 -- What a worker leaves, connection by connection.
-use Rattle.std.proofs.Common.{◌≡◌, ℕ, ◌+◌, ◌≤◌, ◌⊎◌, inl, inr, ⊎_elim, true, false, refl, sym, ◌∙◌, arith, Option, Some, None}
+use Rattle.std.proofs.Common.{◌≡◌, ℕ, ◌+◌, ◌≤◌, ◌⊎◌, inl, inr, ⊎_elim, true, false, refl, sym, subst, ◌∙◌, arith}
+use Rattle.std.proofs.Common.{Option, Some, None}
 use Rattle.std.specs.Option.{option_map}
 use Rattle.edge_base.specs.Edge.{FaultsRose, one_more}
 use Rattle.home_places.specs.Passes.{Sight}
@@ -20,11 +21,13 @@ one_more_is : (b : ℕ) → (one_more b ≡ b + 1) ⊎ (one_more b ≡ last_coun
 one_more_is b = grind arith
 
 given_more : (a b c k : ℕ) → c ≡ one_more b → IsGiven a b k → IsGiven a c (k + 1)
-given_more a b c k is (inl p) = ⊎_elim (λ (e : one_more b ≡ b + 1). inl (omega (arith, is, p, e))) (λ (e : one_more b ≡ last_count). inr (is ∙ e)) (one_more_is b)
+given_more a b c k is (inl p) = ⊎_elim (λ (e : one_more b ≡ b + 1). inl (omega (arith, is, p, e)))
+    (λ (e : one_more b ≡ last_count). inr (is ∙ e)) (one_more_is b)
 given_more a b c k is (inr p) = inr (omega (arith, is, p))
 
 -- one connection more was taken and accepted
-pub goes_more : (a b c : Counts) (k : ℕ) → b.faults ≤ c.faults → c.accepted ≡ one_more b.accepted → Goes a b k → Goes a c (k + 1)
+pub goes_more : (a b c : Counts) (k : ℕ) → b.faults ≤ c.faults → c.accepted ≡ one_more b.accepted → Goes a b k
+    → Goes a c (k + 1)
 goes_more a b c k later is g = record {
   later = omega (arith, later, g.later);
   most = let m = g.most in omega (arith, is, m);
@@ -33,13 +36,21 @@ goes_more a b c k later is g = record {
 
 -- none was left to take
 pub goes_dry : (a b : Counts) (k : ℕ) → Goes a b k → Gives a b false k 1
-goes_dry a b k g = record { later = g.later; most = g.most; done = λ e. (g.given, omega arith); fails = λ e. absurd (cc e) }
+goes_dry a b k g = record {
+  later = g.later;
+  most = g.most;
+  all = (k, (let zero : k ≡ k + 0 = omega arith in zero), g.given);
+  done = λ e. omega arith;
+  fails = λ e. absurd (cc e);
+}
 
 -- an accept failed
-pub goes_fails : (a b c : Counts) (k : ℕ) → b.faults ≤ c.faults → c.accepted ≡ b.accepted → FaultsRose b.faults c.faults → Goes a b k → Gives a c true (k + 1) 0
+pub goes_fails : (a b c : Counts) (k : ℕ) → b.faults ≤ c.faults → c.accepted ≡ b.accepted
+    → FaultsRose b.faults c.faults → Goes a b k → Gives a c true (k + 1) 0
 goes_fails a b c k later same rose g = record {
   later = omega (arith, later, g.later);
   most = let m = g.most in omega (arith, same, m);
+  all = (k, refl, subst (λ (n : ℕ). IsGiven a.accepted n k) (sym same) g.given);
   done = λ e. absurd (cc e);
   fails = λ e. let l = g.later in omega (arith, rose, l);
 }

@@ -1,5 +1,5 @@
 -- How serving ends, and what it leaves of the desks.
-use Rattle.std.specs.Prelude.{◌≡◌, ◌+◌, ◌<◌, ◌≤◌, ◌⊎◌, if◌then◌else◌, ℕ, List, [], ◌∷◌, Bool, true, false}
+use Rattle.std.specs.Prelude.{◌≡◌, ◌+◌, ◌<◌, ◌≤◌, ◌⊎◌, ◌&&◌, not, if◌then◌else◌, ℕ, List, [], ◌∷◌, Bool, true, false}
 use Rattle.std.specs.Prelude.{nat_eq, Option, Some, None, Result, Ok, Err}
 use Rattle.std.specs.List.{sum_by, list_any, AllZip}
 use Rattle.edge_base.specs.Edge.{FaultsRose}
@@ -7,9 +7,9 @@ use Rattle.edge_base.specs.declared.answers.GetFault.{GetFault}
 use Rattle.edge_base.specs.declared.answers.GetFault.TheVariants as unread
 use Rattle.home_places.specs.Passes.{Sight, Settles}
 use Rattle.blob_http.specs.Serving.{Longer}
-use Rattle.blob_server.specs.declared.serving.Served.{Served}
-use Rattle.blob_server.specs.declared.serving.Served.TheVariants as served
-use Rattle.blob_server.specs.Stands.{Counts, Stand, last_count, Attends}
+use Rattle.top_frame.specs.declared.status.Status.{Status}
+use Rattle.top_frame.specs.declared.status.Status.TheVariants as status
+use Rattle.blob_server.specs.Stands.{Counts, Stand, last_count, lost, Attends}
 use Rattle.blob_server.specs.Counting.{Attended}
 
 -- counts of faults don't fall; and where an accept failed, that of the listener rose
@@ -42,6 +42,17 @@ has_worker = list_any (λ (s : Stand). is_worker s.counts)
 
 abbrev pub has_failed : List Stand → Bool
 has_failed = list_any (λ (s : Stand). s.failed)
+
+-- how many accepts failed, of which each ended its worker
+abbrev pub failed_in : List Stand → ℕ
+failed_in = sum_by (λ (s : Stand). lost s.failed)
+
+-- a worker went on until none was left to accept
+abbrev pub is_steady : Stand → Bool
+is_steady s = is_worker s.counts && not s.failed
+
+abbrev pub has_steady : List Stand → Bool
+has_steady = list_any is_steady
 
 -- a listener stands at the last count
 abbrev pub is_at_last : List Stand → Bool
@@ -77,26 +88,36 @@ abbrev pub AllAccepted : ℕ → List Stand → List Stand → Type 0
 AllAccepted connections before after = has_worker before ≡ true
     → (accepted_in after ≡ accepted_in before + connections) ⊎ (is_at_last after ≡ true)
 
--- the answer where the first settling was refused
-abbrev pub unsettled : GetFault → Served
-unsettled unread.Disk = served.Disk
-unsettled (unread.Damaged want is) = served.Damaged want is
-unsettled unread.NoMemory = served.NoMemory
+-- A failed accept ends its own worker alone, and takes one connection with it: where another worker goes on, all others
+-- were accepted, unless a listener stands at the last count.
+abbrev pub OthersGoOn : ℕ → List Stand → List Stand → Type 0
+OthersGoOn connections before after = has_steady after ≡ true
+    → (accepted_in after + failed_in after ≡ accepted_in before + connections) ⊎ (is_at_last after ≡ true)
 
 -- what is left, by the answer
-abbrev pub Ends : ℕ → List Stand → List Stand → Served → Type 0
-Ends connections before after served.Done = AreServed connections before after × (has_failed after ≡ false)
+abbrev pub Ends : ℕ → List Stand → List Stand → Status → Type 0
+Ends connections before after status.Done = AreServed connections before after × (has_failed after ≡ false)
     × AllAccepted connections before after
-Ends connections before after served.ListenerFault = AreServed connections before after × (has_failed after ≡ true)
-Ends connections before after served.Disk = SettlesFirst (Err unread.Disk) before after
-Ends connections before after (served.Damaged want is) = SettlesFirst (Err (unread.Damaged want is)) before after
-Ends connections before after served.NoMemory = SettlesFirst (Err unread.NoMemory) before after
+Ends connections before after status.ListenerFault = AreServed connections before after × (has_failed after ≡ true)
+    × OthersGoOn connections before after
+Ends connections before after status.Disk = SettlesFirst (Err unread.Disk) before after
+Ends connections before after (status.Damaged want is) = SettlesFirst (Err (unread.Damaged want is)) before after
+Ends connections before after status.NoMemory = SettlesFirst (Err unread.NoMemory) before after
+Ends connections before after status.BadWords = ⊥
+Ends connections before after (status.Absent r) = ⊥
+Ends connections before after (status.BadInput fault) = ⊥
+Ends connections before after status.ReadFault = ⊥
+Ends connections before after status.WriteFault = ⊥
+Ends connections before after status.Peer = ⊥
+Ends connections before after (status.BadReply fault) = ⊥
+Ends connections before after status.HandFault = ⊥
+Ends connections before after (status.Full blobs pack) = ⊥
 
 -- the desks served settled passes, and what a hand with every part knows of the connections
-pub record Serves (connections : ℕ) (before after : List Stand) (result : Served) : Type 0 where
+pub record Serves (connections : ℕ) (before after : List Stand) (result : Status) : Type 0 where
   pub taken : ℕ
   pub dry : ℕ
   pub attended : Attended Attends before after taken dry
   pub most : taken ≤ connections
   pub all : 0 < dry → taken ≡ connections
-  pub answer : result ≡ (if has_failed after then served.ListenerFault else served.Done)
+  pub answer : result ≡ (if has_failed after then status.ListenerFault else status.Done)

@@ -36,11 +36,17 @@ last_count = 2 ^ 64 - 1
 abbrev pub IsGiven : ℕ → ℕ → ℕ → Type 0
 IsGiven before now taken = (now ≡ before + taken) ⊎ (now ≡ last_count)
 
+-- how many connections were taken without one being given: the one at which the accept failed
+abbrev pub lost : Bool → ℕ
+lost true = 1
+lost false = 0
+
 -- What a worker leaves of its listener. It ended since none was left to take, or since an accept failed.
 pub record Gives (before now : Counts) (failed : Bool) (taken dry : ℕ) : Type 0 where
   pub later : before.faults ≤ now.faults
   pub most : now.accepted ≤ before.accepted + taken
-  pub done : failed ≡ false → IsGiven before.accepted now.accepted taken × (0 < dry)
+  pub all : (given : ℕ) × (taken ≡ given + lost failed) × IsGiven before.accepted now.accepted given
+  pub done : failed ≡ false → 0 < dry
   pub fails : failed ≡ true → FaultsRose before.faults now.faults
 
 -- of a desk: an indexer takes nothing, and doesn't fail

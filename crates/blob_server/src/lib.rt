@@ -8,4 +8,5 @@ mod serving;
 mod sharing;
 
 pub use desk_list::{Desk, desks};
-pub use serving::{Served, serve_all};
+pub use serving::serve_all;
+pub use top_frame::Status;

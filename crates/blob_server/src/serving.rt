@@ -1,14 +1,13 @@
 //! The server.
 ghost use Rattle.std.specs.Prelude.{◌≡◌, ◌<◌, All, Err, length, map};
 ghost use Rattle.std.specs.List.{list_any};
-ghost use Rattle.blob_server.specs.Ends.{Ends, SettlesFirst, Serves, unsettled};
+ghost use Rattle.blob_server.specs.Ends.{Ends, SettlesFirst, Serves};
 ghost use Rattle.blob_server.specs.Stands.{stand_of};
 
 use crate::attending::Server;
 use crate::counting::{Connections, ConnectionsLeft};
 use crate::desk_list::Desk;
 use crate::sharing::attend_all;
-use blobref::Ref;
 use edge_base::GetFault;
 use edge_listen::Listener;
 use home_places::Home;
@@ -19,21 +18,7 @@ use std::sync::atomic::AtomicU64;
 use std::sync::ledger::Blank;
 use std::sync::{Mutex, Wait};
 use std::thread::Threads;
-
-/// How serving ended.
-#[derive(Clone, Copy)]
-pub enum Served {
-    /// Every worker went on until no connection was left to accept.
-    Done,
-    /// An accept failed. The desks say of which listeners.
-    ListenerFault,
-    /// The first settling was refused, since the disk failed.
-    Disk,
-    /// It was refused, since a blob's bytes have another ref than their own.
-    Damaged { want: Ref, is: Ref },
-    /// It was refused for want of memory, or since its pass has no turn left.
-    NoMemory,
-}
+use top_frame::Status;
 
 /// Serves so many connections over a home, and indexes what arrives meanwhile. First the first desk's pass is settled;
 /// where that is refused nothing else is done. Then the desks serve, each in a thread of its own. Those with a listener
@@ -41,8 +26,12 @@ pub enum Served {
 /// is left or an accept fails. The others are indexers, and go on until every worker has ended. Each of them asks a copy
 /// of the gate.
 ///
+/// At `Disk`, `Damaged` and `NoMemory` that first settling was refused, `NoMemory` also since the pass has no turn left.
+/// At `ListenerFault` an accept failed; the desks say of which listeners. It ends with no other status.
+///
 /// At `Done` the listeners gave so many connections together, unless the count of one stands at the last value of its
-/// type. Without a worker none is accepted, and the indexers end at once; without desks nothing is done.
+/// type. A failed accept ends its own worker alone, and takes one connection with it; where another worker goes on, all
+/// others are accepted. Without a worker none is accepted, and the indexers end at once; without desks nothing is done.
 ///
 /// It may wait for as long as the listeners, the connections and the gate do. Where no thread can be made the desks
 /// follow one another in their order, so workers should stand ahead of indexers, as in `desks`. It takes a thread for
@@ -59,7 +48,7 @@ pub fn serve_all<
     desks: &mut [Desk<H::Pass, L>],
     connections: u64,
     gate: &G,
-) -> Served
+) -> Status
 where
     H::Pass: Drop + Send,
     L::In: Send,
@@ -70,7 +59,7 @@ where
         (map (stand_of H.sight L.accepted L.faults) desks.new) result }
 {
     if desks.is_empty() {
-        return Served::Done;
+        return Status::Done;
     }
     match settle_first(rt, home, desks) {
         Ok(()) => {
@@ -87,17 +76,7 @@ where
                 dry,
             )
         }
-        Err(fault) => unsettled(fault),
-    }
-}
-
-fn unsettled(fault: GetFault) -> Served
-    ensures { result ≡ unsettled fault }
-{
-    match fault {
-        GetFault::Disk => Served::Disk,
-        GetFault::Damaged { want, is } => Served::Damaged { want, is },
-        GetFault::NoMemory => Served::NoMemory,
+        Err(fault) => Status::from(fault),
     }
 }
 
@@ -133,7 +112,7 @@ fn serve_settled<
     gate: &G,
     taken: Blank,
     dry: Blank,
-) -> Served
+) -> Status
 where
     H::Pass: Drop + Send,
     L::In: Send,
@@ -160,9 +139,9 @@ where
     attend_all(rt, &server, &mut hand, desks);
     server.left.lock(rt).audit(&mut hand);
     if has_failed(desks) {
-        Served::ListenerFault
+        Status::ListenerFault
     } else {
-        Served::Done
+        Status::Done
     }
 }
 

@@ -2,6 +2,7 @@
 ghost use Rattle.std.specs.Prelude.{◌≡◌, None, IfOk, IfSome, []};
 
 use blobref::NoMemory;
+use edge_os::Screen;
 use edge_tcp::{PeerIn, PeerOut, peer_ends};
 use peer_http::{Dialer, OnDemandPeer};
 
@@ -13,6 +14,7 @@ pub type DialedPeer<'a> = OnDemandPeer<AddressDialer<'a>>;
 #[derive(Drop)]
 pub struct AddressDialer<'a> {
     rt: &'a HostRuntime,
+    screen: &'a Screen<'a>,
     addr: &'a str,
 }
 
@@ -24,14 +26,15 @@ impl<'a> Dialer for AddressDialer<'a> {
     ghost gives = { λ a given b. b ≡ a };
 
     fn ends(&mut self) -> Result<(PeerIn<'a>, PeerOut<'a>), NoMemory> {
-        Ok(peer_ends(self.rt, self.addr)?)
+        Ok(peer_ends(self.rt, self.screen, self.addr)?)
     }
 }
 
-/// The peer at an address, which nobody has asked so far. Nothing is done.
-pub fn peer_at<'a>(rt: &'a HostRuntime, addr: &'a str) -> DialedPeer<'a>
+/// The peer at an address, which nobody has asked so far. Nothing is done. For how long it is waited for is shown on the
+/// screen.
+pub fn peer_at<'a>(rt: &'a HostRuntime, screen: &'a Screen<'a>, addr: &'a str) -> DialedPeer<'a>
     ensures unconnected { result.link ≡ None }
     ensures unfailed { result.faults ≡ 0 }
 {
-    OnDemandPeer::new(rt.alloc(), AddressDialer { rt, addr })
+    OnDemandPeer::new(rt.alloc(), AddressDialer { rt, screen, addr })
 }

@@ -3,14 +3,15 @@
 #![tactic(auto)]
 
 pub mod again;
-mod copying;
 mod edges;
 mod owner;
+mod readiness;
+mod screen;
 mod standard;
-mod terminal;
+mod tally;
 
-pub use copying::Copying;
 pub use edges::{ReadSource, WriteSink, counted};
 pub use owner::is_own;
-pub use standard::{StandardIn, StandardOut, standard_input, standard_output};
-pub use terminal::{Readiness, is_told, tell_person};
+pub use readiness::Readiness;
+pub use screen::{Pace, Screen};
+pub use standard::{ShownIn, ShownOut, StandardIn, StandardOut, standard_input, standard_output};

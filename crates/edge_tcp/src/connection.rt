@@ -2,7 +2,7 @@
 use crate::at_door::{AtDoor, Ear};
 use crate::lingering::linger;
 use crate::patience::{Allowance, Patience, Progress};
-use crate::waiting::{hear, set_up, tell};
+use crate::waiting::{Watch, hear, set_up, tell};
 use edge_os::{ReadSource, WriteSink};
 use http_admission::Door;
 use std::alloc::Global;
@@ -86,6 +86,7 @@ impl<'a> Read for ReadHalf<'a> {
             &shared.stream,
             &mut self.patience,
             &shared.allowance,
+            Watch::none(),
             buf,
         )
     }

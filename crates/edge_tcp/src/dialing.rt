@@ -26,6 +26,11 @@ pub(crate) fn dial(rt: &HostRuntime, addr: &str) -> io::Result<TcpStream> {
     Err(last)
 }
 
+/// Whether a connection to an address, `HOST:PORT`, can be made within ten seconds. It is closed at once.
+pub fn answers(rt: &HostRuntime, addr: &str) -> bool {
+    dial(rt, addr).is_ok()
+}
+
 fn connect(rt: &HostRuntime, addr: &SocketAddr, limit: Duration) -> io::Result<TcpStream> {
     let stream = TcpStream::connect_timeout(rt, addr, limit)?;
     set_up(&stream)?;

@@ -14,6 +14,7 @@ mod waiting;
 
 pub use at_door::{AtDoor, Ear};
 pub use connection::{ReadHalf, TcpIn, TcpOut, WriteHalf};
+pub use dialing::answers;
 pub use http_admission::Door;
 pub use listening::TcpListenerOn;
 pub use peer_line::{PeerIn, PeerOut, PeerReader, PeerWriter, peer_ends};

@@ -73,6 +73,14 @@ impl Patience {
         Patience::Message(Progress::none())
     }
 
+    /// For how long it was waited so far.
+    pub(crate) fn waited(&self) -> Duration {
+        match self {
+            Patience::FirstHead { waited, .. } | Patience::Idle { waited, .. } => *waited,
+            Patience::Message(progress) => progress.waited,
+        }
+    }
+
     /// Whether the next call is to be timed by a clock. Where nothing was waited for so far it counts as a whole pause, or
     /// as no wait, so that a client that is never waited for costs no look at the clock.
     pub(crate) fn needs_clock(&self) -> bool {

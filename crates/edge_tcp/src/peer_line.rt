@@ -3,8 +3,8 @@ ghost use Rattle.std.specs.Io.{ReadsAtMost, WritesAtMost};
 
 use crate::dialing::dial;
 use crate::patience::{Allowance, Patience, Progress};
-use crate::waiting::{hear, tell};
-use edge_os::{Copying, ReadSource, WriteSink};
+use crate::waiting::{Watch, hear, tell};
+use edge_os::{ReadSource, Screen, WriteSink};
 use std::alloc::{AllocError, Global};
 use std::cell::RefCell;
 use std::io::{self, ErrorKind, Read, Write};
@@ -32,9 +32,10 @@ const MAX_AT_ONCE: usize = 65_536;
 /// seconds. The first byte of the first reply of all, and of one to a request of more than 65,536 bytes, is waited for ten
 /// minutes, and that of the first reply of each later connection 150 seconds. Then, and for any other reply, it is waited
 /// 60 seconds at a time for 1,024 bytes at least, as it is waited for room for a request's. Once no connection could be
-/// made, or a call has failed, each call fails.
+/// made, or a call has failed, each call fails. For how long a reply is waited for is shown on the screen.
 pub fn peer_ends<'a>(
     rt: &'a HostRuntime,
+    screen: &'a Screen<'a>,
     addr: &'a str,
 ) -> Result<(PeerIn<'a>, PeerOut<'a>), AllocError> {
     let line = PeerLine {
@@ -42,7 +43,7 @@ pub fn peer_ends<'a>(
         addr,
         stands: Stands::Unmade,
         has_replied: false,
-        copying: Copying::new(rt),
+        watch: Watch::on(screen, addr),
     };
     let ours = Rc::new(rt.alloc(), RefCell::new(line))?;
     let theirs = ours.clone()?;
@@ -94,7 +95,7 @@ struct PeerLine<'a> {
     stands: Stands,
     // Whether the peer has replied so far.
     has_replied: bool,
-    copying: Copying<'a>,
+    watch: Watch<'a>,
 }
 
 // How the connection stands.
@@ -133,7 +134,7 @@ impl<'a> PeerLine<'a> {
             self.connect()?;
         }
         let done = match &mut self.stands {
-            Stands::Open(connection) => connection.hear(self.rt, buf),
+            Stands::Open(connection) => connection.hear(self.rt, self.watch, buf),
             Stands::Ended => Ok(0),
             Stands::Unmade | Stands::Broken => Err(io::Error::from(ErrorKind::NotConnected)),
         };
@@ -148,9 +149,7 @@ impl<'a> PeerLine<'a> {
     fn tell(&mut self, bytes: &[u8]) -> io::Result<usize>
         ensures { WritesAtMost result bytes.now }
     {
-        if self.begins()? {
-            self.copying.goes_on(bytes);
-        }
+        self.begin()?;
         let done = match &mut self.stands {
             Stands::Open(connection) => connection.tell(self.rt, bytes),
             _ => Err(io::Error::from(ErrorKind::NotConnected)),
@@ -161,19 +160,17 @@ impl<'a> PeerLine<'a> {
         done
     }
 
-    // Whether a request begins, for which there is then a connection.
-    fn begins(&mut self) -> io::Result<bool> {
-        match &self.stands {
-            Stands::Unmade | Stands::Ended => self.connect()?,
-            Stands::Open(connection) if connection.is_asked => return Ok(false),
-            Stands::Open(connection) => {
-                if connection.used.elapsed(self.rt)?.as_secs() >= MAX_IDLE {
-                    self.connect()?;
-                }
-            }
-            Stands::Broken => return Ok(false),
+    // Where a request begins there is then a connection for it.
+    fn begin(&mut self) -> io::Result<()> {
+        let is_due = match &self.stands {
+            Stands::Unmade | Stands::Ended => true,
+            Stands::Open(connection) => connection.is_stale(self.rt)?,
+            Stands::Broken => false,
+        };
+        if is_due {
+            self.connect()?;
         }
-        Ok(true)
+        Ok(())
     }
 
     fn connect(&mut self) -> io::Result<()> {
@@ -201,10 +198,22 @@ impl<'a> PeerLine<'a> {
 }
 
 impl Connection {
-    fn hear(&mut self, rt: &HostRuntime, buf: &mut [u8]) -> io::Result<usize>
+    // Whether it stood idle for too long, before a request.
+    fn is_stale(&self, rt: &HostRuntime) -> io::Result<bool> {
+        Ok(!self.is_asked && self.used.elapsed(rt)?.as_secs() >= MAX_IDLE)
+    }
+
+    fn hear(&mut self, rt: &HostRuntime, watch: Watch<'_>, buf: &mut [u8]) -> io::Result<usize>
         ensures { ReadsAtMost result buf.new }
     {
-        let done = hear(rt, &self.stream, &mut self.patience, &self.allowance, buf);
+        let done = hear(
+            rt,
+            &self.stream,
+            &mut self.patience,
+            &self.allowance,
+            watch,
+            buf,
+        );
         self.is_asked = false;
         self.has_replied |= matches!(done, Ok(count) if count > 0);
         if let Ok(now) = Instant::now(rt) {

@@ -2,6 +2,7 @@
 ghost use Rattle.std.specs.Io.{ReadsAtMost, WritesAtMost};
 
 use crate::patience::{Allowance, Patience, Progress};
+use edge_os::Screen;
 use std::io::{self, ErrorKind, Read, Write};
 use std::net::TcpStream;
 use std::time::{Duration, Instant};
@@ -12,6 +13,41 @@ const PAUSE: u64 = 1;
 
 // How often a call is made at most: as often as patience lasts.
 const TRIES: u64 = u64::MAX;
+
+// For how many seconds the other end is waited for before that is shown.
+const SOON: u64 = 2;
+
+/// Who is shown that the other end is waited for.
+#[derive(Clone, Copy)]
+pub(crate) struct Watch<'a> {
+    // The screen, and the address of the other end.
+    shown: Option<(&'a Screen<'a>, &'a str)>,
+}
+
+impl<'a> Watch<'a> {
+    /// Nobody.
+    pub(crate) fn none() -> Watch<'a> {
+        Watch { shown: None }
+    }
+
+    /// The one before the screen, as of the server at an address.
+    pub(crate) fn on(screen: &'a Screen<'a>, addr: &'a str) -> Watch<'a> {
+        Watch {
+            shown: Some((screen, addr)),
+        }
+    }
+
+    // Shows for how long the other end was waited for.
+    fn show(self, patience: &Patience) {
+        let seconds = patience.waited().as_secs();
+        if seconds < SOON {
+            return;
+        }
+        if let Some((screen, addr)) = self.shown {
+            screen.pass(format_args!("perkeep: waits for a reply of {addr}, {seconds} s so far"));
+        }
+    }
+}
 
 /// A socket is set up: it sends what it is given at once, and its calls wait a second at most.
 pub(crate) fn set_up(stream: &TcpStream) -> io::Result<()> {
@@ -26,6 +62,7 @@ pub(crate) fn hear(
     stream: &TcpStream,
     patience: &mut Patience,
     allowance: &Allowance,
+    watch: Watch<'_>,
     buf: &mut [u8],
 ) -> io::Result<usize>
     ensures { ReadsAtMost result buf.new }
@@ -48,6 +85,7 @@ pub(crate) fn hear(
         if came > 0 {
             return done;
         }
+        watch.show(patience);
     }
     Err(io::Error::from(ErrorKind::TimedOut))
 }

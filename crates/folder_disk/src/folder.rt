@@ -1,15 +1,20 @@
 //! The packs of a folder as a disk (`docs/formats/packs.md`). It doesn't tell what it holds, and counts its failures.
 ghost use Rattle.std.specs.Prelude.{◌≡◌, ◌≤◌, length, IfOk, IfSome};
 ghost use Rattle.pack_disk.specs.Disk.{last_number};
+ghost use Rattle.perkeep_words.specs.Table.{writes_of};
+ghost use Rattle.folder_disk.specs.Accesses.{access_of};
 
+use crate::lines::tell_absent;
 use crate::listing::{least_from, pack_numbers};
 use crate::locking::{check_is_there, lock_folder};
 use crate::opening::Opening;
 use crate::pack_file::{OpenPacks, UnsyncedPacks, fill};
+use crate::trouble::Trouble;
 use edge_base::Failed;
 use edge_os::again::uninterrupted;
-use edge_os::counted;
+use edge_os::{Screen, counted};
 use pack_disk::Disk;
+use perkeep_words::Line;
 use std::collections::BTreeSet;
 use std::fs::{self, File};
 use std::io::{self, ErrorKind};
@@ -27,6 +32,19 @@ pub enum Access {
     Write,
 }
 
+impl Access {
+    /// What the command of a line does: it writes where the command may change the store.
+    pub fn of(line: &Line) -> Access
+        ensures { result ≡ access_of (writes_of line.now.0) }
+    {
+        if line.writes() {
+            Access::Write
+        } else {
+            Access::Read
+        }
+    }
+}
+
 /// The packs of a folder: its files `pack-NNNNN.blobs`. Files of other names are ignored. Which there are is looked
 /// up at the first call, at which a writer also locks the folder, until the disk is dropped. To a reader a folder
 /// that isn't there is a disk without packs.
@@ -34,10 +52,11 @@ pub enum Access {
 /// What an append that failed has left is cut off at once, as well as may be, and the file of a pack that was made here
 /// and never synced goes with it; its number stays taken. Where the disk is dropped the same is done with what was added
 /// and not synced, while the folder is still locked: so nobody takes for durable what only seems to stand. Nothing is
-/// made, opened or called durable where the path no longer leads to the folder, or to the pack's file. Where standard
-/// error is a terminal, it is told there how far a long opening is.
+/// made, opened or called durable where the path no longer leads to the folder, or to the pack's file. A screen is shown
+/// that the folder isn't there or was made, that its lock is waited for, and how far a long opening is.
 pub struct FolderDisk<'a> {
     rt: &'a HostRuntime,
+    screen: &'a Screen<'a>,
     path: &'a str,
     access: Access,
     // Whether the first call was made, and what is known since: the folder, where it is there, and the numbers of its
@@ -52,6 +71,8 @@ pub struct FolderDisk<'a> {
     // Where appends are counted, if anywhere.
     appends: Option<&'a AtomicU64>,
     opening: Opening<'a>,
+    // Where it is noted why a call failed.
+    trouble: &'a Trouble,
     faults: u64,
 }
 
@@ -60,6 +81,7 @@ impl<'a> Drop for FolderDisk<'a> {
         self.growing.cut(self.rt);
         let FolderDisk {
             rt: _,
+            screen: _,
             path: _,
             access: _,
             begun: _,
@@ -70,6 +92,7 @@ impl<'a> Drop for FolderDisk<'a> {
             growing: _,
             appends: _,
             opening: _,
+            trouble: _,
             faults: _,
         } = self;
     }
@@ -77,11 +100,19 @@ impl<'a> Drop for FolderDisk<'a> {
 
 impl<'a> FolderDisk<'a> {
     /// The packs of the folder under a path. Nothing is looked at before the first call of the disk.
-    pub fn new(rt: &'a HostRuntime, path: &'a str, access: Access) -> FolderDisk<'a>
+    /// Why one fails is noted in `trouble`.
+    pub fn new(
+        rt: &'a HostRuntime,
+        screen: &'a Screen<'a>,
+        trouble: &'a Trouble,
+        path: &'a str,
+        access: Access,
+    ) -> FolderDisk<'a>
         ensures { result.faults ≡ 0 }
     {
         FolderDisk {
             rt,
+            screen,
             path,
             access,
             begun: false,
@@ -91,7 +122,8 @@ impl<'a> FolderDisk<'a> {
             reading: OpenPacks::none(rt.alloc()),
             growing: UnsyncedPacks::none(rt.alloc()),
             appends: None,
-            opening: Opening::new(rt),
+            opening: Opening::new(screen),
+            trouble,
             faults: 0,
         }
     }
@@ -140,11 +172,14 @@ impl<'a> FolderDisk<'a> {
 
     fn open_folder(&self, entered: &str) -> io::Result<Option<File>> {
         if self.access == Access::Write {
-            return Ok(Some(lock_folder(self.rt, self.path, entered)?));
+            return Ok(Some(lock_folder(self.rt, self.screen, self.path, entered)?));
         }
         match File::open(self.rt, entered) {
             Ok(folder) => Ok(Some(folder)),
-            Err(error) if error.kind() == ErrorKind::NotFound => Ok(None),
+            Err(error) if error.kind() == ErrorKind::NotFound => {
+                tell_absent(self.screen, self.path);
+                Ok(None)
+            }
             Err(error) => Err(error),
         }
     }
@@ -330,31 +365,37 @@ impl<'a> Disk for FolderDisk<'a> {
 
     fn packs(&mut self, from: u32) -> Result<Option<u32>, Failed> {
         let least = self.next(from);
+        self.trouble.note(&least);
         counted(least, &mut self.faults)
     }
 
     fn size(&mut self, pack: u32) -> Result<u64, Failed> {
         let size = self.length(pack);
+        self.trouble.note(&size);
         counted(size, &mut self.faults)
     }
 
     fn read(&mut self, pack: u32, at: u64, buf: &mut [u8]) -> Result<usize, Failed> {
         let count = self.bytes_at(pack, at, buf);
+        self.trouble.note(&count);
         counted(count, &mut self.faults)
     }
 
     fn make(&mut self, pack: u32) -> Result<(), Failed> {
         let made = self.create(pack);
+        self.trouble.note(&made);
         counted(made, &mut self.faults)
     }
 
     fn append(&mut self, pack: u32, bytes: &[u8]) -> Result<(), Failed> {
         let added = self.add(pack, bytes);
+        self.trouble.note(&added);
         counted(added, &mut self.faults)
     }
 
     fn sync(&mut self, pack: u32) -> Result<(), Failed> {
         let settled = self.settle(pack);
+        self.trouble.note(&settled);
         counted(settled, &mut self.faults)
     }
 

@@ -3,10 +3,13 @@
 
 mod folder;
 mod identity;
+mod lines;
 mod listing;
 mod locking;
 mod opening;
 mod pack_file;
+mod trouble;
 
 pub use folder::{Access, FolderDisk};
 pub use pack_file::open_regular;
+pub use trouble::{Cause, Trouble};

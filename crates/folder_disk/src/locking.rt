@@ -1,5 +1,7 @@
 //! The folder of a store, locked for one writer.
 use crate::identity::Identity;
+use crate::lines::{show_waiting, tell_made};
+use edge_os::Screen;
 use edge_os::again::uninterrupted;
 use std::fs::{DirBuilder, File, TryLockError};
 use std::io::{self, ErrorKind};
@@ -17,14 +19,27 @@ const PAUSE: u64 = 20;
 const OWNER_ONLY: u32 = 0o700;
 
 /// Opens the folder, which is made where it isn't there, and locks it. The lock lasts as long as the file is open.
-/// Another program's lock is waited for ten seconds. `entered` is a path that leads into the folder.
-pub(crate) fn lock_folder(rt: &HostRuntime, folder: &str, entered: &str) -> io::Result<File> {
-    let mut file = open_or_make(rt, folder, entered)?;
-    for _ in 0..TRIES {
+/// Another program's lock is waited for ten seconds, which is shown. `entered` is a path that leads into the folder.
+pub(crate) fn lock_folder(
+    rt: &HostRuntime,
+    screen: &Screen<'_>,
+    folder: &str,
+    entered: &str,
+) -> io::Result<File> {
+    let mut file = open_or_make(rt, screen, folder, entered)?;
+    for tried in 0..TRIES {
         match file.try_lock() {
-            Ok(()) if identity_of(&file)?.is_at(rt, entered)? => return Ok(file),
-            Ok(()) => file = open_or_make(rt, folder, entered)?,
-            Err(TryLockError::WouldBlock) => thread::sleep(rt, Duration::from_millis(PAUSE)),
+            Ok(()) if identity_of(&file)?.is_at(rt, entered)? => {
+                screen.clear();
+                return Ok(file);
+            }
+            Ok(()) => file = open_or_make(rt, screen, folder, entered)?,
+            Err(TryLockError::WouldBlock) => {
+                if tried == 0 {
+                    show_waiting(screen, folder);
+                }
+                thread::sleep(rt, Duration::from_millis(PAUSE));
+            }
             Err(TryLockError::Error(error)) => return Err(error),
         }
     }
@@ -40,10 +55,15 @@ fn identity_of(file: &File) -> io::Result<Identity> {
     Ok(Identity::of(&uninterrupted(|| file.metadata())?))
 }
 
-fn open_or_make(rt: &HostRuntime, folder: &str, entered: &str) -> io::Result<File> {
+fn open_or_make(
+    rt: &HostRuntime,
+    screen: &Screen<'_>,
+    folder: &str,
+    entered: &str,
+) -> io::Result<File> {
     match File::open(rt, entered) {
         Err(error) if error.kind() == ErrorKind::NotFound => {
-            make_folder(rt, folder)?;
+            make_folder(rt, screen, folder)?;
             File::open(rt, entered)
         }
         opened => opened,
@@ -52,10 +72,13 @@ fn open_or_make(rt: &HostRuntime, folder: &str, entered: &str) -> io::Result<Fil
 
 // Makes the folder, unless another program just did, and makes its name durable in the one above. Where that one
 // can't be opened nothing is made.
-fn make_folder(rt: &HostRuntime, folder: &str) -> io::Result<()> {
+fn make_folder(rt: &HostRuntime, screen: &Screen<'_>, folder: &str) -> io::Result<()> {
     let above = File::open(rt, path_above(folder))?;
     match uninterrupted(|| DirBuilder::new().mode(OWNER_ONLY).create(rt, folder)) {
-        Ok(()) => above.sync_all(),
+        Ok(()) => {
+            tell_made(screen, folder);
+            above.sync_all()
+        }
         Err(error) if error.kind() == ErrorKind::AlreadyExists => Ok(()),
         Err(error) => Err(error),
     }

@@ -1,99 +1,60 @@
 //! How far the opening of a store is, for a person at a terminal.
-use std::io::IsTerminal;
-use std::time::{Duration, Instant};
+use edge_os::{Pace, Screen};
 
-// How many seconds an opening takes before anything is told of it, and how many go by between two lines.
+// How many seconds an opening takes before anything is told of it.
 const SOON: u64 = 2;
 
-const PAUSE: u64 = 1;
-
-/// How much of the packs was read since the folder was listed. An opening reads each of them once; so long, and after two
-/// seconds, that is told where standard error is a terminal, on one line that is written over and cleared in the end.
-/// Elsewhere nothing is looked at and nothing told.
+/// How much of the packs was read since the folder was listed. An opening reads each of them once; so long, and after
+/// two seconds, that is shown once a second on the passing line of a screen, which is cleared in the end. Where nothing
+/// is shown nothing is looked at.
+#[derive(Drop)]
 pub(crate) struct Opening<'a> {
-    rt: &'a HostRuntime,
-    is_shown: bool,
+    screen: &'a Screen<'a>,
+    pace: Pace<'a>,
+    // How many bytes there are to read, and how many were read. No opening goes on where they are as many.
     size: u64,
     read: u64,
-    begun: Option<Instant>,
-    // How many seconds after the beginning the next line is told.
-    next: u64,
-}
-
-impl<'a> Drop for Opening<'a> {
-    fn drop(self) {
-        self.clear();
-        let Opening {
-            rt: _,
-            is_shown: _,
-            size: _,
-            read: _,
-            begun: _,
-            next: _,
-        } = self;
-    }
 }
 
 impl<'a> Opening<'a> {
-    /// Nothing is told before it begins.
-    pub(crate) fn new(rt: &'a HostRuntime) -> Opening<'a> {
+    /// Nothing is shown before it begins.
+    pub(crate) fn new(screen: &'a Screen<'a>) -> Opening<'a> {
         Opening {
-            rt,
-            is_shown: rt.stderr().is_terminal(),
+            screen,
+            pace: Pace::new(screen, SOON),
             size: 0,
             read: 0,
-            begun: None,
-            next: SOON,
         }
     }
 
-    /// Whether anything would be told.
+    /// Whether anything would be shown.
     pub(crate) fn is_shown(&self) -> bool {
-        self.is_shown
+        self.screen.is_shown()
     }
 
     /// It begins, over so many bytes.
     pub(crate) fn begin(&mut self, size: u64) {
         self.size = size;
-        if self.is_shown && size > 0 {
-            self.begun = Instant::now(self.rt).ok();
-        }
+        // The time begins here.
+        self.pace.is_due();
     }
 
     /// So many bytes more were read.
     pub(crate) fn goes_on(&mut self, count: usize) {
-        let Some(begun) = self.begun else {
+        if self.read >= self.size {
             return;
-        };
+        }
         self.read = self.read.saturating_add(count as u64);
         if self.read >= self.size {
-            self.clear();
-            self.begun = None;
-            return;
-        }
-        let seconds = begun
-            .elapsed(self.rt)
-            .unwrap_or(Duration::from_secs(0))
-            .as_secs();
-        if seconds >= self.next {
-            self.next = seconds.saturating_add(PAUSE);
-            self.tell();
+            self.screen.clear();
+        } else if self.pace.is_due() {
+            self.show();
         }
     }
 
-    fn tell(&self) {
+    fn show(&self) {
         let percent = u128::from(self.read) * 100 / u128::from(self.size.max(1));
         let megabytes = self.size / 1_000_000;
-        // Where this fails nothing is told.
-        let _ = self.rt.eprint(format_args!(
-            "\rperkeep: reading the store, {percent} % of {megabytes} MB"
-        ));
-    }
-
-    // Clears what was told.
-    fn clear(&self) {
-        if self.begun.is_some() && self.next > SOON {
-            let _ = self.rt.eprint(format_args!("\r\x1b[K"));
-        }
+        self.screen.pass(format_args!("perkeep: reading the store, {percent} % of {megabytes} MB"));
     }
 }

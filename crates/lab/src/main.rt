@@ -12,14 +12,19 @@
 //! the file KEYRING: the requests are handed on at most PIECE bytes at a time, or as many as are asked for where that is
 //! 0.
 //!
+//! `lab words` reads lines of search words from standard input, and prints for each the query that it asks, or why it asks
+//! none.
+//!
 //! It is no part of the archive's program. It ends with that program's exit statuses.
 #![tactic(auto)]
 
+mod asking;
 mod indexing;
 mod ordering;
 mod serving;
 mod yardstick;
 
+use crate::asking::asked_lines;
 use crate::indexing::Question;
 use crate::ordering::order_lines;
 use crate::serving::replies;
@@ -72,6 +77,7 @@ fn measure<W: Wait>(rt: &HostRuntime, wait: &W) -> Result<(), Fault> {
     match word(&words, 0) {
         "http" => answer(rt, wait, &words),
         "orders" => tell(rt, &words),
+        "words" => tell_asked(rt),
         _ => print_line(rt, &words),
     }
 }
@@ -97,6 +103,13 @@ fn tell(rt: &HostRuntime, words: &[Text]) -> Result<(), Fault> {
     let orders = words.get(5..).unwrap_or(&[]);
     let lines = order_lines(rt.alloc(), &pack, orders, &question)?;
     print(rt, &lines)
+}
+
+// Tells what the lines on standard input ask.
+fn tell_asked(rt: &HostRuntime) -> Result<(), Fault> {
+    let input = input(rt)?;
+    let text = str::from_utf8(&input).map_err(|_| Fault::Words)?;
+    print(rt, &asked_lines(rt.alloc(), text)?)
 }
 
 // Answers the requests of standard input over the blobs of a pack.

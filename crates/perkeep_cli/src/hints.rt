@@ -1,14 +1,11 @@
-//! What a person at a terminal is told of single files.
+//! What a person at a terminal is told of single files, and of a peer.
 use edge_os::again::uninterrupted;
-use edge_os::{is_own, is_told, tell_person};
+use edge_os::{Screen, is_own};
+use edge_tcp::answers;
+use perkeep_top::Status;
 use std::fs;
 use std::io::ErrorKind;
 use std::os::unix::fs::MetadataExt;
-
-// The exit statuses of a disk that failed, and of a store that is full.
-const DISK: u8 = 7;
-
-const FULL: u8 = 9;
 
 // The name of the last pack that there may be.
 const LAST_PACK: &str = "pack-99999.blobs";
@@ -16,11 +13,11 @@ const LAST_PACK: &str = "pack-99999.blobs";
 // The bit of a file's mode by which everyone may write to it.
 const BY_ALL: u32 = 0o002;
 
-/// Which file of a folder is to blame for an exit status, and why; None where that isn't seen.
-pub(crate) fn file_to_blame(rt: &HostRuntime, folder: &str, code: u8) -> Option<String> {
-    match code {
-        DISK => odd_pack(rt, folder),
-        FULL => last_pack(rt, folder),
+/// Which file of a folder is to blame for a status, and why; None where that isn't seen.
+pub(crate) fn file_to_blame(rt: &HostRuntime, folder: &str, status: &Status) -> Option<String> {
+    match status {
+        Status::Disk => odd_pack(rt, folder),
+        Status::Full { .. } => last_pack(rt, folder),
         _ => None,
     }
 }
@@ -68,8 +65,8 @@ fn is_regular(rt: &HostRuntime, folder: &str, name: &str) -> bool {
 }
 
 /// Tells a person of a folder that is another user's, and of a keyring in it to which everyone may write.
-pub(crate) fn tell_of_others(rt: &HostRuntime, folder: &str) {
-    if !is_told(rt) || folder.is_empty() {
+pub(crate) fn tell_of_others(rt: &HostRuntime, screen: &Screen<'_>, folder: &str) {
+    if !screen.is_shown() || folder.is_empty() {
         return;
     }
     let Ok(keyring) = format!(in rt.alloc(); "{folder}/keyring") else {
@@ -77,12 +74,20 @@ pub(crate) fn tell_of_others(rt: &HostRuntime, folder: &str) {
     };
     if let Ok(found) = uninterrupted(|| fs::metadata(rt, folder)) {
         if !is_own(&found) {
-            tell_person(rt, format_args!("perkeep: {folder} is another user's"));
+            screen.tell(format_args!("perkeep: {folder} is another user's"));
         }
     }
     if let Ok(found) = uninterrupted(|| fs::metadata(rt, &keyring)) {
         if found.mode() & BY_ALL != 0 {
-            tell_person(rt, format_args!("perkeep: everyone may write to {keyring}"));
+            screen.tell(format_args!("perkeep: everyone may write to {keyring}"));
         }
+    }
+}
+
+/// Tells a person of a peer at an address that answers no connection now. What tries it is another connection than
+/// those of the command.
+pub(crate) fn tell_of_peer(rt: &HostRuntime, screen: &Screen<'_>, address: &str) {
+    if screen.is_shown() && !address.is_empty() && !answers(rt, address) {
+        screen.tell(format_args!("perkeep: {address} answers no connection"));
     }
 }

@@ -3,9 +3,10 @@ use crate::ending::Ending;
 use crate::hints::tell_of_others;
 use claim_verify::{Keyring, KeyringFault};
 use edge_base::{ReadAllError, read_all};
-use edge_os::ReadSource;
 use edge_os::again::uninterrupted;
+use edge_os::{ReadSource, Screen};
 use folder_disk::open_regular;
+use perkeep_hints::BadKeyring;
 use perkeep_top::Status;
 use std::fs::{self, File};
 use std::io::{self, ErrorKind};
@@ -13,25 +14,37 @@ use std::io::{self, ErrorKind};
 const LONGEST_KEYRING: usize = 1_048_576;
 
 /// The keyring of a folder: of its file `keyring`, or empty where there is no such name, or no such folder.
-pub(crate) fn read_keyring(rt: &HostRuntime, folder: &str) -> Result<Keyring, Ending> {
+pub(crate) fn read_keyring(
+    rt: &HostRuntime,
+    screen: &Screen<'_>,
+    folder: &str,
+) -> Result<Keyring, Ending> {
     if folder.is_empty() {
         return Ok(Keyring::empty(rt.alloc()));
     }
     let Ok(path) = format!(in rt.alloc(); "{folder}/keyring") else {
-        return Err(Ending::Ran(Status::NoMemory));
+        return Err(Ending::of(Status::NoMemory));
     };
-    tell_of_others(rt, folder);
+    tell_of_others(rt, screen, folder);
     let file = match open_keyring(rt, &path) {
         Ok(Some(file)) => file,
         Ok(None) => return Ok(Keyring::empty(rt.alloc())),
         Err(error) if error.kind() == ErrorKind::OutOfMemory => {
-            return Err(Ending::Ran(Status::NoMemory));
+            return Err(Ending::of(Status::NoMemory));
         }
-        Err(_) => return Err(Ending::Ran(Status::ReadFault)),
+        Err(_) => return Err(Ending::of(Status::ReadFault)),
     };
     let mut source = ReadSource::new(file);
     let text = read_all(rt.alloc(), &mut source, LONGEST_KEYRING).map_err(unread)?;
     Keyring::read(rt.alloc(), &text).map_err(unusable)
+}
+
+/// Whether a folder has something by the name of a keyring, as far as that is seen.
+pub(crate) fn has_keyring(rt: &HostRuntime, folder: &str) -> bool {
+    match format!(in rt.alloc(); "{folder}/keyring") {
+        Ok(path) => uninterrupted(|| fs::symlink_metadata(rt, &path)).is_ok(),
+        Err(_) => true,
+    }
 }
 
 // Opens the file under a path; None where nothing has that name. A link that leads to nothing is something.
@@ -47,15 +60,16 @@ fn open_keyring(rt: &HostRuntime, path: &str) -> io::Result<Option<File>> {
 
 fn unread(error: ReadAllError) -> Ending {
     match error {
-        ReadAllError::ReadFault => Ending::Ran(Status::ReadFault),
-        ReadAllError::TooLong => Ending::BadKeyring,
-        ReadAllError::NoMemory => Ending::Ran(Status::NoMemory),
+        ReadAllError::ReadFault => Ending::of(Status::ReadFault),
+        ReadAllError::TooLong => Ending::of_keyring(BadKeyring::TooLong),
+        ReadAllError::NoMemory => Ending::of(Status::NoMemory),
     }
 }
 
 fn unusable(fault: KeyringFault) -> Ending {
     match fault {
-        KeyringFault::BadLine { .. } | KeyringFault::Twice { .. } => Ending::BadKeyring,
-        KeyringFault::NoMemory => Ending::Ran(Status::NoMemory),
+        KeyringFault::BadLine { line } => Ending::of_keyring(BadKeyring::NoKey { line }),
+        KeyringFault::Twice { line } => Ending::of_keyring(BadKeyring::Twice { line }),
+        KeyringFault::NoMemory => Ending::of(Status::NoMemory),
     }
 }

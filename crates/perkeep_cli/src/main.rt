@@ -1,6 +1,8 @@
 //! The program: its words, the keyring, the folder of the store, standard input and standard output.
 #![tactic(auto)]
 
+mod console;
+mod copying;
 mod ending;
 mod hand;
 mod hints;
@@ -8,101 +10,93 @@ mod keys;
 mod mirroring;
 mod pauses;
 mod serving;
+mod shown_peer;
 mod streams;
+mod telling;
 
+use crate::console::Console;
 use crate::ending::Ending;
 use crate::hand::{SystemClock, SystemDice};
-use crate::hints::file_to_blame;
+use crate::hints::tell_of_peer;
 use crate::keys::read_keyring;
 use crate::mirroring::mirror;
 use crate::serving::serve;
+use crate::shown_peer::ShownPeer;
 use crate::streams::Closed;
+use crate::telling::tell;
 use blobref::{NoMemory, Text};
 use edge_dial::peer_at;
-use edge_os::{is_told, standard_input, standard_output};
+use edge_os::{standard_input, standard_output};
 use folder_disk::{Access, FolderDisk};
 use perkeep_top::{Status, run};
 use perkeep_words::{Line, mirror_words, places, serve_words};
 use std::alloc::Global;
 use std::env;
-use std::io::{self, ErrorKind};
+use std::io::ErrorKind;
 use std::process::ExitCode;
 use std::sync::Wait;
 use std::thread::Threads;
 
 fn main(rt: HostRuntime) -> ExitCode {
-    let ending = match Closed::take(&rt) {
-        Ok(_closed) => ending_of(&rt, &rt),
-        Err(_) => Ending::Ran(Status::WriteFault),
-    };
-    if !ending.is_done() {
-        // Where this fails too nothing more can be told.
-        let _ = tell(&rt, &ending);
-    }
-    ExitCode::from(ending.code())
-}
-
-// Tells how the program ended; to a person at a terminal also which file or peer is to blame, or what may be
-// done.
-fn tell(rt: &HostRuntime, ending: &Ending) -> io::Result<()> {
-    let word = ending.word();
-    if !is_told(rt) {
-        return rt.eprintln(format_args!("perkeep: {word}"));
-    }
-    if let Some(file) = blamed(rt, ending) {
-        return rt.eprintln(format_args!("perkeep: {word} ({file})"));
-    }
-    if let (Some(peer), Some(hint)) = (ending.peer(), ending.hint()) {
-        return rt.eprintln(format_args!("perkeep: {word} ({peer}: {hint})"));
-    }
-    match ending.hint() {
-        Some(hint) => rt.eprintln(format_args!("perkeep: {word} ({hint})")),
-        None => rt.eprintln(format_args!("perkeep: {word}")),
-    }
-}
-
-// Which file of the folder that the words name is to blame for an ending.
-fn blamed(rt: &HostRuntime, ending: &Ending) -> Option<String> {
-    let words = words(rt).ok()?;
-    file_to_blame(rt, folder_named(&words), ending.code())
-}
-
-// Does what the command line asks for, over standard input and standard output, or as a server.
-fn ending_of<R: Threads + Wait + Sync>(rt: &HostRuntime, threads: &R) -> Ending {
-    let words = match words(rt) {
+    let console = Console::new(&rt);
+    let words = match words(&rt) {
         Ok(words) => words,
-        Err(status) => return Ending::Ran(status),
+        Err(status) => return told(&console, &Ending::of(status), &[], "."),
     };
-    let folder = folder_named(&words);
-    if let Some(plan) = serve_words(&words) {
-        return serve(rt, threads, folder, &plan);
+    let named = Named::of(&words);
+    let ending = match Closed::take(&rt) {
+        Ok(_closed) => ending_of(&rt, &rt, &console, &words, named),
+        Err(_) => Ending::of(Status::WriteFault),
+    };
+    told(&console, &ending, &words, named.folder)
+}
+
+// The exit status of an ending, once it was told, where something went wrong.
+fn told(console: &Console<'_>, ending: &Ending, words: &[Text], folder: &str) -> ExitCode {
+    console.screen().clear();
+    if !matches!(ending.status(), Status::Done) {
+        // Where this fails too nothing more can be told.
+        let _ = tell(console, ending, words, folder);
     }
-    match mirror_words(rt.alloc(), &words) {
-        Ok(Some(addresses)) => return mirror(rt, &words, folder, &addresses),
+    ExitCode::from(ending.status().code())
+}
+
+// Does what the words ask for, over standard input and standard output, or as a server.
+fn ending_of<R: Threads + Wait + Sync>(
+    rt: &HostRuntime,
+    threads: &R,
+    console: &Console<'_>,
+    words: &[Text],
+    named: Named<'_>,
+) -> Ending {
+    if let Some(plan) = serve_words(words) {
+        return serve(rt, threads, console, named.folder, &plan);
+    }
+    match mirror_words(rt.alloc(), words) {
+        Ok(Some(addresses)) => return mirror(rt, console, words, named.folder, &addresses),
         Ok(None) => {}
-        Err(NoMemory) => return Ending::Ran(Status::NoMemory),
+        Err(NoMemory) => return Ending::of(Status::NoMemory),
     }
-    let Some(line) = Line::read(&words) else {
-        return Ending::Ran(Status::BadWords);
+    let Some(line) = Line::read(words) else {
+        return Ending::of(Status::BadWords);
     };
-    let keys = match read_keyring(rt, folder) {
+    let screen = console.screen();
+    let keys = match read_keyring(rt, screen, named.folder) {
         Ok(keys) => keys,
         Err(ending) => return ending,
     };
-    let access = if line.writes() {
-        Access::Write
-    } else {
-        Access::Read
-    };
-    let disk = FolderDisk::new(rt, folder, access);
-    let mut peer = peer_at(rt, address_named(&words));
-    let mut source = standard_input(rt);
-    let mut sink = standard_output(rt);
+    tell_of_peer(rt, screen, named.address);
+    let access = Access::of(&line);
+    let disk = FolderDisk::new(rt, screen, console.trouble(), named.folder, access);
+    let peer = peer_at(rt, screen, named.address);
+    let mut peer = ShownPeer::alone(screen, named.address, peer);
+    let mut source = standard_input(rt, screen);
+    let mut sink = standard_output(rt, screen);
     let mut clock = SystemClock::new(rt);
     let mut dice = SystemDice::new(rt);
     let (_disk, status) = run(
         rt.alloc(),
-        &words,
+        words,
         disk,
         &mut peer,
         &keys,
@@ -111,22 +105,29 @@ fn ending_of<R: Threads + Wait + Sync>(rt: &HostRuntime, threads: &R) -> Ending 
         &mut clock,
         &mut dice,
     );
-    Ending::Ran(status)
+    Ending::of(status)
 }
 
-// The folder that the words name, or the working folder where they name none.
-fn folder_named(words: &[Text]) -> &str {
-    match places(words).dir {
-        Some(place) => words[place].as_str(),
-        None => ".",
-    }
+// What words name: a folder, the working folder where they name none, and the address of a peer, empty where they name
+// none: then no peer is asked.
+#[derive(Clone, Copy)]
+struct Named<'a> {
+    folder: &'a str,
+    address: &'a str,
 }
 
-// The address of a peer that the words name. Where they name none no peer is asked.
-fn address_named(words: &[Text]) -> &str {
-    match places(words).addr {
-        Some(place) => words[place].as_str(),
-        None => "",
+impl<'a> Named<'a> {
+    fn of(words: &'a [Text]) -> Named<'a> {
+        let places = places(words);
+        let folder = match places.dir {
+            Some(place) => words[place].as_str(),
+            None => ".",
+        };
+        let address = match places.addr {
+            Some(place) => words[place].as_str(),
+            None => "",
+        };
+        Named { folder, address }
     }
 }
 

@@ -1,17 +1,18 @@
 //! The server over a folder.
 ghost use Rattle.std.specs.Prelude.{◌≤◌, All, IfOk, vec_len};
 
+use crate::console::Console;
 use crate::ending::Ending;
 use crate::keys::read_keyring;
 use crate::pauses::Pauses;
-use blob_server::{Served, desks, serve_all};
+use blob_server::{desks, serve_all};
 use blobref::NoMemory;
 use claim_verify::Verifier;
-use edge_os::{Readiness, tell_person};
+use edge_os::Readiness;
 use edge_tcp::{Door, TcpListenerOn};
 use folder_disk::{Access, FolderDisk};
 use home_places::Home;
-use perkeep_top::{LIMITS, Status};
+use perkeep_top::Status;
 use perkeep_words::ServePlan;
 use server_home::{HomeFault, home_over};
 use std::net::{Ipv4Addr, SocketAddr, TcpListener};
@@ -24,22 +25,20 @@ use std::thread::Threads;
 pub(crate) fn serve<R: Threads + Wait + Sync>(
     rt: &HostRuntime,
     threads: &R,
+    console: &Console<'_>,
     folder: &str,
     plan: &ServePlan,
 ) -> Ending {
-    let keys = match read_keyring(rt, folder) {
+    let keys = match read_keyring(rt, console.screen(), folder) {
         Ok(keys) => keys,
         Err(ending) => return ending,
     };
     let address = SocketAddr::from((Ipv4Addr::LOCALHOST, plan.port));
     let Ok(listener) = TcpListener::bind(rt, address) else {
-        return Ending::Served(Served::ListenerFault);
+        return Ending::of(Status::ListenerFault);
     };
-    tell_person(
-        rt,
-        format_args!("perkeep: has port {}, and reads the store", plan.port),
-    );
-    serve_folder(rt, threads, threads, folder, &keys, &listener, plan)
+    console.screen().tell(format_args!("perkeep: has port {}, and reads the store", plan.port));
+    Ending::of(serve_folder(threads, threads, console, folder, &keys, &listener, plan))
 }
 
 // Opens the store of a folder, and serves it to those who connect to the listener. The home keeps `handle`.
@@ -48,56 +47,59 @@ fn serve_folder<
     H: Wait + Drop + Send,
     R: Threads + Wait + Sync,
 >(
-    rt: &HostRuntime,
     threads: &R,
     handle: H,
+    console: &Console<'_>,
     folder: &str,
     keys: V,
     listener: &TcpListener,
     plan: &ServePlan,
-) -> Ending {
+) -> Status {
     let appends = AtomicU64::new(0);
-    let disk = FolderDisk::new(rt, folder, Access::Write).counting(&appends);
+    let rt = console.rt();
+    let access = Access::Write;
+    let disk = FolderDisk::new(rt, console.screen(), console.trouble(), folder, access);
+    let disk = disk.counting(&appends);
     let count = plan.workers.saturating_add(plan.indexers);
-    let (home, passes) = match home_over(handle, rt.alloc(), disk, LIMITS, keys, count) {
+    let (home, passes) = match home_over(handle, rt.alloc(), disk, keys, count) {
         Ok(home) => home,
-        Err(HomeFault::Disk { .. }) => return Ending::Ran(Status::Disk),
-        Err(HomeFault::NoMemory) => return Ending::Ran(Status::NoMemory),
+        Err(HomeFault::Disk { .. }) => return Status::Disk,
+        Err(HomeFault::NoMemory) => return Status::NoMemory,
     };
     let gate = Pauses::new(rt, &appends);
-    serve_home(rt, threads, &home, passes, listener, &gate, plan)
+    serve_home(threads, console, &home, passes, listener, &gate, plan)
 }
 
 // Serves connections of the listener over a home, with a worker or an indexer for each pass.
 fn serve_home<H: Home + Sync, R: Threads + Wait + Sync>(
-    rt: &HostRuntime,
     threads: &R,
+    console: &Console<'_>,
     home: &H,
     passes: Vec<H::Pass>,
     listener: &TcpListener,
     gate: &Pauses<'_>,
     plan: &ServePlan,
-) -> Ending
+) -> Status
 where
     H::Pass: Drop + Send,
     requires { All (H.belongs home.now) passes.items }
 {
-    let ready = Readiness::new(rt, plan.port);
+    let rt = console.rt();
+    let ready = Readiness::new(console.screen(), plan.port);
     let Ok(listeners) = listeners(rt, listener, &ready, plan.workers.min(passes.len())) else {
-        return Ending::Ran(Status::NoMemory);
+        return Status::NoMemory;
     };
     let Ok(mut desks) = desks(rt.alloc(), passes, listeners) else {
-        return Ending::Ran(Status::NoMemory);
+        return Status::NoMemory;
     };
-    let served = serve_all(
+    serve_all(
         threads,
         rt.alloc(),
         home,
         &mut desks,
         plan.connections,
         gate,
-    );
-    Ending::Served(served)
+    )
 }
 
 // One who accepts for each worker.

@@ -39,6 +39,7 @@ use Rattle.top_frame.specs.Frame.{Ends}
 use Rattle.top_notes.specs.Meanings.{Keys, permanode_meaning, claim_meaning, what_of}
 use Rattle.top_frame.specs.Outside.{Outside, World}
 use Rattle.perkeep_top.specs.Run.{Runs, meaning_of}
+use Rattle.perkeep_top.specs.SearchWords.{search_words_of}
 use Rattle.perkeep_top.specs.Stored.{signed_by, NoteCounts, StoresClaim, StoresPermanode, StoresAsked, StoredNotesCount}
 use Rattle.perkeep_top.proofs.Asked.{AreTexts, asked_is, may_claim, may_delete}
 
@@ -180,6 +181,7 @@ module _ {D P S K C R : Type 0} (o : Outside D P S K C R) (keys : Keys)
       asked_stored called.Stat parts right texts ends = tt
       asked_stored called.List parts right texts ends = tt
       asked_stored called.Search parts right texts ends = tt
+      asked_stored called.Words parts right texts ends = tt
       asked_stored called.Query parts right texts ends = tt
       asked_stored called.Multi parts right texts ends = tt
       asked_stored called.Salvage parts right texts ends = tt
@@ -193,8 +195,8 @@ module _ {D P S K C R : Type 0} (o : Outside D P S K C R) (keys : Keys)
     pub notes_count : StoredNotesCount o keys
     notes_count words asked old new utf8 is runs =
         let line = asked_is words asked is in
-        let ends : Ends o (meaning_of o.disk old.disk keys asked) old new Done = subst (λ c. Runs o keys c old new Done)
-        is runs in
+        let ends : Ends o (meaning_of o.disk old.disk keys asked) old new Done = subst
+        (λ c. Runs o keys (search_words_of words) c old new Done) is runs in
         subst (λ (a : Command). StoresAsked o keys old new a) line.is
         (asked_stored old new line.line.0 line.line.1 line.right (line.texts utf8)
         (subst (λ (a : Command). Ends o (meaning_of o.disk old.disk keys a) old new Done) (sym line.is) ends))

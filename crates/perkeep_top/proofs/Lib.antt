@@ -6,5 +6,6 @@ pub mod Sizes
 pub mod Walked
 pub mod Filing
 pub mod Querying
+pub mod Wording
 pub mod Asked
 pub mod Counting

@@ -2,7 +2,7 @@
 use Rattle.std.proofs.Common.{◌≤◌, inl, ℕ, [], refl}
 use Rattle.claim_verify.specs.Verifier.{Accepts}
 use Rattle.pack_disk.specs.Packs.{Packs}
-use Rattle.top_frame.specs.declared.status.InputFault.TheVariants.{BadRef, BadDate, BadNumber, BadName, TooBig, NotAFile, Short, Deep, NoKey, TooLong, BadQuery, BadChanges}
+use Rattle.top_frame.specs.declared.status.InputFault.TheVariants.{BadRef, BadDate, BadNumber, BadName, TooBig, NotAFile, Short, Deep, NoKey, TooLong, BadQuery, BadChanges, Words}
 use Rattle.top_frame.specs.declared.status.Status.{Status}
 use Rattle.top_frame.specs.declared.status.Status.TheVariants as status
 use Rattle.top_frame.specs.Frame.{Ends, EndsBy, read_too_much, read_wrongly}
@@ -37,10 +37,12 @@ module _ {D P S K C R : Type 0} (o : Outside D P S K C R)
       by (status.BadInput (Deep r)) w = absurd w
       by (status.BadInput NoKey) w = absurd w
       by (status.BadInput BadChanges) w = absurd w
+      by (status.BadInput (Words fault)) w = absurd w
       by status.Done w = absurd w
       by status.WriteFault w = absurd w
       by status.Disk w = absurd w
       by status.BadWords w = absurd w
+      by status.ListenerFault w = absurd w
       by status.HandFault w = absurd w
       by status.Peer w = absurd w
       by (status.BadReply fault) w = absurd w

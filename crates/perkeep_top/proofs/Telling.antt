@@ -42,6 +42,7 @@ module _ {D P S K C R : Type 0} (o : Outside D P S K C R)
     stopped status.Disk why = failed run here front (far front w.2.3).at nothing_given has part why
     stopped status.Done why = absurd why
     stopped status.BadWords why = absurd why
+    stopped status.ListenerFault why = absurd why
     stopped status.HandFault why = absurd why
     stopped status.Peer why = absurd why
     stopped (status.BadReply fault) why = absurd why

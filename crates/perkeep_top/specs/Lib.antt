@@ -6,6 +6,7 @@ pub mod Stat
 pub mod ListRefs
 pub mod Search
 pub mod Query
+pub mod SearchWords
 pub mod Salvaged
 pub mod Load
 pub mod Run

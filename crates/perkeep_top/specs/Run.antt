@@ -1,5 +1,5 @@
 -- What a run does, by its words (docs/commands.md).
-use Rattle.std.specs.Prelude.{◌≡◌, false, Option, None, Some, Result, Ok, Err}
+use Rattle.std.specs.Prelude.{◌≡◌, ◌⊎◌, ℕ, false, List, Option, None, Some, Result, Ok, Err, unwrap_or}
 use Rattle.perkeep_words.specs.Reading.{LineSeen, command_at}
 use Rattle.perkeep_words.specs.Table.{writes_of}
 use Rattle.perkeep_words.specs.declared.kinds.TextFault.{TextFault}
@@ -9,7 +9,7 @@ use Rattle.schema_fact.specs.declared.kinds.What.TheVariants.{Delete}
 use Rattle.perkeep_words.specs.declared.reading.Command.{Command}
 use Rattle.perkeep_words.specs.declared.reading.Command.TheVariants as command
 use Rattle.top_frame.specs.declared.status.Status.{Status}
-use Rattle.top_frame.specs.declared.status.Status.TheVariants.{BadWords, BadInput}
+use Rattle.top_frame.specs.declared.status.Status.TheVariants.{BadWords, BadInput, NoMemory}
 use Rattle.top_frame.specs.declared.status.InputFault.{InputFault}
 use Rattle.top_frame.specs.declared.status.InputFault.TheVariants.{BadRef, BadDate, BadNumber, BadName}
 use Rattle.top_frame.specs.Frame.{Meaning, IsQuiet, Ends}
@@ -25,6 +25,7 @@ use Rattle.perkeep_top.specs.Query.{query_meaning}
 use Rattle.perkeep_top.specs.PutFile.{put_file_meaning}
 use Rattle.perkeep_top.specs.Salvaged.{salvage_meaning}
 use Rattle.perkeep_top.specs.Search.{search_meaning, search_pack_meaning}
+use Rattle.perkeep_top.specs.SearchWords.{bad_words, words_meaning}
 use Rattle.perkeep_top.specs.Stat.{stat_meaning}
 use Rattle.top_sync.specs.Meanings.{push_meaning, pull_meaning}
 
@@ -35,6 +36,7 @@ meaning_of g disk keys (command.Get dir r) = get_meaning g disk r
 meaning_of g disk keys (command.Stat dir r) = stat_meaning g disk r
 meaning_of g disk keys (command.List dir after limit) = list_meaning g disk after limit
 meaning_of g disk keys (command.Search dir attr value at) = search_meaning keys.accepts attr value at
+meaning_of g disk keys (command.Words dir line at) = words_meaning keys.accepts line at
 meaning_of g disk keys (command.Salvage dir) = salvage_meaning
 meaning_of g disk keys (command.Permanode dir name) = permanode_meaning keys name
 meaning_of g disk keys (command.Claim dir kind r attr value name) = claim_meaning keys name (what_of kind r attr value)
@@ -55,12 +57,21 @@ input_fault text.BadDate = BadDate
 input_fault text.BadNumber = BadNumber
 input_fault text.BadName = BadName
 
--- how a run ends: at words that are no line, at a text that is wrong, and else by the command's meaning
-abbrev pub Runs : {D P S K C R : Type 0} → Outside D P S K C R → Keys → Option (Result Command TextFault)
-    → World D P S K C R → World D P S K C R → Status → Type 0
-Runs o keys None old new answer = (answer ≡ BadWords) × (new ≡ old)
-Runs o keys (Some (Err fault)) old new answer = (answer ≡ BadInput (input_fault fault)) × (new ≡ old)
-Runs o keys (Some (Ok asked)) old new answer = Ends o (meaning_of o.disk old.disk keys asked) old new answer
+-- How a run ends at a text that is wrong, by the search words that stand before it: where these are wrong too, that is
+-- told. They are read for it, for which memory may lack.
+abbrev pub IsRefusal : Option (List ℕ) → TextFault → Status → Type 0
+IsRefusal None fault answer = answer ≡ BadInput (input_fault fault)
+IsRefusal (Some line) fault answer =
+    (answer ≡ BadInput (unwrap_or (bad_words line) (input_fault fault))) ⊎ (answer ≡ NoMemory)
+
+-- how a run ends, by its search words and what it asks for: at words that are no line, at a text that is wrong, and
+-- else by the command's meaning
+abbrev pub Runs : {D P S K C R : Type 0} → Outside D P S K C R → Keys → Option (List ℕ)
+    → Option (Result Command TextFault) → World D P S K C R → World D P S K C R → Status → Type 0
+Runs o keys searched None old new answer = (answer ≡ BadWords) × (new ≡ old)
+Runs o keys searched (Some (Err fault)) old new answer = IsRefusal searched fault answer × (new ≡ old)
+Runs o keys searched (Some (Ok asked)) old new answer =
+    Ends o (meaning_of o.disk old.disk keys asked) old new answer
 
 -- a command whose line is said not to write puts nothing
 abbrev pub ReadersPutNothing : {D : Type 0} → DiskGhosts D → Type 0

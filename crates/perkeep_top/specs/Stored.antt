@@ -29,6 +29,7 @@ use Rattle.top_frame.specs.Limits.{limits}
 use Rattle.top_notes.specs.Meanings.{Keys, note_blobs, what_of}
 use Rattle.top_frame.specs.Outside.{Outside, World}
 use Rattle.perkeep_top.specs.Run.{Runs}
+use Rattle.perkeep_top.specs.SearchWords.{search_words_of}
 
 -- signed by the key of that name
 abbrev pub signed_by : (name payload sig : List ℕ) → Signed
@@ -82,4 +83,4 @@ module _ {D P S K C R : Type 0} (o : Outside D P S K C R) (keys : Keys) where
   abbrev pub StoredNotesCount : Type 0
   StoredNotesCount = (words : List (List ℕ)) (asked : Command) (old new : World D P S K C R) → All IsUtf8 words
       → command_of words ≡ Some (Ok asked)
-      → Runs o keys (command_of words) old new Done → StoresAsked old new asked
+      → Runs o keys (search_words_of words) (command_of words) old new Done → StoresAsked old new asked

@@ -11,3 +11,4 @@ pub(crate) mod salvage;
 pub(crate) mod search;
 pub(crate) mod search_pack;
 pub(crate) mod stat;
+pub(crate) mod words;

@@ -1,10 +1,11 @@
 //! A whole run: words, input, disk, answer, output.
-ghost use Rattle.std.specs.Prelude.{◌≡◌};
-ghost use Rattle.perkeep_words.specs.Reading.{command_of};
+ghost use Rattle.std.specs.Prelude.{◌≡◌, Some};
+ghost use Rattle.perkeep_words.specs.Reading.{command_of, search_words_in};
 ghost use Rattle.top_frame.specs.Frame.{Ends};
 ghost use Rattle.top_frame.specs.Outside.{outside, world, world_before, world_after};
 ghost use Rattle.top_notes.specs.Meanings.{keys_of};
-ghost use Rattle.perkeep_top.specs.Run.{input_fault, meaning_of, Runs, ReadersPutNothing};
+ghost use Rattle.perkeep_top.specs.Run.{input_fault, meaning_of, IsRefusal, Runs, ReadersPutNothing};
+ghost use Rattle.perkeep_top.specs.SearchWords.{search_words_of};
 
 use crate::commands::get::get;
 use crate::commands::get_file::get_file;
@@ -17,6 +18,7 @@ use crate::commands::salvage::salvage;
 use crate::commands::search::search;
 use crate::commands::search_pack::search_pack;
 use crate::commands::stat::stat;
+use crate::commands::words::words;
 use blobref::Text;
 use claim_verify::Signer;
 use edge_base::{Clock, Dice, Sink, Source};
@@ -27,6 +29,7 @@ use std::alloc::Global;
 use top_frame::{Environment, InputFault, Status};
 use top_notes::{claim, delete, multi, permanode};
 use top_sync::{pull, push};
+use words_read::read_words;
 
 /// Does what the words ask for, as `docs/commands.md` says, over the store that the disk holds, and hands the disk
 /// back. It reads all that the source has left where the command reads it, and writes the answer to the sink and
@@ -52,7 +55,8 @@ pub fn run<D: Disk, P: Peer, V: Signer, S: Source, K: Sink, C: Clock, R: Dice>(
     dice: &mut R,
 ) -> (D, Status)
     ensures { Runs (outside D.Disk P.Peer S.Source K.Sink C.Clock R.Dice)
-        (keys_of (V.holds keys.now) (V.seals keys.now) (V.accepts keys.now)) (command_of words.now)
+        (keys_of (V.holds keys.now) (V.seals keys.now) (V.accepts keys.now))
+        (search_words_of words.now) (command_of words.now)
         (world disk peer.old source.old sink.old clock.old dice.old)
         (world result.0 peer.new source.new sink.new clock.new dice.new) result.1 }
 {
@@ -71,7 +75,28 @@ pub fn run<D: Disk, P: Peer, V: Signer, S: Source, K: Sink, C: Clock, R: Dice>(
             };
             run_command(alloc, &command, disk, environment)
         }
-        Err(fault) => (disk, Status::BadInput(input_fault(fault))),
+        Err(fault) => (disk, refusal(alloc, &line, fault)),
+    }
+}
+
+// How a run ends where a text of its line is wrong: the first one but for search words, which `Line` doesn't judge.
+fn refusal(alloc: Global, line: &Line, fault: TextFault) -> Status
+    ensures { IsRefusal (search_words_in line.now) fault result }
+{
+    match line.search_words() {
+        None => Status::BadInput(input_fault(fault)),
+        Some(text) => refusal_after(alloc, text, fault),
+    }
+}
+
+// The same where search words stand before that text.
+#[tactic(auto, using(crate::proofs::Wording::told_first, crate::proofs::Wording::told_after))]
+fn refusal_after(alloc: Global, text: &str, fault: TextFault) -> Status
+    ensures { IsRefusal (Some text.now) fault result }
+{
+    match read_words(alloc, text) {
+        Ok(_) => Status::BadInput(input_fault(fault)),
+        Err(fault) => Status::from(fault),
     }
 }
 
@@ -114,6 +139,9 @@ fn run_command<D: Disk, P: Peer, S: Source, K: Sink, C: Clock, R: Dice, V: Signe
             value,
             at,
         } => search(alloc, attr.as_str(), value.as_str(), *at, disk, environment),
+        Command::Words { dir: _, text, at } => {
+            words(alloc, text.as_str(), *at, disk, environment)
+        }
         Command::Salvage { dir: _ } => salvage(alloc, disk, environment),
         Command::Permanode { dir: _, key } => permanode(alloc, key, disk, environment),
         Command::Claim {

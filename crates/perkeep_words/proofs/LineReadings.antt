@@ -7,7 +7,7 @@ use Rattle.perkeep_words.specs.Forms.{has_form}
 use Rattle.perkeep_words.specs.Table.{form_of, commands, named_in, name_of}
 use Rattle.perkeep_words.specs.Reading.{LineSeen, IsLineOf, line_named, line_of}
 use Rattle.perkeep_words.specs.declared.table.CommandName.{CommandName}
-use Rattle.perkeep_words.specs.declared.table.CommandName.TheVariants.{Put, Get, Stat, List as ListBlobs, Search, Query, Salvage, SearchPack, Permanode, Claim, Multi, Delete, PutFile, GetFile, Push, Pull, Load}
+use Rattle.perkeep_words.specs.declared.table.CommandName.TheVariants.{Put, Get, Stat, List as ListBlobs, Search, Words, Query, Salvage, SearchPack, Permanode, Claim, Multi, Delete, PutFile, GetFile, Push, Pull, Load}
 use Rattle.perkeep_words.proofs.PartReadings.{parts_agree}
 
 -- each command is named by its word
@@ -17,6 +17,7 @@ named Get = refl
 named Stat = refl
 named ListBlobs = refl
 named Search = refl
+named Words = refl
 named Query = refl
 named Salvage = refl
 named SearchPack = refl

@@ -1,5 +1,5 @@
 -- The forms of lines, as data: which positions and options a line has, and what each text has to be (docs/commands.md).
-use Rattle.std.specs.Prelude.{◌&&◌, ◌||◌, ◌+◌, ℕ, Bool, true, false, not, if◌then◌else◌, List, [], ◌∷◌, ◌++◌, length, nat_le, nat_lt, flat_map, Option, Some, None, unwrap_or, option_to_list, bytes_eq}
+use Rattle.std.specs.Prelude.{◌&&◌, ◌||◌, ◌+◌, ℕ, Bool, true, false, not, if◌then◌else◌, List, [], ◌∷◌, ◌++◌, length, nat_le, nat_lt, flat_map, Option, Some, None, is_some, unwrap_or, option_to_list, nat_eq, bytes_eq}
 use Rattle.std.specs.List.{slice_get}
 use Rattle.perkeep_words.specs.Parts.{Part}
 use Rattle.perkeep_words.specs.Kinds.{fits_kind, fault_of}
@@ -111,6 +111,19 @@ faults form place (part ∷ parts) =
 -- what is wrong first
 abbrev pub first_fault : Form → List Part → Option TextFault
 first_fault form parts = slice_get (faults form 0 parts) 0
+
+abbrev pub unless_fault : Option TextFault → Option (List ℕ) → Option (List ℕ)
+unless_fault None text = text
+unless_fault (Some fault) text = None
+
+-- the position before which so many others are wanted, of parts before which so many stand, where no text before it is
+-- wrong
+abbrev pub right_position : Form → ℕ → ℕ → List Part → Option (List ℕ)
+right_position form wanted place [] = None
+right_position form wanted place (part ∷ parts) =
+    if not (is_some part.0) && nat_eq place wanted then Some part.1
+    else unless_fault (fault_of (kind_of form place part.0) part.1)
+    (right_position form wanted (place_after place part.0) parts)
 
 abbrev pub is_dir : Option TextKind → Bool
 is_dir (Some Dir) = true

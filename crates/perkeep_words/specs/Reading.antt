@@ -8,7 +8,7 @@ use Rattle.schema_date.specs.declared.date.When.TheVariants.{Always, At}
 use Rattle.perkeep_words.specs.Parts.{Part, HasParts, start, are_parts, parts_from}
 use Rattle.perkeep_words.specs.Changes.{change_in}
 use Rattle.perkeep_words.specs.Kinds.{number_within}
-use Rattle.perkeep_words.specs.Forms.{has_form, first_fault, position_at, value_of, text_of, kind_in, is_needed}
+use Rattle.perkeep_words.specs.Forms.{has_form, first_fault, right_position, position_at, value_of, text_of, kind_in, is_needed}
 use Rattle.perkeep_words.specs.Table.{form_of, limit_max, name_of}
 use Rattle.perkeep_words.specs.declared.change.Change.{Change}
 use Rattle.perkeep_words.specs.declared.change.Change.TheVariants.{Del}
@@ -87,6 +87,8 @@ command_at name.List parts =
 command_at name.Search parts =
     command.Search (position_at 0 parts) (text_of (codes "attr") parts) (text_of (codes "value") parts)
     (when_of (codes "at") parts)
+command_at name.Words parts =
+    command.Words (position_at 0 parts) (position_at 1 parts) (when_of (codes "at") parts)
 command_at name.Query parts = command.Query (position_at 0 parts)
 command_at name.Salvage parts = command.Salvage (position_at 0 parts)
 command_at name.SearchPack parts = command.SearchPack (position_at 0 parts) (position_at 1 parts)
@@ -105,6 +107,11 @@ command_at name.Load parts = command.Load (number (position_at 0 parts)) (number
 abbrev pub unless_wrong : Option TextFault → Command → Result Command TextFault
 unless_wrong None command = Ok command
 unless_wrong (Some fault) command = Err fault
+
+-- the search words of a line of `words`, where no text before them is wrong
+abbrev pub search_words_in : LineSeen → Option (List ℕ)
+search_words_in (name.Words, parts) = right_position (form_of name.Words) 1 0 parts
+search_words_in line = None
 
 -- the command of a line, or the first thing that is wrong in it
 abbrev pub command_in : LineSeen → Result Command TextFault

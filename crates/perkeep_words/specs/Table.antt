@@ -4,7 +4,7 @@ use Rattle.perkeep_words.specs.Forms.{OptionForm, Form, begins_at_dir, goes_on_w
 use Rattle.perkeep_words.specs.declared.kinds.TextKind.{TextKind}
 use Rattle.perkeep_words.specs.declared.kinds.TextKind.TheVariants.{Dir, Addr, Any, Blobref, Date, Name, Key, Change, Number}
 use Rattle.perkeep_words.specs.declared.table.CommandName.{CommandName}
-use Rattle.perkeep_words.specs.declared.table.CommandName.TheVariants.{Put, Get, Stat, List as ListBlobs, Search, Query, Salvage, SearchPack, Permanode, Claim, Multi, Delete, PutFile, GetFile, Push, Pull, Load}
+use Rattle.perkeep_words.specs.declared.table.CommandName.TheVariants.{Put, Get, Stat, List as ListBlobs, Search, Words, Query, Salvage, SearchPack, Permanode, Claim, Multi, Delete, PutFile, GetFile, Push, Pull, Load}
 
 -- its name, whether it may change the store, its positions, how many are needed, behind which word the others are optional, its options
 abbrev pub row : List ℕ → Bool → List TextKind → ℕ → Option (ℕ × List ℕ) → List OptionForm → Form
@@ -42,6 +42,7 @@ form_of ListBlobs = row (codes "list") false (Dir ∷ []) 1 None
     (may (codes "after") Blobref ∷ may (codes "limit") (Number 1 limit_max) ∷ [])
 form_of Search = row (codes "search") false (Dir ∷ []) 1 None
     (must (codes "attr") Name ∷ must (codes "value") Any ∷ may (codes "at") Date ∷ [])
+form_of Words = row (codes "words") false (Dir ∷ Any ∷ []) 2 None (may (codes "at") Date ∷ [])
 form_of Query = row (codes "query") false (Dir ∷ []) 1 None []
 form_of Salvage = row (codes "salvage") false (Dir ∷ []) 1 None []
 form_of SearchPack = row (codes "search-pack") false (Name ∷ Any ∷ []) 2 None []
@@ -57,8 +58,8 @@ form_of Pull = row (codes "pull") true (Dir ∷ Addr ∷ []) 2 None []
 form_of Load = row (codes "load") false (Number 1 count_max ∷ Number 0 start_max ∷ []) 2 None []
 
 abbrev pub commands : List CommandName
-commands = Put ∷ Get ∷ Stat ∷ ListBlobs ∷ Search ∷ Query ∷ Salvage ∷ SearchPack ∷ Permanode ∷ Claim ∷ Multi
-    ∷ Delete ∷ PutFile ∷ GetFile ∷ Push ∷ Pull ∷ Load ∷ []
+commands = Put ∷ Get ∷ Stat ∷ ListBlobs ∷ Search ∷ Words ∷ Query ∷ Salvage ∷ SearchPack ∷ Permanode ∷ Claim
+    ∷ Multi ∷ Delete ∷ PutFile ∷ GetFile ∷ Push ∷ Pull ∷ Load ∷ []
 
 -- the first of these that a word names
 abbrev pub named_in : List CommandName → List ℕ → Option CommandName

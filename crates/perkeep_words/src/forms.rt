@@ -3,7 +3,7 @@ ghost use Rattle.std.specs.Prelude.{◌≡◌, ◌&&◌, bytes_eq, option_map, o
 ghost use Rattle.std.specs.List.{slice_get};
 ghost use Rattle.perkeep_words.specs.Parts.{start, are_parts, parts_from};
 ghost use Rattle.perkeep_words.specs.Kinds.{fault_of};
-ghost use Rattle.perkeep_words.specs.Forms.{texts_at, count_at, position_at, kind_in, kind_of, are_of, is_optional, has_positions, is_given, are_given, has_form, first_fault, begins_at_dir, goes_on_with_addr};
+ghost use Rattle.perkeep_words.specs.Forms.{texts_at, count_at, position_at, kind_in, kind_of, are_of, is_optional, has_positions, is_given, are_given, has_form, first_fault, right_position, begins_at_dir, goes_on_with_addr};
 ghost use Rattle.perkeep_words.specs.Seen.{option_seen, options_seen};
 
 use crate::kinds::{TextFault, TextKind, fault_of, fits_kind};
@@ -90,6 +90,28 @@ impl Form {
                 let fault = self.part_fault(place, &part);
                 if fault.is_some() {
                     return fault;
+                }
+                place += usize::from(part.name.is_none());
+            }
+            state = next;
+        }
+        None
+    }
+
+    /// The position before which so many others stand, where no text before it in the words is wrong.
+    pub fn right_position<'a>(&self, words: &'a [Text], wanted: usize) -> Option<&'a str>
+        ensures { option_copied result ≡ right_position self.now wanted 0 (parts_from start words.now) }
+    {
+        let mut state = State::start();
+        let mut place = 0;
+        for word in words {
+            let (next, part) = state.step(word)?;
+            if let Some(part) = part {
+                if part.name.is_none() && place == wanted {
+                    return Some(part.text);
+                }
+                if self.part_fault(place, &part).is_some() {
+                    return None;
                 }
                 place += usize::from(part.name.is_none());
             }

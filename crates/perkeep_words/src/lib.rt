@@ -15,10 +15,12 @@ mod words;
 
 pub use change::Change;
 pub use finding::{places, places_agree};
-pub use kinds::TextFault;
+pub use forms::{Form, OptionForm};
+pub use kinds::{TextFault, TextKind};
 pub use mirroring::{mirror_count, mirror_words};
 pub use parts::parts_agree;
 pub use place::Places;
 pub use reading::{Command, Line, readings_agree};
 pub use serving::{ServePlan, serve_words};
+pub use table::CommandName;
 pub use words::{BlobCount, NonEmptyWord, Word};

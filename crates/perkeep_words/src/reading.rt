@@ -1,5 +1,5 @@
 //! Lines, and the commands that they are (docs/commands.md).
-ghost use Rattle.std.specs.Prelude.{◌≡◌, ◌≤◌, true, is_some};
+ghost use Rattle.std.specs.Prelude.{◌≡◌, ◌≤◌, true, is_some, option_copied};
 ghost use Rattle.blobref.specs.Blobref.{is_blobref};
 ghost use Rattle.claim_verify.specs.KeyName.{is_key_name};
 ghost use Rattle.schema_date.specs.Dates.{number};
@@ -7,7 +7,7 @@ ghost use Rattle.perkeep_words.specs.Kinds.{number_within};
 ghost use Rattle.perkeep_words.specs.Parts.{start, parts_from};
 ghost use Rattle.perkeep_words.specs.Forms.{position_at, text_of};
 ghost use Rattle.perkeep_words.specs.Table.{writes_of};
-ghost use Rattle.perkeep_words.specs.Reading.{line_of, command_at, command_in, change_at, ref_of, number_of, when_of, NeedsAt, NeedsOption, ReadingsAgree};
+ghost use Rattle.perkeep_words.specs.Reading.{line_of, search_words_in, command_at, command_in, change_at, ref_of, number_of, when_of, NeedsAt, NeedsOption, ReadingsAgree};
 ghost use Rattle.perkeep_words.specs.declared.kinds.TextKind.TheVariants.{Blobref, Name, Key, Number};
 
 use crate::change::Change;
@@ -48,6 +48,12 @@ pub enum Command<'a> {
         dir: Word<'a>,
         attr: NonEmptyWord<'a>,
         value: Word<'a>,
+        at: When,
+    },
+    /// `words DIR TEXT [--at DATE]`. TEXT is any text here: whether it is a line of search words, who reads it finds.
+    Words {
+        dir: Word<'a>,
+        text: Word<'a>,
         at: When,
     },
     /// `query DIR`
@@ -177,6 +183,17 @@ impl<'a> Line<'a> {
         self.name.form().writes
     }
 
+    /// The search words of a line of `words`, where no text before them is wrong. So where they are none, that is the
+    /// first thing that is wrong in the line.
+    pub fn search_words(&self) -> Option<&'a str>
+        ensures { option_copied result ≡ search_words_in self.now }
+    {
+        if self.name != CommandName::Words {
+            return None;
+        }
+        self.name.form().right_position(self.behind, 1)
+    }
+
     /// The command of the line. An error where a text of it is wrong: of several, the one that stands first in the
     /// words.
     pub fn command(&self) -> Result<Command<'a>, TextFault>
@@ -216,6 +233,11 @@ fn command_at<'a>(line: &RightLine<'a>) -> Command<'a>
             dir,
             attr: line.filled_option("attr"),
             value: line.word_option("value"),
+            at: line.when("at"),
+        },
+        CommandName::Words => Command::Words {
+            dir,
+            text: line.word(1),
             at: line.when("at"),
         },
         CommandName::Query => Command::Query { dir },

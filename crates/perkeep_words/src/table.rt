@@ -15,6 +15,7 @@ pub enum CommandName {
     Stat,
     List,
     Search,
+    Words,
     Query,
     Salvage,
     SearchPack,
@@ -29,12 +30,13 @@ pub enum CommandName {
     Load,
 }
 
-const COMMANDS: [CommandName; 17] = [
+const COMMANDS: [CommandName; 18] = [
     CommandName::Put,
     CommandName::Get,
     CommandName::Stat,
     CommandName::List,
     CommandName::Search,
+    CommandName::Words,
     CommandName::Query,
     CommandName::Salvage,
     CommandName::SearchPack,
@@ -89,6 +91,12 @@ const SEARCH_OPTIONS: &[OptionForm] = &[
     },
 ];
 
+const WORDS_OPTIONS: &[OptionForm] = &[OptionForm {
+    name: "at",
+    kind: TextKind::Date,
+    needed: false,
+}];
+
 const KEY_OPTION: &[OptionForm] = &[OptionForm {
     name: "key",
     kind: TextKind::Key,
@@ -113,6 +121,10 @@ impl CommandName {
             CommandName::Stat => plain("stat", &[TextKind::Dir, TextKind::Blobref]),
             CommandName::List => with_options("list", LIST_OPTIONS),
             CommandName::Search => with_options("search", SEARCH_OPTIONS),
+            CommandName::Words => Form {
+                options: WORDS_OPTIONS,
+                ..plain("words", &[TextKind::Dir, TextKind::Any])
+            },
             CommandName::Query => plain("query", &[TextKind::Dir]),
             CommandName::Salvage => plain("salvage", &[TextKind::Dir]),
             CommandName::SearchPack => plain("search-pack", &[TextKind::Name, TextKind::Any]),

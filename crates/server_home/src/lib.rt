@@ -4,4 +4,4 @@
 mod opening;
 mod passes;
 
-pub use opening::{HomeFault, ServerHome, ServerPass, home_over};
+pub use opening::{HomeFault, ServerHome, ServerPass, home_over, home_within};

@@ -1,6 +1,7 @@
 //! The home over a disk.
 ghost use Rattle.std.specs.Prelude.{◌≤◌, ◌^◌, IfOk, IfErr};
 ghost use Rattle.pack_disk.specs.Disk.{last_number};
+ghost use Rattle.top_frame.specs.Limits.{limits};
 ghost use Rattle.server_home.specs.Opening.{IsOpenHome, HasCause};
 
 use crate::passes::passes_of;
@@ -12,6 +13,7 @@ use pack_store::{Limits, OpenFault, Store};
 use snap_index::{SnapIndex, SnapSeat};
 use std::alloc::Global;
 use std::sync::Wait;
+use top_frame::LIMITS;
 use turn_home::{StoreSeat, TurnStore};
 
 /// A store of packs and an index that threads share, with a handle that may wait.
@@ -29,12 +31,26 @@ pub enum HomeFault<D> {
     NoMemory,
 }
 
+/// The home over a disk within the limits of the program: what `home_within` makes with these.
+pub fn home_over<D: Disk + Drop, V: Verifier + Copy + Drop, H: Wait + Drop>(
+    rt: H,
+    alloc: Global,
+    disk: D,
+    keys: V,
+    count: usize,
+) -> Result<(ServerHome<D, V, H>, Vec<ServerPass<D, V, H>>), HomeFault<D>>
+    ensures opened { IfOk result (λ r. IsOpenHome D.Disk V.accepts disk limits keys count r.0 r.1.items) }
+    ensures cause { IfErr result (HasCause D.faults disk) }
+{
+    home_within(rt, alloc, disk, LIMITS, keys, count)
+}
+
 /// Opens the store that a disk holds (`docs/store.md`), and makes so many passes of a home over it and over an index of
 /// the keys. Each pass has seen the blobs of the store arrive, in turn 0, and an index of nothing; it drew no turn. The
 /// index stays empty until a pass settles. `Disk` comes only where the disk's count of faults rose.
 ///
 /// It reads the packs whole. The handle is used to wait for searches to leave a copy of the index.
-pub fn home_over<D: Disk + Drop, V: Verifier + Copy + Drop, H: Wait + Drop>(
+pub fn home_within<D: Disk + Drop, V: Verifier + Copy + Drop, H: Wait + Drop>(
     rt: H,
     alloc: Global,
     disk: D,

@@ -5,7 +5,7 @@ use crate::texts::{
     UPLOAD_NONE, UPLOAD_TAGGED_AND_SEARCH, spelled,
 };
 use crate::threads::{Archive, Ending, served};
-use blob_server::Served;
+use blob_server::Status;
 use blobref::{NoMemory, Octets};
 use claim_verify::{KeyName, Keyring};
 use edge_base::CallList;
@@ -101,7 +101,7 @@ fn gate<'a>(until: &'a AtomicU64, least: u64, late: &'a AtomicBool) -> HeldGate<
 
 // Whether all was served, and all passes together have seen so many blobs, of which so many are inserted.
 fn is_done(ending: &Ending, seen: (u64, u64)) -> bool {
-    matches!(ending.served, Served::Done) && ending.seen == seen
+    matches!(ending.served, Status::Done) && ending.seen == seen
 }
 
 // What is said on the first connection is held until the second was told a reply, and what is said there behind that
@@ -252,7 +252,7 @@ fn tells_failure<R: Threads + Wait + Sync>(
     let gate = gate(failed, 0, &late);
     let ending = served(rt, rt, alloc, archive(alloc, 100), lines, 1, 2, &gate)?;
     Ok(
-        matches!(ending.served, Served::ListenerFault)
+        matches!(ending.served, Status::ListenerFault)
             && ending.failed.as_slice() == [true, false, false].as_slice()
             && talk.is_told(),
     )

@@ -3,7 +3,7 @@ ghost use Rattle.std.specs.Prelude.{All, ◌≤◌, ◌^◌};
 ghost use Rattle.std.specs.Vec.{vec_len};
 ghost use Rattle.pack_disk.specs.Disk.{last_number};
 
-use blob_server::{Desk, Served, desks, serve_all};
+use blob_server::{Desk, Status, desks, serve_all};
 use blobref::NoMemory;
 use claim_verify::{Keyring, Verifier};
 use edge_listen::Listener;
@@ -12,7 +12,7 @@ use index_worker::Gate;
 use live_home::{LiveHome, LivePass};
 use pack_disk::MemDisk;
 use pack_store::Limits;
-use server_home::home_over;
+use server_home::home_within;
 use std::alloc::Global;
 use std::sync::Wait;
 use std::thread::Threads;
@@ -21,7 +21,7 @@ use std::thread::Threads;
 /// passes together have seen.
 #[derive(Drop)]
 pub(crate) struct Ending {
-    pub(crate) served: Served,
+    pub(crate) served: Status,
     pub(crate) failed: Vec<bool>,
     pub(crate) seen: (u64, u64),
 }
@@ -109,7 +109,7 @@ where
         keys,
         passes,
     } = made_of;
-    match home_over(handle, alloc, disk, limits, keys, passes) {
+    match home_within(handle, alloc, disk, limits, keys, passes) {
         Ok((home, passes)) => {
             let desks = desks(alloc, passes, listeners)?;
             served_over(rt, alloc, &home, desks, connections, gate)

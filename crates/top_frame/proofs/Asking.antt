@@ -19,6 +19,7 @@ finds_more g old new Why More f (status.Absent r) w = f (status.Absent r) w
 finds_more g old new Why More f (status.Damaged want is) w = f (status.Damaged want is) w
 finds_more g old new Why More f status.Done w = absurd w
 finds_more g old new Why More f status.BadWords w = absurd w
+finds_more g old new Why More f status.ListenerFault w = absurd w
 finds_more g old new Why More f status.HandFault w = absurd w
 finds_more g old new Why More f status.Peer w = absurd w
 finds_more g old new Why More f (status.BadReply fault) w = absurd w

@@ -111,6 +111,7 @@ module _ {D P S K C R : Type 0} (o : Outside D P S K C R) (m : Meaning) (old new
   ends_well status.Done e = inl refl
   ends_well status.NoMemory e = inr refl
   ends_well status.BadWords e = absurd e.ends
+  ends_well status.ListenerFault e = absurd e.ends
   ends_well status.ReadFault e = absurd (no_read m.input e.ends)
   ends_well status.WriteFault e = absurd (calm.sink e.ends.0)
   ends_well status.Disk e = absurd (calm.disk e.ends.why)

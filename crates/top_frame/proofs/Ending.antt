@@ -22,7 +22,7 @@ use Rattle.pack_store.specs.Puts.{PutsAll, HoldAll, Stands, PutsBlobs, PutLeaves
 use Rattle.pack_store.proofs.Moments.{keeps_itself, keeps_then, held_after, stays_itself, stays_then, stays_keeps}
 use Rattle.pack_store.proofs.Runs.{puts_join, told_join, told_nothing, hold_join, hold_on}
 use Rattle.top_frame.specs.declared.status.InputFault.{InputFault}
-use Rattle.top_frame.specs.declared.status.InputFault.TheVariants.{BadRef, BadDate, BadNumber, BadName, TooBig, NotAFile, Short, Deep, NoKey, TooLong, BadQuery, BadChanges}
+use Rattle.top_frame.specs.declared.status.InputFault.TheVariants.{BadRef, BadDate, BadNumber, BadName, TooBig, NotAFile, Short, Deep, NoKey, TooLong, BadQuery, BadChanges, Words}
 use Rattle.top_frame.specs.declared.status.Status.{Status}
 use Rattle.top_frame.specs.declared.status.Status.TheVariants as status
 use Rattle.top_frame.specs.Faults.{put_status}
@@ -389,6 +389,7 @@ module _ {D P S K C R : Type 0} (run : Begun D P S K C R) where
       by status.WriteFault w = (w.0, inl (finishes (SinkTookFront (sink.written b.sink) (sink.written now.sink)) w.1))
       by status.NoMemory w = absurd w
       by status.BadWords w = absurd w
+      by status.ListenerFault w = absurd w
       by status.HandFault w = absurd w
       by status.Peer w = absurd w
       by (status.BadReply fault) w = absurd w
@@ -438,6 +439,7 @@ module _ {D P S K C R : Type 0} (run : Begun D P S K C R) where
       by status.Done w = absurd w
       by status.WriteFault w = absurd w
       by status.BadWords w = absurd w
+      by status.ListenerFault w = absurd w
       by status.HandFault w = absurd w
       by status.Peer w = absurd w
       by (status.BadReply fault) w = absurd w
@@ -494,9 +496,11 @@ module _ {D P S K C R : Type 0} (run : Begun D P S K C R) where
       by (status.BadInput (TooLong len)) w = absurd w
       by (status.BadInput (BadQuery fault)) w = absurd w
       by (status.BadInput BadChanges) w = absurd w
+      by (status.BadInput (Words fault)) w = absurd w
       by status.Done w = absurd w
       by status.WriteFault w = absurd w
       by status.BadWords w = absurd w
+      by status.ListenerFault w = absurd w
       by status.HandFault w = absurd w
       by status.Peer w = absurd w
       by (status.BadReply fault) w = absurd w

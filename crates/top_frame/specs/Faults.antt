@@ -7,6 +7,8 @@ use Rattle.pack_store.specs.declared.opening.OpenFault.{OpenFault}
 use Rattle.pack_store.specs.declared.opening.OpenFault.TheVariants as opening
 use Rattle.query_read.specs.declared.fault.QueryFault.{QueryFault}
 use Rattle.query_read.specs.declared.fault.QueryFault.TheVariants as query
+use Rattle.search_words.specs.declared.fault.WordsFault.{WordsFault}
+use Rattle.search_words.specs.declared.fault.WordsFault.TheVariants as words
 use Rattle.schema_write.specs.declared.draft.DraftFault.{DraftFault}
 use Rattle.schema_write.specs.declared.draft.DraftFault.TheVariants as draft
 use Rattle.peer_base.specs.declared.peer.PeerFault.{PeerFault}
@@ -18,7 +20,7 @@ use Rattle.file_cut.specs.declared.fault.CutFault.{CutFault}
 use Rattle.file_cut.specs.declared.fault.CutFault.TheVariants as cut
 use Rattle.file_tree.specs.declared.fault.FileFault.{FileFault}
 use Rattle.file_tree.specs.declared.fault.FileFault.TheVariants as file
-use Rattle.top_frame.specs.declared.status.InputFault.TheVariants.{TooBig, NotAFile, Short, Deep, TooLong, BadQuery}
+use Rattle.top_frame.specs.declared.status.InputFault.TheVariants.{TooBig, NotAFile, Short, Deep, TooLong, BadQuery, Words}
 use Rattle.top_frame.specs.declared.status.Status.{Status}
 use Rattle.top_frame.specs.declared.status.Status.TheVariants.{NoMemory, BadInput, Disk, Peer, Full, Damaged, BadReply, Absent, ReadFault, WriteFault}
 
@@ -64,6 +66,12 @@ query_status (query.BadKey at) = BadInput (BadQuery (query.BadKey at))
 query_status (query.BadValue at) = BadInput (BadQuery (query.BadValue at))
 query_status (query.TooDeep at) = BadInput (BadQuery (query.TooDeep at))
 query_status query.NoMemory = NoMemory
+
+abbrev pub words_status : WordsFault → Status
+words_status (words.TooLong len) = BadInput (Words (words.TooLong len))
+words_status (words.Bad at) = BadInput (Words (words.Bad at))
+words_status words.TooDeep = BadInput (Words words.TooDeep)
+words_status words.NoMemory = NoMemory
 
 -- a fault of one of the two between which blobs are copied; `failed` tells that it failed
 abbrev pub peer_status : Status → PeerFault → Status

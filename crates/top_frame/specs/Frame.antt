@@ -397,6 +397,7 @@ module _ {D P S K C R : Type 0} (o : Outside D P S K C R) (m : Meaning) (old new
   EndsBy (status.Damaged want is) = EndsEarly (λ given bytes gone rest. m.Refuses given told bytes gone (status.Damaged want is))
       ⊎ WhileFetching m.exchange want is
   EndsBy status.BadWords = ⊥
+  EndsBy status.ListenerFault = ⊥
 
   pub record Ends (answer : Status) : Type 0 where
     pub always : Always

@@ -1,7 +1,9 @@
 -- The exit statuses (docs/commands.md).
 use Rattle.std.specs.Prelude.{ℕ, List, codes}
 use Rattle.top_frame.specs.declared.status.Status.{Status}
-use Rattle.top_frame.specs.declared.status.Status.TheVariants.{Done, NoMemory, BadWords, Absent, BadInput, ReadFault, WriteFault, Disk, Peer, Full, Damaged, BadReply, HandFault}
+use Rattle.top_frame.specs.declared.status.Status.TheVariants.{Done, NoMemory, BadWords, Absent, BadInput, ReadFault}
+use Rattle.top_frame.specs.declared.status.Status.TheVariants.{WriteFault, Disk, Peer, Full, Damaged, BadReply, HandFault}
+use Rattle.top_frame.specs.declared.status.Status.TheVariants.{ListenerFault}
 
 -- the exit status of the process
 abbrev pub code : Status → ℕ
@@ -18,6 +20,7 @@ code (Full blobs pack) = 9
 code (Damaged want is) = 10
 code (BadReply fault) = 11
 code HandFault = 12
+code ListenerFault = 14
 
 -- the word that is printed on standard error
 abbrev pub word : Status → List ℕ
@@ -34,3 +37,4 @@ word (Full blobs pack) = codes "full"
 word (Damaged want is) = codes "damaged"
 word (BadReply fault) = codes "reply"
 word HandFault = codes "hand"
+word ListenerFault = codes "listener"

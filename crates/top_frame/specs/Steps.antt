@@ -12,7 +12,7 @@ use Rattle.pack_store.specs.Calls.{IsReadFrom}
 use Rattle.pack_store.specs.Puts.{blobs_of}
 use Rattle.pack_store.specs.Rows.{number_of}
 use Rattle.top_frame.specs.declared.status.InputFault.TheVariants.{BadRef, BadDate, BadNumber, BadName, TooBig, NotAFile, Short, Deep}
-use Rattle.top_frame.specs.declared.status.InputFault.TheVariants.{NoKey, TooLong, BadQuery, BadChanges}
+use Rattle.top_frame.specs.declared.status.InputFault.TheVariants.{NoKey, TooLong, BadQuery, BadChanges, Words}
 use Rattle.top_frame.specs.declared.status.Status.{Status}
 use Rattle.top_frame.specs.declared.status.Status.TheVariants as status
 use Rattle.top_frame.specs.Frame.{IsTooBig}
@@ -38,9 +38,11 @@ too_long_status (status.BadInput NoKey) = status.BadInput NoKey
 too_long_status (status.BadInput (TooLong len)) = status.BadInput (TooLong len)
 too_long_status (status.BadInput (BadQuery fault)) = status.BadInput (BadQuery fault)
 too_long_status (status.BadInput BadChanges) = status.BadInput BadChanges
+too_long_status (status.BadInput (Words fault)) = status.BadInput (Words fault)
 too_long_status status.Done = status.Done
 too_long_status status.NoMemory = status.NoMemory
 too_long_status status.BadWords = status.BadWords
+too_long_status status.ListenerFault = status.ListenerFault
 too_long_status (status.Absent r) = status.Absent r
 too_long_status status.ReadFault = status.ReadFault
 too_long_status status.WriteFault = status.WriteFault

@@ -9,6 +9,7 @@ use file_tree::FileFault;
 use pack_store::OpenFault;
 use query_read::QueryFault;
 use schema_write::DraftFault;
+use search_words::WordsFault;
 
 /// What was wrong with what the words or the input say (`docs/commands.md`).
 #[derive(Drop)]
@@ -38,6 +39,8 @@ pub enum InputFault {
     BadQuery(QueryFault),
     /// The input is no JSON list of 1 to 1,000 changes.
     BadChanges,
+    /// A text that should be a line of search words isn't read as one: why.
+    Words(WordsFault),
 }
 
 /// Why a peer's reply can't be used (`docs/commands.md`).
@@ -81,6 +84,8 @@ pub enum Status {
     Full { blobs: u64, pack: u32 },
     /// The bytes stored under a ref have another one.
     Damaged { want: Ref, is: Ref },
+    /// The port is taken, or no connection could be accepted. It is a server's, and no command ends so.
+    ListenerFault,
 }
 
 impl Status {
@@ -102,6 +107,7 @@ impl Status {
             Status::Damaged { .. } => 10,
             Status::BadReply(_) => 11,
             Status::HandFault => 12,
+            Status::ListenerFault => 14,
         }
     }
 
@@ -123,6 +129,7 @@ impl Status {
             Status::Damaged { .. } => "damaged",
             Status::BadReply(_) => "reply",
             Status::HandFault => "hand",
+            Status::ListenerFault => "listener",
         }
     }
 }
@@ -240,6 +247,19 @@ impl From<QueryFault> for Status {
         match fault {
             QueryFault::NoMemory => Status::NoMemory,
             fault => Status::BadInput(InputFault::BadQuery(fault)),
+        }
+    }
+}
+
+impl From<WordsFault> for Status {
+    ghost use Rattle.top_frame.specs.Faults.{words_status};
+
+    ghost from_gives = { λ fault status. status ≡ words_status fault };
+
+    fn from(fault: WordsFault) -> Status {
+        match fault {
+            WordsFault::NoMemory => Status::NoMemory,
+            fault => Status::BadInput(InputFault::Words(fault)),
         }
     }
 }

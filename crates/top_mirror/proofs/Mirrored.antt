@@ -85,6 +85,7 @@ module _ {D P K : Type 0} (g : DiskGhosts D) (h : PeerGhosts P) (o : SinkGhosts 
     unopened_ends status.Done w = absurd w
     unopened_ends status.WriteFault w = absurd w
     unopened_ends status.BadWords w = absurd w
+    unopened_ends status.ListenerFault w = absurd w
     unopened_ends status.HandFault w = absurd w
     unopened_ends status.Peer w = absurd w
     unopened_ends (status.BadReply why) w = absurd w
@@ -296,6 +297,7 @@ module _ {D P K : Type 0} (g : DiskGhosts D) (h : PeerGhosts P) (o : SinkGhosts 
     by_status status.Done w = absurd w.why
     by_status status.WriteFault w = absurd w.why
     by_status status.BadWords w = absurd w.why
+    by_status status.ListenerFault w = absurd w.why
     by_status status.HandFault w = absurd w.why
 
     pub refused_ends : (fault : RingFault) → RoundStops (peer_of g) h s0 s1 old.peers ps fault
@@ -332,6 +334,7 @@ module _ {D P K : Type 0} (g : DiskGhosts D) (h : PeerGhosts P) (o : SinkGhosts 
       printed_ends k status.WriteFault v = (v.0, finishes k (SinkTookFront (o.written old.sink) (o.written k)) v.1)
       printed_ends k status.NoMemory v = absurd v
       printed_ends k status.BadWords v = absurd v
+      printed_ends k status.ListenerFault v = absurd v
       printed_ends k status.HandFault v = absurd v
       printed_ends k status.Peer v = absurd v
       printed_ends k (status.BadReply why) v = absurd v

@@ -11,7 +11,7 @@ use Rattle.schema_write.specs.Blobs.{claim_payload}
 use Rattle.pack_disk.specs.Packs.{Packs}
 use Rattle.top_frame.specs.declared.status.InputFault.TheVariants.{BadRef, BadDate, BadNumber, BadName, TooBig}
 use Rattle.top_frame.specs.declared.status.InputFault.TheVariants.{NotAFile, Short, Deep, NoKey, TooLong, BadQuery}
-use Rattle.top_frame.specs.declared.status.InputFault.TheVariants.{BadChanges}
+use Rattle.top_frame.specs.declared.status.InputFault.TheVariants.{BadChanges, Words}
 use Rattle.top_frame.specs.declared.status.Status.{Status}
 use Rattle.top_frame.specs.declared.status.Status.TheVariants as status
 use Rattle.top_frame.specs.Frame.{Meaning, Given, GaveWhole, read_too_much, read_wrongly, EndsBy, Ends}
@@ -84,10 +84,12 @@ module _ {D P S K C R : Type 0} (o : Outside D P S K C R)
       by (status.BadInput (Deep r)) w = absurd w
       by (status.BadInput NoKey) w = absurd w
       by (status.BadInput (BadQuery fault)) w = absurd w
+      by (status.BadInput (Words fault)) w = absurd w
       by status.Done w = absurd w
       by status.WriteFault w = absurd w
       by status.Disk w = absurd w
       by status.BadWords w = absurd w
+      by status.ListenerFault w = absurd w
       by status.HandFault w = absurd w
       by status.Peer w = absurd w
       by (status.BadReply fault) w = absurd w

@@ -198,6 +198,7 @@ module _ {D P S K C R : Type 0} (o : Outside D P S K C R) (keys : Keys) (name : 
   by (status.Damaged want is) (inl w) = inl (refuses (status.Damaged want is) w)
   by (status.Damaged want is) (inr w) = absurd w
   by status.BadWords w = absurd w
+  by status.ListenerFault w = absurd w
 
   pub signed_after : (end : Status) → Ends o n between new end → Ends o m b new end
   signed_after end w = record { always = always w.always; ends = by end w.ends }

@@ -143,6 +143,7 @@ module _ {D P S K C R : Type 0} (o : Outside D P S K C R) (old : World D P S K C
         by status.WriteFault w = (w.0, inl (finishes (SinkTookFront (o.sink.written old.sink) (o.sink.written k)) w.1))
         by status.NoMemory w = absurd w
         by status.BadWords w = absurd w
+        by status.ListenerFault w = absurd w
         by status.HandFault w = absurd w
         by status.Peer w = absurd w
         by (status.BadReply why) w = absurd w
@@ -169,6 +170,7 @@ module _ {D P S K C R : Type 0} (o : Outside D P S K C R) (old : World D P S K C
     unopened given empty some status.Done w = absurd w
     unopened given empty some status.WriteFault w = absurd w
     unopened given empty some status.BadWords w = absurd w
+    unopened given empty some status.ListenerFault w = absurd w
     unopened given empty some status.HandFault w = absurd w
     unopened given empty some status.Peer w = absurd w
     unopened given empty some (status.BadReply why) w = absurd w

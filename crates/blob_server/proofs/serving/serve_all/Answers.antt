@@ -14,5 +14,5 @@ returns-in-Err-clause-ends g c =
     let seen = map (stand_of g.H.Home.sight g.L.Listener.accepted g.L.Listener.faults) in
     let old = seen c.args.desks.now in
     let new = seen c.settle_first.new.desks in
-    subst (Ends c.args.connections old new) (sym c.unsettled.ensures)
+    subst (Ends c.args.connections old new) (sym c.from.ensures)
     (ends_unsettled c.args.connections old new c.in-Err.fault c.in-Err.ensures.settles)

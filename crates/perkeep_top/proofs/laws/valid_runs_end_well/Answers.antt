@@ -1,6 +1,7 @@
 use Rattle.std.proofs.Common.{subst}
 use Rattle.top_notes.specs.Meanings.{keys_of}
 use Rattle.perkeep_top.specs.Run.{meaning_of, Runs}
+use Rattle.perkeep_top.specs.SearchWords.{search_words_of}
 use Rattle.top_frame.specs.Outside.{outside}
 use Rattle.top_frame.proofs.Completing.{ends_well}
 use Rattle.perkeep_top.proofs.laws.valid_runs_end_well.Goals as goal
@@ -12,4 +13,4 @@ returns g c =
     (g.V.Verifier.accepts c.args._keys.now) in
     λ words asked old new held answer is valid calm runs.
     ends_well o (meaning_of o.disk old.disk keys asked) old new held valid calm answer
-    (subst (λ c. Runs o keys c old new answer) is runs)
+    (subst (λ c. Runs o keys (search_words_of words) c old new answer) is runs)

@@ -4,7 +4,7 @@ use Rattle.told_store.specs.Beginning.{blobs_told}
 use Rattle.turn_home.specs.StoreSeats.{store_sight, place_limits, place_tells}
 use Rattle.server_home.specs.Opening.{ArePasses, arrived}
 use Rattle.server_home.proofs.Passing.{new_passes}
-use Rattle.server_home.proofs.opening.home_over.Goals as goal
+use Rattle.server_home.proofs.opening.home_within.Goals as goal
 
 pub returns-in-Ok-passes_of-clause-opened : goal.returns-in-Ok-passes_of-clause-opened
 returns-in-Ok-passes_of-clause-opened g c =

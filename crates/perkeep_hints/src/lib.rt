@@ -1,0 +1,13 @@
+//! What a person at a terminal is told of how the program ended: texts, by the status, the words and what was seen of the
+//! folder (`docs/commands.md`, "On a terminal").
+#![tactic(auto)]
+
+mod bad_keyring;
+mod blame;
+mod excerpt;
+mod fixed;
+
+pub use bad_keyring::BadKeyring;
+pub use blame::{Seen, blamed, keyring_text};
+pub use excerpt::{Excerpt, excerpt_of};
+pub use fixed::fixed_hint;
