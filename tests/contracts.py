@@ -7,7 +7,7 @@ from budget import lines_of_crates
 
 TOP = pathlib.Path(__file__).resolve().parent.parent
 # Programs, which have no public functions for others.
-PROGRAMS = {"lab", "perkeep_cli"}
+PROGRAMS = {"fault_rows", "lab", "perkeep_cli"}
 
 # What may hold braces that open and close nothing.
 PASSED_OVER = re.compile(r'//[^\n]*|"(?:[^"\\]|\\.)*"|\'(?:[^\'\\\n]|\\.)\'')

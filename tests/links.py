@@ -230,7 +230,7 @@ def trusted(program):
 
 
 def is_of_tests(name):
-    return name == "lab" or name.endswith("_tests")
+    return name in ("fault_rows", "lab") or name.endswith("_tests")
 
 
 def check_count(name, told):
