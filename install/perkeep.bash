@@ -24,6 +24,7 @@ _perkeep_words() {
     mirror) positions=(DIR ADDR..) options=() ;;
     load) positions=(COUNT START) options=() ;;
     serve) positions=(DIR) options=(--port --workers --indexers --connections) ;;
+    serve-shares) positions=(DIR) options=(--port --connections) ;;
   esac
 }
 
@@ -38,7 +39,7 @@ _perkeep() {
   _perkeep_join
   word=${words[-1]} name=${words[0]}
   if [ "${#words[@]}" -eq 1 ]; then
-    _perkeep_offer -W 'put get stat list search words query salvage search-pack permanode claim multi delete get-file put-file push pull mirror load serve'
+    _perkeep_offer -W 'put get stat list search words query salvage search-pack permanode claim multi delete get-file put-file push pull mirror load serve serve-shares'
     return
   fi
   _perkeep_words "$name"

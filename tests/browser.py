@@ -3,6 +3,8 @@ that are typed in, and scripts of the server's own origin, are answered.
 
 Headless Chromium opens the page twice: before a recorder, which has to be reached by each of its tries, else nothing was tried; and before a
 server, through a forwarder that sees what is answered. What the browser itself says of a try counts for nothing.
+
+A page of another origin that has a link to a share is another matter (docs/shares.md): whoever follows it is answered.
 """
 
 import contextlib
@@ -16,11 +18,14 @@ import threading
 import time
 
 import harness
+import shares
 from forwarding import Forwarder
 from harness import LeftOut, check, compare
 from http_inputs import ABC
 from reference import ref_of
-from serving import HOST, Server, store_of
+from serving import HOST, Server, ShareServer, store_of
+from stores import Store
+from writing import pack
 
 CHROMIUM = ("chromium", "chromium-browser", "google-chrome")
 NAMES = "MAP *.example 127.0.0.1"
@@ -84,7 +89,7 @@ def chromium():
 
 def browsers(program):
     path = chromium()
-    return [lambda check=check: check(program, path) for check in (foreign_page, typed, same_origin)]
+    return [lambda check=check: check(program, path) for check in (foreign_page, typed, same_origin, linked)]
 
 
 @contextlib.contextmanager
@@ -106,7 +111,13 @@ def tries_before(path, port):
     tries = ", ".join(f"'{name}': (path) => {script}" for name, script in TRIES.items())
     page = PAGE % {"port": port, "ref": ref_of(STORED), "blob": STORED.decode(), "tries": tries}
     done = threading.Event()
+    with pages_of(page, done.set) as address, browsing(path, address, stdout=subprocess.DEVNULL):
+        check("the page of another origin isn't done", done.wait(SECONDS_OF_PAGE))
 
+
+@contextlib.contextmanager
+def pages_of(page, posted=lambda: None):
+    """The address of a page of another origin. Something is done where that is posted to."""
     class Pages(http.server.BaseHTTPRequestHandler):
         def log_message(self, *_):
             pass
@@ -115,7 +126,7 @@ def tries_before(path, port):
             self.answer(page.encode())
 
         def do_POST(self):
-            done.set()
+            posted()
             self.answer(b"")
 
         def answer(self, body):
@@ -127,9 +138,7 @@ def tries_before(path, port):
 
     with http.server.ThreadingHTTPServer((HOST, 0), Pages) as pages:
         threading.Thread(target=pages.serve_forever, daemon=True).start()
-        address = f"http://pages.example:{pages.server_address[1]}/"
-        with browsing(path, address, stdout=subprocess.DEVNULL):
-            check("the page of another origin isn't done", done.wait(SECONDS_OF_PAGE))
+        yield f"http://pages.example:{pages.server_address[1]}/"
         pages.shutdown()
 
 
@@ -173,6 +182,36 @@ def same_origin(program, path):
         page.open(f"http://127.0.0.1:{server.port}/camli/enumerate-blobs")
         script = SAME_ORIGIN % {"ref": ref_of(STORED), "blob": STORED.decode()}
         compare("a script of the same origin", "its answers", [200, 200, STORED.decode()], json.loads(page.value(script)))
+
+
+# Shares
+
+def linked(program, path):
+    """A link to a share is followed on a page of another origin; the same page's link to a server isn't answered."""
+    blobs = shares.blobs_of_page()
+    store = Store(program, {0: pack(*(blobs[letter] for letter in "KCFS"))}, {"keyring": b"jefe 4a656665\n"})
+    share, file, chunk = (ref_of(blobs[letter]) for letter in "SFC")
+    with ShareServer(program, store.path) as one, Server(program, store.path) as other:
+        head, body = followed(path, one.port, shares.target_of(chunk, share, file)).split(b"\r\n\r\n", 1)
+        compare("a link to a share", "what is answered", (b"HTTP/1.1 200 OK", b"abc"), (head.split(b"\r\n")[0], body))
+        compare("a link to a server", "what is answered", b"", followed(path, other.port, f"/camli/{chunk}"))
+
+
+def followed(path, port, target):
+    """What is answered where a link on a page of another origin is followed."""
+    forwarder = Forwarder(port)
+    page = f"<!doctype html><body><a id=link href='http://127.0.0.1:{forwarder.port}{target}'>a link</a>"
+    with pages_of(page) as address, Steered(path) as steered:
+        steered.open(address)
+        steered.value("(document.getElementById('link').click(), true)")
+        for _ in range(SECONDS_OF_PAGE):
+            time.sleep(1)
+            asked = [one for one in forwarder.asked() if target.encode() in one["asked"]]
+            if asked:
+                break
+        check("a link isn't followed", bool(asked))
+        check("a link is followed from another page", b"Referer: http://pages.example:" in asked[0]["asked"])
+        return asked[0]["answered"]
 
 
 class Steered:

@@ -26,7 +26,7 @@ OLDER_PROOFS = {
     "http_wire": 4.1, "folder_disk": 3.9, "core_home": 3.6, "schema_json": 3.4, "blob_server": 3.2, "schema_write": 2.7,
     "fact_lines": 2.6, "query_text": 2.4, "server_home": 2.4, "file_tree": 1.9, "answer_text": 1.8, "json_laws": 1.1,
     # Small ones that tie others together.
-    "top_sync": 1.2, "top_notes": 1.9, "fault_rows": 2.8,
+    "top_sync": 1.2, "top_notes": 1.9,
     # Newer ones, whose values with a drop are those of an index and of a lock. Half of it is dropping these, so a further cut saves little.
     "snap_copies": 6.5, "snap_index": 5.0,
 }

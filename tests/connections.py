@@ -446,7 +446,7 @@ class Connection:
         except Refused as refused:
             return refused.reply()._replace(closes=True)
         try:
-            check_route(head)
+            self.check_route(head)
             if head.path == UPLOAD:
                 reply, is_read = self.upload(head)
             else:
@@ -456,6 +456,9 @@ class Connection:
             # It came before the body was read, but for an empty one.
             reply, is_read = refused.reply(), head.length == 0
         return reply._replace(closes=head.closes or not is_read)
+
+    def check_route(self, head):
+        check_route(head)
 
     def whole_body(self, head):
         """The body of a route that takes it whole, or passes it over."""

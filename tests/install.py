@@ -19,12 +19,12 @@ TOP = pathlib.Path(__file__).resolve().parent.parent
 INSTALL = TOP / "install"
 MADE = ["_perkeep", "perkeep.1", "perkeep.bash"]
 COMMANDS = "put get stat list search words query salvage search-pack permanode claim multi delete get-file put-file".split()
-COMMANDS += "push pull mirror load serve".split()
+COMMANDS += "push pull mirror load serve serve-shares".split()
 # What is written, each as bash divides it, and what is offered for the last word. There are the folders
 # `a folder` and `archive`, which has the keys `me` and `mine`, and a file `arrow`. PORT is one that is listened to.
 OFFERS = [
     ([""], COMMANDS),
-    (["se"], ["search", "search-pack", "serve"]),
+    (["se"], ["search", "search-pack", "serve", "serve-shares"]),
     (["search"], ["search", "search-pack"]),
     (["other"], []),
     (["other", ""], []),
@@ -162,7 +162,7 @@ def without_marks(text):
 
 
 UNITS = ["perkeep.service", "perkeep-mirror.service", "perkeep-mirror.timer", "perkeep-tunnel.service"]
-UNITS += ["perkeep-verify.service", "perkeep-verify.timer"]
+UNITS += ["perkeep-shares.service", "perkeep-verify.service", "perkeep-verify.timer"]
 # What has to be there for a unit that starts it.
 STARTED = [".local/bin/perkeep", ".local/bin/perkeep-mirror", ".local/share/perkeep/verify_backup.sh"]
 

@@ -23,7 +23,7 @@ TOP = pathlib.Path(__file__).resolve().parent.parent
 README, GUIDE, LIMITS = TOP / "README.md", TOP / "docs" / "guide.md", TOP / "docs" / "limits.md"
 FENCED = re.compile(r"^```(\w*)\n(.*?)^```$", re.MULTILINE | re.DOTALL)
 # The ports that the pages use; others are taken here.
-PORTS_OF_PAGES = "3179", "3180"
+PORTS_OF_PAGES = "3179", "3180", "3190"
 TOOLS = ("bash", "curl", "openssl")
 MOST_BYTES = 14_000
 MARK = "the end of a block"

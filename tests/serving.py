@@ -93,6 +93,8 @@ def kill_with_children(process):
 class Server:
     """A server over a folder."""
 
+    COMMAND = "serve"
+
     def __init__(self, program, folder, *words, front=()):
         self.program, self.folder = program, folder
         for attempt in range(TRIES):
@@ -102,7 +104,7 @@ class Server:
                 break
 
     def start(self, words, front):
-        line = ["serve", str(self.folder), "--port", str(self.port), *words]
+        line = [self.COMMAND, str(self.folder), "--port", str(self.port), *words]
         process = self.program.start(line, front=front, stdin=subprocess.DEVNULL, stdout=subprocess.PIPE)
         STARTED.append(process)
         return process
@@ -140,6 +142,12 @@ class Server:
         out, err = harness.finish(what, self.process, seconds=seconds)
         compare_ending(what, status, self.process.returncode, err)
         compare(what, "standard output", b"", out)
+
+
+class ShareServer(Server):
+    """A server of what a folder's store shares."""
+
+    COMMAND = "serve-shares"
 
 
 def children_of(process):

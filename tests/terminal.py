@@ -26,6 +26,8 @@ from writing import file_blob, pack, part
 
 # So many seconds each read of a pack is held up, and so many packs there are.
 HELD_UP, PACKS = 1.2, 6
+# docs/formats/keyring.md
+LONGEST_KEYRING = 1_048_576
 # What stands in front of a passing line, and clears it.
 PASSING = "\r\x1b[K"
 # The number of a user who has nothing.
@@ -149,6 +151,8 @@ def misfits(program):
         (["list", "d", "--limit"], f'"--limit" can\'t stand there; {those} the words of list'),
         (["search", "d", "--attr=a"], f"a word is missing, too many or wrong; {those} those of search"),
         (["serve", "d"], f"a word is missing, too many or wrong; {those} those of serve"),
+        (["serve-shares", "d"], f"a word is missing, too many or wrong; {those} those of serve-shares"),
+        (["list", b"\xff"], f"a command is missing, or a word isn't UTF-8; {those} them all"),
     ]
     for words, text in rows:
         is_told(program, words, 2, f"words ({text})")
@@ -164,6 +168,8 @@ def keyrings(program):
     ]:
         store = Store(program, {0: pack(b"abc")}, {"keyring": content})
         is_told(program, store.words("list"), 4, f"input (line {line} of {store.path}/keyring {text})")
+    store = Store(program, {0: pack(b"abc")}, {"keyring": bytes(LONGEST_KEYRING + 1)})
+    is_told(program, store.words("list"), 4, f"input ({store.path}/keyring is longer than 1,048,576 bytes)")
 
 
 def queries(program):
@@ -204,6 +210,7 @@ def folders(program):
     is_told(program, ["list", file], 7, f"disk ({file} is no folder)")
     within = f"{program.new_path()}/store"
     is_told(program, ["put", within], 7, f"disk ({within}, or what it stands in, isn't there)")
+    is_told(program, ["list", ""], 7, "disk (DIR is the empty text)")
 
 
 def held(program):
@@ -298,7 +305,7 @@ def refusals(program):
     tracing.need_strace(program)
     no_right = "you have no right to read or write {}, or a file in it"
     rows = [("ENOSPC", "no room is left where {} is"), ("EACCES", no_right)]
-    return [lambda row=row: is_refused(program, *row) for row in rows]
+    return [lambda row=row: is_refused(program, *row) for row in rows] + [lambda: other_bytes(program)]
 
 
 def is_refused(program, error, text):
@@ -307,6 +314,17 @@ def is_refused(program, error, text):
     front = ("strace", "-f", "-o", str(log), "-e", f"trace={names}", "-e", f"inject={names}:error={error}")
     expected = 7, b"", f"perkeep: disk ({text.format(store.path)})\n".encode()
     compare(error, "status, output and what is told", expected, told(program, store.words("put"), front, b"abc"))
+
+
+def other_bytes(program):
+    """The store was opened well, and the blob then comes with another first byte, which strace gives it."""
+    store, log = Store(program, {0: pack(b"abc")}), program.new_path()
+    poke = ("-e", "inject=pread64:poke_exit=@arg2=78:when=2", "-P", f"{store.path}/{pack_name(0)}")
+    front = ("strace", "-f", "-o", str(log), "-e", "trace=pread64", *poke)
+    text = f"what came for {ref_of(b'abc')} is {ref_of(b'xbc')}; perkeep salvage DIR tells what is whole"
+    expected = 10, b"", f"perkeep: damaged ({text})\n".encode()
+    got = told(program, store.words("get", ref_of(b"abc")), front)
+    compare("other bytes", "status, output and what is told", expected, got)
 
 
 def openings(program):

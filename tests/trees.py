@@ -31,7 +31,7 @@ import tree_folders
 import writing
 from harness import chance, check, compare
 from reference import ref_of
-from serving import HOST, PORTS, Server
+from serving import HOST, PORTS, Server, ShareServer
 from stores import Store
 from tracing import need_strace
 from tree_folders import Written, make, note_of, path_text, picture, write
@@ -150,12 +150,24 @@ def comes_back(program):
         lines = bench.put(server.port)
         last = bench.stores_nothing(what, server.port)
         bench.comes_back(what, looks)
+        comes_by_share(what, bench, server.port, last.split()[0], looks)
     written = Written(bench.folder, TREE)
     compare(what, "the last line", f"{written.top} {ref_of(note_of(TREE))} {TREE}", lines[-1])
     compare(what, "the last line of another run", lines[-1], last)
     compare(what, "lines of files", len(written.files), len(lines) - 1)
     is_stored_so(what, bench, written)
     gets_files(what, bench, written)
+
+
+def comes_by_share(what, bench, port, top, looks):
+    """Somebody else gets the folder by a share of it, whole."""
+    keyring = ("--keyring", bench.store.path / "keyring", "--key", writing.NAME)
+    path = run(bench.cache, "make_share.py", f"{HOST}:{port}", top, *keyring)[1]
+    target = os.fsencode(bench.program.new_path())
+    with ShareServer(bench.program, bench.store.path) as shares:
+        run(bench.cache, "get_shared.py", f"http://{HOST}:{shares.port}{path}", target)
+    compare_pictures(f"{what}, by a share", looks, picture(target))
+    shutil.rmtree(target)
 
 
 def is_stored_so(what, bench, written):
@@ -167,7 +179,8 @@ def is_stored_so(what, bench, written):
         compare(what, ref, blob, blobs.get(ref))
     for ref in set(blobs) - set(known):
         fact = archive.facts[ref]
-        check(f"{what}: {blobs[ref][:500]} is stored", ref in archive.genuine and fact.claim == "multi")
+        is_share = b'"claimType":"share"' in blobs[ref]
+        check(f"{what}: {blobs[ref][:500]} is stored", is_share or ref in archive.genuine and fact.claim == "multi")
         check(f"{what}: a claim of {len(blobs[ref])} bytes", len(blobs[ref]) <= LONGEST_CLAIM)
     says_so(what, archive, written)
 

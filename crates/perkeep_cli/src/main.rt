@@ -10,6 +10,7 @@ mod keys;
 mod mirroring;
 mod pauses;
 mod serving;
+mod sharing;
 mod shown_peer;
 mod streams;
 mod telling;
@@ -21,6 +22,7 @@ use crate::hints::tell_of_peer;
 use crate::keys::read_keyring;
 use crate::mirroring::mirror;
 use crate::serving::serve;
+use crate::sharing::serve_folder_shares;
 use crate::shown_peer::ShownPeer;
 use crate::streams::Closed;
 use crate::telling::tell;
@@ -29,7 +31,7 @@ use edge_dial::peer_at;
 use edge_os::{standard_input, standard_output};
 use folder_disk::{Access, FolderDisk};
 use perkeep_top::{Status, run};
-use perkeep_words::{Line, mirror_words, places, serve_words};
+use perkeep_words::{Line, mirror_words, places, serve_words, share_words};
 use std::alloc::Global;
 use std::env;
 use std::io::ErrorKind;
@@ -71,6 +73,9 @@ fn ending_of<R: Threads + Wait + Sync>(
 ) -> Ending {
     if let Some(plan) = serve_words(words) {
         return serve(rt, threads, console, named.folder, &plan);
+    }
+    if let Some(plan) = share_words(words) {
+        return serve_folder_shares(threads, console, named.folder, &plan);
     }
     match mirror_words(rt.alloc(), words) {
         Ok(Some(addresses)) => return mirror(rt, console, words, named.folder, &addresses),

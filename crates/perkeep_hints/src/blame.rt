@@ -53,7 +53,7 @@ fn words_text(alloc: Global, words: &[Text]) -> Option<String> {
         ).ok();
     };
     let first = first.as_str();
-    if matches!(first, "serve" | "mirror") {
+    if matches!(first, "serve" | "serve-shares" | "mirror") {
         return misfit_text(alloc, first);
     }
     let Some(command) = CommandName::of(first) else {

@@ -9,9 +9,11 @@ use Rattle.perkeep_words.specs.Forms.{Form, texts_at, text_if, count_at, are_of,
 use Rattle.perkeep_words.specs.Table.{form_of, has_dir, has_addr}
 use Rattle.perkeep_words.specs.Reading.{LineSeen, IsLineOf, line_of}
 use Rattle.perkeep_words.specs.Serving.{serve_form, plan_in, is_serve_line, serve_of}
+use Rattle.perkeep_words.specs.Sharing.{share_form, share_plan_in, is_share_line, share_of}
 use Rattle.perkeep_words.specs.Mirroring.{mirror_form, is_mirror_line, addresses_in, mirror_of}
-use Rattle.perkeep_words.specs.Places.{SaysDir, OfCommand, OfServer, OfMirror, SaysAddr, ToOne, ToFirst, IsPlaceBehind, IsDirPlace, IsAddrPlace, is_position, place_or, position_or, nth_position, line_has_dir, line_has_addr, says_dir, says_addr, place_if}
+use Rattle.perkeep_words.specs.Places.{SaysDir, OfCommand, OfServer, OfShares, OfMirror, SaysAddr, ToOne, ToFirst, IsPlaceBehind, IsDirPlace, IsAddrPlace, is_position, place_or, position_or, nth_position, line_has_dir, line_has_addr, says_dir, says_addr, place_if}
 use Rattle.perkeep_words.specs.declared.serving.ServePlan.{ServePlan}
+use Rattle.perkeep_words.specs.declared.sharing.SharePlan.{SharePlan}
 use Rattle.perkeep_words.proofs.PartReadings.{ItemCase, Closes, Waits, Whole, Refused, item_case, goes, gives, stops, value_plain, parts_agree}
 use Rattle.perkeep_words.proofs.LineReadings.{readings_agree, are_read}
 use Rattle.perkeep_words.proofs.Fitting.{position_given, there}
@@ -303,6 +305,25 @@ server_said (word ∷ behind) plan is =
       found = found_in serve_form 0 behind refl parts.0 parts.1;
     }
 
+shares_said : (words : List (List ℕ)) (plan : SharePlan) → share_of words ≡ Some plan
+    → Said 0 words (position_at 0 (parts_from start (drop 1 words)))
+shares_said [] plan is = absurd (cc is)
+shares_said (word ∷ behind) plan is =
+    let are = are_parts start behind in
+    let form = has_form share_form (parts_from start behind) in
+    let right = not (is_some (first_fault share_form (parts_from start behind))) in
+    let both = and_parts (bytes_eq word (codes "serve-shares")) (is_share_line behind)
+    (some_if (bytes_eq word (codes "serve-shares") && is_share_line behind) (share_plan_in (parts_from start behind)) plan
+    is) in
+    let all = and_parts (are && form) right both.1 in
+    let parts = and_parts are form all.0 in
+    record {
+      name = word;
+      behind = behind;
+      spelled = refl;
+      found = found_in share_form 0 behind refl parts.0 parts.1;
+    }
+
 -- the first two positions of a line of `mirror`
 mirror_said : (count : ℕ) → count < 2 → (words : List (List ℕ)) (addresses : List (List ℕ))
     → mirror_of words ≡ Some addresses → Said count words (position_at count (parts_from start (drop 1 words)))
@@ -332,6 +353,8 @@ said_dir words dir (OfCommand line is has same) =
     subst (λ (d : List ℕ). Said 0 words d) (sym same) (command_said 0 words line is needed)
 said_dir words dir (OfServer plan is same) =
     subst (λ (d : List ℕ). Said 0 words d) (sym same) (server_said words plan is)
+said_dir words dir (OfShares plan is same) =
+    subst (λ (d : List ℕ). Said 0 words d) (sym same) (shares_said words plan is)
 said_dir words dir (OfMirror addresses is same) =
     subst (λ (d : List ℕ). Said 0 words d) (sym same) (mirror_said 0 (omega arith) words addresses is)
 
@@ -377,41 +400,50 @@ pub dir_placed : (words : List (List ℕ)) → IsDirPlace words (place_if (says_
 dir_placed words = by_server (serve_of words) refl
   where
     -- a line of no kind has none
-    none : serve_of words ≡ None → mirror_of words ≡ None → line_has_dir (line_of words) ≡ false
-        → IsDirPlace words (place_if (says_dir words) 0 words)
-    none no_server no_mirror no_command =
-        nowhere (SaysDir words) 0 words (says_dir words) (rw (no_server, no_mirror, no_command) refl) refuted
+    none : serve_of words ≡ None → share_of words ≡ None → mirror_of words ≡ None
+        → line_has_dir (line_of words) ≡ false → IsDirPlace words (place_if (says_dir words) 0 words)
+    none no_server no_shares no_mirror no_command =
+        nowhere (SaysDir words) 0 words (says_dir words) (rw (no_server, no_shares, no_mirror, no_command) refl) refuted
       where
         refuted : (dir : List ℕ) → SaysDir words dir → ⊥
         refuted dir (OfCommand line is has same) =
             both_ways (has_dir line.0) (sym (ap line_has_dir is) ∙ no_command) has
         refuted dir (OfServer plan is same) = let e : None ≡ Some plan = sym no_server ∙ is in absurd (cc e)
+        refuted dir (OfShares plan is same) = let e : None ≡ Some plan = sym no_shares ∙ is in absurd (cc e)
         refuted dir (OfMirror addresses is same) = let e : None ≡ Some addresses = sym no_mirror ∙ is in absurd (cc e)
 
     at : (dir : List ℕ) → SaysDir words dir → says_dir words ≡ true
         → IsDirPlace words (place_if (says_dir words) 0 words)
     at dir says is = stands (SaysDir words) 0 words dir (says_dir words) says (said_dir words dir says) is
 
-    command : (line : LineSeen) (b : Bool) → serve_of words ≡ None → mirror_of words ≡ None → line_of words ≡ Some line
-        → has_dir line.0 ≡ b → IsDirPlace words (place_if (says_dir words) 0 words)
-    command line true no_server no_mirror is has =
-        at (position_at 0 line.1) (OfCommand line is has refl) (rw (no_server, no_mirror, is, has) refl)
-    command line false no_server no_mirror is has = none no_server no_mirror (rw (is, has) refl)
+    command : (line : LineSeen) (b : Bool) → serve_of words ≡ None → share_of words ≡ None → mirror_of words ≡ None
+        → line_of words ≡ Some line → has_dir line.0 ≡ b → IsDirPlace words (place_if (says_dir words) 0 words)
+    command line true no_server no_shares no_mirror is has =
+        at (position_at 0 line.1) (OfCommand line is has refl) (rw (no_server, no_shares, no_mirror, is, has) refl)
+    command line false no_server no_shares no_mirror is has = none no_server no_shares no_mirror (rw (is, has) refl)
 
-    by_command : (found : Option LineSeen) → line_of words ≡ found → serve_of words ≡ None → mirror_of words ≡ None
-        → IsDirPlace words (place_if (says_dir words) 0 words)
-    by_command None is no_server no_mirror = none no_server no_mirror (rw is refl)
-    by_command (Some line) is no_server no_mirror = command line (has_dir line.0) no_server no_mirror is refl
+    by_command : (found : Option LineSeen) → line_of words ≡ found → serve_of words ≡ None → share_of words ≡ None
+        → mirror_of words ≡ None → IsDirPlace words (place_if (says_dir words) 0 words)
+    by_command None is no_server no_shares no_mirror = none no_server no_shares no_mirror (rw is refl)
+    by_command (Some line) is no_server no_shares no_mirror =
+        command line (has_dir line.0) no_server no_shares no_mirror is refl
 
     by_mirror : (found : Option (List (List ℕ))) → mirror_of words ≡ found → serve_of words ≡ None
+        → share_of words ≡ None → IsDirPlace words (place_if (says_dir words) 0 words)
+    by_mirror None is no_server no_shares = by_command (line_of words) refl no_server no_shares is
+    by_mirror (Some addresses) is no_server no_shares =
+        at (position_at 0 (parts_from start (drop 1 words))) (OfMirror addresses is refl)
+        (rw (no_server, no_shares, is) refl)
+
+    by_shares : (found : Option SharePlan) → share_of words ≡ found → serve_of words ≡ None
         → IsDirPlace words (place_if (says_dir words) 0 words)
-    by_mirror None is no_server = by_command (line_of words) refl no_server is
-    by_mirror (Some addresses) is no_server =
-        at (position_at 0 (parts_from start (drop 1 words))) (OfMirror addresses is refl) (rw (no_server, is) refl)
+    by_shares None is no_server = by_mirror (mirror_of words) refl no_server is
+    by_shares (Some plan) is no_server =
+        at (position_at 0 (parts_from start (drop 1 words))) (OfShares plan is refl) (rw (no_server, is) refl)
 
     by_server : (found : Option ServePlan) → serve_of words ≡ found
         → IsDirPlace words (place_if (says_dir words) 0 words)
-    by_server None is = by_mirror (mirror_of words) refl is
+    by_server None is = by_shares (share_of words) refl is
     by_server (Some plan) is = at (position_at 0 (parts_from start (drop 1 words))) (OfServer plan is refl) (rw is refl)
 
 pub addr_placed : (words : List (List ℕ)) → IsAddrPlace words (place_if (says_addr words) 1 words)

@@ -7,5 +7,6 @@ pub mod Seen
 pub mod Table
 pub mod Reading
 pub mod Serving
+pub mod Sharing
 pub mod Mirroring
 pub mod Places

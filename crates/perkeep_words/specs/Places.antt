@@ -7,14 +7,19 @@ use Rattle.perkeep_words.specs.Forms.{count_at, position_at}
 use Rattle.perkeep_words.specs.Table.{has_dir, has_addr}
 use Rattle.perkeep_words.specs.Reading.{LineSeen, line_of}
 use Rattle.perkeep_words.specs.Serving.{serve_of}
+use Rattle.perkeep_words.specs.Sharing.{share_of}
 use Rattle.perkeep_words.specs.Mirroring.{mirror_of}
 use Rattle.perkeep_words.specs.declared.serving.ServePlan.{ServePlan}
+use Rattle.perkeep_words.specs.declared.sharing.SharePlan.{SharePlan}
 
--- the words are a line that has DIR, of a command, of a server or of `mirror`, and this is what it says of DIR
+-- the words are a line that has DIR, of a command, of a server, one of shares too, or of `mirror`, and this is what it
+-- says of DIR
 pub data SaysDir (words : List (List ℕ)) (dir : List ℕ) : Type 0 where
   OfCommand : (line : LineSeen) → line_of words ≡ Some line → has_dir line.0 ≡ true → dir ≡ position_at 0 line.1
       → SaysDir words dir
   OfServer : (plan : ServePlan) → serve_of words ≡ Some plan → dir ≡ position_at 0 (parts_from start (drop 1 words))
+      → SaysDir words dir
+  OfShares : (plan : SharePlan) → share_of words ≡ Some plan → dir ≡ position_at 0 (parts_from start (drop 1 words))
       → SaysDir words dir
   OfMirror : (addresses : List (List ℕ)) → mirror_of words ≡ Some addresses
       → dir ≡ position_at 0 (parts_from start (drop 1 words)) → SaysDir words dir
@@ -92,7 +97,8 @@ line_has_addr (Some line) = has_addr line.0
 
 -- whether the words are a line that has DIR
 abbrev pub says_dir : List (List ℕ) → Bool
-says_dir words = is_some (serve_of words) || is_some (mirror_of words) || line_has_dir (line_of words)
+says_dir words = is_some (serve_of words) || is_some (share_of words) || is_some (mirror_of words)
+    || line_has_dir (line_of words)
 
 -- whether the words are a line that has ADDR
 abbrev pub says_addr : List (List ℕ) → Bool

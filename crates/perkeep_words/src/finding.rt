@@ -8,12 +8,13 @@ use crate::mirroring::is_mirror;
 use crate::parts::{Part, State};
 use crate::place::Places;
 use crate::serving::serve_words;
+use crate::sharing::share_words;
 use crate::table::CommandName;
 use blobref::Text;
 
 /// The places of DIR and ADDR in the words, of the first ADDR where there are several. Each is None exactly where the
-/// words are no line that has it, whatever the line's texts say (docs/commands.md); a line of `serve` or `mirror` is
-/// one. It takes no memory.
+/// words are no line that has it, whatever the line's texts say (docs/commands.md); a line of `serve`,
+/// `serve-shares` or `mirror` is one. It takes no memory.
 pub fn places(words: &[Text]) -> Places
     ensures dir { IsDirPlace words.now result.dir }
     ensures addr { IsAddrPlace words.now result.addr }
@@ -39,7 +40,10 @@ fn place_if(has: bool, count: usize, words: &[Text]) -> Option<usize>
 fn says_dir(words: &[Text]) -> bool
     ensures { result ≡ says_dir words.now }
 {
-    serve_words(words).is_some() || is_mirror(words) || is_command_with_dir(words)
+    serve_words(words).is_some()
+        || share_words(words).is_some()
+        || is_mirror(words)
+        || is_command_with_dir(words)
 }
 
 // Whether the words are a command's line that has DIR.

@@ -10,6 +10,7 @@ mod parts;
 mod place;
 mod reading;
 mod serving;
+mod sharing;
 mod table;
 mod words;
 
@@ -22,5 +23,6 @@ pub use parts::parts_agree;
 pub use place::Places;
 pub use reading::{Command, Line, readings_agree};
 pub use serving::{ServePlan, serve_words};
+pub use sharing::{SharePlan, share_words};
 pub use table::CommandName;
 pub use words::{BlobCount, NonEmptyWord, Word};

@@ -9,7 +9,8 @@ use crate::kinds::{TextKind, number_within};
 use crate::reading::number_option;
 use blobref::Text;
 
-const PORT_MAX: u64 = 65_535;
+/// The greatest port.
+pub(crate) const PORT_MAX: u64 = 65_535;
 
 const THREADS_MAX: u64 = 64;
 

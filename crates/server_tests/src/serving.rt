@@ -30,13 +30,13 @@ fn archive(alloc: Global, blobs: u64) -> Archive {
 
 // What is said and told on a connection, and how many bytes of that were told.
 #[derive(Drop)]
-struct Talk {
+pub(crate) struct Talk {
     wanted: Octets,
-    told: AtomicU64,
+    pub(crate) told: AtomicU64,
 }
 
 impl Talk {
-    fn of(alloc: Global, wanted: &str) -> Result<Talk, NoMemory> {
+    pub(crate) fn of(alloc: Global, wanted: &str) -> Result<Talk, NoMemory> {
         Ok(Talk {
             wanted: spelled(alloc, wanted)?,
             told: AtomicU64::new(0),
@@ -44,12 +44,12 @@ impl Talk {
     }
 
     // Whether all of it was told, and nothing else.
-    fn is_told(&self) -> bool {
+    pub(crate) fn is_told(&self) -> bool {
         self.told.load(Ordering::SeqCst) == self.wanted.as_slice().len() as u64
     }
 
     // The connection on which a first part is said, and a second one once a number is at least so much.
-    fn connection<'a>(
+    pub(crate) fn connection<'a>(
         &'a self,
         alloc: Global,
         first: &str,
@@ -75,10 +75,10 @@ impl Talk {
     }
 }
 
-type Line<'a> = MemListener<HeldSource<'a>, ToldSink<'a>>;
+pub(crate) type Line<'a> = MemListener<HeldSource<'a>, ToldSink<'a>>;
 
 // A listener of one connection.
-fn line<'a>(alloc: Global, connection: Connection<'a>) -> Result<Line<'a>, NoMemory> {
+pub(crate) fn line<'a>(alloc: Global, connection: Connection<'a>) -> Result<Line<'a>, NoMemory> {
     let mut waiting = VecDeque::new(alloc);
     waiting.push_back(connection)?;
     Ok(MemListener::of(waiting, CallList::empty(alloc)))
