@@ -1,9 +1,9 @@
 """Runs `perkeep query` over small stores, and compares outputs, standard error and exit statuses byte by byte.
 
 What a query finds is written down in query_inputs.py for two worked stores, and the reference has to give it as well as
-the program. For random stores and queries it is the reference's alone (queries.py). The first faults of texts that are
-made with one or two (query_faults.py) are compared with the reference's; the program shows no more than that it refuses
-them.
+the program. For random stores and queries it is the reference's alone (queries.py), and so it is for lines of search
+words, which are handed to `perkeep words`. The first faults of texts that are made with one or two (query_faults.py)
+are compared with the reference's; the program shows no more than that it refuses them.
 """
 
 import functools
@@ -18,6 +18,7 @@ import queries
 import query_faults
 import query_inputs
 import reference
+import search_words
 import writing
 from harness import chance, check, compare, compare_ending, finish, limited_to, run_quickly, short
 from query_faults import FULL, SMALL
@@ -62,6 +63,14 @@ class Shelf:
         is_status, is_out, err = run_quickly(self.program, self.store.words("query"), text)
         compare_ending(what, status, is_status, err)
         compare(what, "standard output", out, is_out)
+
+    def asks_by_words(self, what, line, query, at=None):
+        """Asks a line of search words, at a date or at none; the reference's answer is that to its query."""
+        what = f"{what}, asked of {self.store.path}: words {line!r} at {at}"
+        words = self.store.words("words", *(() if at is None else ("--at", at)), "--", line)
+        status, out, err = run_quickly(self.program, words, b"")
+        compare_ending(what, 0, status, err)
+        compare(what, "standard output", self.ending_of(query)[0], out)
 
     def finds(self, what, value, refs):
         """Asks a query whose answer is known, and finds the folder as it was."""
@@ -261,6 +270,28 @@ class RandomShelf:
         compare(f"{what}: {short(text)}", "the query of its text", query, queries.read_query(text))
         self.shelf.asks(what, text, self.shelf.ending_of(query))
 
+    def asks_by_words(self, number):
+        """What a line of search words finds, at a date or at none."""
+        random = chance("search words", self.number, number)
+        constraint = search_words.random_constraint(random, random.choice((1, 2, 3)), self.asked_by_word)
+        at = random.choice((None, *query_inputs.QUERY_DATES))
+        query = queries.query_of({"constraint": constraint} if at is None else {"constraint": constraint, "at": at})
+        self.shelf.asks_by_words(f"store {self.number}", search_words.random_line(random, constraint), query, at)
+
+    def asked_by_word(self, random):
+        """A constraint that a search word asks."""
+        ref, text = self.made.any_ref(random), random.choice(self.made.texts)
+        attribute = random.choice(query_inputs.ATTRIBUTES)
+        value = ref if attribute.startswith("camli") else text
+        return random.choice((
+            node(attr="tag", value=text),
+            node(attr="title", valueMatches={"contains": text[: random.randrange(len(text) + 1)]}),
+            node(attr=attribute, value=value),
+            node(attr=attribute),
+            {"blobRefPrefix": ref[: random.randrange(len(ref) + 1)]},
+            node(relation=query_inputs.parent(any={"blobRefPrefix": ref})),
+        ))
+
     def holders(self, number):
         """The same as `search` finds by one value."""
         random = chance("holders", self.number, number)
@@ -290,6 +321,24 @@ def queries_tell(shelves):
             found = queries.Asking(shelf.shelf.archive, {**query, "limit": queries.MOST_LIMIT}).answer()
             telling += 0 < len(found) < len(shelf.shelf.archive.permanodes)
     check("the random queries hardly differ", telling > len(shelves) * QUERIES / 3)
+
+
+# Lines of search words
+
+STORES_OF_WORDS, LINES = 40, 25
+
+
+def typed(program):
+    """Random lines of search words over random stores; a line that begins with a dash; and that at most 200 refs are
+    answered."""
+    shelves = [RandomShelf(program, number) for number in range(STORES_OF_WORDS)]
+    checks = [lambda shelf=shelf, n=n: shelf.asks_by_words(n) for shelf in shelves for n in range(LINES)]
+    lives, untagged = Shelf(program, {0: pack(*query_inputs.lives())}), negated(node(attr="tag", value="a"))
+    some = [permanode(f"{number:032x}") for number in range(queries.USUAL["limit"] + 3)]
+    many = Shelf(program, {0: pack(query_inputs.KEY, *some)})
+    query = queries.query_of({"constraint": untagged})
+    check("more are to be found than are answered", len(queries.Asking(many.archive, query).answer()) == 200)
+    return checks + [lambda shelf=shelf: shelf.asks_by_words("a dash", "-tag:a", query) for shelf in (lives, many)]
 
 
 # Texts that are no queries
@@ -679,7 +728,7 @@ def all_of_all(program):
         program.check(what, shelf.store.words("query"), out, status, text, seconds=SOON)
 
 
-GROUPS = [page, meanings, random_queries, faults, values, depths, json, numbers, dates, damaged]
+GROUPS = [page, meanings, random_queries, typed, faults, values, depths, json, numbers, dates, damaged]
 GROUPS += [lengths, words, keyrings, folders]
 ONE_AT_A_TIME = [memory, streams, sizes]
 
@@ -691,7 +740,7 @@ def checks_of(program, group):
 
 
 def tell_starts(program):
-    print(f"query: {program.starts['query']} starts of query")
+    print(f"query: {program.starts['query']} starts of query, {program.starts['words']} of words")
 
 
 if __name__ == "__main__":

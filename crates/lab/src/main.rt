@@ -13,7 +13,8 @@
 //! 0.
 //!
 //! `lab words` reads lines of search words from standard input, and prints for each the query that it asks, or why it asks
-//! none.
+//! none. `lab words-of` reads queries, each a line, and prints for each the line of search words that asks its constraint,
+//! or that none does.
 //!
 //! It is no part of the archive's program. It ends with that program's exit statuses.
 #![tactic(auto)]
@@ -24,7 +25,7 @@ mod ordering;
 mod serving;
 mod yardstick;
 
-use crate::asking::asked_lines;
+use crate::asking::{asked_lines, written_lines};
 use crate::indexing::Question;
 use crate::ordering::order_lines;
 use crate::serving::replies;
@@ -78,6 +79,7 @@ fn measure<W: Wait>(rt: &HostRuntime, wait: &W) -> Result<(), Fault> {
         "http" => answer(rt, wait, &words),
         "orders" => tell(rt, &words),
         "words" => tell_asked(rt),
+        "words-of" => tell_written(rt),
         _ => print_line(rt, &words),
     }
 }
@@ -110,6 +112,13 @@ fn tell_asked(rt: &HostRuntime) -> Result<(), Fault> {
     let input = input(rt)?;
     let text = str::from_utf8(&input).map_err(|_| Fault::Words)?;
     print(rt, &asked_lines(rt.alloc(), text)?)
+}
+
+// Tells which lines ask what the queries on standard input do.
+fn tell_written(rt: &HostRuntime) -> Result<(), Fault> {
+    let input = input(rt)?;
+    let text = str::from_utf8(&input).map_err(|_| Fault::Words)?;
+    print(rt, &written_lines(rt.alloc(), text)?)
 }
 
 // Answers the requests of standard input over the blobs of a pack.
