@@ -12,6 +12,7 @@ sys.path.insert(0, str(pathlib.Path(__file__).resolve().parent.parent / "tests")
 import harness
 from command_rows import DISK, DONE, KEYRING, KNOWN, PEER, READ, WRITE, Trial, rows
 from faults import faults_of, own_calls
+from faults_of_shares import ShareRow
 from harness import Difference, check
 from libraries import CLOCK, DICE, made_library
 from tracing import TRACED, WRITES, need_strace, trace
@@ -25,7 +26,7 @@ class Row:
     """A command, and what came of its runs."""
 
     def __init__(self, program, row, known):
-        self.program, self.row = program, row
+        self.program, self.row, self.what = program, row, row.what
         # A peer is waited for by the clock.
         self.known = {} if row.peer is not None else {**KNOWN, "LD_PRELOAD": ":".join(map(str, known))}
         self.calls, self.endings = 0, collections.Counter()
@@ -94,17 +95,18 @@ def main(path, folder, *names):
     program = harness.Program(path, folder)
     need_strace(program)
     known = [made_library(program, name, text) for name, text in (("clock", CLOCK), ("dice", DICE))]
-    chosen = [row for row in rows() if row.touches_a_folder() and (not names or row.what in names)]
+    of_rows = [Row(program, row, known) for row in rows() if row.touches_a_folder()]
     wrong = 0
-    for row in chosen:
-        one = Row(program, row, known)
+    for one in (*of_rows, ShareRow(program)):
+        if names and one.what not in names:
+            continue
         try:
             one.fails_in_turn()
         except Difference as difference:
             wrong += 1
             print(f"FAILED {difference}", flush=True)
         told = ", ".join(f"status {status} {count}" for status, count in sorted(one.endings.items()))
-        print(f"{row.what}: {one.calls} calls, {one.endings.total()} runs: {told}", flush=True)
+        print(f"{one.what}: {one.calls} calls, {one.endings.total()} runs: {told}", flush=True)
     sys.exit(1 if wrong else 0)
 
 

@@ -6,11 +6,17 @@ import sys
 sys.path.insert(0, str(pathlib.Path(__file__).resolve().parent.parent / "tests"))
 
 import harness
-from fault_rows import ALL, CHOICES, fails_in_turn, paged, stopped, stops_in_turn
+from fault_rows import CHOICES, PAGED, World, paged, stopped, stops_in_turn, window_fails
+from harness import check
+
+# So many calls of a peer fail in one run of the program.
+WINDOW = 250
 
 
 def second_stops(program):
-    """Two crashes by each pair of choices."""
+    """A stop at each call, and then at each call of the next opening, and crashes by each pair of choices. An opening
+    changes a disk by a sync of each pack alone, and these disks have one: so a stop at one of its calls leaves what one
+    before it would, or what one after it would."""
     return [
         lambda row=row, first=first, second=second: stops_in_turn(program, row, first, second)
         for row in stopped()
@@ -21,7 +27,14 @@ def second_stops(program):
 
 def whole_pages(program):
     """Each call of the peer in copies of several pages."""
-    return [lambda row=row: fails_in_turn(program, row, "peer", ALL) for row in paged()]
+    starts = range(0, PAGED + 2 * WINDOW, WINDOW)
+    return [lambda row=row, start=start: all_fail(program, row, start) for row in paged() for start in starts]
+
+
+def all_fail(program, row, start):
+    made = window_fails(program, World(row), "peer", start, start + WINDOW)
+    whole, none = start + WINDOW <= PAGED, start >= PAGED + WINDOW
+    check(f"{row.what}: {made} calls", made == start + WINDOW if whole else made == start if none else made > start)
 
 
 if __name__ == "__main__":

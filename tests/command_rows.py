@@ -11,7 +11,7 @@ import inputs
 import reference
 import writing
 from faults import stands
-from harness import chance, compare, compare_ending
+from harness import chance, check, compare, compare_ending
 from inputs import CLAIM, DELETE, EXAMPLE_BLOBS, KEY, NODE
 from note_stores import list_text
 from peers import FalsePeer
@@ -24,7 +24,7 @@ KNOWN = {"TEST_CLOCK": "1577923200.0", "TEST_DICE": writing.RANDOM}
 TODAY = inputs.day(2)
 KEYRING = inputs.KEYRING + keyring_line(writing.LOAD, writing.LOAD_SECRET)
 OTHERS = {"keyring": KEYRING}
-FOLDER, ADDRESS = object(), object()
+FOLDER, ADDRESS, SECOND = object(), object(), object()
 KEY_OPTION = "--key=jefe"
 # docs/commands.md, "Exit statuses"
 DONE, MEMORY, READ, WRITE, DISK, PEER, HAND = 0, 1, 5, 6, 7, 8, 12
@@ -33,9 +33,10 @@ DONE, MEMORY, READ, WRITE, DISK, PEER, HAND = 0, 1, 5, 6, 7, 8, 12
 class Row(NamedTuple):
     """A run that ends well.
 
-    Its words, in which FOLDER and ADDRESS stand for those of the store and of the peer. What it writes, but of a copy.
-    The packs before it, or None where there is no folder. What it reads. What it puts in order, where that isn't there.
-    What a peer holds, where it has one. Whether it writes as it goes, and so may have written where it ends early."""
+    Its words, in which FOLDER, ADDRESS and SECOND stand for those of the store and of the peers. What it writes, but of a
+    copy. The packs before it, or None where there is no folder. What it reads. What it puts in order, where that isn't
+    there. What a peer and a second one hold, where it has them. Whether it writes as it goes, and so may have written
+    where it ends early."""
 
     what: str
     words: tuple
@@ -44,10 +45,21 @@ class Row(NamedTuple):
     source: bytes = b""
     puts: tuple = ()
     peer: Optional[tuple] = None
+    second: Optional[tuple] = None
     writes_as_it_goes: bool = False
 
     def is_push(self):
         return self.words[0] == "push"
+
+    def is_copy(self):
+        return self.words[0] in ("push", "pull")
+
+    def gives(self):
+        """Whether it gives its peers what they lack."""
+        return self.words[0] in ("push", "mirror")
+
+    def peers(self):
+        return [blobs for blobs in (self.peer, self.second) if blobs is not None]
 
     def touches_a_folder(self):
         return FOLDER in self.words
@@ -68,35 +80,35 @@ def with_blobs(packs, blobs):
 # Trials
 
 class Trial:
-    """A store, and a peer where the row has one, in which a row is run more than once."""
+    """A store, and the peers that the row has, in which a row is run more than once."""
 
     def __init__(self, program, row):
         self.row = row
         self.store = Store(program, row.packs, None if row.packs is None else OTHERS)
-        self.peer = None if row.peer is None else FalsePeer({ref_of(blob): blob for blob in row.peer})
+        self.peers = [FalsePeer({ref_of(blob): blob for blob in blobs}) for blobs in row.peers()]
         self.seen = look(self.store.path)
 
     def __enter__(self):
         return self
 
     def __exit__(self, *_):
-        if self.peer is not None:
-            self.peer.close()
+        for peer in self.peers:
+            peer.close()
         shutil.rmtree(self.store.path, ignore_errors=True)
 
     def line(self):
-        texts = {FOLDER: str(self.store.path), ADDRESS: self.peer and self.peer.address}
+        texts = {FOLDER: str(self.store.path), **dict(zip((ADDRESS, SECOND), (peer.address for peer in self.peers)))}
         return [texts.get(word, word) for word in self.row.words]
 
     def held(self):
-        """What the peer holds."""
-        return dict(self.peer.blobs) if self.peer is not None else {}
+        """What each peer holds."""
+        return [dict(peer.blobs) for peer in self.peers]
 
     def due(self):
         """What the row writes as store and peer are: of a copy how many blobs are copied, and how many aren't."""
-        if self.peer is None:
+        if not self.row.is_copy():
             return self.row.out
-        here, there = set(self.store.blobs()), set(self.peer.blobs)
+        here, there = set(self.store.blobs()), set(self.peers[0].blobs)
         source, target = (here, there) if self.row.is_push() else (there, here)
         return b"copied %d already %d\n" % (len(source - target), len(source & target))
 
@@ -111,9 +123,9 @@ class Trial:
         front = out if may_have_written and due.startswith(out) else b""
         compare(what, "standard output", due if status == DONE else front, out)
         self.left(what, status)
-        if self.peer is not None:
-            self.copied(what, status, held)
-            self.peer.is_good(what)
+        self.copied(what, status, held)
+        for peer in self.peers:
+            peer.is_good(what)
         return status
 
     def left(self, what, status):
@@ -132,10 +144,14 @@ class Trial:
         self.store.packs = now
 
     def copied(self, what, status, held):
-        """The peer holds what it held and, of a push, a front of what it lacked, or all."""
-        lacked = sorted(self.store.blobs().keys() - held.keys()) if self.row.is_push() else []
-        added = sorted(self.held().keys() - held.keys())
-        compare(what, "what the peer was given", lacked if status in (DONE, WRITE) else lacked[: len(added)], added)
+        """The peers hold what they held and, where the row gives them something, a front of what the first lacked, and
+        then the second, or all; nothing before the store has all that it is to have."""
+        here = self.store.blobs().keys() if self.row.gives() else set()
+        lacked = [(place, ref) for place, had in enumerate(held) for ref in sorted(here - had.keys())]
+        now = enumerate(zip(held, self.held()))
+        added = [(place, ref) for place, (had, has) in now for ref in sorted(has.keys() - had.keys())]
+        compare(what, "what the peers were given", lacked if status in (DONE, WRITE) else lacked[: len(added)], added)
+        check(f"{what}: given too early", not added or not self.row.lacked(self.store.packs))
 
 
 # Rows
@@ -152,7 +168,7 @@ CHANGES = [("set", ref_of(NODE), "tag", "b"), ("add", ref_of(NODE), "title", "c"
 
 
 def rows():
-    return [*puts(), *reads(), *notes(), *files(), *copies(5), *others()]
+    return [*puts(), *reads(), *notes(), *files(), *copies(5), *mirrors(), *others()]
 
 
 def printed(blob):
@@ -204,6 +220,17 @@ def copies(count):
     yield Row("push", ("push", FOLDER, ADDRESS), b"", {0: pack(*blobs)}, peer=tuple(blobs[1::2]))
     packs, lacking = {0: pack(*blobs[1::2])}, tuple(blobs[::2])
     yield Row("pull", ("pull", FOLDER, ADDRESS), b"", packs, puts=lacking, peer=tuple(blobs))
+
+
+def mirrors():
+    """A folder and two servers, each of which lacks some of seven blobs."""
+    blobs = sorted((b"one of seven: %d" % number for number in range(7)), key=ref_of)
+    first, second, line = tuple(blobs[1:6:2]), tuple(blobs[1:]), ("mirror", FOLDER, ADDRESS, SECOND)
+    for what, here in (("mirror", blobs[:2]), ("mirror into a new folder", ())):
+        gathered = (*first, *second)
+        count = len({*here, *gathered})
+        packs = {0: pack(*here)} if here else None
+        yield Row(what, line, b"stores 3 blobs %d\n" % count, packs, puts=gathered, peer=first, second=second)
 
 
 def others():

@@ -1,29 +1,37 @@
 """What faults and stops leave of a world in memory, as the program of crates/fault_rows tells it.
 
-Lines of command_rows.py, and connections, are run over a disk, a peer, a source, a sink, a clock and dice in memory. In
+Lines of command_rows.py, and connections, are run over a disk, peers, a source, a sink, a clock and dice in memory. In
 each run one call of one of these fails, from the first one on until a run doesn't make it; or the disk stops at a call
 and crashes then, by each choice. A run ends by the status of what failed (docs/commands.md, "Exit statuses"); what it
 writes and puts is a front of what is due; what was there before stands, and what was acknowledged; and the same run
-ends well then, over what the first one left.
+ends well then, over what the first one left. Of the workers of a server one ends where its listener fails, and the others
+serve on. An index is refused memory, and answers all the same.
 """
 
+import itertools
+import os
 import shutil
 import subprocess
 from typing import NamedTuple
 
 import command_rows
 import harness
+import queries
+import query_inputs
 import reference
-from command_rows import ADDRESS, CONTENT, DISK, DONE, FILE, FOLDER, HAND, KEYRING, PEER, READ, WRITE, Row
+from command_rows import ADDRESS, CONTENT, DISK, DONE, FILE, FOLDER, HAND, KEYRING, PEER, READ, SECOND, WRITE, Row
 from connections import LISTING, Connection
 from harness import chance, check, compare
 from http_inputs import blob_target, form, get, part, post, upload
 from http_inputs import FORM, UPLOAD
+from inputs import DATE, KEY, NODE
+from query import RandomShelf
 from reference import pack_name, ref_of
-from writing import pack
+from refusing import Page, refusing
+from writing import claim, pack
 
 # How a run ends where a call of an object fails.
-STATUSES = {"disk": DISK, "peer": PEER, "source": READ, "sink": WRITE, "clock": HAND, "dice": HAND}
+STATUSES = {"disk": DISK, "peer": PEER, "second": PEER, "source": READ, "sink": WRITE, "clock": HAND, "dice": HAND}
 # What is asked of each command beside the disk and the peer (docs/commands.md). All write.
 READING = ("put", "put-file", "multi", "query", "search-pack")
 TIMED, RANDOM = ("claim", "delete", "multi"), ("permanode",)
@@ -74,43 +82,50 @@ def told(program, words, files, line, source):
 
 def told_of(program, row, *words):
     files = {pack_name(number): content for number, content in (row.packs or {}).items()}
-    files |= {"keyring": KEYRING, "peer": pack(*(row.peer or ()))}
-    line = ["d" if word is FOLDER else "a" if word is ADDRESS else word for word in row.words]
+    files |= {"keyring": KEYRING, "peer": pack(*(row.peer or ())), "second": pack(*(row.second or ()))}
+    names = {FOLDER: "d", ADDRESS: "a", SECOND: "b"}
+    line = [names.get(word, word) for word in row.words]
     return told(program, words, files, line, row.source)
 
 
 # What is due
 
 class World:
-    """What there is before a row is run, and what it puts there, in order, as far as that isn't there."""
+    """What there is before a row is run, at the disk and at each peer, and what it puts there, in order, as far as that
+    isn't there: each blob behind the number of its place, 0 that of the disk."""
 
     def __init__(self, row):
         self.row, self.refs = row, {}
-        self.here = reference.arrivals(row.packs or {})
-        self.there = {ref_of(blob): blob for blob in row.peer or ()}
-        self.new = row.lacked(row.packs or {})
-        if row.is_push():
-            self.new = [blob for ref, blob in sorted(self.here.items()) if ref not in self.there]
+        self.places = [reference.arrivals(row.packs or {})]
+        self.places += [{ref_of(blob): blob for blob in blobs or ()} for blobs in (row.peer, row.second)]
+        self.new = [(0, blob) for blob in row.lacked(row.packs or {})]
+        if row.gives():
+            here = self.places[0] | {ref_of(blob): blob for _, blob in self.new}
+            peers = range(1, len(row.peers()) + 1)
+            self.new += [(peer, here[ref]) for peer in peers for ref in sorted(here.keys() - self.places[peer].keys())]
+
+    def put(self, place):
+        """How many of the new blobs come to a place."""
+        return sum(where == place for where, _ in self.new)
 
     def out(self, count):
         """What the row writes where so many of the new blobs are there."""
-        if self.row.peer is None:
+        if not self.row.is_copy():
             return self.row.out
-        both = len(self.here.keys() & self.there.keys()) + count
+        both = len(self.places[0].keys() & self.places[1].keys()) + count
         return b"copied %d already %d\n" % (len(self.new) - count, both)
 
     def held(self, count):
         """The ref of what there is where so many of the new blobs are there too."""
         if count not in self.refs:
-            more = {ref_of(blob): blob for blob in self.new[:count]}
-            disk, peer = (self.here, self.there | more) if self.row.is_push() else (self.here | more, self.there)
-            self.refs[count] = ref_of(listing(disk) + listing(peer))
+            more = [{ref_of(blob): blob for place, blob in self.new[:count] if place == where} for where in range(3)]
+            self.refs[count] = ref_of(b"".join(listing(had | new) for had, new in zip(self.places, more)))
         return self.refs[count]
 
     def count(self, line):
         """How many of the new blobs there are after the first run of a line, or None where it is something else."""
         counts = range(len(self.new) + 1)
-        if self.row.peer is not None:
+        if self.row.is_copy():
             # The run after it says how many.
             counts = [count for count in counts if self.out(count) == line.again.out]
         return next((count for count in counts if self.held(count) == line.first.held), None)
@@ -123,17 +138,18 @@ def listing(blobs):
 def asked(row):
     """What a row asks."""
     name = row.words[0]
-    asks = {"sink"} | ({"disk"} if row.touches_a_folder() else set()) | ({"peer"} if row.peer is not None else set())
+    asks = {"sink", *("peer", "second")[: len(row.peers())]} | ({"disk"} if row.touches_a_folder() else set())
     asks |= {"source"} if name in READING else set()
     return asks | ({"clock"} if name in TIMED else set()) | ({"dice"} if name in RANDOM else set())
 
 
 def least_calls(row, object, world):
-    """So many calls of an object a row makes at least: an append and a sync, or a call on the peer, for each blob that
-    is put."""
+    """So many calls of an object a row makes at least: an append and a sync for each blob that is put; and of a peer for
+    each that it is given, or that a pull fetches."""
     if object not in asked(row):
         return 0
-    return {"disk": 1 + 2 * len(world.new) * (not row.is_push()), "peer": 1 + len(world.new)}.get(object, 1)
+    given = {"disk": 2 * world.put(0), "peer": world.put(1) or world.put(0) * row.is_copy(), "second": world.put(2)}
+    return 1 + given.get(object, 0)
 
 
 # Faults
@@ -151,20 +167,25 @@ def fails(program):
 
 
 def fails_in_turn(program, row, object, windows=ALL):
-    world, made = World(row), 0
-    for start, end in windows:
-        good, *lines = told_of(program, row, "fails", object, str(start), str(end))
-        is_done(f"{row.what}, no fault", world, good.first, 0)
-        is_done(f"{row.what}, no fault, again", world, good.again, len(world.new))
-        compare(f"{row.what}, {object}", "the calls", list(range(start, start + len(lines))), [line.call for line in lines])
-        for line in lines:
-            is_left(f"{row.what}, call {line.call} of {object}", world, object, line)
-        made = start + len(lines)
-        ends = [line.first.end for line in lines]
-        compare(f"{row.what}, {object}", "the calls that are made again", made_again(row, object), ends.count(str(DONE)))
+    world = World(row)
+    made = max(window_fails(program, world, object, *window) for window in windows)
     least = least_calls(row, object, world)
     check(f"{row.what}: {made} calls of {object}, and at least {least}", made >= least)
     check(f"{row.what}: {made} calls of {object}, and none are due", least or not made)
+
+
+def window_fails(program, world, object, start, end):
+    """Those of the calls fail that have these numbers; answers the number behind the last one that was made."""
+    row = world.row
+    good, *lines = told_of(program, row, "fails", object, str(start), str(end))
+    is_done(f"{row.what}, no fault", world, good.first, 0)
+    is_done(f"{row.what}, no fault, again", world, good.again, len(world.new))
+    compare(f"{row.what}, {object}", "the calls", list(range(start, start + len(lines))), [line.call for line in lines])
+    for line in lines:
+        is_left(f"{row.what}, call {line.call} of {object}", world, object, line)
+    ends = [line.first.end for line in lines]
+    compare(f"{row.what}, {object}", "the calls that are made again", made_again(row, object), ends.count(str(DONE)))
+    return start + len(lines)
 
 
 def is_done(what, world, ending, count):
@@ -197,7 +218,7 @@ def counts(row, object, count):
     """How many of so many blobs may be put where an object fails."""
     if object == "sink":
         return (count,)
-    return range(count + 1) if object in ("disk", "peer") or row.words[0] == "put-file" else (0,)
+    return range(count + 1) if object in ("disk", "peer", "second") or row.words[0] == "put-file" else (0,)
 
 
 # Pages of peers
@@ -292,6 +313,114 @@ def connection_is_left(what, stream, object, line):
     is_served(f"{what}, again", Due(stream, due.front(count)), line.again)
 
 
+# Listeners
+
+# The uploads on the connections of two workers.
+UPLOADS = [[b"connection %d of worker %d" % (number, worker) for number in range(4)] for worker in range(2)]
+WORKERS, LISTENER = 4, 14
+
+
+def listeners(program):
+    """Each call of a worker's listener fails: it ends then, and another one serves all that comes to it."""
+    return [lambda: listener_fails(program)]
+
+
+def listener_fails(program):
+    files = {pack_name(worker): pack(*map(upload, blobs)) for worker, blobs in enumerate(UPLOADS)}
+    good, *lines = told(program, ["fails", "listener", "0", str(1 << 32)], files, ["workers"], b"")
+    first, second = UPLOADS
+    compare("workers", "the calls", [None, *range(len(first))], [line.call for line in (good, *lines)])
+    for line in (good, *lines):
+        compare(f"workers, call {line.call} of the listener", "what is served", served(first[: line.call], second), line.first)
+        compare(f"workers, call {line.call} of the listener, again", "what is served", served(first, second), line.again)
+
+
+def served(*uploads):
+    """How workers end, each of which has served these uploads: none has a connection left, so an accept of each failed."""
+    blobs = [{ref_of(blob): blob for blob in some} for some in uploads] + [{}] * (WORKERS - len(uploads))
+    replies = b"".join(Connection(get(LISTING), one, {}).next_reply().text() for one in blobs)
+    return Ending(str(LISTENER), bytes([1] * WORKERS), ref_of(replies))
+
+
+# Stale indexes
+
+STORES, QUERIES = 110, 70
+
+
+def stale(program):
+    """Random queries of random stores over an index that was refused memory, and over one that keeps nothing."""
+    library = refusing(program)
+    shelves = [RandomShelf(program, number) for number in range(STORES)]
+    checks = [lambda shelf=shelf: answers_stale(program, library, shelf) for shelf in shelves]
+    return checks + [lambda: is_made_anew(program, library)]
+
+
+class Placed:
+    """An index over the blobs of a store, the last two of which are placed when the test says so."""
+
+    def __init__(self, program, library, files):
+        self.page, self.world = Page(program, library), program.new_path()
+        self.world.mkdir()
+        for name, content in files.items():
+            (self.world / name).write_bytes(content)
+        pipes = {"stdin": subprocess.PIPE, "stdout": subprocess.PIPE, "bufsize": 0}
+        variables = os.environ | self.page.variables()
+        self.process = subprocess.Popen([program.path, "stale", self.world], env=variables, **pipes)
+
+    def places(self, number=None):
+        """Has the next blob placed, where a request of a number is refused, if one is; answers whether the index is stale
+        then."""
+        compare("an index", "what it says", b"placed\n", self.process.stdout.readline())
+        if number is not None:
+            self.page.refuse(number)
+        self.process.stdin.write(b"\n")
+        said = self.process.stdout.readline()
+        was_refused = number is not None and self.page.refused() > 0
+        self.page.refuse_none()
+        check(f"an index says {said}", said in (b"stale\n", b"quick\n"))
+        return said == b"stale\n", was_refused
+
+    def answers(self, texts, seconds=SECONDS):
+        """The answers to queries, a line for each: by the index, and by one that keeps nothing."""
+        out, _ = self.process.communicate(b"\n".join(texts), seconds)
+        shutil.rmtree(self.world)
+        compare("an index", "how it ended", 0, self.process.returncode)
+        lines = out.splitlines()
+        return lines[::2], lines[1::2]
+
+
+def placed(program, library, shelf):
+    blobs = shelf.shelf.store.blobs()
+    records = b"".join(b"[%b %d]%b" % (ref.encode(), len(blob), blob) for ref, blob in blobs.items())
+    return Placed(program, library, {pack_name(0): records, "keyring": query_inputs.KEYRING})
+
+
+def answers_stale(program, library, shelf):
+    """Where the first request for memory is refused the index is stale, and answers as ever. A later one may be the
+    program's own, which reads on once it has placed the blob."""
+    what, index = f"store {shelf.number}, a request refused", placed(program, library, shelf)
+    index.places()
+    compare(what, "whether the index is stale, and was refused", (True, True), index.places(1))
+    asked = [shelf.query(place)[2] for place in range(QUERIES)]
+    due = [queries.search_text(shelf.shelf.archive, query) for query in asked]
+    answers, plain = index.answers([queries.write_query(query) for query in asked])
+    for query, text, answer, plain_answer in itertools.zip_longest(asked, due, answers, plain):
+        compare(f"{what}: {query}", "the answer", text, answer)
+        compare(f"{what}: {query}", "the plain answer", text, plain_answer)
+
+
+def is_made_anew(program, library):
+    """The next blob that is placed makes a stale index quick again."""
+    # A table has a copy of a long value.
+    claims = [claim("set", ref_of(NODE), "title", letter * 100, DATE) for letter in "ab"]
+    index = Placed(program, library, {pack_name(0): pack(KEY, NODE, *claims), "keyring": KEYRING})
+    compare("an index, refused memory", "whether it is stale, and was refused", (True, True), index.places(1))
+    compare("an index, and then not", "whether it is stale, and was refused", (False, False), index.places())
+    query = {"constraint": {"permanode": {"attr": "title", "value": "b" * 100}}}
+    due = [reference.search_text([ref_of(NODE)])]
+    compare("an index, and then not", "the answers", (due, due), index.answers([query_inputs.spell(query).encode()]))
+
+
 # Stops
 
 def stops(program):
@@ -303,14 +432,17 @@ def stopped():
     put_file = Row("put-file", ("put-file", FOLDER, "n.txt"), command_rows.printed(FILE[-1]), None, CONTENT, FILE)
     pull = Row("pull", ("pull", FOLDER, ADDRESS), b"", None, puts=SEVEN, peer=SEVEN)
     notes = [row for row in command_rows.notes() if row.packs == {}]
-    return [put_file, pull, *notes]
+    return [put_file, pull, *notes, *(row for row in command_rows.mirrors() if row.packs is None)]
 
 
 def stops_in_turn(program, row, choice, second=None):
     """Where a second choice is given, what is left then crashes by it too: at once, and once the store was opened."""
     lines = told_of(program, row, "stops", str(choice), "none" if second is None else str(second))
     world = World(row)
-    calls = 2 + 2 * len(world.new)
+    writing = 2 + 2 * world.put(0)
+    # What it gives to peers then is read from the disk.
+    calls = max(line.call for line in lines) if row.gives() else writing
+    check(f"{row.what}: {calls} calls", calls >= writing + len(world.new) - world.put(0))
     runs = [(False, number) for number in range(calls + 1)]
     if second is not None:
         runs += [(True, number) for number in range(calls + 1)]
@@ -318,11 +450,14 @@ def stops_in_turn(program, row, choice, second=None):
     for (is_opened, number), line in zip(runs, lines):
         what = f"{row.what}, stopped at call {number}, choice {choice}"
         what += "" if second is None else f", then {second}{' once opened' if is_opened else ''}"
-        left = whole_after(number, choice, None if is_opened else second)
+        left = min(whole_after(number, choice, None if is_opened else second), world.put(0))
         compare(what, "the status", str(DONE if number == calls else DISK), line.first.end)
         compare(what, "what it writes", world.out(0) if number == calls else b"", line.first.out)
-        compare(what, "what there is", world.held(min(left, len(world.new))), line.first.held)
-        is_done(f"{what}, again", world, line.again, min(left, len(world.new)))
+        # Once the disk has all, some were given to peers too.
+        lefts = range(left, len(world.new) + 1) if number >= writing else [left]
+        left = next((left for left in lefts if world.held(left) == line.first.held), None)
+        check(f"{what}: what there is", left is not None and (number < calls or left == len(world.new)))
+        is_done(f"{what}, again", world, line.again, left)
 
 
 def whole_after(stop, choice, second):
@@ -334,4 +469,4 @@ def whole_after(stop, choice, second):
 
 
 if __name__ == "__main__":
-    harness.main("fault_rows.sh", [fails, pages, connections, stops])
+    harness.main("fault_rows.sh", [fails, pages, connections, listeners, stale, stops])

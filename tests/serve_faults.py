@@ -6,6 +6,7 @@ workers answer at once, new blobs are taken, and whatever was acknowledged is fo
 
 import contextlib
 import os
+import select
 import subprocess
 import threading
 import time
@@ -14,7 +15,7 @@ from connections import Reply, entry, json_text
 from harness import Difference, check, compare
 from http_inputs import blob_target, get, stat, upload
 from reference import arrivals, packs_of, ref_of
-from serving import TAKEN, Ended, Server, Talk, blob_reply, store_of, stored
+from serving import SOON, TAKEN, Ended, Server, Talk, blob_reply, store_of, stored
 from tracing import need_strace
 
 CLIENTS = WORKERS = 4
@@ -47,6 +48,7 @@ def under_clients(program):
     faults = [f"{name}:error={error}:when=%d" for name, errors in FAILS.items() for error in errors]
     checks = [lambda fault=fault: fails_in_turn(program, fault) for fault in faults]
     checks += [lambda names=names: fails_in_turn(program, SYNC, f"{names}:error=EIO") for names in WITH_A_SYNC]
+    checks += [lambda number=number: accept_fails(program, number) for number in range(1, ACCEPTS)]
     return checks + [lambda check=check: check(program) for check in (one_listener_fails, all_listeners_fail)]
 
 
@@ -172,6 +174,62 @@ class Session:
 
 
 # Listeners
+
+# The accepts of a worker that fail have numbers below this one.
+ACCEPTS = 6
+# By the system's table of calls for x86-64.
+ACCEPT4 = "288"
+
+
+def accept_fails(program, number):
+    """Of two workers one has a connection that stays; an accept of the other one fails. What that one accepted before is
+    served, and it ends; what comes then is served by the first, once that is free."""
+    what = f"accept {number} of a worker fails"
+    store = store_of(program, b"abc")
+    with Server(program, store.path, "--workers=2", "--indexers=1") as server:
+        has_begun(server)
+        blobs = [b"blob %d" % place for place in range(number)]
+        with Talk(server.port) as held:
+            held.ask(what, get(blob_target(ref_of(b"abc"))), blob_reply(b"abc"))
+            other, first = at_an_accept(server), Talk(server.port)
+            first.ask(what, get(blob_target(ref_of(b"abc"))), blob_reply(b"abc"))
+            with Tracer(program, server.process.pid, [f"accept4:error=EIO:when={number}"], other) as tracer:
+                first.close()
+                for blob in blobs[1:]:
+                    with Talk(server.port) as talk:
+                        talk.ask(what, upload(blob), stored(blob))
+                wait_until(what, tracer.has_injected)
+            late = Talk(server.port)
+            late.send(upload(blobs[0]))
+            held.ask(what, get(blob_target(ref_of(b"abc"))), blob_reply(b"abc"))
+            check(f"{what}: another worker serves", not select.select([late.wire], [], [], STILL)[0])
+        with late:
+            compare(what, "the reply that comes late", stored(blobs[0]).text(), late.read_text(what))
+            for blob in blobs:
+                late.ask(what, get(blob_target(ref_of(blob))), blob_reply(blob))
+
+
+def at_an_accept(server):
+    """The one thread of a server that is at an accept, once there is one."""
+    def there():
+        return [thread for thread in threads_of(server) if call_of(server, thread) == ACCEPT4]
+
+    wait_until("one thread is at an accept", lambda: len(there()) == 1)
+    return there()[0]
+
+
+def wait_until(what, comes):
+    until = time.monotonic() + SOON
+    while not comes():
+        check(f"{what}: it doesn't come", time.monotonic() < until)
+        time.sleep(0.001)
+
+
+def call_of(server, thread):
+    """The number of the call at which a thread is."""
+    with open(f"/proc/{server.process.pid}/task/{thread}/syscall") as file:
+        return file.read().split()[0]
+
 
 def one_listener_fails(program):
     """A worker that can't accept ends, and the others go on."""

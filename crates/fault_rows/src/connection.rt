@@ -23,13 +23,19 @@ pub(crate) fn tell_connection<W: Wait>(
     failing: Failing,
     line: &mut Vec<u8>,
 ) -> Result<bool, NoMemory> {
-    let core = Core::fresh(alloc, Keyring::empty(alloc));
-    let Ok(mut pass) = CorePass::over(alloc, core) else {
-        return Err(NoMemory);
-    };
+    let mut pass = pass_over(alloc)?;
     let has_failed = tell_one(alloc, wait, &mut pass, stream, failing, line)?;
     tell_one(alloc, wait, &mut pass, stream, NONE, line)?;
     Ok(has_failed)
+}
+
+/// A pass over an empty home.
+pub(crate) fn pass_over(alloc: Global) -> Result<CorePass<Keyring>, NoMemory> {
+    let core = Core::fresh(alloc, Keyring::empty(alloc));
+    match CorePass::over(alloc, core) {
+        Ok(pass) => Ok(pass),
+        Err(_) => Err(NoMemory),
+    }
 }
 
 // Tells of a connection, and of what is then listed. Answers whether a call failed.
@@ -55,9 +61,22 @@ fn add_listed<W: Wait>(
     pass: &mut CorePass<Keyring>,
     line: &mut Vec<u8>,
 ) -> Result<(), NoMemory> {
+    let mut listed = Vec::new(alloc);
+    add_listing(alloc, wait, pass, &mut listed)?;
+    add_ref(line, &listed)
+}
+
+/// Adds what a connection is answered that asks for all refs.
+pub(crate) fn add_listing<W: Wait>(
+    alloc: Global,
+    wait: &W,
+    pass: &mut CorePass<Keyring>,
+    listed: &mut Vec<u8>,
+) -> Result<(), NoMemory> {
     let mut sink = sink_of(alloc, NONE)?;
     serve(alloc, wait, pass, LISTING, NONE, &mut sink)?;
-    add_ref(line, sink.written())
+    listed.extend_from_slice(sink.written())?;
+    Ok(())
 }
 
 // How a connection ended on which this stream came, and whether a read failed.

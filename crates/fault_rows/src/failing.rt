@@ -4,15 +4,17 @@ use blobref::NoMemory;
 use edge_base::CallList;
 use std::alloc::Global;
 
-/// What a command or a connection calls.
+/// What a command, a connection or a server calls.
 #[derive(Clone, Copy, PartialEq, Eq)]
 pub(crate) enum Object {
     Disk,
     Peer,
+    SecondPeer,
     Source,
     Sink,
     Clock,
     Dice,
+    Listener,
 }
 
 impl Object {
@@ -21,10 +23,12 @@ impl Object {
         match word {
             "disk" => Some(Object::Disk),
             "peer" => Some(Object::Peer),
+            "second" => Some(Object::SecondPeer),
             "source" => Some(Object::Source),
             "sink" => Some(Object::Sink),
             "clock" => Some(Object::Clock),
             "dice" => Some(Object::Dice),
+            "listener" => Some(Object::Listener),
             _ => None,
         }
     }

@@ -1,10 +1,10 @@
-//! What faults and stops leave, in memory: a line of the program's words is run over a disk, a peer, a source, a sink, a
+//! What faults and stops leave, in memory: a line of the program's words is run over a disk, peers, a source, a sink, a
 //! clock and dice in memory, one of whose calls fails, or whose disk stops and crashes. It judges nothing:
 //! `tests/fault_rows.sh` and `bench/stops.sh` compare what it prints with what has to come.
 //!
 //! `fault_rows fails OBJECT FROM UNTIL WORLD WORD..` prints a line of a run of the words in which no call fails, and then
-//! one for each of the calls FROM, .. of the object (`disk`, `peer`, `source`, `sink`, `clock` or `dice`), before UNTIL,
-//! of a run in which that call fails; until a run doesn't make it.
+//! one for each of the calls FROM, .. of the object (`disk`, `peer`, `second`, `source`, `sink`, `clock`, `dice` or
+//! `listener`), before UNTIL, of a run in which that call fails; until a run doesn't make it.
 //!
 //! `fault_rows stops CHOICE SECOND WORLD WORD..` prints a line for each of the calls 0, .. of the disk, of a run in which
 //! that call and all later ones fail, after which the disk crashes by the choice of that number; the last one is of a run
@@ -12,15 +12,23 @@
 //! lines printed first, and once a listing has opened the store in those after them.
 //!
 //! Standard input is what the words read. WORLD is a folder, whose files say what there is before: the packs of the disk
-//! with the numbers 0 to 3, each in the file of its name; `peer`, a pack with the blobs of the peer; and `keyring`. What
-//! isn't there is empty. The clock stands at 2020-01-02T00:00:00Z, and the dice are those of `docs/formats`. Where the
-//! only word is `connection`, a connection is served over a home of one actor that is empty, and reads the source.
+//! with the numbers 0 to 3, each in the file of its name; `peer` and `second`, packs with the blobs of the peer and of
+//! the second one, which a mirror has; and `keyring`. What isn't there is empty. The clock stands at
+//! 2020-01-02T00:00:00Z, and the dice are those of `docs/formats`. Where the only word is `connection`, a connection is
+//! served over a home of one actor that is empty, and reads the source. Where it is `workers`, each of the four packs has
+//! a worker, with such a home and a listener that gives it a connection for each blob of the pack, which is the
+//! connection's stream; the listener that fails is the first one's.
 //!
 //! A line has the number of the call that fails, or `-`; how the run ended, by its exit status or by the name of the
 //! connection's end; what it wrote, in hexadecimal digits after `=`; the ref of what there is then, after the crash; and
 //! the same three of a second run over what there is, in which no call fails. What there is are the lines that `list`
-//! prints of the disk, and then those that it would print of the peer's blobs; or what a connection is answered that asks
-//! for all refs.
+//! prints of the disk, and then those that it would print of the peers' blobs; or what a connection is answered that asks
+//! for all refs, of each worker in turn. For what workers write stands a byte of each, 1 where an accept failed.
+//!
+//! `fault_rows stale WORLD` places the blobs of pack 0 in an index, one by one. Before each of the last two, which has
+//! brought its memory, `placed` is printed; once a byte came on standard input it is placed, and `stale` is printed, where
+//! the index is stale then, or `quick`. Then each line of standard input is a query, and two lines are printed for it,
+//! the answer by that index, and the one by an index that keeps nothing but facts.
 //!
 //! It is no part of the archive's program. It ends with that program's exit statuses.
 #![tactic(auto)]
@@ -28,24 +36,31 @@
 mod connection;
 mod failing;
 mod hand;
+mod listening;
+mod stale;
 mod told;
 mod world;
 
 use crate::connection::tell_connection;
 use crate::failing::{Failing, NONE, Object};
+use crate::listening::tell_workers;
+use crate::stale::tell_index;
 use crate::told::add_number;
 use crate::world::{Crash, Given, tell_fault, tell_stop};
 use blobref::{ListOf, NoMemory, Octets, Text};
 use claim_verify::{Keyring, KeyringFault};
 use std::alloc::Global;
 use std::io::{Read, Write};
+use std::marker::Brand;
 use std::process::ExitCode;
 use std::sync::Wait;
+use std::sync::ledger::Blank;
+use std::thread::Threads;
 use std::{env, fs};
 
 // Why nothing was told.
 #[derive(Clone, Copy)]
-enum Fault {
+pub(crate) enum Fault {
     Memory,
     Words,
     Read,
@@ -77,18 +92,24 @@ fn main(rt: HostRuntime) -> ExitCode {
 }
 
 // Prints the lines that the words ask for. A connection waits for as long as requests come.
-fn tell<W: Wait>(rt: &HostRuntime, wait: &W) -> Result<(), Fault> {
+fn tell<W: Threads + Wait + Sync>(rt: &HostRuntime, wait: &W) -> Result<(), Fault> {
     let words = words(rt)?;
     let mut lines = Vec::new(rt.alloc());
     match word(&words, 0) {
         "fails" => tell_faults(rt, wait, &words, &mut lines)?,
         "stops" => tell_stops(rt, &words, &mut lines)?,
+        "stale" => return tell_stale(rt, &words),
         _ => return Err(Fault::Words),
     }
-    rt.stdout().write_all(&lines).map_err(|_| Fault::Write)
+    print(rt, &lines)
 }
 
-fn tell_faults<W: Wait>(
+/// Prints bytes at once.
+pub(crate) fn print(rt: &HostRuntime, bytes: &[u8]) -> Result<(), Fault> {
+    rt.stdout().write_all(bytes).map_err(|_| Fault::Write)
+}
+
+fn tell_faults<W: Threads + Wait + Sync>(
     rt: &HostRuntime,
     wait: &W,
     words: &[Text],
@@ -102,7 +123,7 @@ fn tell_faults<W: Wait>(
 }
 
 // A line for each of the calls from the first number on, before the second one, until none fails.
-fn add_faults<W: Wait>(
+fn add_faults<W: Threads + Wait + Sync>(
     alloc: Global,
     wait: &W,
     given: &Given,
@@ -125,7 +146,7 @@ fn add_faults<W: Wait>(
 }
 
 // Whether a call failed.
-fn add_line<W: Wait>(
+fn add_line<W: Threads + Wait + Sync>(
     alloc: Global,
     wait: &W,
     given: &Given,
@@ -136,10 +157,10 @@ fn add_line<W: Wait>(
         Some(call) => add_number(alloc, lines, call)?,
         None => lines.push(b'-')?,
     }
-    let failed = if word(&given.words, 0) == "connection" {
-        tell_connection(alloc, wait, given.input.as_slice(), failing, lines)?
-    } else {
-        tell_fault(alloc, given, failing, lines)?
+    let failed = match word(&given.words, 0) {
+        "connection" => tell_connection(alloc, wait, given.input.as_slice(), failing, lines)?,
+        "workers" => tell_workers(alloc, wait, given.packs.as_slice(), failing, lines)?,
+        _ => tell_fault(alloc, given, failing, lines)?,
     };
     lines.push(b'\n')?;
     Ok(failed)
@@ -175,6 +196,15 @@ fn add_stops(
     Ok(())
 }
 
+// Tells of an index over the blobs of the first pack.
+fn tell_stale(rt: &HostRuntime, words: &[Text]) -> Result<(), Fault> {
+    let folder = word(words, 1);
+    let pack = file(rt, folder, "pack-00000.blobs")?;
+    let keyring = file(rt, folder, "keyring")?;
+    let keys = keys(rt.alloc(), keyring.as_slice())?;
+    tell_index::<Brand>(rt, pack.as_slice(), &keys, Blank::new(1))
+}
+
 // What the words say from the place of the world on, and what standard input holds.
 fn given(rt: &HostRuntime, words: &[Text], place: usize) -> Result<Given, Fault> {
     let alloc = rt.alloc();
@@ -192,6 +222,7 @@ fn given(rt: &HostRuntime, words: &[Text], place: usize) -> Result<Given, Fault>
     Ok(Given {
         packs,
         peer: file(rt, folder, "peer")?,
+        second: file(rt, folder, "second")?,
         keys: keys(alloc, keyring.as_slice())?,
         input: input(rt)?,
         words: rest(alloc, words, place)?,

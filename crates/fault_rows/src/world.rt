@@ -1,4 +1,4 @@
-//! A disk and a peer in memory, over which a line of the program's words is run.
+//! A disk and two peers in memory, over which a line of the program's words is run.
 ghost use Rattle.std.specs.Prelude.{◌≡◌, ◌≤◌, ◌<◌, ℕ, None, OnOk, IfOk};
 ghost use Rattle.std.specs.FinMap.{get};
 ghost use Rattle.pack_disk.specs.Disk.{last_number};
@@ -17,16 +17,18 @@ use perkeep_top::run;
 use salvage_scan::{Found, scan};
 use std::alloc::Global;
 use std::mem::replace;
+use top_mirror::mirror_run;
 
 // The words of a line that lists all blobs.
 const LIST: &str = "list d --limit 4194304";
 
-/// What there is before a run: the packs 0, .. of the disk, of which an empty one isn't there; a pack with the blobs of
-/// the peer; and the keys. What the run reads, and its words.
+/// What there is before a run: the packs 0, .. of the disk, of which an empty one isn't there; packs with the blobs of
+/// the peer and of the second peer; and the keys. What the run reads, and its words.
 #[derive(Drop)]
 pub(crate) struct Given {
     pub(crate) packs: ListOf<Octets>,
     pub(crate) peer: Octets,
+    pub(crate) second: Octets,
     pub(crate) keys: Keyring,
     pub(crate) input: Octets,
     pub(crate) words: Vec<Text>,
@@ -40,11 +42,18 @@ pub(crate) enum Crash {
     OnceOpened(u64),
 }
 
-// A disk and a peer.
+// A disk, and a peer and the second one.
 #[derive(Drop)]
 struct World {
     disk: MemDisk,
-    peer: MemPeer,
+    peers: [MemPeer; 2],
+}
+
+impl World {
+    // Whether a call failed.
+    fn has_failed(&self) -> bool {
+        self.disk.faults() > 0 || self.peers[0].faults() > 0 || self.peers[1].faults() > 0
+    }
 }
 
 /// Runs the words over what there is before, and once more without a call that fails. Answers whether one failed.
@@ -108,10 +117,10 @@ fn tell_run(
     line.push(b' ')?;
     add_number(alloc, line, u64::from(code))?;
     add_written(alloc, line, hand.sink.written())?;
-    Ok(hand.has_failed() || world.disk.faults() > 0 || world.peer.faults() > 0)
+    Ok(hand.has_failed() || world.has_failed())
 }
 
-// The exit status of a run.
+// The exit status of a run. A mirror has both peers, and each other command the first one.
 fn run_words(
     alloc: Global,
     words: &[Text],
@@ -120,26 +129,39 @@ fn run_words(
     hand: &mut Hand,
 ) -> u8 {
     let disk = replace(&mut world.disk, no_disk(alloc));
-    let (disk, status) = run(
-        alloc,
-        words,
-        disk,
-        &mut world.peer,
-        keys,
-        &mut hand.source,
-        &mut hand.sink,
-        &mut hand.clock,
-        &mut hand.dice,
-    );
+    let (disk, status) = if is_mirror(words) {
+        mirror_run(alloc, words, disk, &mut world.peers, &mut hand.sink)
+    } else {
+        run(
+            alloc,
+            words,
+            disk,
+            &mut world.peers[0],
+            keys,
+            &mut hand.source,
+            &mut hand.sink,
+            &mut hand.clock,
+            &mut hand.dice,
+        )
+    };
     world.disk = disk;
     status.code()
 }
 
-// Adds the ref of the lines of all blobs of the disk and of the peer.
+fn is_mirror(words: &[Text]) -> bool {
+    match words.first() {
+        Some(word) => word.as_str() == "mirror",
+        None => false,
+    }
+}
+
+// Adds the ref of the lines of all blobs of the disk and of the peers.
 fn add_held(alloc: Global, world: &mut World, line: &mut Vec<u8>) -> Result<(), NoMemory> {
     let mut held = Vec::new(alloc);
     add_disk(alloc, world, &mut held)?;
-    add_peer(alloc, &mut world.peer, &mut held)?;
+    for peer in &mut world.peers {
+        add_peer(alloc, peer, &mut held)?;
+    }
     add_ref(line, &held)
 }
 
@@ -189,9 +211,13 @@ fn crash_once_opened(alloc: Global, world: &mut World, choice: u64) -> Result<()
 
 // What there is before, with a call that fails, or with a disk that stops at a call.
 fn world_of(alloc: Global, given: &Given, failing: Failing, stop: u64) -> Result<World, NoMemory> {
-    let peer = peer_of(alloc, given.peer.as_slice(), failing)?;
+    let first = peer_of(alloc, given.peer.as_slice(), failing, Object::Peer)?;
+    let second = peer_of(alloc, given.second.as_slice(), failing, Object::SecondPeer)?;
     let disk = disk_of(alloc, given.packs.as_slice(), failing, stop)?;
-    Ok(World { disk, peer })
+    Ok(World {
+        disk,
+        peers: [first, second],
+    })
 }
 
 // Each pack takes three calls.
@@ -241,9 +267,14 @@ fn add_pack(disk: &mut MemDisk, number: u32, bytes: &[u8]) -> Result<(), Failed>
 }
 
 // A peer that holds the blobs of a pack. Each takes one call.
-fn peer_of(alloc: Global, pack: &[u8], failing: Failing) -> Result<MemPeer, NoMemory> {
+fn peer_of(
+    alloc: Global,
+    pack: &[u8],
+    failing: Failing,
+    object: Object,
+) -> Result<MemPeer, NoMemory> {
     let (found, _) = scan(alloc, pack)?;
-    let calls = failing.calls(alloc, Object::Peer, found.len() as u64)?;
+    let calls = failing.calls(alloc, object, found.len() as u64)?;
     let mut peer = MemPeer::empty(alloc, calls);
     for place in found.as_slice() {
         if !is_put(&mut peer, &place.r, blob_at(pack, place)) {
@@ -258,8 +289,8 @@ fn is_put(peer: &mut MemPeer, named: &Ref, bytes: &[u8]) -> bool {
     bytes.len() <= 16_777_216 && r == *named && peer.put(&r, bytes).is_ok()
 }
 
-// The bytes of a blob. A place that isn't in the pack, which no scan gives, has none.
-fn blob_at<'a>(pack: &'a [u8], place: &Found) -> &'a [u8] {
+/// The bytes of a blob. A place that isn't in the pack, which no scan gives, has none.
+pub(crate) fn blob_at<'a>(pack: &'a [u8], place: &Found) -> &'a [u8] {
     let start = place.at as usize;
     let size = place.size as usize;
     if start <= pack.len() && size <= pack.len() - start {

@@ -1,0 +1,5 @@
+use Rattle.fault_rows.proofs.tell_stale.Given as goal
+
+-- the blank's own ledger
+abbrev pub ghosts-tell_index : goal.ghosts-tell_index
+ghosts-tell_index a = record { name = a.blank.name; parts = a.blank.parts }
