@@ -5,16 +5,17 @@ that the disk failed, or not at all; the command ends with the status of what fa
 """
 
 import collections
+import contextlib
 import subprocess
 import time
 
 from command_rows import DISK, DONE, KEYRING, OTHERS, READ
 from connections import OCTETS, Reply, json_text
 from faults import faults_of, own_calls
-from harness import Difference, check, compare, compare_ending, finish
+from harness import SECONDS, Difference, check, compare, compare_ending, finish
 from inputs import DATE, KEY
 from reference import ref_of
-from serving import PORTS, SECONDS_TO_START, Exchange, is_listened_to
+from serving import PORTS, SECONDS_TO_START, Exchange, is_listened_to, kill_with_children
 from stores import Store, look
 from tracing import TRACED, calls_in
 from writing import claim_head, pack, signed
@@ -26,6 +27,7 @@ FAILS |= {"recvfrom": "ECONNRESET", "sendto": "ECONNRESET", "shutdown": "ENOTCON
 OF_A_CONNECTION = ("recvfrom", "sendto", "shutdown", "setsockopt", "getsockopt")
 SHARE = signed(f'{claim_head(DATE)},"claimType":"share","authType":"haveref","target":"{ref_of(b"abc")}"')
 PATHS = [(f"/share/{ref_of(SHARE)}", SHARE), (f"/share/{ref_of(b'abc')}?via={ref_of(SHARE)}", b"abc")]
+MOMENT = 0.3
 FAILED = Reply(503, json_text({"error": "disk"})).text()
 
 
@@ -68,12 +70,10 @@ class ShareRow:
         front = ["strace", "-f", "-y", "-s", "0", "-o", str(log), "-e", f"trace={names}"]
         front += [word for one in fault for word in ("-e", f"inject={one}")]
         process = self.program.start(words, None, front, stdin=subprocess.DEVNULL, stdout=subprocess.PIPE)
-        try:
-            wait_for(port, process)
-            replies = [asked(port, path) for path, _ in PATHS]
-            out, err = finish(what, process)
-        finally:
-            process.kill()
+        wait_for(port, process)
+        replies = [asked(port, path) for path, _ in PATHS]
+        ends(what, port, process)
+        out, err = finish(what, process)
         status = process.returncode
         compare_ending(what, status if status in statuses else statuses[0], status, err)
         compare(what, "standard output", b"", out)
@@ -82,7 +82,8 @@ class ShareRow:
             due = Reply(200, blob, OCTETS).text()
             if not fault or got not in (b"", FAILED):
                 compare(f"{what}, {path}", "the reply", due, got)
-        self.endings[status] += bool(fault)
+        if fault:
+            self.endings[status] += 1
         return calls_in(log.read_text(errors="replace"))
 
 
@@ -100,6 +101,19 @@ def wait_for(port, process):
     while not is_listened_to(port) and process.poll() is None:
         check("serve-shares doesn't listen", time.monotonic() < until)
         time.sleep(0.002)
+
+
+def ends(what, port, process):
+    """Asks on until the command has ended: a connection that breaks as it is accepted is none of those that it serves."""
+    until = time.monotonic() + SECONDS
+    while process.poll() is None:
+        if time.monotonic() > until:
+            kill_with_children(process)
+            raise Difference(f"{what}: no end after {SECONDS} seconds")
+        with contextlib.suppress(subprocess.TimeoutExpired):
+            process.wait(MOMENT)
+            return
+        asked(port, PATHS[0][0])
 
 
 def asked(port, path):

@@ -28,6 +28,14 @@ def heard(stream):
     return stream
 
 
+def heard_of_anyone(stream):
+    """What a server of shares hears of a stream, which keeps nobody out (docs/shares.md, "Over HTTP")."""
+    first = first_head(stream)
+    if first is None or not any(map(says_browser, first[0])):
+        return stream
+    return stream[: first[1] + said_length(first[0])]
+
+
 def first_head(stream):
     """The headers of the first head, with their names in lower case, and the place behind it; None where there is none."""
     try:

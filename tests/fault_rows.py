@@ -81,11 +81,18 @@ def told(program, words, files, line, source):
 
 
 def told_of(program, row, *words):
+    return told(program, words, files_of(row), words_of(row), row.source)
+
+
+def files_of(row):
+    """The files of the world in which a row is run."""
     files = {pack_name(number): content for number, content in (row.packs or {}).items()}
-    files |= {"keyring": KEYRING, "peer": pack(*(row.peer or ())), "second": pack(*(row.second or ()))}
+    return files | {"keyring": KEYRING, "peer": pack(*(row.peer or ())), "second": pack(*(row.second or ()))}
+
+
+def words_of(row):
     names = {FOLDER: "d", ADDRESS: "a", SECOND: "b"}
-    line = [names.get(word, word) for word in row.words]
-    return told(program, words, files, line, row.source)
+    return [names.get(word, word) for word in row.words]
 
 
 # What is due
@@ -118,9 +125,13 @@ class World:
     def held(self, count):
         """The ref of what there is where so many of the new blobs are there too."""
         if count not in self.refs:
-            more = [{ref_of(blob): blob for place, blob in self.new[:count] if place == where} for where in range(3)]
-            self.refs[count] = ref_of(b"".join(listing(had | new) for had, new in zip(self.places, more)))
+            self.refs[count] = ref_of(b"".join(self.lists(count)))
         return self.refs[count]
+
+    def lists(self, count):
+        """What there is then at each place."""
+        more = [{ref_of(blob): blob for place, blob in self.new[:count] if place == where} for where in range(3)]
+        return [listing(had | new) for had, new in zip(self.places, more)]
 
     def count(self, line):
         """How many of the new blobs there are after the first run of a line, or None where it is something else."""

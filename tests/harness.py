@@ -17,6 +17,7 @@ import mmap
 import os
 import pathlib
 import random
+import resource
 import select
 import shutil
 import signal
@@ -166,8 +167,9 @@ def run_quickly(program, words, source, seconds=SECONDS, environment=os.environ)
     return run_measured(program, words, source, seconds, environment)[0]
 
 
-def run_measured(program, words, source, seconds=SECONDS, environment=os.environ):
-    """As `run_quickly`, and what the run took as well."""
+def run_measured(program, words, source, seconds=SECONDS, environment=os.environ, work=None):
+    """As `run_quickly`, and what the run took as well. Where `work` is given, SIGXCPU ends what takes so many seconds of
+    a processor."""
     program.starts[words[0]] += 1
     files = [os.memfd_create("stream") for _ in range(3)]
     try:
@@ -176,6 +178,8 @@ def run_measured(program, words, source, seconds=SECONDS, environment=os.environ
         signals = [signal.SIGPIPE, signal.SIGXFSZ]
         line = [program.path, *words]
         child = os.posix_spawn(program.path, line, environment, file_actions=actions, setsigdef=signals)
+        if work is not None:
+            resource.prlimit(child, resource.RLIMIT_CPU, (work, resource.RLIM_INFINITY))
         in_time = ends_within(child, seconds)
         _, ending, usage = os.wait4(child, 0)
         if not in_time:

@@ -3,7 +3,7 @@ request in each run, from the first one on until a run makes no more.
 
 Memory may run out at any time (docs/commands.md, "Input and order"). A run then has its own outcome all the same, or it
 ends for want of memory or, within a call on the folder or the peer, with that object's fault. What it leaves is looked
-at, and that the same is done well once there is memory. Servers are in memory_served.py.
+at, and that the same is done well once there is memory. Servers are in memory_served.py and memory_shares.py.
 """
 
 import collections
@@ -11,8 +11,9 @@ import os
 
 import harness
 import memory_served
+import memory_shares
 from command_rows import DISK, DONE, KEYRING, KNOWN, MEMORY, PEER, Trial, rows
-from harness import check, run_quickly
+from harness import Difference, run_quickly
 from libraries import CLOCK, DICE, made_library
 from refusing import Page, refusing
 
@@ -35,14 +36,15 @@ class Runs:
         self.known = [made_library(program, name, text) for name, text in (("clock", CLOCK), ("dice", DICE))]
 
     def refused_in_turn(self, row):
+        """Answers how many runs ended with which status."""
         page = Page(self.program, self.library)
         endings = ENDINGS[row.what] = collections.Counter()
         for number in range(1, MOST):
             status = self.refused(row, page, number)
             if status is None:
-                return
+                return endings
             endings[status] += 1
-        check(f"{row.what}: more than {MOST} requests", False)
+        raise Difference(f"{row.what}: more than {MOST} requests")
 
     def refused(self, row, page, number):
         """A run from whose request of a number on some are refused, and then one of which none is; answers how the
@@ -82,4 +84,5 @@ def checks_of(program, group):
 
 
 if __name__ == "__main__":
-    harness.main("memory.sh", [commands, memory_served.routes], [memory_served.starts], checks_of, tell_counts)
+    many, alone = [memory_served.routes, memory_shares.share_routes], [memory_served.starts, memory_shares.share_starts]
+    harness.main("memory.sh", [commands, *many], alone, checks_of, tell_counts)

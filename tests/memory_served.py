@@ -1,5 +1,5 @@
 """A server's requests for memory that are refused: one while it starts, or one from the moment on at which something is
-sent to it.
+sent to it. (Servers of shares are in memory_shares.py.)
 
 What is sent is answered as ever, or by 503 as there is no memory, or its connection ends before a reply; over another
 connection it is answered well then. Where an upload wasn't acknowledged a front of its parts was put. In the end all
@@ -27,7 +27,6 @@ from serving import ABC_REPLY, PORTS, STARTED, Exchange, Server, Talk, compare_t
 from serving import store_of
 
 WORKERS = 2
-WORDS = (f"--workers={WORKERS}", "--indexers=1")
 KEYS = reference.read_keyring(inputs.KEYRING)
 NO_MEMORY = Reply(503, json_text({"error": "memory"}), closes=True).text()
 # How often the server is asked: it has no more requests for memory once so many numbers in a row were too great.
@@ -94,10 +93,40 @@ CASES = [
 ]
 
 
-def routes(program):
+class OfAStore:
+    """A store and what serves it: the class of the server and its words, what it is sent, and a request with its reply. A
+    start is called by a name of its own."""
+
+    START, SERVER, WORDS = "a start", Server, (f"--workers={WORKERS}", "--indexers=1")
+    CASES, GOOD = CASES, (get(blob_target(ABC)), ABC_REPLY)
+
+    def __init__(self, program):
+        self.store = store_of(program, *inputs.EXAMPLE_BLOBS, b"abc")
+
+    def connection(self, stream, blobs):
+        """What a stream has to get where blobs stand."""
+        return Connection(stream, blobs, KEYS)
+
+    def other(self, number):
+        """What is asked after each case too."""
+        return search_of(f"v{number}")
+
+    def exchanged(self, port, stream):
+        """What a stream gets."""
+        return Exchange(port, [stream]).bytes()
+
+    def workers_answer(self, what, port):
+        """As many connections as there are workers are answered while all of them stay."""
+        with contextlib.ExitStack() as stack:
+            for number in range(WORKERS):
+                talk = stack.enter_context(Talk(port))
+                talk.ask(f"{what}, connection {number} of {WORKERS}", *self.GOOD)
+
+
+def routes(program, kind=OfAStore):
     """What a server does from the moment on at which a request is sent, until it is still."""
     library = refusing(program)
-    return [lambda case=case: Asked(program, library, case).in_turn() for case in CASES]
+    return [lambda case=case: Asked(program, library, kind(program), case).in_turn() for case in kind.CASES]
 
 
 def front_of(page):
@@ -108,11 +137,11 @@ def front_of(page):
 class Asked:
     """A server that is sent what a case has, by one number after the other."""
 
-    def __init__(self, program, library, case):
-        self.case, self.page = case, Page(program, library)
-        self.store = store_of(program, *inputs.EXAMPLE_BLOBS, b"abc")
+    def __init__(self, program, library, kind, case):
+        self.kind, self.case, self.page = kind, case, Page(program, library)
+        self.store = kind.store
         self.blobs, self.records = self.store.blobs(), records_of(self.store.packs)
-        self.server = Server(program, self.store.path, *WORDS, front=front_of(self.page))
+        self.server = kind.SERVER(program, self.store.path, *kind.WORDS, front=front_of(self.page))
 
     def in_turn(self):
         quiet = 0
@@ -122,7 +151,7 @@ class Asked:
                 quiet = 0 if was_refused else quiet + 1
                 if quiet == QUIET:
                     break
-            workers_answer(self.case.what, self.server.port)
+            self.kind.workers_answer(self.case.what, self.server.port)
         self.packs_are_right()
         COUNTS[self.case.what] = number - QUIET
 
@@ -131,17 +160,17 @@ class Asked:
         self.asks(f"{what}, before it", self.case.before(number))
         self.is_still()
         stream = self.case.stream(number)
-        due = Connection(stream, self.blobs, KEYS)
+        due = self.kind.connection(stream, self.blobs)
         texts = [reply.text() for reply in due.replies()]
         self.page.refuse(number)
-        got = Exchange(self.server.port, [stream]).bytes()
+        got = self.kind.exchanged(self.server.port, stream)
         self.is_still()
         was_refused = self.page.refused() > 0
         self.page.refuse_none()
         is_answer(what, texts, got, was_refused)
         self.takes_in(what, due, got == b"".join(texts))
         self.asks(f"{what}, and then none", stream)
-        self.asks(f"{what}, and then a search", search_of(f"v{number}"))
+        self.asks(f"{what}, and then something else", self.kind.other(number))
         return was_refused
 
     def is_still(self):
@@ -169,9 +198,9 @@ class Asked:
 
     def asks(self, what, stream):
         """Asks what has to be answered as ever, if anything."""
-        due = Connection(stream, self.blobs, KEYS)
+        due = self.kind.connection(stream, self.blobs)
         told = b"".join(reply.text() for reply in due.replies())
-        compare_texts(what, told, Exchange(self.server.port, [stream]).bytes() if stream else b"")
+        compare_texts(what, told, self.kind.exchanged(self.server.port, stream) if stream else b"")
         self.blobs = due.blobs
 
     def packs_are_right(self):
@@ -199,38 +228,29 @@ def is_answer(what, texts, got, was_refused):
         compare_texts(what, b"".join(texts), got)
 
 
-def workers_answer(what, port):
-    """As many connections as there are workers are answered while all of them stay."""
-    with contextlib.ExitStack() as stack:
-        for number in range(WORKERS):
-            talk = stack.enter_context(Talk(port))
-            talk.ask(f"{what}, connection {number} of {WORKERS}", get(blob_target(ABC)), ABC_REPLY)
-
-
 # Starts
 
-def starts(program):
+def starts(program, kind=OfAStore):
     """A server's start: it ends for want of memory, or serves."""
     library = refusing(program)
-    return [lambda: starts_in_turn(program, library)]
+    return [lambda: starts_in_turn(program, library, kind)]
 
 
-def starts_in_turn(program, library):
+def starts_in_turn(program, library, kind):
     page = Page(program, library)
     for number in range(1, MOST):
-        store = store_of(program, *inputs.EXAMPLE_BLOBS, b"abc")
-        if not Start(program, page, store).refuses(f"a start, request {number} refused", number):
-            COUNTS["a start"] = number - 1
+        if not Start(program, page, kind(program)).refuses(f"{kind.START}, request {number} refused", number):
+            COUNTS[kind.START] = number - 1
             return
-    raise Difference(f"a start: more than {MOST} requests")
+    raise Difference(f"{kind.START}: more than {MOST} requests")
 
 
 class Start:
     """A server that may not come to serve."""
 
-    def __init__(self, program, page, store):
-        self.page, self.store, self.port = page, store, PORTS.free()
-        self.program = program
+    def __init__(self, program, page, kind):
+        self.program, self.page, self.kind = program, page, kind
+        self.store, self.port = kind.store, PORTS.free()
 
     def refuses(self, what, number):
         """Answers whether a request was refused until the server has answered once, or ended."""
@@ -241,8 +261,8 @@ class Start:
         was_refused = self.page.refused() > 0
         self.page.refuse_none()
         if self.process.poll() is None:
-            is_answer(what, [ABC_REPLY.text()], got, was_refused)
-            workers_answer(f"{what}, and then none", self.port)
+            is_answer(what, [self.kind.GOOD[1].text()], got, was_refused)
+            self.kind.workers_answer(f"{what}, and then none", self.port)
             self.process.kill()
             self.process.communicate()
         else:
@@ -255,7 +275,7 @@ class Start:
         return was_refused
 
     def start(self):
-        words = ["serve", str(self.store.path), f"--port={self.port}", *WORDS]
+        words = [self.kind.SERVER.COMMAND, str(self.store.path), f"--port={self.port}", *self.kind.WORDS]
         streams = {"stdin": subprocess.DEVNULL, "stdout": subprocess.PIPE}
         self.process = self.program.start(words, front=front_of(self.page), **streams)
         STARTED.append(self.process)
@@ -265,8 +285,8 @@ class Start:
     def first_answer(self):
         """What a connection gets; where that is nothing the server may have ended."""
         got = b""
-        with contextlib.suppress(ConnectionRefusedError):
-            got = Exchange(self.port, [get(blob_target(ABC))]).bytes()
+        with contextlib.suppress(ConnectionRefusedError, ConnectionResetError):
+            got = self.kind.exchanged(self.port, self.kind.GOOD[0])
         if got == b"":
             with contextlib.suppress(subprocess.TimeoutExpired):
                 self.process.wait(timeout=0.5)
