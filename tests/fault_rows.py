@@ -28,7 +28,7 @@ from inputs import DATE, KEY, NODE
 from query import RandomShelf
 from reference import pack_name, ref_of
 from refusing import Page, refusing
-from writing import claim, pack
+from writing import bytes_blob, claim, file_blob, key_blob, pack, part as part_text, permanode
 
 # How a run ends where a call of an object fails.
 STATUSES = {"disk": DISK, "peer": PEER, "second": PEER, "source": READ, "sink": WRITE, "clock": HAND, "dice": HAND}
@@ -393,7 +393,7 @@ class Placed:
 
     def answers(self, texts, seconds=SECONDS):
         """The answers to queries, a line for each: by the index, and by one that keeps nothing."""
-        out, _ = self.process.communicate(b"\n".join(texts), seconds)
+        out, _ = harness.finish("an index", self.process, b"\n".join(texts), seconds)
         shutil.rmtree(self.world)
         compare("an index", "how it ended", 0, self.process.returncode)
         lines = out.splitlines()
@@ -418,6 +418,55 @@ def answers_stale(program, library, shelf):
     for query, text, answer, plain_answer in itertools.zip_longest(asked, due, answers, plain):
         compare(f"{what}: {query}", "the answer", text, answer)
         compare(f"{what}: {query}", "the plain answer", text, plain_answer)
+
+
+# So many layers of trees, each of which has parts of those below, so that there are twice as many paths with each layer;
+# and the seconds that the answers to a query may take, by an index that is stale and by one that keeps nothing.
+LAYERS, SOON = 30, 10
+FIRST = permanode("1" * 32)
+ASKED_OF_FILES = [
+    {"file": {}},
+    {"file": {"fileSize": {"min": 1 << LAYERS, "max": 1 << LAYERS}}},
+    {"file": {"fileName": {"equals": "n.txt"}}},
+    {"blobSize": {"min": 1}},
+    {"camliType": "file"},
+]
+
+
+def layers(program):
+    """A stale index answers in time over trees that share parts in many layers."""
+    library = refusing(program)
+    return [lambda one=one: answers_soon(program, library, *one) for one in itertools.product((1, 2), ASKED_OF_FILES)]
+
+
+def layered(width):
+    """Blobs: a byte, and layers of so many trees, each of which has two parts, of 2^n bytes together in the n-th; a file of
+    the last layer; a permanode with that content, one that names it as its signer, and two claims of a long value, of which
+    a table has a copy."""
+    below, blobs = [(ref_of(b"x"), "blobRef")], [b"x"]
+    for layer in range(LAYERS + 1):
+        size, trees = 1 << max(layer - 1, 0), []
+        for first in range(width):
+            parts = [part_text(size, *below[(first + place) % len(below)]) for place in range(2 if layer else 1)]
+            # Where a layer's trees would be the same a part of no bytes tells them apart.
+            trees.append(bytes_blob(parts + [part_text(0)] * first))
+        blobs += trees
+        below = [(ref_of(tree), "bytesRef") for tree in trees]
+    top = file_blob("n.txt", [part_text(1 << LAYERS, *below[0])])
+    content = claim("set", ref_of(FIRST), "camliContent", ref_of(top), DATE)
+    titles = [claim("add", ref_of(FIRST), "title", letter * 100, DATE) for letter in "ab"]
+    return [*blobs, top, key_blob(), FIRST, content, permanode("3" * 32, ref_of(top)), *titles]
+
+
+def answers_soon(program, library, width, constraint):
+    what = f"layers of {width}, {constraint}"
+    files = {pack_name(0): pack(*dict.fromkeys(layered(width))), "keyring": KEYRING}
+    index = Placed(program, library, files)
+    index.places()
+    compare(what, "whether the index is stale", (True, True), index.places(1))
+    query = {"constraint": {"permanode": {"attr": "camliContent", "valueInSet": constraint}}}
+    due = [reference.search_text([ref_of(FIRST)])]
+    compare(what, "the answers", (due, due), index.answers([query_inputs.spell(query).encode()], SOON))
 
 
 def is_made_anew(program, library):
@@ -480,4 +529,4 @@ def whole_after(stop, choice, second):
 
 
 if __name__ == "__main__":
-    harness.main("fault_rows.sh", [fails, pages, connections, listeners, stale, stops])
+    harness.main("fault_rows.sh", [fails, pages, connections, listeners, stale, layers, stops])

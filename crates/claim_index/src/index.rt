@@ -12,7 +12,7 @@ use crate::rebuilding::{rebuild, take_up};
 use blobref::{ListOf, NoMemory, Ref, RefList, TextList};
 use claim_verify::Verifier;
 use edge_base::{Inserted, Steps};
-use index_look::{FactTable, Look};
+use index_look::{FactTable, Known, Look};
 use index_rows::{Made, OrderedFacts, Rows};
 use schema_date::{Date, When};
 use schema_fact::Fact;
@@ -287,6 +287,20 @@ impl<V: Verifier> Look for Index<V> {
         }
     }
 
+    /// Two look-ups, and `known` isn't used, but where the index is stale.
+    fn fact_known<L: Ledger>(
+        &self,
+        known: &mut Known,
+        r: &Ref,
+        steps: &mut Steps<L>,
+    ) -> Result<Option<&Fact>, NoMemory> {
+        if self.stale {
+            plain_answers::fact_known(&self.rows.facts, known, r, steps)
+        } else {
+            Ok(row_answers::fact_of(&self.rows, r, steps))
+        }
+    }
+
     /// Two look-ups.
     fn is_permanode<L: Ledger>(&self, r: &Ref, steps: &mut Steps<L>) -> bool {
         if self.stale {
@@ -346,6 +360,20 @@ impl<V: Verifier> Look for Index<V> {
             plain_answers::file_size(&self.rows.facts, &self.keys, r, steps)
         } else {
             row_answers::file_size(&self.rows, r, steps)
+        }
+    }
+
+    /// Two look-ups, and `known` isn't used, but where the index is stale.
+    fn size_known<L: Ledger>(
+        &self,
+        known: &mut Known,
+        r: &Ref,
+        steps: &mut Steps<L>,
+    ) -> Result<Option<u64>, NoMemory> {
+        if self.stale {
+            plain_answers::size_known(&self.rows.facts, known, r, steps)
+        } else {
+            Ok(row_answers::file_size(&self.rows, r, steps))
         }
     }
 

@@ -1,5 +1,6 @@
 pub mod Counting
 pub mod Entries
+pub mod Keeping
 pub mod Keys
 pub mod Lasts
 pub mod Order

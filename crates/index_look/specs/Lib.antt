@@ -2,3 +2,4 @@ pub mod Look
 pub mod Walk
 pub mod Claims
 pub mod Latest
+pub mod Known

@@ -7,8 +7,10 @@ ghost use Rattle.claim_model.specs.Claims.{holders, last_change, parents, values
 ghost use Rattle.claim_model.specs.Deleted.{is_deleted};
 ghost use Rattle.claim_model.specs.Trees.{file_size};
 ghost use Rattle.claim_verify.specs.Verifier.{Accepts};
+ghost use Rattle.index_look.specs.Known.{IsSo};
 ghost use Rattle.index_look.specs.Look.{permanode_after};
 
+use crate::known::Known;
 use blobref::{NoMemory, Ref, RefList, TextList};
 use edge_base::Steps;
 use schema_date::{Date, When};
@@ -31,6 +33,18 @@ pub trait Look {
     /// The fact of a ref, and `None` exactly where the ref isn't ready.
     fn fact_of<L: Ledger>(&self, r: &Ref, steps: &mut Steps<L>) -> Option<&Fact>
         ensures { option_copied result ≡ ready_fact (facts self.now) r.now };
+
+    /// The same, for whoever asks for many refs in turn: an index that has no table of what is ready keeps what it finds
+    /// in `known`, and comes to each blob once for all of them. `NoMemory` comes only where no memory is left.
+    fn fact_known<L: Ledger>(
+        &self,
+        known: &mut Known,
+        r: &Ref,
+        steps: &mut Steps<L>,
+    ) -> Result<Option<&Fact>, NoMemory>
+        requires so { IsSo (facts self.now) known.old }
+        ensures value { IfOk result (λ fact. option_copied fact ≡ ready_fact (facts self.now) r.now) }
+        ensures so { IsSo (facts self.now) known.new };
 
     /// Whether the ref is that of a genuine permanode.
     fn is_permanode<L: Ledger>(&self, r: &Ref, steps: &mut Steps<L>) -> bool
@@ -62,6 +76,17 @@ pub trait Look {
     /// and all of whose parts stand in their origins.
     fn file_size<L: Ledger>(&self, r: &Ref, steps: &mut Steps<L>) -> Option<u64>
         ensures { result ≡ file_size (facts self.now) r.now };
+
+    /// The same, for whoever asks for many refs in turn, as `fact_known`. `NoMemory` comes only where no memory is left.
+    fn size_known<L: Ledger>(
+        &self,
+        known: &mut Known,
+        r: &Ref,
+        steps: &mut Steps<L>,
+    ) -> Result<Option<u64>, NoMemory>
+        requires so { IsSo (facts self.now) known.old }
+        ensures value { IfOk result (λ size. size ≡ file_size (facts self.now) r.now) }
+        ensures so { IsSo (facts self.now) known.new };
 
     /// The genuine permanodes not deleted that have the value of the attribute, by claims of every date, ascending.
     /// Where the index is quick and there are n of them, it takes at most 6 (1 + n) steps, whatever it answers.

@@ -1,4 +1,5 @@
 pub mod Deleting
+pub mod Learning
 pub mod Moments
 pub mod Reaching
 pub mod Walking

@@ -4,26 +4,31 @@
 //! costs are given for a table of n facts, in look-ups and steps of the table. Whether a blob is ready costs two
 //! steps for each path from it through what it depends on, where a ref that several parts of a file have counts once.
 //! So a chain of blobs costs its length, and blobs that are shared again and again, as by files made of files, can
-//! cost a power of their depth: an index that is kept doesn't.
-ghost use Rattle.std.specs.Prelude.{◌≡◌, ◌++◌, ◌∷◌, [], IfOk, OnOk, filter, option_copied};
+//! cost a power of their depth: an index that is kept doesn't, nor do `fact_known` and `size_known`, to which the caller
+//! lends what was found so far.
+ghost use Rattle.std.specs.Prelude.{◌≡◌, ◌++◌, ◌∷◌, [], None, IfOk, OnOk, filter, option_copied, if◌then◌else◌};
+ghost use Rattle.std.specs.FinMap.{get};
 ghost use Rattle.claim_model.specs.Claims.{has_value, holders, last_change, parents, values};
 ghost use Rattle.claim_model.specs.Deleted.{is_deleted, live_permanodes};
 ghost use Rattle.claim_model.specs.Genuine.{is_genuine_permanode};
+ghost use Rattle.claim_model.specs.Facts.{passes};
 ghost use Rattle.claim_model.specs.Ready.{ready_fact};
-ghost use Rattle.claim_model.specs.Trees.{file_size};
+ghost use Rattle.claim_model.specs.Trees.{file_size, is_file, tree_size};
+ghost use Rattle.index_look.specs.Known.{IsSo};
 ghost use Rattle.index_look.specs.Look.{permanode_after};
 ghost use Rattle.index_look.specs.Claims.{is_holder};
 
 use crate::attributes::{has_value, latest, values_of};
 use crate::deletion::is_deleted;
+use crate::known;
 use crate::readiness::{is_genuine_permanode, is_ready};
 use crate::trees::is_sound_tree;
 use crate::walk::entry_after;
 use blobref::{NoMemory, Ref, RefList, TextList};
 use claim_verify::Verifier;
 use edge_base::Steps;
-use index_look::FactTable;
 use index_look::tree::{is_file, own_size};
+use index_look::{FactTable, Known};
 use schema_date::{Date, When};
 use schema_fact::Fact;
 use std::alloc::Global;
@@ -42,6 +47,26 @@ pub fn fact_of<'a, T: FactTable, V: Verifier, L: Ledger>(
         table.fact_at(r, steps)
     } else {
         None
+    }
+}
+
+/// The same as `fact_of`, where many are asked for in turn, and what is found to be ready is kept in `known`. All told it
+/// comes to each blob once, and takes two steps for each time that one is named. `NoMemory` comes only where no memory is
+/// left.
+pub fn fact_known<'a, T: FactTable, L: Ledger>(
+    table: &'a T,
+    known: &mut Known,
+    r: &Ref,
+    steps: &mut Steps<L>,
+) -> Result<Option<&'a Fact>, NoMemory>
+    requires so { IsSo (T.facts table.now) known.old }
+    ensures value { IfOk result (λ fact. option_copied fact ≡ ready_fact (T.facts table.now) r.now) }
+    ensures so { IsSo (T.facts table.now) known.new }
+{
+    if known::is_ready(table, known, r, steps)? {
+        Ok(table.fact_at(r, steps))
+    } else {
+        Ok(None)
     }
 }
 
@@ -140,6 +165,38 @@ pub fn file_size<T: FactTable, V: Verifier, L: Ledger>(
     let sound = is_sound_tree(table, r, steps);
     let fact = table.fact_at(r, steps)?;
     if sound && is_file(&fact.kind) {
+        own_size(fact)
+    } else {
+        None
+    }
+}
+
+/// The same as `file_size`, where many are asked for in turn, and what is found to be ready or a sound tree is kept in
+/// `known`. All told it comes to each tree once, and takes some steps for each of its parts. `NoMemory` comes only where
+/// no memory is left.
+pub fn size_known<T: FactTable, L: Ledger>(
+    table: &T,
+    known: &mut Known,
+    r: &Ref,
+    steps: &mut Steps<L>,
+) -> Result<Option<u64>, NoMemory>
+    requires so { IsSo (T.facts table.now) known.old }
+    ensures value { IfOk result (λ size. size ≡ file_size (T.facts table.now) r.now) }
+    ensures so { IsSo (T.facts table.now) known.new }
+{
+    if !known::is_sound_tree(table, known, r, steps)? {
+        return Ok(None);
+    }
+    Ok(file_size_at(table, r, steps))
+}
+
+// The size of the parts of a file together, sound or not.
+fn file_size_at<T: FactTable, L: Ledger>(table: &T, r: &Ref, steps: &mut Steps<L>) -> Option<u64>
+    ensures { result ≡ (if passes (λ fact. is_file fact.kind) (get (T.facts table.now) r.now)
+        then tree_size (T.facts table.now) r.now else None) }
+{
+    let fact = table.fact_at(r, steps)?;
+    if is_file(&fact.kind) {
         own_size(fact)
     } else {
         None

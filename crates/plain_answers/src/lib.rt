@@ -4,11 +4,12 @@
 mod answers;
 mod attributes;
 mod deletion;
+mod known;
 mod readiness;
 mod trees;
 mod walk;
 
 pub use answers::{
-    deleted, fact_of, file_size, holders, is_permanode, last_change, parents, permanode_after,
-    values,
+    deleted, fact_known, fact_of, file_size, holders, is_permanode, last_change, parents,
+    permanode_after, size_known, values,
 };

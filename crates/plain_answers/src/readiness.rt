@@ -128,6 +128,7 @@ fn is_from(r: &Ref, part: &Part) -> bool
     }
 }
 
+// A signature tells most that isn't genuine without a look at what it depends on.
 pub(crate) fn is_genuine<T: FactTable, V: Verifier, L: Ledger>(
     table: &T,
     keys: &V,
@@ -136,7 +137,7 @@ pub(crate) fn is_genuine<T: FactTable, V: Verifier, L: Ledger>(
 ) -> bool
     ensures { result ≡ is_genuine (T.facts table.now) (V.accepts keys.now) r.now }
 {
-    is_ready(table, r, steps) && is_signed_at(table, keys, r, steps)
+    is_signed_at(table, keys, r, steps) && is_ready(table, r, steps)
 }
 
 fn is_signed_at<T: FactTable, V: Verifier, L: Ledger>(

@@ -106,7 +106,11 @@ fn part_fits<T: FactTable, L: Ledger>(
 }
 
 // The size of the tree at a ref.
-fn size_at<T: FactTable, L: Ledger>(table: &T, r: &Ref, steps: &mut Steps<L>) -> Option<u64>
+pub(crate) fn size_at<T: FactTable, L: Ledger>(
+    table: &T,
+    r: &Ref,
+    steps: &mut Steps<L>,
+) -> Option<u64>
     ensures { result ≡ tree_size (T.facts table.now) r.now }
 {
     own_size(table.fact_at(r, steps)?)

@@ -7,7 +7,7 @@ ghost use Rattle.index_rows.specs.Stored.{start_after};
 use blobref::{ListOf, NoMemory, Ref, RefList, TextList};
 use claim_verify::Verifier;
 use edge_base::Steps;
-use index_look::{FactTable, Look};
+use index_look::{FactTable, Known, Look};
 use schema_date::{Date, When};
 use schema_fact::Fact;
 use std::alloc::Global;
@@ -106,6 +106,15 @@ impl<V: Verifier> Look for PlainIndex<V> {
         plain_answers::fact_of(self, &self.keys, r, steps)
     }
 
+    fn fact_known<L: Ledger>(
+        &self,
+        known: &mut Known,
+        r: &Ref,
+        steps: &mut Steps<L>,
+    ) -> Result<Option<&Fact>, NoMemory> {
+        plain_answers::fact_known(self, known, r, steps)
+    }
+
     fn is_permanode<L: Ledger>(&self, r: &Ref, steps: &mut Steps<L>) -> bool {
         plain_answers::is_permanode(self, &self.keys, r, steps)
     }
@@ -134,6 +143,15 @@ impl<V: Verifier> Look for PlainIndex<V> {
 
     fn file_size<L: Ledger>(&self, r: &Ref, steps: &mut Steps<L>) -> Option<u64> {
         plain_answers::file_size(self, &self.keys, r, steps)
+    }
+
+    fn size_known<L: Ledger>(
+        &self,
+        known: &mut Known,
+        r: &Ref,
+        steps: &mut Steps<L>,
+    ) -> Result<Option<u64>, NoMemory> {
+        plain_answers::size_known(self, known, r, steps)
     }
 
     fn holders<L: Ledger>(

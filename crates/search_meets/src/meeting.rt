@@ -13,7 +13,7 @@ use crate::marks::{chosen, gathered, joined, said, spread, trues};
 use crate::valuing::{live_marks, named_marks, set_links, time_of};
 use blobref::{NoMemory, Ref, RefList, RefSet};
 use edge_base::Steps;
-use index_look::Look;
+use index_look::{Known, Look};
 use schema_date::When;
 use search_query::{Constraint, Logical, Op, PermanodeTest, Relation};
 use std::alloc::Global;
@@ -25,7 +25,9 @@ use std::sync::ledger::Ledger;
 /// Each part of the constraint is asked once of each ref that it is in question for: those given, and what the parts
 /// around it lead to from there. So the time is at most that of (parts of the constraint) x (refs) x (values or parents
 /// of a ref), however deep the constraint nests. Each part that asks for parents at a date, and not by claims of every
-/// date, also goes once through all permanodes and their changes, however many refs it is in question for.
+/// date, also goes once through all permanodes and their changes, however many refs it is in question for. An index that
+/// has no table of what is ready or sound, as a stale one, keeps in memory what it finds to be so until that part has
+/// been asked, and so comes to each such blob once for all of the refs.
 pub fn met<K: Look, L: Ledger>(
     alloc: Global,
     look: &K,
@@ -73,9 +75,10 @@ fn leaf_marks<K: Look, L: Ledger>(
     ensures { IfOk result (λ m. m.items
         ≡ map (leaves_meet (K.facts look.now) (leaves_of (out-Constraint constraint.now))) refs.now) }
 {
+    let mut known = Known::nothing(alloc);
     let mut out = Vec::new(alloc);
     for r in refs {
-        out.push(leaves_meet(look, constraint, r, steps))?;
+        out.push(leaves_meet(look, &mut known, constraint, r, steps)?)?;
     }
     Ok(out)
 }

@@ -2,6 +2,7 @@
 ghost use Rattle.std.specs.Prelude.{◌≡◌, ◌++◌, ◌∷◌, ◌&&◌, [], IfOk, OnOk, Some, None, filter, map, if◌then◌else◌};
 ghost use Rattle.std.specs.List.{list_any};
 ghost use Rattle.claim_model.specs.Facts.{Facts};
+ghost use Rattle.index_look.specs.Known.{IsSo};
 ghost use Rattle.search_query.specs.View.{test_leaves_of};
 ghost use Rattle.search_query.specs.declared.query.Constraint.TheViews.{out-PermanodeTest};
 ghost use Rattle.search_meets.specs.Computed.{candidates, is_candidate, set_refs};
@@ -11,7 +12,7 @@ ghost use Rattle.search_meets.specs.Values.{value_meets, values_hold, values_mee
 use crate::testing::{equals, int_meets, text_meets};
 use blobref::{NoMemory, Ref, RefList, Text};
 use edge_base::Steps;
-use index_look::Look;
+use index_look::{Known, Look};
 use schema_date::{Date, When};
 use search_query::{PermanodeTest, TextTest};
 use std::alloc::Global;
@@ -129,45 +130,61 @@ pub(crate) fn live_marks<K: Look, L: Ledger>(
 }
 
 // The ready ref that a text is.
-fn ready_ref<K: Look, L: Ledger>(look: &K, v: &Text, steps: &mut Steps<L>) -> Option<Ref>
-    ensures { result ≡ (if is_ready_ref (K.facts look.now) v.now then Some v.now else None) }
+fn ready_ref<K: Look, L: Ledger>(
+    look: &K,
+    known: &mut Known,
+    v: &Text,
+    steps: &mut Steps<L>,
+) -> Result<Option<Ref>, NoMemory>
+    requires so { IsSo (K.facts look.now) known.old }
+    ensures value { IfOk result (λ r. r ≡ (if is_ready_ref (K.facts look.now) v.now then Some v.now else None)) }
+    ensures so { IsSo (K.facts look.now) known.new }
 {
-    let r = Ref::read(v.as_str().as_bytes())?;
-    if look.fact_of(&r, steps).is_none() {
-        return None;
+    let Some(r) = Ref::read(v.as_str().as_bytes()) else {
+        return Ok(None);
+    };
+    if look.fact_known(known, &r, steps)?.is_none() {
+        return Ok(None);
     }
-    Some(r)
+    Ok(Some(r))
 }
 
 // The ready ref that a value is, if it meets what is asked of it by itself.
 fn candidate<K: Look, L: Ledger>(
     look: &K,
+    known: &mut Known,
     value: &Option<Text>,
     matches: &Option<TextTest>,
     v: &Text,
     steps: &mut Steps<L>,
-) -> Option<Ref>
-    ensures { result ≡ (if is_candidate (K.facts look.now) value.now matches.now v.now then Some v.now else None) }
+) -> Result<Option<Ref>, NoMemory>
+    requires so { IsSo (K.facts look.now) known.old }
+    ensures value { IfOk result (λ r. r
+        ≡ (if is_candidate (K.facts look.now) value.now matches.now v.now then Some v.now else None)) }
+    ensures so { IsSo (K.facts look.now) known.new }
 {
     if value_meets(value, matches, v) {
-        ready_ref(look, v, steps)
+        ready_ref(look, known, v, steps)
     } else {
-        None
+        Ok(None)
     }
 }
 
 fn keep_candidate<K: Look, L: Ledger>(
     look: &K,
+    known: &mut Known,
     value: &Option<Text>,
     matches: &Option<TextTest>,
     kept: &mut RefList,
     v: &Text,
     steps: &mut Steps<L>,
 ) -> Result<(), NoMemory>
-    ensures { OnOk result (kept.new ≡ kept.old ++ filter (is_candidate (K.facts look.now) value.now matches.now)
-        (v.now ∷ [])) }
+    requires so { IsSo (K.facts look.now) known.old }
+    ensures kept { OnOk result (kept.new ≡ kept.old ++ filter
+        (is_candidate (K.facts look.now) value.now matches.now) (v.now ∷ [])) }
+    ensures so { IsSo (K.facts look.now) known.new }
 {
-    if let Some(r) = candidate(look, value, matches, v, steps) {
+    if let Some(r) = candidate(look, known, value, matches, v, steps)? {
         kept.push(r)?;
     }
     Ok(())
@@ -177,16 +194,20 @@ fn keep_candidate<K: Look, L: Ledger>(
 pub(crate) fn candidates<K: Look, L: Ledger>(
     alloc: Global,
     look: &K,
+    known: &mut Known,
     value: &Option<Text>,
     matches: &Option<TextTest>,
     found: &[Text],
     steps: &mut Steps<L>,
 ) -> Result<RefList, NoMemory>
-    ensures { IfOk result (λ refs. refs ≡ filter (is_candidate (K.facts look.now) value.now matches.now) found.now) }
+    requires so { IsSo (K.facts look.now) known.old }
+    ensures refs { IfOk result (λ refs. refs
+        ≡ filter (is_candidate (K.facts look.now) value.now matches.now) found.now) }
+    ensures so { IsSo (K.facts look.now) known.new }
 {
     let mut kept = RefList::empty(alloc);
     for v in found {
-        keep_candidate(look, value, matches, &mut kept, v, steps)?;
+        keep_candidate(look, known, value, matches, &mut kept, v, steps)?;
     }
     Ok(kept)
 }
@@ -196,14 +217,17 @@ pub(crate) fn candidates<K: Look, L: Ledger>(
 fn set_refs<K: Look, L: Ledger>(
     alloc: Global,
     look: &K,
+    known: &mut Known,
     test: &PermanodeTest,
     attr: &str,
     when: &When,
     r: &Ref,
     steps: &mut Steps<L>,
 ) -> Result<RefList, NoMemory>
-    ensures { IfOk result (λ refs. refs ≡ set_refs (K.facts look.now) (K.accepts look.now)
+    requires so { IsSo (K.facts look.now) known.old }
+    ensures refs { IfOk result (λ refs. refs ≡ set_refs (K.facts look.now) (K.accepts look.now)
         (test_leaves_of (out-PermanodeTest test.now)) when.now attr.now r.now) }
+    ensures so { IsSo (K.facts look.now) known.new }
 {
     if !is_live(look, r, when, steps) {
         return Ok(RefList::empty(alloc));
@@ -215,6 +239,7 @@ fn set_refs<K: Look, L: Ledger>(
     candidates(
         alloc,
         look,
+        known,
         &test.value,
         &test.value_matches,
         found.as_slice(),
@@ -235,9 +260,11 @@ pub(crate) fn set_links<K: Look, L: Ledger>(
     ensures { IfOk result (λ l. l.items ≡ map (set_refs (K.facts look.now) (K.accepts look.now)
         (test_leaves_of (out-PermanodeTest test.now)) when.now attr.now) refs.now) }
 {
+    let mut known = Known::nothing(alloc);
     let mut out = Vec::new(alloc);
     for r in refs {
-        out.push(set_refs(alloc, look, test, attr, when, r, steps)?)?;
+        let found = set_refs(alloc, look, &mut known, test, attr, when, r, steps)?;
+        out.push(found)?;
     }
     Ok(out)
 }

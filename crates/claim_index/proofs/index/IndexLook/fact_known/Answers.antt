@@ -1,0 +1,17 @@
+use Rattle.std.proofs.Common.{◌∙◌, sym, ap}
+use Rattle.claim_model.specs.Ready.{ready_fact}
+use Rattle.claim_index.specs.Indexed.{Indexed}
+use Rattle.claim_index.proofs.Settled.{all_ordered}
+use Rattle.claim_index.proofs.Telling.{fact_told}
+use Rattle.claim_index.proofs.index.IndexLook.fact_known.Goals as goal
+
+pub returns-else-self-clause-value : goal.returns-else-self-clause-value
+returns-else-self-clause-value g c =
+    let a = c.self.inside in
+    let settled = c.self.invariant.1 c.if-self.false in
+    let facts = sym (all_ordered a.rows.facts settled.none) ∙ ap (λ (v : Indexed g.row.V.Denot). v.facts)
+    c.self.view_is in
+    c.fact_of.ensures
+    ∙ fact_told a.rows.facts.ordered
+    (g.V.Verifier.accepts a.keys) a.rows.state a.rows.waiters a.rows.deletes a.rows.changes a.rows.holders
+    settled.rest c.args.r.now ∙ (λ i. ready_fact (facts i) c.args.r.now)
