@@ -20,7 +20,7 @@ from command_rows import FOLDER, KEY_OPTION, KEYRING, TODAY, Row, copies, printe
 from harness import Difference, chance, check
 from inputs import CLAIM, DELETE, KEY, NODE, day
 from memory import Runs
-from memory_worlds import Worlds
+from memory_worlds import Inserts, Worlds, inserted
 from note_stores import list_text
 from query_inputs import spell
 from reference import ref_of
@@ -100,10 +100,13 @@ def main(path, worlds, folder, *names):
     program = harness.Program(path, folder)
     os.chdir(program.working_folder(KEYRING))
     one, all_from = Runs(program), Runs(program, ALL)
-    in_memory = Worlds(harness.Program(worlds, tempfile.mkdtemp(dir=folder)))
+    worlds = harness.Program(worlds, tempfile.mkdtemp(dir=folder))
+    in_memory, inserts, no_inserts = Worlds(worlds), Inserts(worlds), Inserts(worlds, ALL)
     chosen = [(one, row, row.what) for row in long_rows()]
     chosen += [(in_memory, row, f"{row.what}, in memory") for row in rows()]
+    chosen += [(inserts, row, row.what) for row in inserted()]
     chosen += [(all_from, row, f"{row.what}, from a request on") for row in rows()]
+    chosen += [(no_inserts, row, f"{row.what}, from a request on") for row in inserted()]
     good = [refused(*each) for each in chosen if not names or each[2] in names]
     sys.exit(0 if all(good) else 1)
 

@@ -1,84 +1,93 @@
-"""Requests for memory that are refused of runs over worlds in memory, which the program of crates/fault_rows makes: see
-memory.sh.
+"""Requests for memory that are refused of runs over worlds in memory, and of inserts into an index, which the program of
+crates/fault_rows makes: see memory.sh.
 
 A run then is done all the same, or it ends for want of memory, or with the fault of the object whose own memory was
 refused; and the second run over what it left is done. Or the first one is done, and this is so of the second one. Where
 what there is was being listed, one of the lists is lacking. Or nothing is told, where that program itself was refused
-memory for its words, its input or what it prints; and where it was refused memory for a file of the world, all is as
-without that file.
+memory for its words, its files or what it prints.
+
+An insert is done, or refused: the index then has as many blobs as before it, and each answer is as before. Once there is
+memory it is done.
 """
 
 import collections
 import os
+import re
 import shutil
+from typing import NamedTuple
 
-from command_rows import DISK, DONE, MEMORY, PEER, READ, WRITE
+import queries
+import reference
+import writing
+from command_rows import DISK, DONE, KEYRING, MEMORY, PEER, READ, WRITE
 from fault_rows import World, files_of, is_done, lines_of, words_of
 from harness import check, compare, run_quickly
-from reference import ref_of
+from inputs import CLAIM, DELETE, KEY, NODE, day
+from query_inputs import holding, spell, with_content
+from reference import pack_name, ref_of
 from refusing import Page, refusing
+from writing import claim, pack, permanode
 
 MOST, SECONDS = 1_000_000, 1_000
 BAD_WORDS = 2
+FOLDER = object()
 ENDS = [str(status) for status in (MEMORY, READ, WRITE, DISK, PEER)]
 
 
-class Worlds:
-    """The program over worlds, with requests that are refused, one in each run."""
+class Refused:
+    """The program over worlds, with so many requests that are refused in each run, one after the other."""
 
-    def __init__(self, program):
-        self.program, self.page = program, Page(program, refusing(program))
+    def __init__(self, program, count=1):
+        self.program, self.count, self.page = program, count, Page(program, refusing(program))
         self.environment = {**os.environ, **self.page.variables()}
 
-    def refused_in_turn(self, row):
-        """Answers how many runs ended with which status, the first one of the two where that isn't done."""
-        endings, folder, world = collections.Counter(), self.program.new_path(), World(row)
-        words = ["fails", "disk", "0", "0", str(folder), *words_of(row)]
+    def endings(self, what, files, words, source, ended):
+        """Runs the words over a world of these files, in which FOLDER is that of the world, until a run makes no request
+        that is refused; answers how often `ended` gave what of how the others ended."""
+        endings, folder = collections.Counter(), self.program.new_path()
         folder.mkdir()
-        for name, content in files_of(row).items():
+        for name, content in files.items():
             (folder / name).write_bytes(content)
-        good = self.run(words, row.source)
-        others = {self.without(folder / name, words, row.source) for name in files_of(row)} - {good}
+        words = [str(folder) if word is FOLDER else word for word in words]
         for number in range(1, MOST):
-            self.page.refuse(number)
-            ending, what = self.run(words, row.source), f"{row.what} in memory, request {number} refused"
+            self.page.refuse(number, self.count)
+            status, out, err = run_quickly(self.program, words, source, SECONDS, self.environment)
             if self.page.refused() == 0:
                 break
-            endings[READ if ending in others else ended(what, world, *ending)] += 1
+            compare(f"{what}, request {number} refused", "standard error", b"", err)
+            endings[ended(f"{what}, request {number} refused", status, out)] += 1
         shutil.rmtree(folder)
         return endings
 
-    def run(self, words, source):
-        status, out, err = run_quickly(self.program, words, source, SECONDS, self.environment)
-        compare(" ".join(words), "standard error", b"", err)
-        return status, out
 
-    def without(self, file, words, source):
-        """How the program ends, and what it prints, without a file of the world."""
-        content = file.read_bytes()
-        file.unlink()
-        ending = self.run(words, source)
-        file.write_bytes(content)
-        return ending
+class Worlds(Refused):
+    """Lines of the program's words."""
 
+    def refused_in_turn(self, row):
+        """Answers how many runs ended with which status, the first one of the two where that isn't done."""
+        words, world = ["fails", "disk", "0", "0", FOLDER, *words_of(row)], World(row)
 
-def ended(what, world, status, out):
-    """The status of the run that was refused memory, or 0 where all was done."""
-    if status in (MEMORY, BAD_WORDS, READ):
-        compare(what, "standard output", b"", out)
-        return status
-    compare(what, "how it ended", DONE, status)
-    (line,) = lines_of(out)
-    if line.first.end != str(DONE):
-        is_left(what, world, line)
-        return int(line.first.end)
-    is_done(what, world, shown(what, world, line.first), 0)
-    if line.again.end == str(DONE):
-        is_done(f"{what}, again", world, shown(what, world, line.again), len(world.new))
-        return DONE
-    check(f"{what}, again: it ends with {line.again.end}", line.again.end in ENDS)
-    compare(f"{what}, again", "what there is", world.held(len(world.new)), line.again.held)
-    return int(line.again.end)
+        def ended(what, status, out):
+            return self.ended(what, world, status, out)
+
+        return self.endings(f"{row.what} in memory", files_of(row), words, row.source, ended)
+
+    def ended(self, what, world, status, out):
+        if status in (MEMORY, BAD_WORDS, READ):
+            compare(what, "standard output", b"", out)
+            return status
+        compare(what, "how it ended", DONE, status)
+        (line,) = lines_of(out)
+        if line.first.end != str(DONE):
+            is_left(what, world, line)
+            return int(line.first.end)
+        is_done(what, world, shown(what, world, line.first), 0)
+        if line.again.end == str(DONE):
+            is_done(f"{what}, again", world, shown(what, world, line.again), len(world.new))
+            return DONE
+        check(f"{what}, again: it ends with {line.again.end}", line.again.end in ENDS)
+        compare(f"{what}, again", "what there is", world.held(len(world.new)), line.again.held)
+        return int(line.again.end)
 
 
 def is_left(what, world, line):
@@ -99,3 +108,69 @@ def shown(what, world, ending):
     whole = world.held(len(world.new))
     check(f"{what}: what there is", ending.held in (whole, *lacking))
     return ending._replace(held=whole)
+
+
+# Inserts
+
+class Inserted(NamedTuple):
+    """Blobs that are inserted one after the other."""
+
+    what: str
+    blobs: list
+
+
+def inserted():
+    first, second = permanode("1" * 32), permanode("2" * 32)
+    file = writing.file_blobs("n.txt", [b"one part", b"two parts"])
+    content, _ = holding({"file": ref_of(file[-1])})
+    tags = [claim("add", ref_of(node), "tag", "a", day(number)) for number, node in enumerate((first, second), 1)]
+    member = claim("add", ref_of(first), "camliMember", ref_of(second), day(2))
+    # A table has a copy of a long value.
+    title = claim("set", ref_of(second), "title", "a" * 100, day(3))
+    blobs = [NODE, CLAIM, DELETE, first, second, *tags, member, title, *file, *content]
+    yield Inserted("inserts", [KEY, *blobs])
+    yield Inserted("inserts, the key and then the last one first", [KEY, *blobs[::-1]])
+    yield Inserted("inserts, the last one first", [*blobs[::-1], KEY])
+
+
+TAG, ALL_OF_THEM = {"permanode": {"attr": "tag", "value": "a"}}, {"anything": True}
+ASKED = [{"constraint": TAG}, {"constraint": TAG, "at": day(1, "T12:00:00Z"), "sort": "-mod"}]
+ASKED += [{"constraint": {"permanode": {"relation": {"relation": way, "any": ALL_OF_THEM}}}} for way in ("parent", "child")]
+ASKED += [with_content({"file": {"fileSize": {"min": 1}}}), {"constraint": {"permanode": {"attr": "title"}}}]
+TEXTS = [spell(one).encode() for one in ASKED]
+
+
+class Inserts(Refused):
+    """An index into which blobs are inserted."""
+
+    def refused_in_turn(self, row):
+        """Answers of how many runs all is told, and how many are ended for want of memory."""
+        blobs, keys = list(row.blobs), reference.read_keyring(KEYRING)
+        told = [answers({ref_of(blob): blob for blob in blobs[:count]}, keys) for count in range(len(blobs) + 1)]
+        files = {pack_name(0): pack(*blobs), "keyring": KEYRING}
+
+        def ended(what, status, out):
+            check(f"{what}: it ends with {status}", status in (DONE, MEMORY, BAD_WORDS, READ))
+            is_told(what, told, out, status == DONE)
+            return status
+
+        return self.endings(row.what, files, ["inserts", FOLDER], b"\n".join(TEXTS), ended)
+
+
+def answers(blobs, keys):
+    """How many blobs an index has, and what it answers to each query."""
+    archive = queries.Archive(blobs, keys)
+    found = [queries.search_text(archive, queries.read_query(text)) for text in TEXTS]
+    return b"%d\n%b\n" % (len(blobs), b"\n".join(found))
+
+
+def is_told(what, told, out, is_whole):
+    """What is told of each insert, and at most once that one is refused, or a front of that."""
+    tries = re.split(rb"(?m)^(?=inserted |refused )", out)[1:]
+    places = [place for place, text in enumerate(tries) if text.startswith(b"refused ")]
+    check(f"{what}: refused at {places}", len(places) <= 1)
+    due = [b"inserted " + text for text in told[1:]]
+    if places:
+        due.insert(places[0], b"refused " + told[places[0]])
+    due = b"".join(due)
+    compare(what, "what is told", due if is_whole else due[: len(out)], out)

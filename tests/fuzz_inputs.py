@@ -280,7 +280,8 @@ class Words(Target):
         self.archive = queries.Archive(self.store.blobs(), KEYS)
 
     def seeds(self):
-        made = (search_words.random_line(chance("lines that are changed", number)) for number in range(30))
+        rngs = (chance("lines that are changed", number) for number in range(30))
+        made = (search_words.random_line(rng, search_words.random_constraint(rng, rng.choice([1, 2, 3, 4]))) for rng in rngs)
         asked = "tag:a", "-tag:b", 'title:"" has:camliMember', f"childrenof:{ref_of(NODE)}", f"ref:{ref_of(NODE)[:12]}"
         return [line.encode() for line in (*asked, *made)]
 

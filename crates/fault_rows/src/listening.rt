@@ -15,6 +15,7 @@ use index_worker::{Gate, GatePlace};
 use salvage_scan::scan;
 use std::alloc::Global;
 use std::collections::VecDeque;
+use std::mem::forget;
 use std::sync::Wait;
 use std::thread::Threads;
 
@@ -34,7 +35,8 @@ impl Gate for Open {
 
 /// Serves connections by a worker for each pack, which has an empty home, and to which each of the pack's blobs comes as
 /// the stream of a connection; and then once more, over what there is, without a call that fails. A worker ends by a
-/// failed call in any case, once no connection is left to it. Answers whether the first one ended before.
+/// failed call in any case, once no connection is left to it. Answers whether the first one ended before. The workers are
+/// given up as they are, and their memory with the process.
 pub(crate) fn tell_workers<R: Threads + Wait + Sync>(
     alloc: Global,
     rt: &R,
@@ -42,54 +44,90 @@ pub(crate) fn tell_workers<R: Threads + Wait + Sync>(
     failing: Failing,
     line: &mut Vec<u8>,
 ) -> Result<bool, NoMemory> {
-    let mut workers = workers_of(alloc, packs, failing)?;
-    tell_served(alloc, rt, &mut workers, line)?;
-    let has_failed = leaves_some(alloc, packs, &workers)?;
-    listen_again(alloc, packs, &mut workers)?;
-    tell_served(alloc, rt, &mut workers, line)?;
+    let mut workers = Vec::new(alloc);
+    let told = tell_twice(alloc, rt, packs, failing, &mut workers, line);
+    forget(workers);
+    told
+}
+
+// The same, by workers that are added to none.
+fn tell_twice<R: Threads + Wait + Sync>(
+    alloc: Global,
+    rt: &R,
+    packs: &[Octets],
+    failing: Failing,
+    workers: &mut Vec<Worker>,
+    line: &mut Vec<u8>,
+) -> Result<bool, NoMemory> {
+    add_workers(alloc, packs.len(), workers)?;
+    listen(alloc, packs, failing, workers)?;
+    tell_served(alloc, rt, workers, line)?;
+    let has_failed = leaves_some(alloc, packs, workers)?;
+    listen(alloc, packs, NONE, workers)?;
+    tell_served(alloc, rt, workers, line)?;
     Ok(has_failed)
 }
 
-// Workers, a call of the first of whose listeners fails.
-fn workers_of(alloc: Global, packs: &[Octets], failing: Failing) -> Result<Vec<Worker>, NoMemory> {
-    let mut workers = Vec::new(alloc);
-    for pack in packs {
-        let calls = if workers.is_empty() {
-            failing.calls(alloc, Object::Listener, 0)?
-        } else {
-            CallList::empty(alloc)
-        };
-        let listener = listener_of(alloc, pack.as_slice(), calls)?;
-        workers.push(worker_of(pass_over(alloc)?, listener))?;
+// Adds so many workers, to which no connections come.
+fn add_workers(alloc: Global, count: usize, workers: &mut Vec<Worker>) -> Result<(), NoMemory> {
+    for _ in 0..count {
+        workers.push(worker_of(pass_over(alloc)?))?;
     }
-    Ok(workers)
+    Ok(())
 }
 
-fn worker_of(pass: CorePass<Keyring>, listener: Connections) -> Worker {
+fn worker_of(pass: CorePass<Keyring>) -> Worker {
     Desk {
         pass,
-        listener: Some(listener),
+        listener: None,
         failed: false,
     }
 }
 
+// Gives each worker a listener of a connection for each blob of its pack, a call of the first of which fails so.
+fn listen(
+    alloc: Global,
+    packs: &[Octets],
+    failing: Failing,
+    workers: &mut [Worker],
+) -> Result<(), NoMemory> {
+    let mut failing = failing;
+    for (worker, pack) in workers.iter_mut().zip(packs) {
+        let calls = failing.calls(alloc, Object::Listener, 0)?;
+        worker.listener = Some(listener_of(alloc, pack.as_slice(), calls)?);
+        failing = NONE;
+    }
+    Ok(())
+}
+
 // A listener of a connection for each blob of a pack.
 fn listener_of(alloc: Global, pack: &[u8], calls: CallList) -> Result<Connections, NoMemory> {
-    let (found, _) = scan(alloc, pack)?;
     let mut waiting = VecDeque::new(alloc);
-    for place in found.as_slice() {
-        let source = source_of(alloc, blob_at(pack, place), NONE)?;
-        waiting.push_back((source, sink_of(alloc, NONE)?))?;
-    }
+    add_connections(alloc, pack, &mut waiting)?;
     Ok(MemListener::of(waiting, calls))
 }
 
-// Gives the workers their connections anew.
-fn listen_again(alloc: Global, packs: &[Octets], workers: &mut [Worker]) -> Result<(), NoMemory> {
-    for (worker, pack) in workers.iter_mut().zip(packs) {
-        let listener = listener_of(alloc, pack.as_slice(), CallList::empty(alloc))?;
-        worker.listener = Some(listener);
+fn add_connections(
+    alloc: Global,
+    pack: &[u8],
+    waiting: &mut VecDeque<(MemSource, MemSink)>,
+) -> Result<(), NoMemory> {
+    let (found, _) = scan(alloc, pack)?;
+    for place in found.as_slice() {
+        add_connection(alloc, blob_at(pack, place), waiting)?;
     }
+    Ok(())
+}
+
+// Adds a connection on which this stream comes.
+fn add_connection(
+    alloc: Global,
+    stream: &[u8],
+    waiting: &mut VecDeque<(MemSource, MemSink)>,
+) -> Result<(), NoMemory> {
+    let source = source_of(alloc, stream, NONE)?;
+    let sink = sink_of(alloc, NONE)?;
+    waiting.push_back((source, sink))?;
     Ok(())
 }
 

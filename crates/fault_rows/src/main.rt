@@ -1,6 +1,6 @@
 //! What faults and stops leave, in memory: a line of the program's words is run over a disk, peers, a source, a sink, a
 //! clock and dice in memory, one of whose calls fails, or whose disk stops and crashes. It judges nothing:
-//! `tests/fault_rows.sh` and `bench/stops.sh` compare what it prints with what has to come.
+//! `tests/fault_rows.sh`, `bench/stops.sh` and `bench/memory.sh` compare what it prints with what has to come.
 //!
 //! `fault_rows fails OBJECT FROM UNTIL WORLD WORD..` prints a line of a run of the words in which no call fails, and then
 //! one for each of the calls FROM, .. of the object (`disk`, `peer`, `second`, `source`, `sink`, `clock`, `dice` or
@@ -30,12 +30,19 @@
 //! the index is stale then, or `quick`. Then each line of standard input is a query, and two lines are printed for it,
 //! the answer by that index, and the one by an index that keeps nothing but facts.
 //!
+//! `fault_rows inserts WORLD` inserts the blobs of pack 0 into an index, one by one, and one for which there was no memory
+//! once more. After each try it prints `inserted`, or `refused`, and how many blobs the index has then, and a line with
+//! its answer to each query, which are the lines of standard input.
+//!
 //! It is no part of the archive's program. It ends with that program's exit statuses.
 #![tactic(auto)]
 
+mod answering;
 mod connection;
 mod failing;
 mod hand;
+mod indexing;
+mod inserting;
 mod listening;
 mod stale;
 mod told;
@@ -43,14 +50,14 @@ mod world;
 
 use crate::connection::tell_connection;
 use crate::failing::{Failing, NONE, Object};
+use crate::indexing::{Coming, tell_index};
 use crate::listening::tell_workers;
-use crate::stale::tell_index;
 use crate::told::add_number;
 use crate::world::{Crash, Given, tell_fault, tell_stop};
 use blobref::{ListOf, NoMemory, Octets, Text};
 use claim_verify::{Keyring, KeyringFault};
 use std::alloc::Global;
-use std::io::{Read, Write};
+use std::io::{self, ErrorKind, Read, Write};
 use std::marker::Brand;
 use std::process::ExitCode;
 use std::sync::Wait;
@@ -91,17 +98,16 @@ fn main(rt: HostRuntime) -> ExitCode {
     }
 }
 
-// Prints the lines that the words ask for. A connection waits for as long as requests come.
+// Tells what the words ask. A connection waits for as long as requests come.
 fn tell<W: Threads + Wait + Sync>(rt: &HostRuntime, wait: &W) -> Result<(), Fault> {
     let words = words(rt)?;
-    let mut lines = Vec::new(rt.alloc());
     match word(&words, 0) {
-        "fails" => tell_faults(rt, wait, &words, &mut lines)?,
-        "stops" => tell_stops(rt, &words, &mut lines)?,
-        "stale" => return tell_stale(rt, &words),
-        _ => return Err(Fault::Words),
+        "fails" => tell_faults(rt, wait, &words),
+        "stops" => tell_stops(rt, &words),
+        "stale" => tell_indexed(rt, &words, Coming::Placed),
+        "inserts" => tell_indexed(rt, &words, Coming::Inserted),
+        _ => Err(Fault::Words),
     }
-    print(rt, &lines)
 }
 
 /// Prints bytes at once.
@@ -113,13 +119,24 @@ fn tell_faults<W: Threads + Wait + Sync>(
     rt: &HostRuntime,
     wait: &W,
     words: &[Text],
-    lines: &mut Vec<u8>,
 ) -> Result<(), Fault> {
     let object = Object::named(word(words, 1)).ok_or(Fault::Words)?;
     let calls = (number(word(words, 2))?, number(word(words, 3))?);
     let given = given(rt, words, 4)?;
-    add_line(rt.alloc(), wait, &given, NONE, lines)?;
-    Ok(add_faults(rt.alloc(), wait, &given, object, calls, lines)?)
+    print_faults(rt, wait, &given, object, calls)
+}
+
+fn print_faults<W: Threads + Wait + Sync>(
+    rt: &HostRuntime,
+    wait: &W,
+    given: &Given,
+    object: Object,
+    calls: (u64, u64),
+) -> Result<(), Fault> {
+    let mut lines = Vec::new(rt.alloc());
+    add_line(rt.alloc(), wait, given, NONE, &mut lines)?;
+    add_faults(rt.alloc(), wait, given, object, calls, &mut lines)?;
+    print(rt, &lines)
 }
 
 // A line for each of the calls from the first number on, before the second one, until none fails.
@@ -166,15 +183,39 @@ fn add_line<W: Threads + Wait + Sync>(
     Ok(failed)
 }
 
-fn tell_stops(rt: &HostRuntime, words: &[Text], lines: &mut Vec<u8>) -> Result<(), Fault> {
+fn tell_stops(rt: &HostRuntime, words: &[Text]) -> Result<(), Fault> {
     let choice = number(word(words, 1))?;
+    let second = number(word(words, 2)).ok();
     let given = given(rt, words, 3)?;
-    let Ok(second) = number(word(words, 2)) else {
-        return Ok(add_stops(rt.alloc(), &given, choice, Crash::None, lines)?);
-    };
-    add_stops(rt.alloc(), &given, choice, Crash::AtOnce(second), lines)?;
-    let crash = Crash::OnceOpened(second);
-    Ok(add_stops(rt.alloc(), &given, choice, crash, lines)?)
+    print_stops(rt, &given, choice, second)
+}
+
+fn print_stops(
+    rt: &HostRuntime,
+    given: &Given,
+    choice: u64,
+    second: Option<u64>,
+) -> Result<(), Fault> {
+    let mut lines = Vec::new(rt.alloc());
+    add_all_stops(rt.alloc(), given, choice, second, &mut lines)?;
+    print(rt, &lines)
+}
+
+// The lines of one crash, or those of each way in which there may be a second one.
+fn add_all_stops(
+    alloc: Global,
+    given: &Given,
+    choice: u64,
+    second: Option<u64>,
+    lines: &mut Vec<u8>,
+) -> Result<(), NoMemory> {
+    match second {
+        None => add_stops(alloc, given, choice, Crash::None, lines),
+        Some(second) => {
+            add_stops(alloc, given, choice, Crash::AtOnce(second), lines)?;
+            add_stops(alloc, given, choice, Crash::OnceOpened(second), lines)
+        }
+    }
 }
 
 // A line for each call at which the disk stops, and one for a run in which it doesn't.
@@ -196,57 +237,80 @@ fn add_stops(
     Ok(())
 }
 
-// Tells of an index over the blobs of the first pack.
-fn tell_stale(rt: &HostRuntime, words: &[Text]) -> Result<(), Fault> {
+// Tells of an index to which the blobs of the first pack come.
+fn tell_indexed(rt: &HostRuntime, words: &[Text], coming: Coming) -> Result<(), Fault> {
     let folder = word(words, 1);
     let pack = file(rt, folder, "pack-00000.blobs")?;
-    let keyring = file(rt, folder, "keyring")?;
-    let keys = keys(rt.alloc(), keyring.as_slice())?;
-    tell_index::<Brand>(rt, pack.as_slice(), &keys, Blank::new(1))
+    let keys = keys(rt, folder)?;
+    tell_index::<Brand>(rt, coming, pack.as_slice(), &keys, Blank::new(1))
 }
 
 // What the words say from the place of the world on, and what standard input holds.
 fn given(rt: &HostRuntime, words: &[Text], place: usize) -> Result<Given, Fault> {
-    let alloc = rt.alloc();
     let folder = word(words, place);
-    let mut packs = ListOf::empty(alloc);
+    Ok(Given {
+        packs: packs(rt, folder)?,
+        peer: file(rt, folder, "peer")?,
+        second: file(rt, folder, "second")?,
+        keys: keys(rt, folder)?,
+        input: input(rt)?,
+        words: rest(rt.alloc(), words, place)?,
+    })
+}
+
+fn packs(rt: &HostRuntime, folder: &str) -> Result<ListOf<Octets>, Fault> {
+    let mut packs = ListOf::empty(rt.alloc());
     for name in [
         "pack-00000.blobs",
         "pack-00001.blobs",
         "pack-00002.blobs",
         "pack-00003.blobs",
     ] {
-        packs.push(file(rt, folder, name)?)?;
+        add_file(rt, folder, name, &mut packs)?;
     }
-    let keyring = file(rt, folder, "keyring")?;
-    Ok(Given {
-        packs,
-        peer: file(rt, folder, "peer")?,
-        second: file(rt, folder, "second")?,
-        keys: keys(alloc, keyring.as_slice())?,
-        input: input(rt)?,
-        words: rest(alloc, words, place)?,
-    })
+    Ok(packs)
 }
 
-// The bytes of a file of a folder, none where it can't be read.
-fn file(rt: &HostRuntime, folder: &str, name: &str) -> Result<Octets, NoMemory> {
-    let path = format!(in rt.alloc(); "{}/{}", folder, name)?;
-    match fs::read(rt, path.as_str()) {
-        Ok(bytes) => Ok(Octets::from_vec(bytes)),
-        Err(_) => Ok(Octets::from_vec(Vec::new(rt.alloc()))),
-    }
+fn add_file(
+    rt: &HostRuntime,
+    folder: &str,
+    name: &str,
+    files: &mut ListOf<Octets>,
+) -> Result<(), Fault> {
+    let bytes = file(rt, folder, name)?;
+    files.push(bytes)?;
+    Ok(())
 }
 
-fn keys(alloc: Global, text: &[u8]) -> Result<Keyring, Fault> {
-    match Keyring::read(alloc, text) {
+fn keys(rt: &HostRuntime, folder: &str) -> Result<Keyring, Fault> {
+    let text = file(rt, folder, "keyring")?;
+    match Keyring::read(rt.alloc(), text.as_slice()) {
         Ok(keys) => Ok(keys),
         Err(KeyringFault::NoMemory) => Err(Fault::Memory),
         Err(_) => Err(Fault::Words),
     }
 }
 
-fn input(rt: &HostRuntime) -> Result<Octets, Fault> {
+// The bytes of a file of a folder, none where there is no such file.
+fn file(rt: &HostRuntime, folder: &str, name: &str) -> Result<Octets, Fault> {
+    let path = format!(in rt.alloc(); "{}/{}", folder, name).map_err(NoMemory::from)?;
+    match fs::read(rt, path.as_str()) {
+        Ok(bytes) => Ok(Octets::from_vec(bytes)),
+        Err(error) => unread(rt.alloc(), &error),
+    }
+}
+
+// The bytes of a file that couldn't be read.
+fn unread(alloc: Global, error: &io::Error) -> Result<Octets, Fault> {
+    if error.kind() == ErrorKind::NotFound {
+        Ok(Octets::from_vec(Vec::new(alloc)))
+    } else {
+        Err(Fault::Read)
+    }
+}
+
+/// What standard input holds from here on.
+pub(crate) fn input(rt: &HostRuntime) -> Result<Octets, Fault> {
     let mut input = Vec::new(rt.alloc());
     rt.stdin().read_to_end(&mut input).map_err(|_| Fault::Read)?;
     Ok(Octets::from_vec(input))

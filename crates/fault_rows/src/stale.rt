@@ -1,26 +1,24 @@
 //! An index that may become stale, and what it answers.
-ghost use Rattle.std.specs.Prelude.{◌≡◌, ◌<◌, true, not, IfOk, OnOk};
+ghost use Rattle.std.specs.Prelude.{◌≡◌, true, not, IfOk, OnOk};
 ghost use Rattle.std.specs.List.{list_all};
 ghost use Rattle.std.specs.Str.{bytes_eq};
 ghost use Rattle.claim_model.specs.Facts.{AreDistinct, AreValid};
 
+use crate::answering::print_answer;
 use crate::world::blob_at;
-use crate::{Fault, print};
-use answer_text::search_text;
+use crate::{Fault, input, print};
 use blobref::{NoMemory, Ref};
 use claim_index::{Index, Made};
 use claim_verify::Keyring;
 use edge_base::Steps;
-use index_look::Look;
 use plain_index::{FactList, PlainIndex};
 use salvage_scan::{Found, scan};
 use schema_fact::Fact;
 use schema_json::fact;
-use search_eval::answer_of;
-use search_query::Query;
 use std::alloc::Global;
 use std::io::Read;
-use std::sync::ledger::{Blank, Ledger};
+use std::mem::forget;
+use std::sync::ledger::Ledger;
 
 // So many blobs, the last ones, are placed once the test says so.
 const LATE: usize = 2;
@@ -29,29 +27,37 @@ const LATE: usize = 2;
 const MOST: u64 = 1 << 32;
 
 /// Places the blobs of a pack in an index, one by one, the last two of them each once a byte came on standard input; then
-/// it answers the queries on the lines that follow there. Steps are counted in the blank ledger.
-pub(crate) fn tell_index<L: Ledger>(
+/// it answers the queries on the lines that follow there, and so does an index that keeps nothing but facts.
+pub(crate) fn tell_placed<L: Ledger>(
     rt: &HostRuntime,
+    index: &mut Index<&Keyring>,
     pack: &[u8],
     keys: &Keyring,
-    blank: Blank,
-) -> Result<(), Fault>
-    requires name { blank.name ≡ L.name }
-    requires parts { blank.parts ≡ L.parts }
-    requires some { 0 < blank.parts }
-{
-    let mut steps = Steps::<L>::start(blank);
+    steps: &mut Steps<L>,
+) -> Result<(), Fault> {
     let (found, _) = scan(rt.alloc(), pack)?;
     let plain = plain_index(rt.alloc(), pack, found.as_slice(), keys)?;
-    let mut index = Index::fresh(rt.alloc(), keys);
-    let (before, late) = found.as_slice().split_at(found.len().saturating_sub(LATE));
+    let told = tell_beside(rt, index, &plain, pack, found.as_slice(), steps);
+    forget(plain);
+    told
+}
+
+fn tell_beside<L: Ledger>(
+    rt: &HostRuntime,
+    index: &mut Index<&Keyring>,
+    plain: &PlainIndex<&Keyring>,
+    pack: &[u8],
+    found: &[Found],
+    steps: &mut Steps<L>,
+) -> Result<(), Fault> {
+    let (before, late) = found.split_at(found.len().saturating_sub(LATE));
     for place in before {
-        place_now(rt.alloc(), &mut index, pack, place, &mut steps)?;
+        place_now(rt.alloc(), index, pack, place, steps)?;
     }
     for place in late {
-        place_late(rt, &mut index, pack, place, &mut steps)?;
+        place_late(rt, index, pack, place, steps)?;
     }
-    answer_all(rt, &index, &plain)
+    answer_all(rt, index, plain)
 }
 
 // Places a blob, unless one stands under its ref.
@@ -85,23 +91,26 @@ fn place_late<L: Ledger>(
     }
     let said = fact(rt.alloc(), blob_at(pack, place))?;
     let made = Made::make(rt.alloc(), number, &place.r, said)?;
-    print(rt, b"placed\n")?;
-    await_byte(rt)?;
+    let awaited = await_byte(rt);
     index.place(made, steps);
-    print(
-        rt,
-        if index.stale() {
-            b"stale\n"
-        } else {
-            b"quick\n"
-        },
-    )
+    awaited?;
+    print_state(rt, index)
 }
 
+// Says that the next blob is placed, and waits for a byte.
 fn await_byte(rt: &HostRuntime) -> Result<(), Fault> {
+    print(rt, b"placed\n")?;
     let mut byte = [0u8; 1];
     rt.stdin().read(&mut byte).map_err(|_| Fault::Read)?;
     Ok(())
+}
+
+fn print_state(rt: &HostRuntime, index: &Index<&Keyring>) -> Result<(), Fault> {
+    if index.stale() {
+        print(rt, b"stale\n")
+    } else {
+        print(rt, b"quick\n")
+    }
 }
 
 // Answers the queries that standard input still has, each by both indexes.
@@ -110,22 +119,14 @@ fn answer_all(
     index: &Index<&Keyring>,
     plain: &PlainIndex<&Keyring>,
 ) -> Result<(), Fault> {
-    let mut text = Vec::new(rt.alloc());
-    rt.stdin().read_to_end(&mut text).map_err(|_| Fault::Read)?;
-    for line in text.as_slice().split(|byte| *byte == b'\n') {
-        if !line.is_empty() {
-            let query = query_read::read(rt.alloc(), line).map_err(|_| Fault::Words)?;
-            print_answer(rt, index, &query)?;
-            print_answer(rt, plain, &query)?;
+    let queries = input(rt)?;
+    for query in queries.as_slice().split(|byte| *byte == b'\n') {
+        if !query.is_empty() {
+            print_answer(rt, index, query)?;
+            print_answer(rt, plain, query)?;
         }
     }
     Ok(())
-}
-
-fn print_answer<K: Look>(rt: &HostRuntime, look: &K, query: &Query) -> Result<(), Fault> {
-    let refs = answer_of(rt.alloc(), look, query)?;
-    print(rt, search_text(rt.alloc(), &refs)?.as_slice())?;
-    print(rt, b"\n")
 }
 
 // An index that keeps nothing but the facts of the blobs of a pack, none of which it has twice.
@@ -137,6 +138,7 @@ fn plain_index<'a>(
 ) -> Result<PlainIndex<&'a Keyring>, Fault> {
     let facts = facts_of(alloc, pack, found)?;
     if !are_distinct(facts.as_slice()) {
+        forget(facts);
         return Err(Fault::Words);
     }
     Ok(PlainIndex::build(alloc, facts, keys)?)

@@ -3,11 +3,16 @@
 use blobref::{NoMemory, Ref};
 use std::alloc::Global;
 
+/// Adds bytes.
+pub(crate) fn add_bytes(line: &mut Vec<u8>, bytes: &[u8]) -> Result<(), NoMemory> {
+    line.extend_from_slice(bytes)?;
+    Ok(())
+}
+
 /// Adds a number.
 pub(crate) fn add_number(alloc: Global, line: &mut Vec<u8>, number: u64) -> Result<(), NoMemory> {
     let digits = format!(in alloc; "{}", number)?;
-    line.extend_from_slice(digits.as_bytes())?;
-    Ok(())
+    add_bytes(line, digits.as_bytes())
 }
 
 /// Adds a space, an equals sign, and bytes in hexadecimal digits.
@@ -18,8 +23,7 @@ pub(crate) fn add_written(
 ) -> Result<(), NoMemory> {
     let digits = hex::encode(alloc, written)?;
     line.extend_from_slice(b" =")?;
-    line.extend_from_slice(digits.as_bytes())?;
-    Ok(())
+    add_bytes(line, digits.as_bytes())
 }
 
 /// Adds a space and the ref of bytes.

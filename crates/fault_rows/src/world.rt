@@ -6,7 +6,7 @@ ghost use Rattle.pack_disk.specs.Past.{told};
 
 use crate::failing::{Failing, NONE, Object};
 use crate::hand::Hand;
-use crate::told::{add_number, add_ref, add_written};
+use crate::told::{add_bytes, add_number, add_ref, add_written};
 use blobref::{ListOf, NoMemory, Octets, Ref, Text};
 use claim_verify::Keyring;
 use edge_base::{CallList, Failed};
@@ -64,9 +64,19 @@ pub(crate) fn tell_fault(
     line: &mut Vec<u8>,
 ) -> Result<bool, NoMemory> {
     let mut world = world_of(alloc, given, failing, u64::MAX)?;
-    let has_failed = tell_run(alloc, given, failing, &mut world, line)?;
-    add_held(alloc, &mut world, line)?;
-    tell_again(alloc, given, &mut world, line)?;
+    tell_failed(alloc, given, failing, &mut world, line)
+}
+
+fn tell_failed(
+    alloc: Global,
+    given: &Given,
+    failing: Failing,
+    world: &mut World,
+    line: &mut Vec<u8>,
+) -> Result<bool, NoMemory> {
+    let has_failed = tell_run(alloc, given, failing, world, line)?;
+    add_held(alloc, world, line)?;
+    tell_again(alloc, given, world, line)?;
     Ok(has_failed)
 }
 
@@ -81,16 +91,31 @@ pub(crate) fn tell_stop(
     line: &mut Vec<u8>,
 ) -> Result<bool, NoMemory> {
     let mut world = world_of(alloc, given, NONE, stop)?;
-    let has_failed = tell_run(alloc, given, NONE, &mut world, line)?;
-    crash_by(alloc, &mut world, choice)?;
-    match second {
-        Crash::None => {}
-        Crash::AtOnce(choice) => crash_by(alloc, &mut world, choice)?,
-        Crash::OnceOpened(choice) => crash_once_opened(alloc, &mut world, choice)?,
-    }
-    add_held(alloc, &mut world, line)?;
-    tell_again(alloc, given, &mut world, line)?;
+    tell_crashed(alloc, given, choice, second, &mut world, line)
+}
+
+fn tell_crashed(
+    alloc: Global,
+    given: &Given,
+    choice: u64,
+    second: Crash,
+    world: &mut World,
+    line: &mut Vec<u8>,
+) -> Result<bool, NoMemory> {
+    let has_failed = tell_run(alloc, given, NONE, world, line)?;
+    crash_by(alloc, world, choice)?;
+    crash_again(alloc, world, second)?;
+    add_held(alloc, world, line)?;
+    tell_again(alloc, given, world, line)?;
     Ok(has_failed)
+}
+
+fn crash_again(alloc: Global, world: &mut World, crash: Crash) -> Result<(), NoMemory> {
+    match crash {
+        Crash::None => Ok(()),
+        Crash::AtOnce(choice) => crash_by(alloc, world, choice),
+        Crash::OnceOpened(choice) => crash_once_opened(alloc, world, choice),
+    }
 }
 
 // Runs the words without a call that fails, and tells what there is then.
@@ -113,7 +138,17 @@ fn tell_run(
     line: &mut Vec<u8>,
 ) -> Result<bool, NoMemory> {
     let mut hand = Hand::of(alloc, given.input.as_slice(), failing)?;
-    let code = run_words(alloc, &given.words, &given.keys, world, &mut hand);
+    tell_ended(alloc, given, world, &mut hand, line)
+}
+
+fn tell_ended(
+    alloc: Global,
+    given: &Given,
+    world: &mut World,
+    hand: &mut Hand,
+    line: &mut Vec<u8>,
+) -> Result<bool, NoMemory> {
+    let code = run_words(alloc, &given.words, &given.keys, world, hand);
     line.push(b' ')?;
     add_number(alloc, line, u64::from(code))?;
     add_written(alloc, line, hand.sink.written())?;
@@ -170,17 +205,14 @@ fn add_disk(alloc: Global, world: &mut World, held: &mut Vec<u8>) -> Result<(), 
     let mut hand = Hand::of(alloc, b"", NONE)?;
     let keys = Keyring::empty(alloc);
     run_words(alloc, &words, &keys, world, &mut hand);
-    held.extend_from_slice(hand.sink.written())?;
-    Ok(())
+    add_bytes(held, hand.sink.written())
 }
 
 fn add_peer(alloc: Global, peer: &mut MemPeer, held: &mut Vec<u8>) -> Result<(), NoMemory> {
     let Ok(page) = peer.list(None, 9_999) else {
         return Ok(());
     };
-    let lines = size_lines(alloc, &page)?;
-    held.extend_from_slice(lines.as_slice())?;
-    Ok(())
+    add_bytes(held, size_lines(alloc, &page)?.as_slice())
 }
 
 fn words_of(alloc: Global, line: &str) -> Result<Vec<Text>, NoMemory> {

@@ -1,4 +1,4 @@
-use Rattle.fault_rows.proofs.tell_stale.Given as goal
+use Rattle.fault_rows.proofs.tell_indexed.Given as goal
 
 -- the blank's own ledger
 abbrev pub ghosts-tell_index : goal.ghosts-tell_index
