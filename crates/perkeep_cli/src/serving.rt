@@ -15,6 +15,7 @@ use home_places::Home;
 use perkeep_top::Status;
 use perkeep_words::ServePlan;
 use server_home::{HomeFault, home_over};
+use std::mem::forget;
 use std::net::{Ipv4Addr, SocketAddr, TcpListener};
 use std::sync::Wait;
 use std::sync::atomic::AtomicU64;
@@ -41,7 +42,8 @@ pub(crate) fn serve<R: Threads + Wait + Sync>(
     Ending::of(serve_folder(threads, threads, console, folder, &keys, &listener, plan))
 }
 
-// Opens the store of a folder, and serves it to those who connect to the listener. The home keeps `handle`.
+// Opens the store of a folder, and serves it to those who connect to the listener. The home keeps `handle`. It is never
+// dropped: its memory goes with the process, which ends, and the proof of its drop would be most of this crate's.
 fn serve_folder<
     V: Verifier + Copy + Drop + Send + Sync,
     H: Wait + Drop + Send,
@@ -61,13 +63,22 @@ fn serve_folder<
     let disk = FolderDisk::new(rt, console.screen(), console.trouble(), folder, access);
     let disk = disk.counting(&appends);
     let count = plan.workers.saturating_add(plan.indexers);
-    let (home, passes) = match home_over(handle, rt.alloc(), disk, keys, count) {
-        Ok(home) => home,
-        Err(HomeFault::Disk { .. }) => return Status::Disk,
-        Err(HomeFault::NoMemory) => return Status::NoMemory,
-    };
     let gate = Pauses::new(rt, &appends);
-    serve_home(threads, console, &home, passes, listener, &gate, plan)
+    match home_over(handle, rt.alloc(), disk, keys, count) {
+        Ok((home, passes)) => {
+            let status = serve_home(threads, console, &home, passes, listener, &gate, plan);
+            forget(home);
+            status
+        }
+        Err(fault) => status_of(fault),
+    }
+}
+
+fn status_of<D: Drop>(fault: HomeFault<D>) -> Status {
+    match fault {
+        HomeFault::Disk { .. } => Status::Disk,
+        HomeFault::NoMemory => Status::NoMemory,
+    }
 }
 
 // Serves connections of the listener over a home, with a worker or an indexer for each pass.
