@@ -19,7 +19,6 @@ from __future__ import annotations
 
 import collections
 import http.client
-import json
 import re
 import urllib.parse
 from typing import Optional
@@ -32,6 +31,13 @@ from perkeep_archive import (
 
 # How many short blobs are kept, so that none is asked for as an entry and again for its content.
 KEPT = 64
+# What the words of a refusal mean to who has the URL (docs/shares.md, "Over HTTP").
+MEANINGS = {
+    "absent": "the archive lacks it",
+    "deleted": "the share was taken back",
+    "no share": "that is no share, or serve-shares was started before it was made",
+    "not transitive": "shared is one blob alone",
+}
 
 
 class ShareServer(Server):
@@ -75,7 +81,7 @@ class Shared(Archive):
         target = f"/share/{ref}" + (f"?via={','.join(via)}" if via else "")
         status, reply = self.server.exchange("GET", target, b"", {})
         if status != 200:
-            raise Lacking(ref, f"isn't served: {status} {reason_in(reply)}")
+            raise Lacking(ref, f"isn't served: {refusal_in(status, reply)}")
         if not has_ref(reply, ref):
             raise Lacking(ref, "isn't what the server sends")
         return reply
@@ -97,10 +103,13 @@ def links_in(body: dict) -> list[str]:
     return [ref for ref in [*refs, body.get("entries"), *(body.get("members") or [])] if is_ref(ref)]
 
 
-def reason_in(reply: bytes) -> str:
+def refusal_in(status: int, reply: bytes) -> str:
     """What a refusal says."""
     said = read_object(reply) or {}
-    return shown(json.dumps([said.get("rule") or said.get("error")])[1:-1])
+    rule = said.get("rule") or said.get("error")
+    if not isinstance(rule, str) or rule == "no route":
+        return f"what answers {status} at this HOST:PORT is no serve-shares, or can't reach it"
+    return f"{status} {shown(rule)}" + (f" ({MEANINGS[rule]})" if rule in MEANINGS else "")
 
 
 def server_and_path(url: str) -> tuple[ShareServer, list[str]]:

@@ -25,8 +25,10 @@ import re
 import time
 
 from perkeep_archive import (
-    PACK_NAME, Key, Refused, Server, date_text, is_ref, parser_of, read_keyring, ref_of, run,
+    PACK_NAME, Key, Refused, Server, date_text, is_ref, parser_of, read_keyring, ref_of, run, schema_in,
 )
+
+KINDS_WITHOUT_LINKS = {"permanode": "a note", "claim": "a claim on a note"}
 
 
 def share_claim(key: Key, moment: int, target: str, transitive: bool) -> bytes:
@@ -45,12 +47,22 @@ def key_of(path: pathlib.Path, name: str) -> Key:
     return keys[name] if name else next(iter(keys.values()))
 
 
-def send(address: str, target: str, blobs: dict[str, bytes]) -> None:
-    """Stores blobs by a server, which has to have the target."""
+def send(address: str, target: str, is_alone: bool, blobs: dict[str, bytes]) -> None:
+    """Stores blobs by a server, which has to have the target; and links have to lead on from it, if it isn't alone."""
     server = Server(address)
     if not server.standing([target]):
         raise Refused(f"the server at {address} has no {target}")
+    if not is_alone:
+        check_links(target, server.exchange("GET", f"/camli/{target}", b"", {"Host": "localhost"})[1])
     server.upload(blobs)
+
+
+def check_links(target: str, blob: bytes) -> None:
+    """Refuses a note and a claim, from which no link leads to what they are about."""
+    kind = KINDS_WITHOUT_LINKS.get((schema_in(blob) or {}).get("camliType", ""))
+    if kind is not None:
+        way = "give the ref of the file or the folder, as put-file or put_tree.py has printed it"
+        raise Refused(f"{target} is {kind}, from which nothing leads to a file: {way}")
 
 
 def fill_inbox(folder: pathlib.Path, blobs: dict[str, bytes]) -> None:
@@ -82,7 +94,7 @@ def main() -> int:
     claim = share_claim(key, time.time_ns(), words.target, not words.alone)
     blobs = {key.ref: key.blob, ref_of(claim): claim}
     if re.fullmatch(r"[^/\s]+:[0-9]{1,5}", words.where):
-        send(words.where, words.target, blobs)
+        send(words.where, words.target, words.alone, blobs)
     else:
         fill_inbox(pathlib.Path(words.where), blobs)
     print(ref_of(claim))

@@ -716,7 +716,7 @@ class Server:
         try:
             answer = json.loads(reply)
         except ValueError:
-            raise Refused(f"the server at {self.address} answers {target} by {status}, and no JSON") from None
+            raise Refused(f"what answers {status} at {self.address} is no perkeep serve: look at the port") from None
         if status != 200:
             why = {key: value for key, value in answer.items() if key != "received"}
             raise Refused(f"the server at {self.address} refuses {target} by {status} {compact(why)}")
@@ -735,10 +735,10 @@ class Server:
                 return reply.status, content
             except (http.client.HTTPException, OSError) as why:
                 self.connection.close()
-                fault = str(why) or type(why).__name__
+                fault = getattr(why, "strerror", None) or str(why) or type(why).__name__
                 if not self.was_reached or isinstance(why, socket.timeout):
                     break
-        raise Refused(f"no reply of a server at {self.address}: {fault}")
+        raise Refused(f"no reply of a server at {self.address}: {fault}; is it running there?")
 
     def send(self, method: str, target: str, body: bytes, headers: dict) -> None:
         try:

@@ -1,16 +1,21 @@
 #!/usr/bin/env bash
-# Looks whether an archive and its backup have lost anything:
+# Checks whether an archive and its backup have lost anything:
 #
 #     verify_backup.sh ARCHIVE BACKUP [REFS]
 #
-# What ARCHIVE had the last time has to be found in both folders, each blob read and checked against its ref. That is
-# kept in the file REFS, else in ~/.local/state/perkeep/refs; the first time it is what BACKUP has. So make the backup
-# first.
-# A blob that is damaged isn't found. Of a folder that has lost blobs it prints how many, and its broken packs; the
-# status is 1 then, and 2 where it couldn't be looked at. Neither folder is changed. PERKEEP names the program.
+# Each blob that ARCHIVE had the last time must be found in both folders; each is read and checked against its ref. The
+# list is kept in the file REFS, by default ~/.local/state/perkeep/refs. The first time it is the list of BACKUP's blobs,
+# so make the backup first. A damaged blob isn't found.
+#
+# If a folder has lost blobs the script prints how many, and its broken packs. Neither folder is changed. PERKEEP names
+# the program. Status: 0 nothing is lost, 1 something is, 2 bad words, or it couldn't be done.
 set -eu -o pipefail
 export LC_ALL=C
 perkeep=${PERKEEP:-perkeep}
+if [ "${1:-}" = --help ]; then
+  sed -n '2,/^set /{/^set /d; s/^# \{0,1\}//; p}' "$0"
+  exit 0
+fi
 if [ $# -lt 2 ] || [ $# -gt 3 ]; then
   echo "verify_backup.sh ARCHIVE BACKUP [REFS]" >&2
   exit 2
@@ -20,7 +25,7 @@ kept=${3:-${XDG_STATE_HOME:-$HOME/.local/state}/perkeep/refs}
 work=$(mktemp -d)
 trap 'rm -rf "$work"' EXIT
 
-# Lists all blobs of a folder; one that isn't there, or has no pack, would read as an empty store.
+# Lists all blobs of a folder. A missing folder, or one without packs, would read as an empty store.
 list() {
   if ! compgen -G "$1/pack-*.blobs" >/dev/null; then
     echo "there is no pack in $1" >&2
@@ -29,7 +34,7 @@ list() {
   "$perkeep" list "$1" --limit 4194304 || exit 2
 }
 
-# Says what a folder, whose list is this, has lost.
+# Prints what a folder has lost, by its list.
 look() {
   comm -23 "$known" "$2" >"$work/lost"
   if [ -s "$work/lost" ]; then

@@ -4,6 +4,7 @@ Which requests a peer is asked stands in docs/sync.md ("Requests over HTTP"), an
 docs/formats/answers.md. A request that isn't one of those, to the byte, is told as a fault of the check.
 """
 
+import http.server
 import re
 import socket
 import threading
@@ -174,6 +175,29 @@ class FalsePeer:
         if not is_lost:
             self.blobs.setdefault(asked.ref, asked.blob)
         return Reply(200, json_text({"received": [entry(asked.ref, len(asked.blob))]}))
+
+
+class Stranger(http.server.ThreadingHTTPServer):
+    """A server of another kind, which knows no path."""
+
+    class Handler(http.server.BaseHTTPRequestHandler):
+        def do_GET(self):
+            self.send_error(404)
+
+        def log_message(self, *_):
+            pass
+
+    def __init__(self):
+        super().__init__((HOST, 0), self.Handler)
+        self.address = f"{HOST}:{self.server_port}"
+
+    def __enter__(self):
+        threading.Thread(target=self.serve_forever, daemon=True).start()
+        return self
+
+    def __exit__(self, *_):
+        self.shutdown()
+        self.server_close()
 
 
 def absent(ref):

@@ -15,6 +15,7 @@ from connections import OCTETS, Reply
 from harness import SECONDS, LeftOut, chance, check, compare
 from http_random import in_chunks
 from inputs import ABSENT, KEY, KEYRING, NODE, OTHER_SECRET, SECRET, day
+from peers import Stranger
 from reference import ref_of
 from serving import HOST, Exchange, Server, ShareServer, compare_texts, store_of
 from share_reference import Shares
@@ -297,12 +298,29 @@ def lives(program):
     return [lambda: life_of_a_share(program), lambda: words_of_no_server(program)]
 
 
+def ran(name, *words):
+    line = [sys.executable, str(ROOT / "examples" / name), *map(str, words)]
+    return subprocess.run(line, capture_output=True, timeout=SECONDS)
+
+
 def script(name, *words, status=0):
-    done = subprocess.run(
-        [sys.executable, str(ROOT / "examples" / name), *map(str, words)], capture_output=True, timeout=SECONDS
-    )
+    done = ran(name, *words)
     compare(f"{name} {words}", "exit status", (status, b""), (done.returncode, done.stderr if status == 0 else b""))
     return done.stdout.decode()
+
+
+def refuses(name, *words, text):
+    """A script does nothing, and says why."""
+    done = ran(name, *words)
+    expected = 3, b"", f"{name}: {text}\n".encode()
+    compare(f"{name} {words}", "status, output and what is said", expected, (done.returncode, done.stdout, done.stderr))
+
+
+NO_LINKS = (
+    "from which nothing leads to a file: give the ref of the file or the folder, "
+    "as put-file or put_tree.py has printed it"
+)
+NO_SHARES = "what answers 404 at this HOST:PORT is no serve-shares, or can't reach it"
 
 
 def life_of_a_share(program):
@@ -311,7 +329,7 @@ def life_of_a_share(program):
     first, second = content[:1_048_576], content[1_048_576:]
     file = file_blob("a file.bin", [part(len(first), ref_of(first)), part(len(second), ref_of(second))])
     folder = directory("folder", ref_of(static_set([ref_of(file)])))
-    blobs = [first, second, file, static_set([ref_of(file)]), folder]
+    blobs = [first, second, file, static_set([ref_of(file)]), folder, NODE]
     (store.path / "pack-00001.blobs").write_bytes(pack(*blobs))
     keyring = store.path / "keyring"
     inbox, target = program.new_path(), program.new_path()
@@ -322,6 +340,11 @@ def life_of_a_share(program):
         compare("make_share.py", "path", target_of(ref_of(folder), share_ref), path)
         alone, _ = script("make_share.py", inbox, ref_of(file), *words, "--alone").split()
         program.check("push of the inbox", ["push", str(inbox), address], b"copied 1 already 1\n")
+        refuses("make_share.py", address, ref_of(NODE), *words, text=f"{ref_of(NODE)} is a note, {NO_LINKS}")
+        no_shares = f"{ref_of(folder)} isn't served: {NO_SHARES}"
+        refuses("get_shared.py", f"http://{address}{path}", text=no_shares)
+        with Stranger() as stranger:
+            refuses("get_shared.py", f"http://{stranger.address}{path}", text=no_shares)
         with ShareServer(program, store.path) as shares:
             script("get_shared.py", f"http://127.0.0.1:{shares.port}{path}", target)
             compare("what was got", "bytes", content, (target / "a file.bin").read_bytes())
@@ -334,6 +357,8 @@ def life_of_a_share(program):
     with ShareServer(program, store.path) as shares:
         got = Exchange(shares.port, [get(ref_of(folder), share_ref)]).bytes()
         check(f"by a share that was taken back {got}", got.endswith(b'{"error":"share","rule":"deleted"}'))
+        text = f"{ref_of(folder)} isn't served: 403 deleted (the share was taken back)"
+        refuses("get_shared.py", f"http://127.0.0.1:{shares.port}{path}", text=text)
 
 
 def words_of_no_server(program):

@@ -17,7 +17,7 @@ import reference
 import tracing
 from harness import check, compare, compare_ending
 from inputs import ABSENT, KEYRING
-from peers import FalsePeer, plainly
+from peers import FalsePeer, plainly, sends
 from reference import pack_name, ref_of
 from serving import HOST, PORTS, is_listened_to
 from stores import Store
@@ -64,23 +64,33 @@ class Terminal:
 
 def told(program, words, front=(), source=b""):
     """The status, the output, and what is told at a terminal."""
-    terminal = Terminal()
     with tempfile.TemporaryFile() as stdin:
         stdin.write(source)
         stdin.seek(0)
-        with terminal.start(program, words, front, stdin=stdin) as process:
-            text = terminal.read_all()
-            out = process.stdout.read()
+        return told_with(program, words, front, stdin=stdin)
+
+
+def told_with(program, words, front=(), **streams):
+    """The same with such streams; None as the output where that goes elsewhere."""
+    terminal = Terminal()
+    with terminal.start(program, words, front, **streams) as process:
+        text = terminal.read_all()
+        out = process.stdout.read() if process.stdout else None
     return process.returncode, out, text
 
 
-QUOTES = "words (TEXT is one word: put quotes around it, and -- before it where it begins with a dash)"
-NO_LINE = "input (from the mark on TEXT is no line of search words)"
+QUOTED = "'tag:a title:\"on the way\"'"
+QUOTES = f"TEXT is one word: put single quotes around it, as {QUOTED}, and -- before it where it begins with a dash"
+NO_LINE = (
+    f"input (from the mark on TEXT is no line of search words; one is typed with both kinds of quotes, as {QUOTED})"
+)
 DIGITS = "0123456789" * 6
 MIDDLE, LATE, EARLY = f"tag:{DIGITS}({DIGITS}", f"(tag:{DIGITS}{DIGITS}", f"tga:{DIGITS}{DIGITS}"
 # Lines of search words that aren't, what is shown of them, and the place in that at which they go wrong.
 MARKED = [
     ((), "tag:a or or", "tag:a or or", 9),
+    # What a shell leaves of title:"on the way".
+    ((), "title:on the way", "title:on the way", 10),
     ((), "", "", 0),
     ((), "  ", "  ", 2),
     ((), "tag:é(", "tag:é(", 5),
@@ -92,6 +102,15 @@ MARKED = [
 ]
 
 
+NO_KEYRING = "isn't there: copy the archive's, or make one as man perkeep shows"
+NO_KEY = "each of its lines begins with the name of one"
+KEY_MISSING = "--key NAME is missing: the name of the key in the folder's keyring that signs"
+
+
+def no_date(text):
+    return f'input ("{text}" is no date: a date has a time and a zone, as 2026-12-01T09:00:00Z, or +01:00 for Z)'
+
+
 def hints(program):
     """Each word, with what stands behind it."""
     store = Store(program, {0: pack(b"abc", b"{")})
@@ -100,14 +119,15 @@ def hints(program):
     rows = [
         (["get", folder, ABSENT], 3, f"absent (the store has no blob {ABSENT})"),
         (["get", folder, "abc"], 4, "input (a text that should be a blobref is none)"),
-        (["search", folder, "--attr=a", "--value=b", "--at=x"], 4, "input (a text that should be a date is none)"),
+        (["search", folder, "--attr=a", "--value=b", "--at=x"], 4, no_date("x")),
+        (["words", folder, "--at", "2026-12-01T09:00:00", "tag:a"], 4, no_date("2026-12-01T09:00:00")),
         (["list", folder, "--limit=x"], 4, "input (a text that should be a number is none, or out of range)"),
         (["search", folder, "--attr=", "--value=b"], 4, "input (the name of an attribute is empty)"),
-        (["words", folder, "tag:a", "--at=x"], 4, "input (a text that should be a date is none)"),
-        (["words", folder, "tag:a", "tag:b"], 2, QUOTES),
-        (["words", folder, "tag:a", "or", "tag:b", "--at", "2025-06-01"], 2, QUOTES),
-        (["words", folder, "tag:a", "-tag:b"], 2, QUOTES),
-        (["words", folder, "-tag:a"], 2, QUOTES),
+        (["words", folder, "tag:a", "--at=x"], 4, no_date("x")),
+        (["words", folder, "tag:a", "tag:b"], 2, f"words ({QUOTES})"),
+        (["words", folder, "tag:a", "or", "tag:b", "--at", "2025-06-01"], 2, f"words ({QUOTES})"),
+        (["words", folder, "tag:a", "-tag:b"], 2, f"words ({QUOTES})"),
+        (["words", folder, "-tag:a"], 2, f"words ({QUOTES})"),
         (["words", folder], 2, "words (a word is missing, too many or wrong; man perkeep has those of words)"),
         (["words", folder, "tag:a", "--at"], 2, 'words ("--at" can\'t stand there; man perkeep has the words of words)'),
         (["words", folder, "tag:" + "a" * 1_021], 4, "input (TEXT is longer than 1,024 bytes)"),
@@ -116,13 +136,14 @@ def hints(program):
         (["permanode", folder, "--key=a b"], 4, 'input ("a b" can\'t be the name of a key)'),
         (["permanode", folder, "--key", ""], 4, 'input ("" can\'t be the name of a key)'),
         (["get-file", folder, ref_of(b"abc")], 4, "input (a blob that should be a file, or a part of one, is none)"),
-        (["permanode", folder, "--key=me"], 4, f"input ({folder}/keyring isn't there)"),
-        (["permanode", str(keyed.path), "--key=you"], 4, f"input ({keyed.path}/keyring has no key you)"),
+        (["permanode", folder, "--key=me"], 4, f"input ({folder}/keyring {NO_KEYRING})"),
+        (["permanode", "", "--key=me"], 4, "input (DIR is the empty text)"),
+        (["permanode", str(keyed.path), "--key=you"], 4, f"input ({keyed.path}/keyring has no key you: {NO_KEY})"),
         (["multi", str(keyed.path), "--key=jefe"], 4, "input (standard input is no list of changes)"),
     ]
     checks = [lambda row=row: is_told(program, *row) for row in rows]
-    checks += [lambda check=check: check(program) for check in (misfits, keyrings, queries, damaged_chunk)]
-    return checks + [lambda check=check: check(program) for check in (folders, held, done)]
+    checks += [lambda check=check: check(program) for check in (misfits, numbers, keyrings, queries, damaged_chunk)]
+    return checks + [lambda check=check: check(program) for check in (folders, held, unread, unwritten, done)]
 
 
 def is_told(program, words, status, text, before="", source=b""):
@@ -149,20 +170,41 @@ def misfits(program):
         (["get", "d", ABSENT, "more"], f'"more" can\'t stand there; {those} the words of get'),
         (["list", "d", "--first", "1"], f'"--first" can\'t stand there; {those} the words of list'),
         (["list", "d", "--limit"], f'"--limit" can\'t stand there; {those} the words of list'),
-        (["search", "d", "--attr=a"], f"a word is missing, too many or wrong; {those} those of search"),
-        (["serve", "d"], f"a word is missing, too many or wrong; {those} those of serve"),
-        (["serve-shares", "d"], f"a word is missing, too many or wrong; {those} those of serve-shares"),
+        (["search", "d"], f"--attr is missing; {those} the words of search"),
+        (["search", "d", "--attr=a"], f"--value is missing; {those} the words of search"),
+        (["search", "--attr=a", "--value=a"], f"a word is missing, too many or wrong; {those} those of search"),
+        (["serve", "d"], f"--port is missing; {those} the words of serve"),
+        (["serve", "d", "e", "--port=1"], f"a word is missing, too many or wrong; {those} those of serve"),
+        (["serve-shares", "d"], f"--port is missing; {those} the words of serve-shares"),
+        (["mirror", "d"], f"a word is missing, too many or wrong; {those} those of mirror"),
         (["list", b"\xff"], f"a command is missing, or a word isn't UTF-8; {those} them all"),
     ]
     for words, text in rows:
         is_told(program, words, 2, f"words ({text})")
+    for words in ("permanode d", f"claim d set {ABSENT} tag a", f"delete d {ABSENT}", "multi d"):
+        is_told(program, words.split(), 2, f"words ({KEY_MISSING})")
+
+
+def numbers(program):
+    """Which number of a server is out of its range."""
+    for command, words, option, most, value in [
+        ("serve", ["--port", "80000"], "port", 65_535, "80000"),
+        ("serve", ["--port=0"], "port", 65_535, "0"),
+        ("serve", ["--port=1", "--workers=65"], "workers", 64, "65"),
+        ("serve", ["--indexers", "x", "--port=1"], "indexers", 64, "x"),
+        ("serve-shares", ["--port", "-1"], "port", 65_535, "-1"),
+        ("serve-shares", ["--port=1", "--connections="], "connections", 2**64 - 1, ""),
+    ]:
+        text = f'--{option} takes a number from 1 to {most}, not "{value}"'
+        is_told(program, [command, "d", *words], 2, f"words ({text})")
 
 
 def keyrings(program):
     """Which line of the keyring is to blame."""
-    no_key = "is no name, space and hexadecimal digits"
+    no_key = "is no name, space, hexadecimal digits and line feed; the last line needs one too"
     for content, line, text in [
         (b"me abc\n", 1, no_key),
+        (b"me 00\nyou 00", 2, no_key),
         (b"me 00\nyou\n", 2, no_key),
         (b"me 00\nyou 00\nme 01\n", 3, "has the name of an earlier one"),
     ]:
@@ -219,8 +261,36 @@ def held(program):
     words = store.words("delete", ref_of(b"abc"), "--key=me")
     waits = f"{PASSING}perkeep: waits for another program that holds {store.path}, ten seconds at most{PASSING}"
     with Locked(store.path):
-        is_told(program, words, 4, f"input ({store.path}/keyring has no key me)")
-        is_told(program, store.words("put-file", "name"), 7, f"disk (another program holds {store.path})", waits)
+        is_told(program, words, 4, f"input ({store.path}/keyring has no key me: {NO_KEY})")
+        holds = f"another program holds {store.path}, perkeep serve or a command that writes"
+        hint = f"disk ({holds}: upload to the server, stop it, or wait for its end)"
+        is_told(program, store.words("put-file", "name"), 7, hint, waits)
+
+
+def unread(program):
+    """Standard input, or a keyring, that can't be read."""
+    bare, store = Store(program, {}), Store(program, {})
+    (store.path / "keyring").mkdir()
+    keyring = f"{store.path}/keyring can't be read"
+    what_it_is = "it is to be a file, or a link to one, that you may read"
+    is_told(program, store.words("list"), 5, f"read ({keyring}: {what_it_is})")
+    is_told(program, store.words("put"), 5, f"read ({keyring}, or standard input can't)")
+    folder = os.open(bare.path, os.O_RDONLY)
+    try:
+        got = told_with(program, bare.words("query"), stdin=folder)
+    finally:
+        os.close(folder)
+    text = b"perkeep: read (standard input is closed, or can't be read)\n"
+    compare("a folder as standard input", "status, output and what is told", (5, b"", text), got)
+
+
+def unwritten(program):
+    """Standard output that has no room."""
+    store = Store(program, {0: pack(b"abc")})
+    with open("/dev/full", "wb") as full:
+        got = told_with(program, store.words("list"), stdout=full)
+    text = b"perkeep: write (standard output can't be written: its reader has gone, or there is no room for it)\n"
+    compare("no room for the output", "status, output and what is told", (6, None, text), got)
 
 
 def done(program):
@@ -351,7 +421,7 @@ def long_opening(program):
 
 def rounds(program):
     """Whose turn it is in a round, how far the copying is, and at whose address it was refused."""
-    return [lambda check=check: check(program) for check in (turns, copied_so_far, named, pulled, pushed)]
+    return [lambda check=check: check(program) for check in (turns, copied_so_far, named, strangers, pulled, pushed)]
 
 
 def turn(way, address):
@@ -398,12 +468,37 @@ def copied_so_far(program):
 
 def named(program):
     store, nowhere = Store(program, {0: pack(b"abc")}), f"{HOST}:{PORTS.free()}"
-    hint = "nobody answers at ADDR, which is HOST:PORT, or the way there broke"
+    hint = "nobody answers there, or the way there broke: is perkeep serve running there?"
     with FalsePeer() as peer:
         got = told(program, store.words("mirror", peer.address, nowhere))
         refused = f"perkeep: peer ({nowhere}: {hint})\n"
         text = unanswered(nowhere) + turn("from", peer.address) + turn("from", nowhere) + refused
         compare("nobody", "status, output and what is told", (8, b"", text.encode()), got)
+
+
+def strangers(program):
+    """Other programs at the address, and servers that refuse."""
+    other = "another program may listen there"
+    no_room, not_found = (b"HTTP/1.1 %d X\r\nContent-Length: 0\r\n\r\n" % status for status in (507, 404))
+    unlike = f"doesn't answer as perkeep serve does: {other}"
+    for text, hint, hint_of_round in [
+        (b"SSH-2.0-a\r\n", f"%s {unlike}", f"it {unlike}"),
+        (not_found, f"%s answers 404, as perkeep serve doesn't: {other}", REFUSES),
+        (no_room, "the server at %s answers 507: its store is full", REFUSES),
+    ]:
+        is_strange(program, "pull", text, lambda address: hint % address)
+        is_strange(program, "mirror", text, lambda address: f"{address}: {hint_of_round}")
+
+
+REFUSES = "it refuses: its disk failed, its store is full, or another program listens there"
+
+
+def is_strange(program, command, text, hint_of):
+    with FalsePeer(rights={0: sends(text, ends=True)}) as peer:
+        words = Store(program, {}).words(command, peer.address)
+        turns = turn("from", peer.address) if command == "mirror" else ""
+        told_text = f"{turns}perkeep: reply ({hint_of(peer.address)})\n".encode()
+        compare((command, text), "status, output and what is told", (11, b"", told_text), told(program, words))
 
 
 def unanswered(address):
@@ -461,10 +556,13 @@ def late(wire, due):
 def nobody(program):
     """Said before the store is read, and whatever becomes of that; and nothing of it without a terminal."""
     store, nowhere = Store(program, {0: pack(b"abc")}), f"{HOST}:{PORTS.free()}"
-    hint = "peer (nobody answers at ADDR, which is HOST:PORT, or the way there broke)"
-    for address in (nowhere, "nowhere"):
+    hint = f"nobody answers at {nowhere}, or the way there broke: is perkeep serve running there?"
+    rows = {nowhere: hint}
+    for address in ("nowhere", "localhost:80000"):
+        rows[address] = f'"{address}" isn\'t HOST:PORT, as 127.0.0.1:3179 is'
+    for address, hint in rows.items():
         for command in ("push", "pull"):
-            is_told(program, store.words(command, address), 8, hint, unanswered(address))
+            is_told(program, store.words(command, address), 8, f"peer ({hint})", unanswered(address))
     (store.path / pack_name(3)).mkdir()
     is_told(program, store.words("push", nowhere), 7, odd_pack(store, 3), unanswered(nowhere))
 
@@ -520,21 +618,32 @@ def is_counted(what, status, text, verb, most):
 
 
 def servers(program):
-    return [lambda: server(program)]
+    return [lambda: server(program), lambda: server_of_shares(program)]
 
 
 def server(program):
     """A server tells that it has its port, and then that it listens."""
     store, port = Store(program, {0: pack(b"abc")}), PORTS.free()
+    serves(program, "serve", store.path, port, "", "")
+
+
+def server_of_shares(program):
+    """It tells that there is no such folder, and serves the empty store."""
+    path, port = program.new_path(), PORTS.free()
+    serves(program, "serve-shares", path, port, "", f"perkeep: {path} isn't there, and reads as an empty store\n")
+
+
+def serves(program, command, path, port, before, between):
+    expected = f"{before}perkeep: has port {port}, and reads the store\n{between}"
+    expected += f"perkeep: listening on http://127.0.0.1:{port}\n"
     terminal = Terminal()
-    with terminal.start(program, ["serve", str(store.path), f"--port={port}"]) as process:
+    with terminal.start(program, [command, str(path), f"--port={port}"]) as process:
         try:
             text, until = b"", time.monotonic() + harness.SECONDS
-            while text.count(b"\n") < 2 and time.monotonic() < until:
+            while text.count(b"\n") < expected.count("\n") and time.monotonic() < until:
                 text += terminal.read()
-            told = f"perkeep: has port {port}, and reads the store\nperkeep: listening on http://127.0.0.1:{port}\n"
-            compare("a server", "what is told", told.encode(), text)
-            check("a server listens", is_listened_to(port))
+            compare(command, "what is told", expected.encode(), text)
+            check(f"{command} listens", is_listened_to(port))
         finally:
             process.kill()
 

@@ -30,6 +30,7 @@ import reference
 import tree_folders
 import writing
 from harness import chance, check, compare
+from peers import Stranger
 from reference import ref_of
 from serving import HOST, PORTS, Server, ShareServer
 from stores import Store
@@ -488,9 +489,10 @@ def no_folder(program):
     port, path = PORTS.free(), bench.store.path
     usual = bench.put_words(port)[2:]
     one_key = ("--name", "t", "--keyring")
+    refused = rf"no reply of a server at {HOST}:{port}: Connection refused; is it running there\?"
     lines = [
         (bench.put_words(port), f"{os.fsdecode(bench.folder)} is no folder"),
-        ((f"{HOST}:{port}", path, *usual), f"no reply of a server at {HOST}:{port}: .*"),
+        ((f"{HOST}:{port}", path, *usual), refused),
         (("nowhere", path, *usual), "'nowhere' is no HOST:PORT"),
         ((f"{HOST}:{port}", path, *one_key, path / "keyring"), r"\S+ has 2 keys: .*"),
         ((f"{HOST}:{port}", path, *one_key, path / "keyring", "--key", "mine"), r"\S+ has no key mine, but .*"),
@@ -498,6 +500,9 @@ def no_folder(program):
     ]
     for words, err in lines:
         run(bench.cache, "put_tree.py", *words, status=3, err=rf"put_tree\.py: {err}\n")
+    with Stranger() as stranger:
+        text = f"what answers 501 at {stranger.address} is no perkeep serve: look at the port"
+        run(bench.cache, "put_tree.py", stranger.address, path, *usual, status=3, err=rf"put_tree\.py: {text}\n")
     for name in ("", "a/b", os.fsdecode(b"\xff")):
         words = (f"{HOST}:{port}", path, "--name", name, "--keyring", path / "keyring")
         run(bench.cache, "put_tree.py", *words, status=2, err=".*TREE is a text without a slash\n")

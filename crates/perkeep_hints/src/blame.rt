@@ -1,10 +1,11 @@
 //! What is to blame for a status, where it says more than a fixed text. Where no memory is left there is no such text.
 use crate::bad_keyring::BadKeyring;
-use crate::excerpt::quoting_hint;
+use crate::misfits::words_text;
+use crate::options::value_of;
+use crate::peers::{reply_text, way_text};
 use blobref::{Ref, RefText, Text};
 use claim_verify::KeyName;
 use folder_disk::Cause;
-use perkeep_words::CommandName;
 use query_read::QueryFault;
 use std::alloc::Global;
 use top_frame::{InputFault, Status};
@@ -22,73 +23,26 @@ pub struct Seen<'a> {
 /// What is to blame for a status, by the words and what was seen of the folder; None where these don't say it.
 pub fn blamed(alloc: Global, status: &Status, words: &[Text], seen: Seen<'_>) -> Option<String> {
     match status {
-        Status::BadWords => words_hint(alloc, words),
+        Status::BadWords => words_text(alloc, words),
         Status::Absent { r } => absent_text(alloc, words, r),
         Status::Damaged { want, is } => damaged_text(alloc, want, is),
+        Status::ReadFault => read_text(alloc, words, seen),
         Status::Disk => disk_text(alloc, seen.folder, seen.cause),
-        Status::BadInput(InputFault::BadName) => name_text(alloc, words),
-        Status::BadInput(InputFault::BadQuery(fault)) => query_text(alloc, fault),
-        Status::BadInput(InputFault::NoKey) => key_text(
-            alloc,
-            words,
-            seen.folder,
-            seen.has_keyring,
-        ),
+        Status::Peer => way_text(alloc, words),
+        Status::BadReply(fault) => reply_text(alloc, words, fault),
+        Status::BadInput(fault) => input_text(alloc, fault, words, seen),
         _ => None,
     }
 }
 
-fn words_hint(alloc: Global, words: &[Text]) -> Option<String> {
-    match quoting_hint(words) {
-        Some(hint) => format!(in alloc; "{hint}").ok(),
-        None => words_text(alloc, words),
+fn input_text(alloc: Global, fault: &InputFault, words: &[Text], seen: Seen<'_>) -> Option<String> {
+    match fault {
+        InputFault::BadDate => date_text(alloc, words),
+        InputFault::BadName => name_text(alloc, words),
+        InputFault::BadQuery(fault) => query_text(alloc, fault),
+        InputFault::NoKey => key_text(alloc, words, seen),
+        _ => None,
     }
-}
-
-// Which of the words isn't one of its command's. There are none where one of them isn't UTF-8.
-fn words_text(alloc: Global, words: &[Text]) -> Option<String> {
-    let Some((first, behind)) = words.split_first() else {
-        return format!(in alloc;
-            "a command is missing, or a word isn't UTF-8; man perkeep has them all"
-        ).ok();
-    };
-    let first = first.as_str();
-    if matches!(first, "serve" | "serve-shares" | "mirror") {
-        return misfit_text(alloc, first);
-    }
-    let Some(command) = CommandName::of(first) else {
-        return format!(in alloc; "{first:?} is no command; man perkeep has them all").ok();
-    };
-    match first_unknown(command, behind) {
-        Some(word) => {
-            format!(in alloc;
-                "{word:?} can't stand there; man perkeep has the words of {first}"
-            ).ok()
-        }
-        None => misfit_text(alloc, first),
-    }
-}
-
-fn misfit_text(alloc: Global, command: &str) -> Option<String> {
-    format!(in alloc;
-        "a word is missing, too many or wrong; man perkeep has those of {command}"
-    ).ok()
-}
-
-// The first word with which no line of the command goes on: it isn't known with the next word either, which may be the
-// value that it waits for.
-fn first_unknown<'a>(command: CommandName, words: &'a [Text]) -> Option<&'a str> {
-    let mut doubted = None;
-    for place in 0..words.len() {
-        if command.form().knows_all(&words[..place + 1]) {
-            doubted = None;
-        } else if doubted.is_some() {
-            return doubted;
-        } else {
-            doubted = Some(words[place].as_str());
-        }
-    }
-    doubted
 }
 
 // The ref that the store lacks, and whether the words name it.
@@ -114,6 +68,38 @@ fn spelled(text: &RefText) -> &str {
     str::from_utf8(text.as_slice()).unwrap_or("")
 }
 
+// Whether the keyring of the folder can't be read, or standard input, as far as the command and the folder say it.
+fn read_text(alloc: Global, words: &[Text], seen: Seen<'_>) -> Option<String> {
+    let folder = seen.folder;
+    if !seen.has_keyring {
+        format!(in alloc; "standard input is closed, or can't be read").ok()
+    } else if reads_input(words) {
+        format!(in alloc; "{folder}/keyring can't be read, or standard input can't").ok()
+    } else {
+        format!(in alloc;
+            "{folder}/keyring can't be read: it is to be a file, or a link to one, that you may read"
+        ).ok()
+    }
+}
+
+fn reads_input(words: &[Text]) -> bool {
+    match words.first() {
+        Some(command) => matches!(
+            command.as_str(),
+            "put" | "put-file" | "query" | "multi" | "search-pack"
+        ),
+        None => false,
+    }
+}
+
+// Which date is none, and what one looks like.
+fn date_text(alloc: Global, words: &[Text]) -> Option<String> {
+    let date = value_of(words, "at")?;
+    format!(in alloc;
+        "{date:?} is no date: a date has a time and a zone, as 2026-12-01T09:00:00Z, or +01:00 for Z"
+    ).ok()
+}
+
 // What is wrong with a query, and where.
 fn query_text(alloc: Global, fault: &QueryFault) -> Option<String> {
     match fault {
@@ -133,7 +119,7 @@ fn query_fault_text(alloc: Global, kind: &str, at: &Text) -> Option<String> {
 
 // Which name is none: that of the key that the words have, or an attribute's.
 fn name_text(alloc: Global, words: &[Text]) -> Option<String> {
-    match key_in(words) {
+    match value_of(words, "key") {
         Some(key) if KeyName::read(key.as_bytes()).is_none() => {
             format!(in alloc; "{key:?} can't be the name of a key").ok()
         }
@@ -141,30 +127,25 @@ fn name_text(alloc: Global, words: &[Text]) -> Option<String> {
     }
 }
 
-// Which key the keyring of a folder doesn't hold, or that there is no keyring.
-fn key_text(alloc: Global, words: &[Text], folder: &str, has_keyring: bool) -> Option<String> {
-    if has_keyring {
-        let key = key_in(words).unwrap_or("");
-        format!(in alloc; "{folder}/keyring has no key {key}").ok()
+// Which key the keyring of a folder doesn't hold, or that there is no keyring, or no folder.
+fn key_text(alloc: Global, words: &[Text], seen: Seen<'_>) -> Option<String> {
+    let folder = seen.folder;
+    if folder.is_empty() {
+        no_folder_text(alloc)
+    } else if seen.has_keyring {
+        let key = value_of(words, "key").unwrap_or("");
+        format!(in alloc;
+            "{folder}/keyring has no key {key}: each of its lines begins with the name of one"
+        ).ok()
     } else {
-        format!(in alloc; "{folder}/keyring isn't there").ok()
+        format!(in alloc;
+            "{folder}/keyring isn't there: copy the archive's, or make one as man perkeep shows"
+        ).ok()
     }
 }
 
-// The name of the key that words have, as it stands there.
-fn key_in<'a>(words: &'a [Text]) -> Option<&'a str> {
-    let mut is_next = false;
-    for word in words {
-        let word = word.as_str();
-        if is_next {
-            return Some(word);
-        }
-        if let Some(key) = word.strip_prefix("--key=") {
-            return Some(key);
-        }
-        is_next = word == "--key";
-    }
-    None
+fn no_folder_text(alloc: Global) -> Option<String> {
+    format!(in alloc; "DIR is the empty text").ok()
 }
 
 /// What is wrong with the keyring of a folder.
@@ -175,8 +156,10 @@ pub fn keyring_text(alloc: Global, folder: &str, fault: BadKeyring) -> Option<St
         }
         BadKeyring::NoKey { line } => {
             format!(in alloc;
-                "line {line} of {folder}/keyring is no name, space and hexadecimal digits"
-            ).ok()
+                "line {line} of {folder}/keyring is no name, space, hexadecimal digits and line feed; \
+                the last line needs one too"
+            )
+            .ok()
         }
         BadKeyring::Twice { line } => {
             format!(in alloc; "line {line} of {folder}/keyring has the name of an earlier one").ok()
@@ -187,16 +170,24 @@ pub fn keyring_text(alloc: Global, folder: &str, fault: BadKeyring) -> Option<St
 // Why the disk of a folder failed, where that is known.
 fn disk_text(alloc: Global, folder: &str, cause: Cause) -> Option<String> {
     if folder.is_empty() {
-        return format!(in alloc; "DIR is the empty text").ok();
+        return no_folder_text(alloc);
     }
     match cause {
         Cause::NoRoom => format!(in alloc; "no room is left where {folder} is").ok(),
         Cause::NoRight => {
             format!(in alloc; "you have no right to read or write {folder}, or a file in it").ok()
         }
-        Cause::Held => format!(in alloc; "another program holds {folder}").ok(),
+        Cause::Held => held_text(alloc, folder),
         Cause::NotAFolder => format!(in alloc; "{folder} is no folder").ok(),
         Cause::Gone => format!(in alloc; "{folder}, or what it stands in, isn't there").ok(),
         Cause::Unknown => None,
     }
+}
+
+fn held_text(alloc: Global, folder: &str) -> Option<String> {
+    format!(in alloc;
+        "another program holds {folder}, perkeep serve or a command that writes: \
+        upload to the server, stop it, or wait for its end"
+    )
+    .ok()
 }

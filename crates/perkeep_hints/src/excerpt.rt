@@ -15,7 +15,10 @@ const SHOWN_BEFORE: usize = 30;
 pub(crate) fn quoting_hint(words: &[Text]) -> Option<&'static str> {
     let (command, behind) = words.split_first()?;
     if command.as_str() == "words" && has_loose_text(behind) {
-        Some("TEXT is one word: put quotes around it, and -- before it where it begins with a dash")
+        Some(
+            "TEXT is one word: put single quotes around it, as 'tag:a title:\"on the way\"', \
+            and -- before it where it begins with a dash",
+        )
     } else {
         None
     }

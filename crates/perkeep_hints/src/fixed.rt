@@ -1,14 +1,19 @@
 //! What a person can do after a status, where that is the same text always.
 use search_words::WordsFault;
-use top_frame::{InputFault, Status};
+use top_frame::{InputFault, ReplyFault, Status};
 
 /// What a person can do after a status, where one text says it, whatever the words and the folder.
 pub fn fixed_hint(status: &Status) -> Option<&'static str> {
     match status {
         Status::BadInput(fault) => hint_of_input(fault),
         Status::Disk => Some("the folder, or a file in it, can't be read or written"),
-        Status::Peer => Some("nobody answers at ADDR, which is HOST:PORT, or the way there broke"),
-        Status::BadReply(_) => Some("the server refused, or answered otherwise than it should"),
+        Status::WriteFault => Some(
+            "standard output can't be written: its reader has gone, or there is no room for it",
+        ),
+        Status::Peer => Some(
+            "nobody answers there, or the way there broke: is perkeep serve running there?",
+        ),
+        Status::BadReply(fault) => Some(hint_of_reply(fault)),
         Status::Full { .. } => Some("the store has as many blobs or packs as it may have"),
         Status::ListenerFault => Some(
             "the port is taken, or no connection could be accepted; --port takes another one",
@@ -20,7 +25,9 @@ pub fn fixed_hint(status: &Status) -> Option<&'static str> {
 fn hint_of_input(fault: &InputFault) -> Option<&'static str> {
     match fault {
         InputFault::BadRef => Some("a text that should be a blobref is none"),
-        InputFault::BadDate => Some("a text that should be a date is none"),
+        InputFault::BadDate => Some(
+            "a text that should be a date, as 2026-12-01T09:00:00Z, is none",
+        ),
         InputFault::BadNumber => { Some("a text that should be a number is none, or out of range") }
         InputFault::TooBig { .. } => Some("standard input is longer than it may be"),
         InputFault::NotAFile { .. } => {
@@ -36,12 +43,25 @@ fn hint_of_input(fault: &InputFault) -> Option<&'static str> {
     }
 }
 
+fn hint_of_reply(fault: &ReplyFault) -> &'static str {
+    match fault {
+        ReplyFault::Grammar => {
+            "it doesn't answer as perkeep serve does: another program may listen there"
+        }
+        ReplyFault::Refused { .. } => {
+            "it refuses: its disk failed, its store is full, or another program listens there"
+        }
+        ReplyFault::Gone { .. } => "it lists a blob that it doesn't have",
+    }
+}
+
 fn hint_of_words(fault: &WordsFault) -> &'static str {
     match fault {
         WordsFault::TooLong { .. } => "TEXT is longer than 1,024 bytes",
         WordsFault::TooDeep => "TEXT asks more than 32 constraints in one another",
         WordsFault::Bad { .. } | WordsFault::NoMemory => {
-            "from the mark on TEXT is no line of search words"
+            "from the mark on TEXT is no line of search words; one is typed with both kinds of quotes, \
+            as 'tag:a title:\"on the way\"'"
         }
     }
 }

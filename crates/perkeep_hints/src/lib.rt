@@ -6,6 +6,9 @@ mod bad_keyring;
 mod blame;
 mod excerpt;
 mod fixed;
+mod misfits;
+mod options;
+mod peers;
 
 pub use bad_keyring::BadKeyring;
 pub use blame::{Seen, blamed, keyring_text};

@@ -1,0 +1,63 @@
+//! Why a server couldn't be used.
+use crate::misfits::PORT_MAX;
+use crate::options::is_number;
+use blobref::Text;
+use perkeep_words::places;
+use std::alloc::Global;
+use top_frame::ReplyFault;
+
+/// Why the way to the server that the words name failed. None where they name several.
+pub(crate) fn way_text(alloc: Global, words: &[Text]) -> Option<String> {
+    let address = address_in(words)?;
+    if is_address(address) {
+        format!(in alloc;
+            "nobody answers at {address}, or the way there broke: is perkeep serve running there?"
+        ).ok()
+    } else {
+        format!(in alloc; "{address:?} isn't HOST:PORT, as 127.0.0.1:3179 is").ok()
+    }
+}
+
+/// Why a reply of the server that the words name can't be used. None where they name several.
+pub(crate) fn reply_text(alloc: Global, words: &[Text], fault: &ReplyFault) -> Option<String> {
+    let address = address_in(words)?;
+    match fault {
+        ReplyFault::Grammar => {
+            format!(in alloc;
+                "{address} doesn't answer as perkeep serve does: another program may listen there"
+            ).ok()
+        }
+        ReplyFault::Refused { status: 503 } => {
+            format!(in alloc;
+                "the server at {address} answers 503: its disk failed, or it has no memory left"
+            ).ok()
+        }
+        ReplyFault::Refused { status: 507 } => {
+            format!(in alloc; "the server at {address} answers 507: its store is full").ok()
+        }
+        ReplyFault::Refused { status } => {
+            format!(in alloc;
+                "{address} answers {status}, as perkeep serve doesn't: another program may listen there"
+            ).ok()
+        }
+        ReplyFault::Gone { .. } => {
+            format!(in alloc; "the server at {address} lists a blob that it doesn't have").ok()
+        }
+    }
+}
+
+// The address in words that name a single one.
+fn address_in(words: &[Text]) -> Option<&str> {
+    if words.first()?.as_str() == "mirror" {
+        return None;
+    }
+    let place = places(words).addr?;
+    Some(words.get(place)?.as_str())
+}
+
+fn is_address(text: &str) -> bool {
+    match text.rsplit_once(':') {
+        Some((host, port)) => !host.is_empty() && is_number(port, PORT_MAX),
+        None => false,
+    }
+}
