@@ -1,5 +1,5 @@
 #!/usr/bin/env python3
-"""Makes what is installed beside the program out of docs/commands.md and docs/guide.md:
+"""Makes the files that are installed beside the program, from docs/commands.md, docs/guide.md and docs/search.md:
 
     perkeep.1       the manual page
     perkeep.bash    completions for bash
@@ -7,9 +7,10 @@
 
     install/make.py [FOLDER]
 
-They are written into FOLDER, or where none is given into the folder of this script. The page's first table has the
-lines of the commands. Each of its sections becomes one of the manual, but for those that speak of the repository alone.
-The guide gives the manual its examples, the first commands of each of its tasks, and its table of files.
+They are written into FOLDER, or, without one, into the folder of this script. The first table of docs/commands.md has the
+lines of the commands. Each section of that page becomes a section of the manual, except those that are about the
+repository alone. The guide provides the examples of the manual, which are the first commands of each task and all commands
+about shares, and its table of files. docs/search.md provides the table of search words.
 """
 
 import pathlib
@@ -19,14 +20,17 @@ from typing import NamedTuple
 
 HERE = pathlib.Path(__file__).resolve().parent
 DOCS = HERE.parent / "docs"
-PAGE, GUIDE = DOCS / "commands.md", DOCS / "guide.md"
-# What the table of commands begins with, and the sections that are no part of the manual.
-HEADS = ["words", "what it does", "what it prints"]
+PAGE, GUIDE, SEARCH = DOCS / "commands.md", DOCS / "guide.md", DOCS / "search.md"
+# The heads of the table of commands, and the sections that aren't in the manual.
+HEADS = ["command line", "what it does", "what it prints"]
 LEFT_OUT = ["The launcher"]
-# The section of the guide that is a table of files.
-FILES = "Files"
+# The section of the guide that is a table of files, and the one whose commands are all examples.
+FILES, SHARES = "Files", "Share a file or a folder"
+# The section of the manual, and of docs/search.md, that has the table of search words, and the sentence that links to it.
+WORDS = "Search words"
+LINK_TO_WORDS = re.compile(r"\[search\.md\]\(search\.md#search-words\)\s+has\s+a\s+table\s+of\s+the\s+search\s+words\.")
 PURPOSE = "keeps an archive of blobs, notes and files"
-MADE = "made from docs/commands.md and docs/guide.md by install/make.py"
+MADE = "made from docs/commands.md, docs/guide.md and docs/search.md by install/make.py"
 
 
 # The page
@@ -113,11 +117,11 @@ def sections_of(text):
 
 
 def tasks_of(sections):
-    """What the guide begins with in each section that has commands, as the lines of these."""
+    """The lines of the first commands of each section of the guide that has any, and of all commands about shares."""
     for heading, text in sections.items():
-        commands = re.search(r"(?ms)^```sh\n(.*?)^```$", text)
+        commands = re.findall(r"(?ms)^```sh\n(.*?)^```$", text)
         if commands:
-            yield heading, commands[1].splitlines()
+            yield heading, "".join(commands if heading == SHARES else commands[:1]).splitlines()
 
 
 # The manual page
@@ -144,7 +148,7 @@ def stressed(text):
 
 
 def manual_table(block):
-    """A table as a list of its rows: what the first cell has is told by the others."""
+    """A table as a list of its rows: the first cell, described by the others."""
     heads, *rows = rows_of(block)
     lines = []
     for first, *cells in rows:
@@ -194,9 +198,19 @@ def manual_guide(sections):
     return [*lines, ".SH FILES", *(line for block in blocks for line in manual_block(block))]
 
 
-def manual(text, guide):
+def with_search_words(section, search):
+    """A section of the manual; that of search words gets their table."""
+    if section.partition("\n")[0] != WORDS:
+        return section
+    tables = ["\n".join(block) for block in blocks_of(sections_of(search)[WORDS]) if is_table(block)]
+    text = LINK_TO_WORDS.sub("These are the search words:", section.rstrip("\n"))
+    return "\n\n".join([text, *tables]) + "\n"
+
+
+def manual(text, guide, search):
     first, *sections = text.split("\n## ")
-    text = "\n## ".join([first, *filter(is_kept, sections)])
+    kept = (with_search_words(section, search) for section in sections if is_kept(section))
+    text = "\n## ".join([first, *kept])
     blocks = blocks_of(text)[1:]
     lines = [rf".\" {MADE}", '.TH PERKEEP 1 "" perkeep', ".nh", ".ad l", ".SH NAME", rf"perkeep \- {PURPOSE}", ".SH SYNOPSIS"]
     for command in commands_of(blocks):
@@ -392,7 +406,7 @@ def completions_for_zsh(commands, kinds):
 def main():
     folder = pathlib.Path(sys.argv[1]) if len(sys.argv) > 1 else HERE
     text = PAGE.read_text()
-    (folder / "perkeep.1").write_text(manual(text, GUIDE.read_text()))
+    (folder / "perkeep.1").write_text(manual(text, GUIDE.read_text(), SEARCH.read_text()))
     commands, kinds = commands_of(blocks_of(text)), kinds_of(text)
     (folder / "perkeep.bash").write_text(completions_for_bash(commands, kinds))
     (folder / "_perkeep").write_text(completions_for_zsh(commands, kinds))

@@ -1,4 +1,4 @@
-# Completions of perkeep for bash, made from docs/commands.md and docs/guide.md by install/make.py.
+# Completions of perkeep for bash, made from docs/commands.md, docs/guide.md and docs/search.md by install/make.py.
 
 # The positions and options of a command.
 _perkeep_words() {

@@ -10,7 +10,7 @@ TOP = pathlib.Path(__file__).resolve().parent.parent
 PROGRAMS = {"fault_rows", "lab", "perkeep_cli"}
 
 # What may hold braces that open and close nothing.
-PASSED_OVER = re.compile(r'//[^\n]*|"(?:[^"\\]|\\.)*"|\'(?:[^\'\\\n]|\\.)\'')
+PASSED_OVER = re.compile(r'//[^\n]*|"(?:[^"\\]|\\[\s\S])*"|\'(?:[^\'\\\n]|\\.)\'')
 PUBLIC = re.compile(r"^( *)pub (?:const |unsafe )*fn (\w+)", re.M)
 TRAIT = re.compile(r"^pub (?:unsafe )?trait (\w+).*?^\}", re.M | re.S)
 OF_A_TRAIT = re.compile(r"^    fn (\w+)", re.M)
@@ -89,7 +89,7 @@ def behind_closing(text, at):
 def named_on(page):
     """The functions that a page names in its paragraph on those without a contract, without the modules in their
     paths."""
-    text = page.partition("Each public function of the libraries has a contract, but for these")[2].partition("\n**")[0]
+    text = page.partition("Each public function of the libraries has a contract, except these")[2].partition("\n**")[0]
     return sorted(map(without_modules, re.findall(r"`(\w+(?:::\w+)+)`", text)))
 
 

@@ -1,9 +1,10 @@
-"""The table of crates in crates/README.md: all of it but what each crate is for and promises, which is written there by hand.
+"""The table of crates in crates/README.md. Three cells of each row are written there by hand: what a crate is for, what it
+promises, and what the crates above use of it. The script writes the others.
 
-    crates_table.py --check     says whether the page has this table; status 1 where it hasn't
-    crates_table.py --write     writes it into the page. What is written by hand stays; a new crate has empty cells to be filled
+    crates_table.py --check     says whether the page has this table; status 1 if it hasn't
+    crates_table.py --write     writes it into the page, and keeps the cells that are written by hand. Those of a new crate are empty
 
-The layers, the crates and what they stand on are those of crates.txt, and the minutes those of the table in docs/gate.md.
+The layers, the crates and their dependencies are those of crates.txt, and the minutes those of the table in docs/gate.md.
 """
 
 import argparse
@@ -18,12 +19,13 @@ import budget
 TOP = pathlib.Path(__file__).resolve().parent.parent
 PAGE = TOP / "crates" / "README.md"
 PROGRAM = "perkeep_cli"
-# The columns, and which of them are of numbers. The second and the third are written by hand.
-COLUMNS = ("crate", "what it is for", "what it promises", "stands on", "crates above it", "minutes that a change costs")
-RULES = ("---", "---", "---", "---", "---:", "---:")
+# The columns, and which of them are of numbers. The second to the fourth are written by hand.
+COLUMNS = ("crate", "what it is for", "what it promises", "what those above use", "depends on", "crates above it", "minutes that a change costs")
+RULES = ("---", "---", "---", "---", "---", "---:", "---:")
+BY_HAND = 3
 # What a change has done again, of the kinds of docs/gate.md.
 DONE_AGAIN = ("proof", "tests", "edits")
-ROW = re.compile(r"\| `(\w+)`(?: \*)? \|(?: ([^|]*))? \|(?: ([^|]*))? \|")
+ROW = re.compile(r"\| `(\w+)`(?: \*)? \|" + r"(?: ([^|]*))? \|" * BY_HAND)
 
 
 # What crates.txt and docs/gate.md say
@@ -85,9 +87,9 @@ def row(*cells):
 
 
 def by_hand(text):
-    """What a page has in the cells that are written by hand, by the crate."""
+    """The cells of a page that are written by hand, by the crate."""
     rows = map(ROW.match, text.splitlines())
-    return {found[1]: (found[2] or "", found[3] or "") for found in rows if found}
+    return {found[1]: tuple(cell or "" for cell in found.groups()[1:]) for found in rows if found}
 
 
 def table_of(text):
@@ -102,7 +104,7 @@ def due_table(text):
     yield row(*RULES)
     for layer, names in layers().items():
         yield row(f"**{layer}**", *[""] * (len(COLUMNS) - 1))
-        yield from (crates.row(name, cells.get(name, ("", ""))) for name in names)
+        yield from (crates.row(name, cells.get(name, ("",) * BY_HAND)) for name in names)
 
 
 def with_table(text, table):

@@ -1030,7 +1030,7 @@ def keyrings(program):
 
 def inputs(program):
     """Standard input is taken whole, however slowly it comes."""
-    for words in (["put", "d"], ["put-file", "d", "name"], ["query", "d"], ["search-pack", "tag", "a"]):
+    for words in (["put", "d"], ["put-file", "d", "name"], ["multi", "d", "--key", "me"], ["query", "d"], ["search-pack", "tag", "a"]):
         tree = Tried(program)
         process = tree.start(*words, PERKEEP_TRY="1")
         process.stdin.write("slow ")
@@ -1086,11 +1086,11 @@ def no_answers(program):
 
 def refusals(program):
     """What can't be done unproved is refused by one line, and the toolchain isn't asked."""
-    serve = "perkeep: serve isn't run unproved; PERKEEP_BUILD=only ./perkeep builds the program\n"
     limit = 64 << 20
     tree = Tried(program)
-    for words in (["serve"], ["serve", "d", "--port", "3179"]):
-        tree.ends(f"{words}", words, 70, "", serve)
+    for words in (["serve"], ["serve", "d", "--port", "3179"], ["serve-shares", "d", "--port", "3190"]):
+        refusal = f"perkeep: {words[0]} isn't run unproved; PERKEEP_BUILD=only ./perkeep builds the program\n"
+        tree.ends(f"{words}", words, 70, "", refusal)
     too_long = f"perkeep: PERKEEP_TRY=1 takes less than {limit} bytes of standard input\n"
     tree.ends("too much input", ["put", "d"], 70, "", too_long, source=" " * limit)
     compare("refusals", "calls", [], tree.calls())

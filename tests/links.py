@@ -270,7 +270,7 @@ def crates(program):
 def check_row(text, name):
     rows = [row for row in map(crates_table.ROW.match, text.splitlines()) if row and row[1] == name]
     compare(f"crates/README.md: {name}", "its rows", 1, len(rows))
-    check(f"crates/README.md: {name} has an empty cell", rows[0][2] and rows[0][3])
+    check(f"crates/README.md: {name} has an empty cell", all(rows[0].groups()))
 
 
 def scripts(program):
