@@ -409,7 +409,7 @@ def table_rows(page):
 
 def typed_rows(page):
     """Of each row of the table of what can be typed, whether its example is a line."""
-    for cells in rows(page, "| typed | asks for | example |"):
+    for cells in rows(page, "| you type | it asks for | example |"):
         yield cells, [read(text)[0] for text in texts_of(cells[2])] == ["asks"]
 
 
@@ -421,7 +421,7 @@ def tables(program):
     """The rows of the pages' tables, by this reading of the grammar; and what the program tells of their texts."""
     grammar, search = (open(f"docs/{name}.md", encoding="utf-8").read() for name in ("formats/search_words", "search"))
     checks = [so(cells, holds) for cells, holds in (*table_rows(grammar), *typed_rows(search))]
-    columns = [("| line | constraint |", 0), ("| text | fault | since |", 0), ("| typed | asks for | example |", 2)]
+    columns = [("| line | constraint |", 0), ("| text | fault | since |", 0), ("| you type | it asks for | example |", 2)]
     cells = [row[at] for heading, at in columns for row in rows(grammar + search, heading)]
     lines = [text for cell in cells for text in texts_of(cell)]
     constraints = [constraint_of(row[0]) for row in rows(grammar, "| constraint | line |")]
