@@ -5,9 +5,9 @@
     get_tree.py ~/archive photos ~/photos.then 2026-01-31T18:30:00Z
 
 DIR is the folder of the archive, or a copy of it: its packs are read, also while a server runs. A backup that has no
-keyring is given one by --keyring. TREE is the name that put_tree.py was given, or in its place a ref: of a note, or of
-a folder, file or link (docs/formats/trees.md). At DATE the note has what it had then: what had been removed by
-then isn't restored, nor what came later.
+keyring is given one by --keyring. TREE is the name that put_tree.py was given, whatever the title of its note is now;
+or in its place a ref: of a note, as notes.py prints it, or of a folder, file or link (docs/formats/trees.md). At DATE
+the note has what it had then: what had been removed by then isn't restored, nor what came later.
 
 PATH is made, or, where it is a folder already, added to. Nothing is written outside it, whatever names and links the
 tree has. A file that is there already is left alone and reported, unless --force is given; a folder with something in
@@ -236,7 +236,7 @@ class Wanted:
             return self.text
         if len(notes) != 1:
             why = f"there are several: {', '.join(sorted(notes))}" if notes else "no key of the keyring has made it"
-            raise Refused(f"no tree {self.text}: {why}")
+            raise Refused(f"no tree {self.text}: {why}. TREE may be the ref of its note, too: notes.py prints each")
         return self.content_of(*notes)
 
     def content_of(self, note: str) -> str:

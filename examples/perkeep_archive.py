@@ -1,8 +1,8 @@
-"""What the scripts beside this module share: blobs, keys, packs, notes and trees of an archive, and a server's client.
+"""Shared by the scripts of this folder: blobs, keys, packs, notes and trees of an archive, and a server's client.
 
-It is written from docs/formats and docs/claims.md alone, so an archive can be read, and added to, without the program.
-Python 3.9 or later, and nothing but its standard library. Sizes and offsets are in bytes, moments in nanoseconds since
-1970, names and paths of files are bytes.
+It is written from docs/formats and docs/claims.md alone, so that an archive can be read, and added to, without the
+program. Needs Python 3.9 or later, and only its standard library. Sizes and offsets are in bytes, moments in
+nanoseconds since 1970, and names and paths of files are bytes.
 """
 
 from __future__ import annotations
@@ -25,12 +25,12 @@ import sys
 import time
 from typing import Callable, Iterable, Iterator, NamedTuple, Optional
 
-# The statuses with which the scripts end, beside 0, and 2 for words that argparse doesn't take.
+# The statuses with which the scripts end, besides 0, and 2 for arguments that argparse refuses.
 INCOMPLETE, REFUSED = 1, 3
 
 
 class Refused(Exception):
-    """Why the work can't be done, or can't go on."""
+    """Why the work can't be done, or can't continue."""
 
 
 # Blobrefs (docs/formats/blobrefs.md)
@@ -47,7 +47,7 @@ def is_ref(value: object) -> bool:
 
 
 def has_ref(blob: bytes, ref: str) -> bool:
-    """Whether the ref is one of these bytes' own, under the digest that it names."""
+    """Whether the ref is that of these bytes, under its own digest."""
     if ref.startswith("sha1-"):
         return hashlib.sha1(blob).hexdigest() == ref[5:]
     return ref_of(blob) == ref
@@ -64,7 +64,7 @@ LEAST_MOMENT, GREATEST_MOMENT = -62_135_596_800 * SECOND, 253_402_300_800 * SECO
 
 
 def moment_in(text: object) -> Optional[int]:
-    """The moment that the text of a date says; None where it is no date."""
+    """The moment of a date's text; None if it isn't a date."""
     parts = DATE.fullmatch(text) if isinstance(text, str) else None
     if parts is None:
         return None
@@ -90,14 +90,14 @@ def date_text(moment: int) -> str:
     return whole + f".{fraction:09}".rstrip("0").rstrip(".") + "Z"
 
 
-# JSON (docs/formats/schema.md, "JSON"). Read is what the program reads, and texts that nest deeper too.
+# JSON (docs/formats/schema.md, "JSON"). Reads all that the program reads, and also texts that nest deeper.
 
 LARGEST_SCHEMA = 1_048_576
 HALF_A_PAIR = re.compile(rb"\\u[dD][89a-fA-F]")
 
 
 def read_object(octets: bytes) -> Optional[dict]:
-    """The JSON object that some bytes are; None where they are none."""
+    """The JSON object in some bytes; None if they have none."""
     try:
         value = json.loads(octets.decode(), parse_int=whole_number, parse_float=finite, parse_constant=finite)
         if HALF_A_PAIR.search(octets):
@@ -115,7 +115,7 @@ def finite(digits: str) -> float:
 
 
 def whole_number(digits: str) -> object:
-    """Digits alone are a whole number below 2^64, and all else isn't one."""
+    """Only digits make a whole number below 2^64; nothing else is one."""
     is_whole = digits.isdigit() and len(digits) <= 20 and int(digits) < 2**64
     return int(digits) if is_whole else finite(digits)
 
@@ -124,7 +124,7 @@ def is_whole(value: object) -> bool:
     return type(value) is int
 
 
-# JSON as it is written in blobs: no white space, and no escapes that aren't needed.
+# JSON as it is written in blobs: no white space, and no unnecessary escapes.
 compact = json.JSONEncoder(ensure_ascii=False, separators=(",", ":")).encode
 
 
@@ -154,7 +154,7 @@ class Key:
         return hmac.digest(self.secret, octets, "sha256")
 
     def signed(self, kind: str, fields: dict, rest: str = "") -> bytes:
-        """The signed blob of a permanode or a claim, of these fields and the text of further ones."""
+        """The signed blob of a permanode or a claim, with these fields and the text of further ones."""
         body = {"camliVersion": 1, "camliType": kind, "camliSigner": self.ref, **fields}
         payload = (compact(body)[:-1] + rest).encode()
         return payload + MARKER + self.digest(payload).hex().encode() + b'"}\n'
@@ -177,7 +177,7 @@ def read_keyring(path: pathlib.Path) -> dict[str, Key]:
 
 
 def keyring_of(folder: pathlib.Path, given: Optional[str], is_needed: bool = True) -> dict[str, Key]:
-    """The keyring that was given, or else that of a store's folder."""
+    """The given keyring, or that of a store's folder."""
     path = pathlib.Path(given) if given else folder / "keyring"
     if given or path.exists():
         return read_keyring(path)
@@ -189,7 +189,7 @@ def keyring_of(folder: pathlib.Path, given: Optional[str], is_needed: bool = Tru
 
 
 def signed_in(blob: bytes) -> Optional[tuple[dict, bytes, bytes]]:
-    """What a signed blob says, its payload, and its signature; None where it isn't signed."""
+    """The object of a signed blob, its payload, and its signature; None if it isn't signed."""
     place = blob.rfind(MARKER)
     if place < 0 or len(blob) > LARGEST_SCHEMA:
         return None
@@ -200,7 +200,7 @@ def signed_in(blob: bytes) -> Optional[tuple[dict, bytes, bytes]]:
     return (body, blob[:place], bytes.fromhex(digits)) if re.fullmatch("[0-9a-f]{64}", digits) else None
 
 
-# Schema blobs that are written (docs/formats/schema.md, "Written blobs"; docs/formats/trees.md)
+# Schema blobs to write (docs/formats/schema.md, "Written blobs"; docs/formats/trees.md)
 
 CHUNK, MOST_CHUNKS = 1_048_576, 4_096
 MOST_MEMBERS = 10_000
@@ -221,7 +221,7 @@ def total_size(parts: list[dict]) -> int:
 
 
 def octets_field(key: str, octets: bytes) -> dict:
-    """A name or a target under its key; where it isn't UTF-8 under `keyBytes`, as a list of texts and numbers."""
+    """A name or a target under its key; if it isn't UTF-8, under `keyBytes`, as a list of strings and numbers."""
     pieces = re.findall(f"[{NOT_UTF8}]|[^{NOT_UTF8}]+", octets.decode(errors="surrogateescape"))
     mixed = [ord(piece) - 0xDC00 if re.match(f"[{NOT_UTF8}]", piece) else piece for piece in pieces]
     is_text = all(isinstance(piece, str) for piece in mixed)
@@ -229,19 +229,20 @@ def octets_field(key: str, octets: bytes) -> dict:
 
 
 def unix_fields(mode: int, moment: int) -> dict:
-    """A file's mode and its time of change; a time that is no date is left out."""
+    """A file's mode and its time of change; a time that isn't a date is left out."""
     time_field = {"unixMtime": date_text(moment)} if is_date(moment) else {}
     return {"unixPermission": f"0{mode & 0o7777:o}", **time_field}
 
 
 def octets_text(octets: bytes) -> str:
-    """A path as a text, with `%XX` for bytes that aren't UTF-8."""
+    """A path as a string, with `%XX` for bytes that aren't UTF-8."""
     text = octets.decode(errors="surrogateescape")
     return re.sub(f"[{NOT_UTF8}]", lambda byte: f"%{ord(byte[0]) - 0xDC00:02X}", text)
 
 
 def static_sets(members: list[str]) -> list[bytes]:
-    """The blobs of a set, itself the last: with more members than one may have it has sets as its members."""
+    """The blobs of a set, of which it is the last itself. If it has more members than a set may, its members are
+    sets."""
     blobs = []
     while len(members) > MOST_MEMBERS:
         runs = [members[at : at + MOST_MEMBERS] for at in range(0, len(members), MOST_MEMBERS)]
@@ -252,7 +253,7 @@ def static_sets(members: list[str]) -> list[bytes]:
 
 
 class Change(NamedTuple):
-    """What is done to the values of an attribute of a note: `set`, `add` or `del`."""
+    """A change of the values of an attribute of a note: `set`, `add` or `del`."""
 
     act: str
     note: str
@@ -260,7 +261,7 @@ class Change(NamedTuple):
     value: str = ""
 
     def text(self) -> str:
-        """The change as it is written in a claim of several."""
+        """The change as it is written in a claim of several changes."""
         body = {"changeType": f"{self.act}-attribute", "permaNode": self.note, "attribute": self.attribute}
         return compact(body if self.act == "del" and self.value == "" else {**body, "value": self.value})
 
@@ -294,7 +295,7 @@ class Record(NamedTuple):
 
 
 class Pack:
-    """A pack, read by places, up to the size that it had when it was opened."""
+    """A pack, read by offsets, up to the size that it had when it was opened."""
 
     WINDOW = 1 << 20
 
@@ -310,7 +311,7 @@ class Pack:
         os.close(self.file)
 
     def load(self, at: int, count: int) -> int:
-        """Has so many bytes from a place on in the window, as far as there are; answers where in it they begin."""
+        """Loads so many bytes from an offset into the window, as far as there are; returns where in it they begin."""
         if not self.start <= at <= at + count <= self.start + len(self.window):
             self.start, self.window = at, os.pread(self.file, max(count, self.WINDOW), at)
         return at - self.start
@@ -321,7 +322,7 @@ class Pack:
         return self.window[start : start + count]
 
     def next_bracket(self, at: int) -> int:
-        """The place of the next `[`, or the end of the pack."""
+        """The offset of the next `[`, or the end of the pack."""
         while at < self.size:
             start = self.load(at, 1)
             place = self.window.find(b"[", start)
@@ -332,8 +333,8 @@ class Pack:
 
 
 def scan(path: pathlib.Path) -> Iterator[tuple[Record, Optional[bytes]]]:
-    """The records of a pack as salvage finds them, each with its blob; and the headers that other bytes follow, or too
-    few, each with None."""
+    """The records of a pack as salvage finds them, each with its blob; and the headers followed by other bytes, or by
+    too few, each with None."""
     with Pack(path) as pack:
         at = 0
         while at < pack.size:
@@ -362,7 +363,7 @@ def packs_in(folder: pathlib.Path) -> list[pathlib.Path]:
 
 
 class Lacking(Exception):
-    """A blob that is wanted isn't there, or isn't what it should be."""
+    """A blob that is needed isn't there, or isn't what it should be."""
 
     def __init__(self, ref: str, why: str):
         super().__init__(f"{ref} {why}")
@@ -370,10 +371,10 @@ class Lacking(Exception):
 
 
 class Archive:
-    """The blobs of a store's folder, under the refs that they were found by; read beside a running server, too."""
+    """The blobs of a store's folder, under the refs of their records. It can be read beside a running server."""
 
     def __init__(self, folder: pathlib.Path, see: Callable[[str, bytes], None] = lambda ref, blob: None):
-        """Reads all packs. Each blob is shown to `see` once, where it is found first."""
+        """Reads all packs. Each blob is shown to `see` once, where it is first found."""
         self.folder = folder
         self.records: dict[str, Record] = {}
         self.damaged: dict[str, Record] = {}
@@ -392,7 +393,7 @@ class Archive:
                 see(record.ref, blob)
 
     def get(self, ref: str) -> bytes:
-        """A blob, which has this ref."""
+        """The blob with this ref."""
         record = self.records.get(ref)
         if record is None:
             raise Lacking(ref, self.fate(ref))
@@ -406,12 +407,12 @@ class Archive:
         return blob
 
     def fate(self, ref: str) -> str:
-        """What is known of a ref that no whole record has."""
+        """What is known about a ref that no whole record has."""
         record = self.damaged.get(ref)
         return "isn't there" if record is None else f"is damaged in {record.pack} at {record.at}"
 
     def schema(self, ref: str, *kinds: str) -> dict:
-        """What a schema blob of one of these kinds says, or of any where none is named."""
+        """The object of a schema blob of one of these kinds, or of any kind if none is given."""
         body = schema_in(self.get(ref))
         if body is None or (kinds and body["camliType"] not in kinds):
             raise Lacking(ref, f"is no {' or '.join(kinds) or 'schema blob'}")
@@ -424,7 +425,7 @@ class Archive:
             return Entry(ref, {}, why)
 
     def entries(self, folder: Entry) -> Iterator[Entry]:
-        """What is in a folder, in order. A set of its set stands for its own members."""
+        """The entries of a folder, in order. A set of its set stands for its own members."""
         waiting = [str(folder.body.get("entries"))]
         while waiting:
             one = self.entry(waiting.pop())
@@ -435,12 +436,12 @@ class Archive:
                 waiting += reversed(members)
 
     def content(self, ref: str) -> Iterator[bytes]:
-        """The bytes of a file, by pieces (docs/files.md, "Reading a file")."""
+        """The bytes of a file, in pieces (docs/files.md, "Reading a file")."""
         parts = parts_in(self.schema(ref, "file"), ref)
         yield from self.bytes_of(parts, 0, total(parts), 1)
 
     def bytes_of(self, parts: list[Part], start: int, count: int, depth: int) -> Iterator[bytes]:
-        """So many bytes of parts within so many trees, from a place on."""
+        """So many bytes of parts within so many trees, from an offset on."""
         for one in parts:
             passed = min(start, one.size)
             asked = min(one.size - passed, count)
@@ -463,9 +464,9 @@ class Archive:
             yield from (bytes(min(CHUNK, count - done)) for done in range(0, count, CHUNK))
 
 
-# Files, folders and links that are read (docs/formats/schema.md, "Part lists"; docs/formats/trees.md)
+# Files, folders and links to read (docs/formats/schema.md, "Part lists"; docs/formats/trees.md)
 
-# A file's own tree is the first of so many within one another.
+# A file's own tree is the first of so many trees within one another.
 DEEPEST = 64
 MOST_BYTES = 2**48
 
@@ -484,7 +485,7 @@ class Part(NamedTuple):
 
 
 def schema_in(blob: bytes) -> Optional[dict]:
-    """The object that a schema blob is; None where it is none."""
+    """The object of a schema blob; None if it isn't one."""
     body = read_object(blob) if len(blob) <= LARGEST_SCHEMA and blob.lstrip()[:1] == b"{" else None
     return body if body is not None and is_schema(body) else None
 
@@ -519,13 +520,13 @@ def total(parts: list[Part]) -> int:
 
 
 def members_in(body: dict) -> Optional[list[str]]:
-    """The members of a static set, and the sets that it is merged of; None where one of them is no ref."""
+    """The members of a static set, and the sets that it merges; None if one of them isn't a ref."""
     members = [*(body.get("members") or []), *(body.get("mergeSets") or [])]
     return members if all(map(is_ref, members)) else None
 
 
 def octets_in(body: dict, key: str) -> bytes:
-    """A name or a target, from the key or from `keyBytes`; empty where there is none."""
+    """A name or a target, from the key or from `keyBytes`; empty if there is none."""
     value = body.get(key)
     if isinstance(value, str):
         return value.encode()
@@ -534,14 +535,14 @@ def octets_in(body: dict, key: str) -> bytes:
 
 
 def octets_of(piece: object) -> bytes:
-    """The bytes of a piece of a name: those of a text, or the one that a number is."""
+    """The bytes of a piece of a name: those of a string, or the one given by a number."""
     if isinstance(piece, str):
         return piece.encode()
     return bytes([piece]) if is_whole(piece) and piece < 256 else b""
 
 
 class Entry(NamedTuple):
-    """A file, folder, link or another thing of a tree, as its blob says, or why that can't be read."""
+    """A file, folder, link or another entry of a tree, by its blob, or why that can't be read."""
 
     ref: str
     body: dict
@@ -580,7 +581,7 @@ class Claim(NamedTuple):
 
 
 class Notes:
-    """What the signed blobs of an archive say together, under a keyring.
+    """The meaning of an archive's signed blobs, under a keyring.
 
     `see` is shown the blobs, in any order; `settle` is called once after them.
     """
@@ -601,7 +602,7 @@ class Notes:
             self.signed[ref] = blob
 
     def settle(self) -> None:
-        """Keeps what is genuine of what was seen, the claims in the order in which they count."""
+        """Keeps what is genuine among the seen blobs, with the claims in the order in which they count."""
         for ref, blob in self.signed.items():
             body = self.genuine(blob)
             if body is not None and body["camliType"] == "permanode":
@@ -616,7 +617,7 @@ class Notes:
                 self.deletions.setdefault(claim.target, []).append(claim)
 
     def genuine(self, blob: bytes) -> Optional[dict]:
-        """What a blob says that a key of the keyring has signed."""
+        """The object of a blob that a key of the keyring has signed."""
         found = signed_in(blob)
         if found is None:
             return None
@@ -636,7 +637,7 @@ class Notes:
                 yield claim
 
     def attributes(self, moment: int = ALWAYS, of: Optional[set[str]] = None) -> dict[str, dict[str, list[str]]]:
-        """The values of the attributes of each note that isn't deleted at a moment, or of some notes."""
+        """The values of the attributes, at a moment, of each note that isn't deleted then, or of some notes."""
         wanted = self.permanodes if of is None else self.permanodes & of
         notes = {ref: {} for ref in sorted(wanted) if not self.is_deleted(ref, moment)}
         for claim in self.counted(moment):
@@ -658,7 +659,7 @@ def apply(change: Change, note: dict[str, list[str]]) -> None:
 
 
 def claim_in(ref: str, body: dict) -> Optional[Claim]:
-    """The claim that a genuine blob is; None where it is none."""
+    """The claim in a genuine blob; None if it has none."""
     date, kind = moment_in(body.get("claimDate")), body.get("claimType")
     if date is None:
         return None
@@ -684,7 +685,8 @@ def change_in(item: object) -> Optional[Change]:
 # The notes of a tree (docs/formats/trees.md)
 
 def tree_note(key: Key, tree: str, path: bytes = b"") -> bytes:
-    """The permanode of a path of a tree, or of the tree itself: the same each time, without a list of them."""
+    """The permanode of a path of a tree, or of the tree itself: it is the same each time, so that no list of them is
+    needed."""
     return permanode_blob(key, key.digest(tree.encode() + b"\0" + path)[:16])
 
 
@@ -693,14 +695,14 @@ def tree_note(key: Key, tree: str, path: bytes = b"") -> bytes:
 MOST_PARTS, MOST_PART_BYTES = 900, 16 << 20
 MOST_REFS = 1_000
 MOST_FOUND = 1_000_000
-# Seconds before a request is sent again over a new connection: a server that is started anew may take a while.
+# Seconds before a request is sent again over a new connection: a server that is restarted may take a while.
 PAUSES = (0, 0, 0.5, 2, 5, 10, 20)
 # A server that has just been started reads its store before its first reply.
 PATIENCE = 600
 
 
 class Server:
-    """A client of the server at an address, which keeps its connection, and makes another where that was ended."""
+    """A client of the server at an address. It keeps its connection, and makes another if that has ended."""
 
     def __init__(self, address: str):
         parts = re.fullmatch(r"(\[[0-9a-fA-F:.]+\]|[^:/\s]+):([0-9]{1,5})", address)
@@ -711,7 +713,7 @@ class Server:
         self.was_reached = False
 
     def ask(self, method: str, target: str, body: bytes = b"", kind: str = "application/json") -> dict:
-        """The object that the server replies with."""
+        """The object with which the server replies."""
         status, reply = self.exchange(method, target, body, {"Host": "localhost", "Content-Type": kind})
         try:
             answer = json.loads(reply)
@@ -723,7 +725,7 @@ class Server:
         return answer
 
     def exchange(self, method: str, target: str, body: bytes, headers: dict) -> tuple[int, bytes]:
-        """A reply's status and body. Each request may be sent again: what it asks for is done once."""
+        """A reply's status and body. A request may be sent more than once: each has the same effect when repeated."""
         for pause in PAUSES:
             if pause:
                 time.sleep(pause)
@@ -744,7 +746,7 @@ class Server:
         try:
             self.connection.request(method, target, body, headers)
         except (BrokenPipeError, ConnectionResetError):
-            # It reads no further where it refuses, and its reply may have come all the same.
+            # It stops reading when it refuses, and its reply may have come nevertheless.
             pass
 
     def standing(self, refs: Iterable[str]) -> set[str]:
@@ -757,7 +759,7 @@ class Server:
         return found
 
     def upload(self, blobs: dict[str, bytes]) -> None:
-        """Stores blobs under their refs, in their order; returns once all of them were acknowledged."""
+        """Stores blobs under their refs, in their order; returns after all of them were acknowledged."""
         edge = secrets.token_hex(16)
         head = f'--{edge}\r\nContent-Disposition: form-data; name="%s"\r\n\r\n'
         pieces = [piece for ref, blob in blobs.items() for piece in ((head % ref).encode(), blob, b"\r\n")]
@@ -792,12 +794,12 @@ def moment_word(text: str) -> int:
 
 
 def shown(text: str) -> str:
-    """A text for a terminal or a line of a list: what can't be printed there is shown as its code."""
+    """A string for a terminal or a line of a list: characters that can't be printed there are shown as their codes."""
     return "".join(sign if sign.isprintable() else sign.encode("unicode_escape").decode() for sign in text)
 
 
 def report(text: str) -> None:
-    """Says something on standard error."""
+    """Writes a line to standard error."""
     print(text, file=sys.stderr, flush=True)
 
 

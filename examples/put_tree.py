@@ -5,8 +5,9 @@
 
 Stored is what Perkeep itself would store (docs/formats/trees.md). The archive gets
 
-  one note for the tree, whose title is TREE, and whose camliContent is the top folder. It is set once everything else
-      is stored, so at each moment TREE is the old folder or the new one, whole;
+  one note for the tree, whose title is TREE, and whose camliContent is the top folder. The note is made first, by which
+      it is seen whether the server has the key. The content is set once everything else is stored, so at each moment
+      TREE is the old folder or the new one, whole;
   one note for each file, to be searched for: its title (set once, so it is yours to change), its camliContent, and its
       path, which is TREE/.. with bytes that aren't UTF-8 as %XX.
 
@@ -85,6 +86,12 @@ class LeftOut:
         self.paths.add(path)
         self.report(path, why.strerror if isinstance(why, OSError) else why)
 
+    def has(self, path: bytes) -> bool:
+        """Whether nothing is stored of this path, or of a folder that it is in."""
+        while path not in self.paths and path:
+            path = os.path.dirname(path)
+        return path in self.paths
+
     def report(self, path: bytes, why: object) -> None:
         self.count += 1
         report(f"left out: {shown(octets_text(path)) or '.'}: {why}")
@@ -157,6 +164,8 @@ class Cache:
         self.path, self.tree = path, tree
         self.top: Optional[str] = None
         self.files: dict[bytes, Known] = {}
+        # What the file has, as far as that is known.
+        self.saved: Optional[tuple[Optional[str], dict[bytes, Known]]] = None
         self.saved_at = time.monotonic()
         try:
             self.load(json.loads(path.read_bytes()))
@@ -170,8 +179,14 @@ class Cache:
         if content["tree"] == self.tree:
             files = {name.encode(errors="surrogateescape"): Known(*row) for name, row in content["files"].items()}
             self.top, self.files = content["top"], files
+            self.saved = self.top, dict(files)
 
     def save(self) -> None:
+        """Writes what isn't in the file yet."""
+        self.saved_at = time.monotonic()
+        now = self.top, dict(self.files)
+        if now == self.saved:
+            return
         files = {name.decode(errors="surrogateescape"): known for name, known in self.files.items()}
         new = self.path.with_name(f"{self.path.name}.{os.getpid()}")
         try:
@@ -180,7 +195,7 @@ class Cache:
             os.replace(new, self.path)
         except OSError as why:
             raise Refused(f"the cache {self.path}: {why.strerror}") from None
-        self.saved_at = time.monotonic()
+        self.saved = now
 
     def save_now_and_then(self) -> None:
         if time.monotonic() - self.saved_at > SECONDS_BETWEEN_SAVES:
@@ -283,6 +298,8 @@ class Putting:
         self.uploads = Uploads(server)
         self.claims = Claims(server, key)
         self.holders: dict[str, set[str]] = {}
+        # The notes of the tree's files that have a content, as this run begins to change them.
+        self.with_content: set[str] = set()
         self.permanodes: dict[bytes, bytes] = {}
         self.note = ref_of(tree_note(key, tree))
 
@@ -291,7 +308,7 @@ class Putting:
         if b"" in self.left_out.paths:
             raise Refused(f"{octets_text(self.top)} can't be read")
         files = [one for folder in folders for one in folder.entries if one.kind == stat.S_IFREG]
-        self.uploads.add(self.key.blob)
+        self.make_tree_note()
         self.store(folders, files)
         stored = [one for one in files if one.ref]
         self.note_files(stored)
@@ -306,7 +323,7 @@ class Putting:
         for folder in reversed(folders):
             if folder.path in self.left_out.paths:
                 continue
-            for one in folder.entries:
+            for one in [one for one in folder.entries if one.ref is None]:
                 try:
                     self.store_entry(one)
                 except OSError as why:
@@ -325,11 +342,11 @@ class Putting:
                 one.ref = known.ref
 
     def store_entry(self, one: Found) -> None:
-        """Stores a link, or a file that hasn't a ref yet. A folder was stored before."""
+        """Stores a link or a file. A folder was stored before."""
         if one.kind == stat.S_IFLNK:
             target = os.readlink(os.path.join(self.top, one.path))
             one.ref = self.add("symlink", one, **octets_field("symlinkTarget", target))
-        elif one.kind == stat.S_IFREG and one.ref is None:
+        elif one.kind == stat.S_IFREG:
             one.ref = self.store_file(one)
 
     def add(self, kind: str, one: Found, **fields: object) -> str:
@@ -388,6 +405,34 @@ class Putting:
 
     # Notes
 
+    def make_tree_note(self) -> None:
+        """Makes the tree's note where it isn't there, and refuses to go on with one that the server doesn't count."""
+        standing = self.server.standing([self.key.ref, self.note])
+        blobs, is_new = {self.key.ref: self.key.blob}, self.note not in standing
+        if is_new:
+            title = Change("set", self.note, "title", self.tree)
+            claim = multi_claim(self.key, time.time_ns(), [title.text()])
+            blobs |= {ref_of(claim): claim, self.note: self.permanode(b"")}
+        if not standing.issuperset(blobs):
+            self.server.upload(blobs)
+        if not self.is_counted():
+            raise Refused(self.why_not_counted(is_new))
+
+    def is_counted(self) -> bool:
+        """Whether the server finds the tree's note: by its title, which is quick, or by its ref if that was changed."""
+        by_title = {"permanode": {"attr": "title", "value": self.tree}}
+        by_ref = {"logical": {"op": "and", "a": {"blobRefPrefix": self.note}, "b": {"permanode": {}}}}
+        return any(self.note in self.server.search(one) for one in (by_title, by_ref))
+
+    def why_not_counted(self, is_new: bool) -> str:
+        """Why the server doesn't find the tree's note, and what can be done."""
+        deleted = "" if is_new else f", or the note {self.note} was deleted"
+        return (
+            f"the keyring of the server has no key {self.key.name}, or another secret for it{deleted}. Nothing of the "
+            "folder was stored. Give --keyring the archive's own keyring, or add the key's line to that and start the "
+            "server again"
+        )
+
     def permanode(self, path: bytes) -> bytes:
         """The permanode of a path; the tree's own where that is empty."""
         if path not in self.permanodes:
@@ -405,13 +450,23 @@ class Putting:
 
     def note_files(self, files: list[Found]) -> None:
         """Gives each file's note the file, and makes those that aren't there yet."""
-        if self.cache.top is None or not self.holds(self.note, self.cache.top):
+        is_known = self.cache.top is not None and self.holds(self.note, self.cache.top)
+        if not is_known:
             self.cache.files = {path: known._replace(noted=None) for path, known in self.cache.files.items()}
-        standing = self.server.standing(self.cache.files[one.path].note for one in files)
+        notes = [self.cache.files[one.path].note for one in files]
+        if is_known and all(known.noted for known in self.cache.files.values()):
+            # The server has the folder of the last run, which gave each of these notes its content.
+            self.with_content = {known.note for known in self.cache.files.values()}
+            standing = self.server.standing(notes)
+        else:
+            self.with_content = self.notes_below(b"")
+            standing = self.with_content | self.server.standing(note for note in notes if note not in self.with_content)
         for one in sorted(files, key=lambda one: one.path):
             known = self.cache.files[one.path]
             is_new = known.note not in standing
-            if not is_new and (known.noted == one.ref or self.holds(known.note, one.ref)):
+            if not is_new and known.noted == one.ref:
+                continue
+            if not is_new and self.holds(known.note, one.ref):
                 self.cache.files[one.path] = known._replace(noted=one.ref)
             else:
                 self.distrust_cache()
@@ -440,7 +495,7 @@ class Putting:
 
     def note_gone(self, met: set[str]) -> None:
         """Takes the content from the notes of files that have gone."""
-        gone = self.notes_below(b"") - met
+        gone = self.with_content - met
         for path in self.left_out.paths:
             gone -= {ref_of(self.permanode(path))} | (self.notes_below(path) if gone else set())
         paths = {known.note: path for path, known in self.cache.files.items()}
@@ -449,7 +504,7 @@ class Putting:
             went = functools.partial(self.went, note, paths.get(note))
             self.claims.add([Change("del", note, "camliContent")], None, went)
         self.claims.flush()
-        kept = met | {known.note for path, known in self.cache.files.items() if path in self.left_out.paths}
+        kept = met | {known.note for path, known in self.cache.files.items() if self.left_out.has(path)}
         self.cache.files = {path: known for path, known in self.cache.files.items() if known.note in kept}
 
     def notes_below(self, path: bytes) -> set[str]:
@@ -464,15 +519,12 @@ class Putting:
 
     def note_tree(self, top: str) -> None:
         """Sets the tree's note to the top folder, as the last thing that is done."""
-        is_new = self.note not in self.server.standing([self.note])
-        if is_new or not self.holds(self.note, top):
-            title = [Change("set", self.note, "title", self.tree)] if is_new else []
-            content = Change("set", self.note, "camliContent", top)
-            self.claims.add([*title, content], self.permanode(b"") if is_new else None, lambda: None)
+        if not self.holds(self.note, top):
+            self.claims.add([Change("set", self.note, "camliContent", top)], None, lambda: None)
             self.claims.flush()
             self.holders.clear()
             if not self.holds(self.note, top):
-                why = "its keyring lacks the key, the note was deleted, or has a claim of a date that is to come"
+                why = f"its note {self.note} was deleted, or has a claim of a date that is to come"
                 raise Refused(f"the server doesn't take {self.tree} as set: {why}")
         self.cache.top = top
         print(top, self.note, shown(self.tree))

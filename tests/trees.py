@@ -405,7 +405,8 @@ def an_older_cache(program):
 # What is left out
 
 def left_out(program):
-    return [lambda one=one: one(program) for one in (no_files, growing, unreadable_folder, no_folder, no_key)]
+    cases = (no_files, growing, unreadable_folder, left_out_and_gone, no_folder, no_key)
+    return [lambda one=one: one(program) for one in cases]
 
 
 def no_files(program):
@@ -483,6 +484,27 @@ def unreadable_folder(program):
     check(f"{what}: it is taken for gone", values(bench.archive(), note, "camliContent"))
 
 
+def left_out_and_gone(program):
+    """What was in a folder that was left out once is taken for gone once the folder has gone."""
+    what, bench = "left out, and gone", Bench(program)
+    deep = os.path.join(bench.folder, b"deep")
+    os.makedirs(deep)
+    write(os.path.join(deep, b"file"), b"deep")
+    write(os.path.join(bench.folder, b"other"), b"other")
+    note = ref_of(note_of(TREE, b"deep/file"))
+    with bench.serve() as server:
+        bench.put(server.port)
+        shutil.rmtree(deep)
+        os.mkfifo(deep)
+        bench.put(server.port, status=1, err="left out: deep: no file, folder or symbolic link\n")
+        check(f"{what}: it is taken for gone", values(bench.archive(), note, "camliContent"))
+        os.unlink(deep)
+        lines = bench.put(server.port)
+        compare(what, "lines", [f"gone {note} {TREE}/deep/file"], lines[:-1])
+        bench.stores_nothing(what, server.port)
+    is_noted(what, bench)
+
+
 def no_folder(program):
     """What can't be done is told, with status 3."""
     bench = Bench(program)
@@ -509,16 +531,42 @@ def no_folder(program):
 
 
 def no_key(program):
-    """A server that hasn't the key takes all, and says nothing of it: that is told."""
-    bench, keyring = Bench(program), program.new_path()
-    make(bench.folder, chance("no key"), 20)
-    os.rename(bench.store.path / "keyring", keyring)
+    """A server that hasn't the key, or has another secret for it, counts none of its notes: of the folder nothing is
+    stored then, and the notes of another key stay as they are."""
+    what, bench, keyring = "no key", Bench(program), program.new_path()
+    make(bench.folder, chance(what), 20)
+    keyring.write_bytes(b"mine 00\n" + writing.NAME.encode() + b" 00\n")
     with bench.serve() as server:
-        words = list(bench.put_words(server.port))
-        words[words.index("--keyring") + 1] = keyring
-        told = r"put_tree\.py: the server doesn't take trip as set: its keyring lacks the key, .*\n"
-        lines = run(bench.cache, "put_tree.py", *words, status=3, err=told)
-    check(f"no key: {lines}", not lines[-1].endswith(f" {TREE}"))
+        bench.put(server.port)
+        before = bench.blobs()
+        for key, secret in (("mine", b"\0"), (writing.NAME, b"\0")):
+            is_refused(what, bench, server.port, keyring, key, ref_of(note_of(TREE, b"", key, secret)))
+    new = [blob for ref, blob in bench.blobs().items() if ref not in before]
+    check(f"{what}: {new} are stored", len(new) == 5 and not any(b"camliContent" in blob for blob in new))
+    says_so(what, bench.archive(), Written(bench.folder, TREE))
+    counts_again(what, bench, keyring)
+
+
+def is_refused(what, bench, port, keyring, key, note):
+    """A run stores the tree's note and nothing else; and another run nothing at all."""
+    words = (f"{HOST}:{port}", bench.folder, "--name", TREE, "--keyring", keyring, "--key", key)
+    for deleted in ("", f", or the note {note} was deleted"):
+        told = rf"the keyring of the server has no key {key}, or another secret for it{deleted}\. Nothing of .*"
+        lines = run(bench.cache, "put_tree.py", *words, status=3, err=rf"put_tree\.py: {told}\n")
+        compare(what, "lines", [], lines)
+
+
+def counts_again(what, bench, keyring):
+    """Once the server has the key, the tree's note has its title, and the folder is stored."""
+    with open(bench.store.path / "keyring", "ab") as file:
+        file.write(b"mine 00\n")
+    with bench.serve() as server:
+        words = (f"{HOST}:{server.port}", bench.folder, "--name", TREE, "--keyring", keyring, "--key", "mine")
+        run(bench.cache, "put_tree.py", *words)
+    keys = reference.read_keyring(inputs.KEYRING + b"mine 00\n")
+    archive, note = reference.Archive(bench.blobs(), keys), ref_of(note_of(TREE, b"", "mine", b"\0"))
+    for name, value in (("title", TREE), ("camliContent", Written(bench.folder, TREE).top)):
+        compare(what, name, [value], values(archive, note, name))
 
 
 # Doors
@@ -741,7 +789,7 @@ def are_filled(program):
         bench.put(server.port)
     claims = [reference.fact_of(blob) for blob in bench.blobs().values() if b'"claimType":"multi"' in blob]
     claims.sort(key=lambda claim: claim.date)
-    expected = [999, 999, 999, 303, 2, 1000, 100, 1]
+    expected = [1, 999, 999, 999, 303, 1, 1000, 100, 1]
     compare(what, "changes of the claims", expected, [len(claim.changes) for claim in claims])
 
 
@@ -902,7 +950,7 @@ def no_tree(program):
     store, nowhere = bench.store.path, program.new_path()
     chunk = next(ref for ref, blob in bench.blobs().items() if reference.fact_of(blob).kind == "Plain")
     lines = [
-        ((store, "other", nowhere), r"no tree other: no key of the keyring has made it"),
+        ((store, "other", nowhere), r"no tree other: no key of the keyring has made it\. TREE may be the ref of its note, .*"),
         ((store, chunk, nowhere), rf"{chunk} is no schema blob"),
         ((store, inputs.ABSENT, nowhere), rf"{inputs.ABSENT} isn't there"),
         ((nowhere, TREE, nowhere), rf"{nowhere} is no folder"),
