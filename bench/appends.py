@@ -1,16 +1,16 @@
-"""What claims in the order of their dates cost an index on one permanode, beside as many on as many permanodes.
+"""Times claims in the order of their dates on one permanode, beside as many on as many permanodes.
 
     appends.py LAB FOLDER
 
 Both packs of a line have the same permanodes, and are inserted blob by blob in their order. Prints the times of the
-first, those of the second being 1; each is the best of three, taken in turn, and has the reading of the blobs in it.
-Ends with status 1 where an answer is wrong.
+first relative to those of the second; each is the best of three, taken in turn, and includes reading the blobs.
+Ends with status 1 if an answer is wrong.
 """
 
 import pathlib
 import sys
 
-# Before the tests' modules, whose folder it puts in front of this one.
+# Before the tests' modules: these imports put the tests' folder first in the search path.
 from make_pack import reference
 from inserting import folder_of, seconds
 from writing import FIRST_MOMENT, claim, key_blob, permanode
@@ -23,7 +23,7 @@ def adds(number):
 
 
 def sets_in_turn(number):
-    """The asked attribute is the first one's, which is set as often as each other."""
+    """The attribute of the search is the first one, which is set as often as each other."""
     return "set", "tag" if number % ATTRIBUTES == 0 else f"a{number % ATTRIBUTES}", f"v{number}"
 
 

@@ -1,9 +1,9 @@
-"""Times `perkeep search-pack tag t0` over a pack against a program that hashes the same bytes, and prints how they compare.
+"""Times `perkeep search-pack tag t0` over a pack against a program that hashes the same bytes.
 
     compare.py PROGRAM KIND FOLDER
 
-The folder holds what make_pack.py has written for the kind. Both are run three times, in turn, and the best time of each counts.
-Ends with status 1 where the answer is wrong, and else with 0, however the times are.
+The folder has what make_pack.py has written for the kind. Both are run three times, in turn, and the best time of each
+counts. Prints how they compare. Ends with status 1 if the answer is wrong, and otherwise with 0, whatever the times are.
 """
 
 import os
@@ -18,7 +18,7 @@ TIMES = 3
 
 
 def run(words, folder):
-    """Runs a program over the pack; answers seconds, peak memory in bytes, exit status and output."""
+    """Runs a program over the pack; returns seconds, peak memory in bytes, exit status and output."""
     with open(folder / "pack", "rb") as source, tempfile.TemporaryFile() as sink:
         start = time.monotonic()
         child = os.fork()
@@ -37,7 +37,7 @@ def run(words, folder):
 
 
 def hasher():
-    """The words of a program that hashes standard input by SHA-224."""
+    """The command line of a program that hashes standard input by SHA-224."""
     return ["sha224sum"] if shutil.which("sha224sum") else ["openssl", "dgst", "-sha224"]
 
 

@@ -1,16 +1,16 @@
-"""Measures what stores cost, and prints a row for each: seconds of commands, of a server's start and of what it is asked
+"""Measures the costs of stores, and prints a row for each: seconds of commands, of a server's start and of its answers
 then, and memory.
 
     costs.py PROGRAM FOLDER STORE..
 
-A STORE is a kind, a colon and how many GB of files it has, each of 1,000,000,000 bytes. The kinds are
+A STORE is a kind, a colon and its GB of files, each of 1,000,000,000 bytes. The kinds are
 
     large    files of 100 MB
     small    files of 300 to 20,000 bytes
 
-of random bytes, each cut as `put-file` does. Each has a note: a permanode, the file as its `camliContent`, and a tag. So
-a small file takes five blobs. The packs are written here, not put. What runs in less than 20 seconds is run three times,
-and the best counts. Needs openssl and /usr/bin/time.
+of random bytes, each cut as `put-file` does. Each has a note: a permanode, the file as its `camliContent`, and a tag. A
+small file therefore takes five blobs. The packs are written here, not put. Runs of less than 20 seconds are made three
+times, and the best counts. Needs openssl and /usr/bin/time.
 """
 
 import pathlib
@@ -22,7 +22,7 @@ import time
 from typing import NamedTuple
 
 from compare import MIB, TIMES
-# Before the tests' modules, whose folder it puts in front of this one.
+# Before the tests' modules: these imports put the tests' folder first in the search path.
 from store import write_store
 
 import harness
@@ -45,7 +45,7 @@ COLUMNS = ("blobs", "openssl", "get", "search", "start", "ms a GET", "ms a searc
 # Stores
 
 class Stored(NamedTuple):
-    """A store: what is asked of it, and what has to be answered."""
+    """A store: the requests to it, and the expected answers."""
 
     folder: pathlib.Path
     blob: bytes
@@ -111,7 +111,7 @@ class Cost(NamedTuple):
 
 
 def run(words):
-    """Runs a program, which has to end well; answers what it costs and its output."""
+    """Runs a program, which has to succeed; returns its costs and its output."""
     words = [shutil.which("time", path="/usr/bin:/bin") or sys.exit("/usr/bin/time isn't there"), "-q", "-f", "%e %M", *words]
     ended = subprocess.run(words, stdin=subprocess.DEVNULL, stdout=subprocess.PIPE, stderr=subprocess.PIPE)
     if ended.returncode != 0:
@@ -121,7 +121,7 @@ def run(words):
 
 
 def best(job):
-    """The least that a job costs in three runs, or what it costs in one that is long."""
+    """The least cost of a job in three runs, or its cost in a single one if that is long."""
     costs = [job()]
     while costs[0].seconds < LONG and len(costs) < TIMES:
         costs.append(job())
@@ -152,7 +152,7 @@ def memory_of(process, field):
 
 
 def ask(server, what, request, body):
-    """The seconds until a server has answered."""
+    """The seconds until a server has answered a request."""
     start = time.monotonic()
     with connect(server.port, HOUR) as wire:
         wire.sendall(request)
@@ -171,7 +171,8 @@ def query(attribute, test):
 
 
 def served(program, store):
-    """The seconds until a server's first answer, those of three questions then, and its memory: the most, and then."""
+    """The seconds until a server's first answer, those of three further requests, and its memory: the peak, and the
+    current one."""
     start = time.monotonic()
     with Server(program, store.folder) as server:
         first = get(blob_target(ref_of(store.blob)), *HEADERS)

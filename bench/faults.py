@@ -1,4 +1,4 @@
-"""Makes each call to the system of each command fail in turn; see faults.sh.
+"""Makes each system call of each command fail in turn; see faults.sh.
 
     faults.py PROGRAM FOLDER [ROW..]
 """
@@ -23,11 +23,11 @@ RESET, REFUSED = "ECONNRESET", "ECONNREFUSED"
 
 
 class Row:
-    """A command, and what came of its runs."""
+    """A command, and the results of its runs."""
 
     def __init__(self, program, row, known):
         self.program, self.row, self.what = program, row, row.what
-        # A peer is waited for by the clock.
+        # The program waits for a peer by the clock.
         self.known = {} if row.peer is not None else {**KNOWN, "LD_PRELOAD": ":".join(map(str, known))}
         self.calls, self.endings = 0, collections.Counter()
 
@@ -62,7 +62,7 @@ class Row:
             # A pipe may be read in fewer calls than before.
             was_made = any(one.is_injected() for one in made)
             check(f"{what}: no call failed", was_made or call.file == 0)
-            # Where all writes fail the program can't tell how it ends.
+            # If all writes fail, the program can't say how it ends.
             told = err or harness.told_of(status) if call.name in WRITES else err
             return (status, out, told), statuses_for(call) if was_made else (DONE,)
 
@@ -76,14 +76,14 @@ class Row:
 
 
 def faults_on(call):
-    """The faults, by strace's words, that a call is tried with."""
+    """The faults, in strace's notation, to try on a call."""
     if call.name in NETWORK:
         return [(f"{call.name}:error={REFUSED if call.name == 'connect' else RESET}:when={call.number}",)]
     return faults_of(call)
 
 
 def statuses_for(call):
-    """How a run may end where a call fails: the likely status, and 0 where the call isn't needed."""
+    """How a run may end if a call fails: the likely status, and 0 if the call isn't needed."""
     if call.name in NETWORK or call.path.startswith(("socket:", "TCP:")):
         return (PEER, DONE)
     if call.file == 0 or call.path.endswith("/keyring"):

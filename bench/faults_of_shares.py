@@ -1,7 +1,8 @@
-"""Makes each call to the system of a `serve-shares` fail in turn; see faults.sh.
+"""Makes each system call of `serve-shares` fail in turn; see faults.sh.
 
-Two connections are served, each with a request for a blob that is shared. Whatever fails, each is answered as ever, or
-that the disk failed, or not at all; the command ends with the status of what failed, or well; and it serves both then.
+Two connections are served, each with a request for a blob that is shared. Whatever fails, each gets the usual reply, or
+the reply that the disk failed, or none. The command ends with the status of the failure, or with 0, and then it has
+served both.
 """
 
 import collections
@@ -32,7 +33,7 @@ FAILED = Reply(503, json_text({"error": "disk"})).text()
 
 
 class ShareRow:
-    """The command over a store, and what came of its runs."""
+    """The command over a store, and the results of its runs."""
 
     what = "serve-shares"
 
@@ -63,7 +64,7 @@ class ShareRow:
         self.serves(f"{what}, and then none", store, (), (DONE,))
 
     def serves(self, what, store, fault, statuses):
-        """Runs the command, which may end with these statuses, the likely one first; answers its calls."""
+        """Runs the command, which may end with these statuses, the likely one first; returns its calls."""
         before, log, port = look(store.path), self.program.new_path(), PORTS.free()
         words = ["serve-shares", str(store.path), f"--port={port}", f"--connections={len(PATHS)}"]
         names = ",".join("?" + name for name in (*TRACED, *FAILS))
@@ -88,7 +89,7 @@ class ShareRow:
 
 
 def statuses_for(call):
-    """How a run may end where a call fails: the likely status, and 0 where the call isn't needed."""
+    """How a run may end if a call fails: the likely status, and 0 if the call isn't needed."""
     if call.name in FAILS and call.name not in OF_A_CONNECTION:
         return (LISTENER, DONE)
     if call.name in FAILS or "socket:" in call.path or "TCP:" in call.path:
@@ -104,7 +105,8 @@ def wait_for(port, process):
 
 
 def ends(what, port, process):
-    """Asks on until the command has ended: a connection that breaks as it is accepted is none of those that it serves."""
+    """Sends requests until the command has ended: a connection that breaks as it is accepted doesn't count as one that
+    it serves."""
     until = time.monotonic() + SECONDS
     while process.poll() is None:
         if time.monotonic() > until:
@@ -117,7 +119,7 @@ def ends(what, port, process):
 
 
 def asked(port, path):
-    """What a connection gets that asks for a path."""
+    """The bytes that a connection gets which requests a path."""
     try:
         return Exchange(port, [f"GET {path} HTTP/1.1\r\n\r\n".encode()]).bytes()
     except ConnectionError:

@@ -2,7 +2,7 @@
 
     file.py PROGRAM FOLDER
 
-Each time is the best of three, taken in turn with what it is compared with. Each put-file is into a new store.
+Each time is the best of three, taken in turn with that of the compared program. Each put-file is into a new store.
 """
 
 import hashlib
@@ -20,7 +20,7 @@ MIBS = 1_024
 
 
 def write_input(path):
-    """A file of 1,024 chunks, no two of them equal; answers its SHA-224."""
+    """Writes a file of 1,024 chunks, no two of them equal; returns its SHA-224."""
     made, digest = random.Random(1), hashlib.sha224()
     with open(path, "wb") as file:
         for _ in range(MIBS):
@@ -31,7 +31,7 @@ def write_input(path):
 
 
 def ended(words, source, sink):
-    """Runs a program over files that has to end with status 0; answers its seconds and its standard error."""
+    """Runs a program over files that has to end with status 0; returns its seconds and its standard error."""
     with open(source, "rb") as read, open(sink, "wb") as written:
         start = time.monotonic()
         ran = subprocess.run(words, stdin=read, stdout=written, stderr=subprocess.PIPE)
@@ -79,7 +79,7 @@ class Bench:
         return int(ended([timer, "-q", "-f", "%M", *words], source, self.out)[1].split()[-1]) * 1_024
 
     def check(self, digest):
-        """What get-file writes has to be what put-file read."""
+        """The output of get-file has to be the input of put-file."""
         ended(self.get_words(), "/dev/null", self.out)
         with open(self.out, "rb") as file:
             if hashlib.file_digest(file, "sha224").hexdigest() != digest:

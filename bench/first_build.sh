@@ -1,15 +1,15 @@
 #!/usr/bin/env bash
-# What the launcher's builds take: the time, the processors' time and the most disk, of
+# Measures the launcher's builds: the time, the processor time and the most disk, of
 #
-#   - a first build, on a machine that has kept nothing of what is proved
-#   - a build for x86-64-v2 after it (which differs from it where the processor is of the level x86-64-v3)
+#   - a first build, on a machine that has kept nothing that was proved
+#   - a build for x86-64-v2 after it (which differs from it if the processor is of the level x86-64-v3)
 #   - `rt ci`, which then has to prove none of the program's crates again
 #   - a build after that, as a user's after .ci/run
 #
-# Builds what is committed here, in a clone, by a copy of the kit whose folders are links, since a kit keeps beside
-# itself what passed; what this machine has kept is neither read nor changed. With --keep it builds by the kit itself,
-# on a machine that has kept nothing yet, and what passes is kept. Ends with status 1 where something fails, or a crate
-# of the program is proved a second time. Wants 20 GB in TMPDIR or /tmp.
+# Builds the last commit, in a clone, with a copy of the kit whose folders are links: a kit keeps what passed next to
+# itself, and what this machine has kept is neither read nor changed. With --keep it builds with the kit itself, on a
+# machine that has kept nothing yet, and what passes is kept. Ends with status 1 if something fails, or a crate of the
+# program is proved a second time. Needs 20 GB in TMPDIR or /tmp.
 set -eu -o pipefail
 cd "$(dirname "$0")/.."
 folder=$(mktemp -d)

@@ -1,4 +1,4 @@
-"""Changes inputs at random and asks the program what it makes of them; see fuzz.sh.
+"""Changes inputs at random and runs the program over them; see fuzz.sh.
 
     fuzz.py PROGRAM FOLDER [SECONDS [TARGET..]]
 """
@@ -21,23 +21,23 @@ from harness import Difference, chance
 from mutating import mutated
 
 HOUR = 3_600
-# A difference is made smaller for so many seconds, and a target of which so many were found is given up.
+# An input that differs is made smaller for so many seconds. A target with so many of them is given up.
 SMALLER_SECONDS, MOST_FOUND = 60, 3
 
 
 class Fuzz:
-    """A target, the inputs whose answers were of a new class, and what was found."""
+    """A target, the inputs whose answers were of a new class, and the inputs that differed."""
 
     def __init__(self, target):
         self.target, self.seeds = target, target.seeds()
         self.classes, self.inputs = {}, list(self.seeds)
-        # Files of what was found, and how many inputs differed but once.
+        # Files of inputs that differed, and how many inputs differed only once.
         self.found, self.once = [], 0
         for data in self.seeds:
             self.takes(data, f"{target.name()}, a seed")
 
     def runs(self, seconds):
-        """Changes inputs for so many seconds; answers how many."""
+        """Changes inputs for so many seconds; returns how many."""
         until, number = time.monotonic() + seconds, 0
         while time.monotonic() < until and len(self.found) < MOST_FOUND:
             number += 1
@@ -60,7 +60,7 @@ class Fuzz:
             print(f"FOUND {difference}", flush=True)
 
     def takes(self, data, what):
-        """Tries an input, and keeps it where its answer is of a new class."""
+        """Tries an input, and keeps it if its answer is of a new class."""
         answer, difference = self.asked(data, what)
         if difference is not None:
             self.finds(data, what, difference)
@@ -69,7 +69,7 @@ class Fuzz:
             self.inputs = [*self.seeds, *self.classes.values()]
 
     def asked(self, data, what):
-        """The class of the answer to an input, or else how that differs."""
+        """The class of the answer to an input, or how the answer differs."""
         try:
             return self.target.tries(what, data), None
         except Difference as found:
@@ -94,7 +94,7 @@ class Fuzz:
         print(f"FOUND {what}: {difference}\n  {len(data)} bytes of it are in {file}", flush=True)
 
     def smaller(self, data, what):
-        """What is left of an input where pieces of it are taken out, as long as it differs."""
+        """An input with pieces taken out, as long as it still differs."""
         until, size = time.monotonic() + SMALLER_SECONDS, max(1, len(data) // 2)
         while size > 0:
             at = 0
@@ -113,7 +113,7 @@ class Fuzz:
         return f"{found}; at most {most.seconds:.2f} s of a processor and {most.mib:.0f} MiB"
 
     def ends(self):
-        """Answers whether nothing differed."""
+        """Returns whether nothing differed."""
         try:
             self.target.close()
         except Difference as difference:
@@ -123,7 +123,7 @@ class Fuzz:
 
 
 def is_good(target, seconds):
-    """Changes inputs of a target for so many seconds; answers whether nothing differed."""
+    """Changes inputs of a target for so many seconds; returns whether nothing differed."""
     fuzz, start = Fuzz(target), processor_seconds()
     count, good = fuzz.runs(seconds), fuzz.ends()
     told = f"{count} inputs, {len(fuzz.classes)} classes of answers, {fuzz.told()}"
@@ -132,7 +132,7 @@ def is_good(target, seconds):
 
 
 def is_good_at_worst(target, beside):
-    """Tries the worst inputs of a target; answers whether nothing differed."""
+    """Tries the worst inputs of a target; returns whether nothing differed."""
     fuzz = Fuzz(target)
     fuzz.tries_worst()
     good = fuzz.ends()
@@ -141,7 +141,7 @@ def is_good_at_worst(target, beside):
 
 
 def processor_seconds():
-    """What this script and the processes that it waited for took."""
+    """The processor time of this script and of the processes that it waited for."""
     uses = [resource.getrusage(who) for who in (resource.RUSAGE_SELF, resource.RUSAGE_CHILDREN)]
     return sum(use.ru_utime + use.ru_stime for use in uses)
 

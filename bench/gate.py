@@ -1,11 +1,11 @@
-"""Runs `rt ci` at the top of the repository, or watches a run, and prints what each crate cost of it as a Markdown table.
+"""Runs `rt ci` at the top of the repository, or watches a run, and prints the cost of each crate as a Markdown table.
 
     gate.py [LOG]
     gate.py --pid PID
 
-Once a second the processes below the run are looked up in /proc. A process that rt starts for a crate is known by its words and by the
-folder that it works in; its time is that of all it starts. When it ends, the time of the children that its parent has waited for grows
-by all that it took, so what it did since it was last seen is counted too.
+Once a second the processes below the run are looked up in /proc. A process that rt starts for a crate is known by its
+arguments and by its working folder; its time includes that of all processes that it starts. When it ends, its parent's
+time of awaited children grows by all that it took, so that its work since the last look is counted too.
 """
 
 import argparse
@@ -40,12 +40,12 @@ class Process(NamedTuple):
 
     @property
     def key(self):
-        """What no other process ever has, though its number may come again."""
+        """An identity that no other process ever has, even if its number is used again."""
         return self.pid, self.start
 
 
 def process(pid):
-    """The process of a number; None where there is none."""
+    """The process of a number; None if there is none."""
     try:
         text = pathlib.Path(f"/proc/{pid}/stat").read_text(errors="replace")
     except OSError:
@@ -57,7 +57,8 @@ def process(pid):
 
 
 def processes():
-    """All processes by their numbers. Children are mostly read before their parents, so that none is missed in both."""
+    """All processes by their numbers. Children are mostly read before their parents, so that no process is missed in
+    both."""
     pids = sorted((int(name) for name in os.listdir("/proc") if name.isdigit()), reverse=True)
     found = filter(None, map(process, pids))
     return {one.pid: one for one in found}
@@ -77,10 +78,10 @@ def folder_of(pid):
         return ""
 
 
-# What a process is for
+# The purpose of a process
 
 def task_of(words, folder, top):
-    """The crate and the kind of the work that the words of a process say; None where they say nothing of a crate."""
+    """The crate and the kind of work by a process's arguments; None if they name no crate."""
     names = list(map(os.path.basename, words))
     for at, name in enumerate(names):
         if name == "rattle" and names[at + 1 : at + 2] in (["check"], ["build"]):
@@ -93,7 +94,8 @@ def task_of(words, folder, top):
 
 
 def checked(words, folder, top):
-    """A crate is proved in its folder, and each edit of it on a copy elsewhere. With --crate-checked it is only compiled."""
+    """A crate is proved in its folder, and each edit of it on a copy elsewhere. With --crate-checked it is only
+    compiled."""
     crate = behind(words, "--crate-name")
     if not crate:
         return None
@@ -105,27 +107,27 @@ def checked(words, folder, top):
 
 
 def made(file):
-    """What the file of a crate's program, or of its tests, is linked or run for."""
+    """The purpose of linking or running the file of a crate's program, or of its tests."""
     name = file.partition(".")[0]
     return (name.removesuffix("_tests"), "tests") if name.endswith("_tests") else (name, "programs")
 
 
 def behind(words, option):
-    """The word behind an option, or the empty one."""
+    """The argument after an option, or the empty one."""
     return words[words.index(option) + 1] if option in words[:-1] else ""
 
 
-# What a run costs
+# The cost of a run
 
 class Seen(NamedTuple):
-    """A process for a crate when it was last looked at: its parent, and the ticks of all below it."""
+    """A process for a crate at the last look: its parent, and the ticks of all below it."""
 
     parent: tuple
     ticks: int
 
 
 class Watch:
-    """The run of a process, and what was seen of it."""
+    """The run of a process, and all that was seen of it."""
 
     def __init__(self, pid):
         self.pid = pid
@@ -138,7 +140,7 @@ class Watch:
         self.seconds = 0
 
     def look(self):
-        """Looks at the run once; answers whether it goes on."""
+        """Looks at the run once; returns whether it continues."""
         table = processes()
         if self.pid not in table:
             return False
@@ -161,7 +163,7 @@ class Watch:
         return not table[self.pid].has_ended
 
     def task(self, one):
-        """The crate and kind of a process. One that says nothing yet may say so after it has become another program."""
+        """The crate and kind of a process. One that shows nothing yet may do so after it has become another program."""
         if one.key not in self.tasks:
             task = task_of(words_of(one.pid), folder_of(one.pid), self.top)
             if task is None:
@@ -170,7 +172,8 @@ class Watch:
         return self.tasks[one.key]
 
     def settle(self, seen, waited):
-        """Counts what has ended since the last look, with its part of what its parent has waited for since."""
+        """Counts the processes that have ended since the last look, with their shares of the time that their parents
+        have waited for since."""
         gone = collections.defaultdict(list)
         for key, last in self.seen.items():
             if key not in seen:
@@ -247,7 +250,7 @@ def watched(pid):
 
 
 def copy(source, sinks):
-    """Copies lines to all sinks. One that fails, as a pipe that nobody reads, gets no more."""
+    """Copies lines to all sinks. One that fails, such as a pipe that nobody reads, gets no more."""
     for line in source:
         for sink in list(sinks):
             try:
@@ -258,7 +261,7 @@ def copy(source, sinks):
 
 
 def run(log):
-    """Runs the gate, whose output goes to standard output and to the log; answers its exit status."""
+    """Runs the gate, whose output goes to standard output and to the log; returns its exit status."""
     sinks = [sys.stdout.buffer] + ([open(log, "wb")] if log else [])
     streams = {"stdin": subprocess.DEVNULL, "stdout": subprocess.PIPE, "stderr": subprocess.STDOUT}
     with subprocess.Popen(["rt", "ci"], cwd=TOP, **streams) as gate:
@@ -266,7 +269,7 @@ def run(log):
         copier.start()
         watch = watched(gate.pid)
         copier.join()
-    # The run is the one child that was waited for.
+    # The run is the only child that was waited for.
     used = resource.getrusage(resource.RUSAGE_CHILDREN)
     watch.whole = (used.ru_utime + used.ru_stime) * TICKS_A_SECOND
     copy((f"{line}\n".encode() for line in ["", *table(watch)]), sinks)

@@ -2,12 +2,12 @@
 
     http_speed.py LAB PLAIN_HTTP FOLDER
 
-Times are those of the requests alone: from the time of a run over a stream that of one over no bytes is taken off,
+Times are those of the requests alone: from the time of a run over a stream that of one over no bytes is subtracted,
 which is the program's start and its reading of the pack. Each is the best of three, taken in turn with the others.
 Peaks of memory are those of a whole run.
 
-What is timed is written to /dev/null. The replies are looked at in a run before that: they have to be, byte for byte,
-the replies of tests/connections.py with the blobs that the requests are made of.
+Timed output goes to /dev/null. The replies are checked in a run before that: they have to be, byte for byte, the
+replies of tests/connections.py with the blobs from which the requests are made.
 """
 
 import os
@@ -19,7 +19,7 @@ import time
 from typing import NamedTuple
 
 from compare import MIB, TIMES
-# Before make_pack, which puts the folder of the tests in front of this one.
+# Before make_pack: importing it puts the folder of the tests first in the search path.
 from store import peak
 from make_pack import KEYRING, record
 
@@ -30,13 +30,13 @@ from reference import LARGEST_BLOB, ref_of
 # A program is given at most so many bytes at a time.
 PIECE = os.environ.get("BENCH_PIECE", "65536")
 HASHER = ["openssl", "dgst", "-sha224"]
-# As a client sends them.
+# In the form that a client sends.
 HEADERS = ["Host: localhost:3179", "User-Agent: bench", "Accept: */*"]
 BOUNDARY = b"------------------------0123456789abcdef"
 
 
 class Job(NamedTuple):
-    """The blobs of a pack, requests, the replies that they have to get, and how much is counted, of what."""
+    """The blobs of a pack, requests, the replies that they have to get, and the count of which units."""
 
     what: str
     pack: list
@@ -44,9 +44,9 @@ class Job(NamedTuple):
     replies: list
     count: int
     unit: str
-    # What is put by uploads.
+    # The blobs that are put by uploads.
     contents: bytes = b""
-    # What is too short to be timed is done by so many starts, one after another.
+    # A job that is too short to be timed is done by so many starts, one after another.
     starts: int = 1
 
 
@@ -77,7 +77,7 @@ def upload(what, blobs, count, unit, starts):
 
 
 def jobs():
-    """Each is made when it is its turn."""
+    """Each is made when it is needed."""
     yield gets("100,000 GETs of 300 bytes", FEW, 12_500, 100_000, "requests")
     noise = random.Random(1)
     yield gets("16 GETs of 16 MiB", [noise.randbytes(LARGEST_BLOB)], 16, 256, "MiB")
@@ -99,7 +99,7 @@ class Seconds(NamedTuple):
 
 
 def run(words, source, sink):
-    """Runs a program that has to end with status 0; answers its seconds."""
+    """Runs a program that has to end with status 0; returns its seconds."""
     with open(source, "rb") as read, open(sink, "wb") as written:
         start = time.monotonic()
         child = subprocess.Popen(words, stdin=read, stdout=written)
@@ -112,7 +112,7 @@ def run(words, source, sink):
 
 
 def best_in_turn(runs):
-    """The seconds of each run beyond those over no bytes. A run is a program's words, a file, and how many starts."""
+    """The seconds of each run beyond those over no bytes. A run is a command line, a file, and the number of starts."""
     both = [(words, source, starts) for words, path, starts in runs for source in (path, os.devnull)]
     rounds = [[in_all(*one) for one in both] for _ in range(TIMES)]
     best = [Seconds(*map(min, zip(*column))) for column in zip(*rounds)]

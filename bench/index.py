@@ -2,7 +2,7 @@
 
     index.py LAB PROGRAM FOLDER
 
-The folder holds what make_pack.py has written. Each time is the best of three, taken in turn with the others.
+The folder has what make_pack.py has written. Each time is the best of three, taken in turn with the others.
 """
 
 import os
@@ -27,7 +27,7 @@ def check(what, is_so):
 
 
 def timed(jobs, folder):
-    """The best time and the peak of each job: its words, and what it has to print, or None."""
+    """The best time and the peak of each job: its command line, and its expected output, or None."""
     best = {}
     for _ in range(TIMES):
         for name, (words, out) in jobs.items():
@@ -39,7 +39,7 @@ def timed(jobs, folder):
 
 
 def indexes(lab, folder, holders):
-    """What the ways to make an index cost."""
+    """The costs of the ways to make an index."""
     question = [(folder / "keyring").read_text(), "tag", "t0"]
     jobs = {way: ([lab, way, *question], f"{BLOBS} {holders}\n".encode()) for way in WAYS}
     best = timed({**jobs, "facts": ([lab, "facts"], None), "hash": (HASHER, None)}, folder)
@@ -51,7 +51,7 @@ def indexes(lab, folder, holders):
 
 
 def searches(programs, folder, answer):
-    """What a search over a store costs, by each of the programs."""
+    """The cost of a search over a store, by each of the programs."""
     store = folder / "store"
     store.mkdir()
     os.link(folder / "pack", store / reference.pack_name(0))

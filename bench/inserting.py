@@ -1,4 +1,4 @@
-"""What the benches of the index share: packs in folders of their own, and the best times of `lab` over them in turn."""
+"""Shared by the benches of the index: packs in folders of their own, and the best times of `lab` over them in turn."""
 
 import sys
 
@@ -7,7 +7,7 @@ from writing import keyring_line, pack
 
 
 def folder_of(folder, name, blobs):
-    """A new folder with a pack of the blobs, and how many these are."""
+    """A new folder with a pack of the blobs, and their number."""
     path = folder / name
     path.mkdir()
     (path / "pack").write_bytes(pack(*blobs))
@@ -15,7 +15,7 @@ def folder_of(folder, name, blobs):
 
 
 def seconds(lab, way, packs, asked, holders):
-    """The best time of each of the packs, whose index has to tell so many holders of the tag that is asked for."""
+    """The best time of each of the packs, whose index has to return so many holders of the given tag."""
     best = [None] * len(packs)
     for _ in range(TIMES):
         for number, (path, count) in enumerate(packs):

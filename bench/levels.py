@@ -1,6 +1,7 @@
-"""Tells which levels of x86-64 two programs are built for. Programs of two levels aren't compared unless that is asked for.
+"""Prints the levels of x86-64 for which two programs are built. Programs of two levels aren't compared unless that is
+allowed.
 
-A level is told by the instructions that a program holds, whether or not it would come to run them.
+A level is found from the instructions in a program, whether or not the program would ever run them.
 """
 
 import re
@@ -8,7 +9,7 @@ import subprocess
 import sys
 
 ANY_LEVEL = "--any-level"
-# What programs below a level don't have: its registers, or the rotation of which digests are made.
+# What programs below a level don't have: its registers, or the rotation that digests use.
 MARKS = {"x86-64-v4": rb"%zmm", "x86-64-v3": rb"%ymm|\brorx\b"}
 BELOW, UNKNOWN = "below x86-64-v3", "unknown, as objdump doesn't read it"
 
@@ -23,7 +24,7 @@ def level_of(program):
 
 
 def tell_levels(program, older, may_differ):
-    """Prints the level of each; ends with status 2 where they differ and may not."""
+    """Prints the level of each; ends with status 2 if they differ and may not."""
     levels = [level_of(one) for one in (program, older)]
     for what, one, level in zip(("of now", "older"), (program, older), levels):
         print(f"{what}: {one}, level {level}", flush=True)

@@ -1,4 +1,4 @@
-"""Makes the packs that the benches time, with their keyring and the answer that has to come.
+"""Makes the packs that the benches time, with their keyring and the expected answer.
 
     make_pack.py KIND FOLDER
 

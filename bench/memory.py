@@ -47,7 +47,7 @@ def long_rows():
 
 
 def orders():
-    """A claim, its deletion, and the deletion of that, in every order, at the days on which what they say differs."""
+    """A claim, its deletion, and the deletion of that, in every order, at the days on which their meanings differ."""
     undone = delete(ref_of(DELETE), day(3))
     for number, order in enumerate(itertools.permutations((CLAIM, DELETE, undone))):
         packs = {0: pack(KEY, NODE, *order)}
@@ -85,7 +85,7 @@ def realistic():
 
 
 def refused(runs, row, what):
-    """Answers whether nothing was wrong."""
+    """Returns whether nothing was wrong."""
     try:
         endings = runs.refused_in_turn(row)
     except Difference as difference:

@@ -1,13 +1,13 @@
-"""Requests for memory that are refused of runs over worlds in memory, and of inserts into an index, which the program of
-crates/fault_rows makes: see memory.sh.
+"""Refuses requests for memory in runs over worlds in memory, and in inserts into an index, by the program of
+crates/fault_rows; see memory.sh.
 
-A run then is done all the same, or it ends for want of memory, or with the fault of the object whose own memory was
-refused; and the second run over what it left is done. Or the first one is done, and this is so of the second one. Where
-what there is was being listed, one of the lists is lacking. Or nothing is told, where that program itself was refused
-memory for its words, its files or what it prints.
+A run still succeeds, or it ends for want of memory, or with the fault of the object whose own memory was refused. Then
+the second run succeeds over the state that it left. Or the first one succeeds, and this holds for the second one. If
+the program was listing the state, one of the lists is missing. If it was refused memory for its arguments, its files or
+its output, it prints nothing.
 
-An insert is done, or refused: the index then has as many blobs as before it, and each answer is as before. Once there is
-memory it is done.
+An insert succeeds, or is refused: the index then has as many blobs as before, and each answer is as before. With memory
+again, it succeeds.
 """
 
 import collections
@@ -42,8 +42,8 @@ class Refused:
         self.environment = {**os.environ, **self.page.variables()}
 
     def endings(self, what, files, words, source, ended):
-        """Runs the words over a world of these files, in which FOLDER is that of the world, until a run makes no request
-        that is refused; answers how often `ended` gave what of how the others ended."""
+        """Runs the command line over a world of these files, in which FOLDER is that of the world, until a run makes no
+        request that is refused; returns how often `ended` gave each result for how the others ended."""
         endings, folder = collections.Counter(), self.program.new_path()
         folder.mkdir()
         for name, content in files.items():
@@ -61,10 +61,10 @@ class Refused:
 
 
 class Worlds(Refused):
-    """Lines of the program's words."""
+    """Command lines of the program."""
 
     def refused_in_turn(self, row):
-        """Answers how many runs ended with which status, the first one of the two where that isn't done."""
+        """Returns how many runs ended with which status; of two runs, that of the first one that didn't succeed."""
         words, world = ["fails", "disk", "0", "0", FOLDER, *words_of(row)], World(row)
 
         def ended(what, status, out):
@@ -91,7 +91,7 @@ class Worlds(Refused):
 
 
 def is_left(what, world, line):
-    """A run was refused memory: of what it puts a front is there, and the next run is done."""
+    """A run was refused memory: a prefix of what it puts is there, and the next run succeeds."""
     first = line.first
     check(f"{what}: it ends with {first.end}", first.end in ENDS)
     goes = world.row.writes_as_it_goes or first.end == str(WRITE)
@@ -102,7 +102,7 @@ def is_left(what, world, line):
 
 
 def shown(what, world, ending):
-    """A run that is done as if what it left was listed, of which one of the lists may be lacking."""
+    """A run that succeeds as if its result was listed, of which one of the lists may be missing."""
     lists = world.lists(len(world.new))
     lacking = [ref_of(b"".join(lists[:place] + lists[place + 1 :])) for place in range(len(lists))]
     whole = world.held(len(world.new))
@@ -144,7 +144,7 @@ class Inserts(Refused):
     """An index into which blobs are inserted."""
 
     def refused_in_turn(self, row):
-        """Answers of how many runs all is told, and how many are ended for want of memory."""
+        """Returns for how many runs everything is printed, and how many end for want of memory."""
         blobs, keys = list(row.blobs), reference.read_keyring(KEYRING)
         told = [answers({ref_of(blob): blob for blob in blobs[:count]}, keys) for count in range(len(blobs) + 1)]
         files = {pack_name(0): pack(*blobs), "keyring": KEYRING}
@@ -158,14 +158,14 @@ class Inserts(Refused):
 
 
 def answers(blobs, keys):
-    """How many blobs an index has, and what it answers to each query."""
+    """How many blobs an index has, and its answers to each query."""
     archive = queries.Archive(blobs, keys)
     found = [queries.search_text(archive, queries.read_query(text)) for text in TEXTS]
     return b"%d\n%b\n" % (len(blobs), b"\n".join(found))
 
 
 def is_told(what, told, out, is_whole):
-    """What is told of each insert, and at most once that one is refused, or a front of that."""
+    """The output for each insert, and at most once that one is refused; or a prefix of that."""
     tries = re.split(rb"(?m)^(?=inserted |refused )", out)[1:]
     places = [place for place, text in enumerate(tries) if text.startswith(b"refused ")]
     check(f"{what}: refused at {places}", len(places) <= 1)

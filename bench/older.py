@@ -1,9 +1,10 @@
-"""Times commands, servers and yardsticks of two builds, an older one and the one of now, and prints how they compare, as a table.
+"""Times commands, servers and yardsticks of two builds, an older one and the current one, and prints how they compare.
 
     older.py PROGRAM OLDER FOLDER [--labs LAB OLDER_LAB] [--rows NAME ..] [--size small] [--any-level]
 
-Each row is measured nine times by both, in turn, and the medians count: of processor time, and of wall. A part above 1 is faster than the
-older one. Ends with status 1 where the two answer otherwise in some row, or one of them fails; the other rows are measured all the same.
+Each row is measured nine times with both, in turn, and the medians count: of processor time, and of wall time. A figure
+above 1 is faster than the older one. Ends with status 1 if the two give different answers in some row, or one of them
+fails; the other rows are still measured.
 """
 
 import argparse
@@ -22,7 +23,7 @@ from typing import NamedTuple
 
 from compare import MIB
 from levels import ANY_LEVEL, tell_levels
-# Before the tests' modules, whose folder these put in front of this one.
+# Before the tests' modules: these imports put the tests' folder first in the search path.
 from serve import TICKS_A_SECOND, small_blobs, ticks
 from store import write_store
 
@@ -38,7 +39,7 @@ ROUNDS = 9
 
 
 class Failed(Exception):
-    """Why a row can't be told."""
+    """Why a row can't be measured."""
 
 
 class Took(NamedTuple):
@@ -47,7 +48,7 @@ class Took(NamedTuple):
 
 
 class Build:
-    """A program, and the one of crates/lab that was built with it, where there is one."""
+    """A program, and the one of crates/lab that was built with it, if there is one."""
 
     def __init__(self, program, lab, folder):
         self.program, self.lab = program, lab
@@ -83,10 +84,10 @@ def file(count):
     return file_blobs("input", list(large_blobs(count)))
 
 
-# What is measured: functions of a build and a store, which answer what it took, and what has to be the same of both
+# What is measured: functions of a build and a store, which return the cost, and what has to be the same for both
 
 def ran(words, source=os.devnull, sink=None, folder=None):
-    """Runs a program to its end, over a file and in a folder; what it writes is answered where no other sink is named."""
+    """Runs a program to its end, over a file and in a folder; returns its output if no other sink is named."""
     with open(source, "rb") as read, open(sink, "wb") if sink else tempfile.TemporaryFile() as out:
         begun = time.monotonic()
         child = subprocess.Popen([*map(str, words)], stdin=read, stdout=out, cwd=folder)
@@ -104,7 +105,8 @@ def answer_in(out):
 
 
 def command(line, of="program"):
-    """How a command is measured, whose input is the store's first pack. It runs where the keyring is that `search-pack` takes."""
+    """How to measure a command whose input is the store's first pack. It runs in the folder with the keyring that
+    `search-pack` needs."""
     def measure(build, store):
         key = (store.folder / "keyring").read_text()
         words = [key if word == "KEY" else word.format(store=store.folder) for word in line.split()]
@@ -119,7 +121,7 @@ def lab(line):
 
 
 def start(build, store):
-    """A server's start: until it has answered a GET, which it does once it has read the store and made its index."""
+    """A server's start: until it has answered a GET, which it does after it has read the store and made its index."""
     begun = time.monotonic()
     with Server(build.served, store.folder) as server:
         ask(server, "the first GET", get(blob_target(ref_of(store.first)), *HEADERS), store.first)
@@ -147,7 +149,8 @@ def what_it_writes(words):
 
 
 def copy(name):
-    """A copy of a store to an empty one, by a command and a server: the processor time is that of both, as long as they run."""
+    """A copy of a store to an empty one, by a command and a server: the processor time is that of both, while they
+    run."""
     def measure(build, store):
         new = build.served.new_path()
         new.mkdir()
@@ -164,7 +167,7 @@ def copy(name):
 
 LIST, SEARCH = "list {store} --limit=4194304", "search {store} --attr=tag --value=t0"
 SEARCH_PACK, ASKED = "search-pack tag t0", "KEY tag t0"
-# The rows, by the stores that they are measured over: which blobs these have, how many, and how many at the size `small`.
+# The rows, by their stores: which blobs these have, how many, and how many at the size `small`.
 ROWS = {
     "1 GiB of 1 MiB blobs": (large_blobs, 1_024, 8, {
         "list-large": command(LIST),
@@ -221,7 +224,7 @@ def compare(name, measure, builds, store):
 
 
 def compare_all(builds, folder, chosen, is_small):
-    """Prints the rows that are chosen; answers whether all of them could be told."""
+    """Prints the chosen rows; returns whether all of them could be measured."""
     all_told = True
     for number, (what, (blobs, count, few, rows)) in enumerate(ROWS.items()):
         rows = {name: measure for name, measure in rows.items() if name in chosen}

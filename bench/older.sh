@@ -3,13 +3,13 @@
 #
 #     bench/older.sh OLDER [OLDER_LAB] [--rows NAME ..] [--size small] [--any-level]
 #
-# These are the programs of crates/perkeep_cli and crates/lab, as a checkout of an earlier commit has built them; those of
-# now are ./perkeep's and crates/lab's, or what PERKEEP and LAB name. Without OLDER_LAB no scans and no inserts are timed.
-# NAMEs choose rows, and a wrong one tells which there are; `--size small` tries the script, and what it then prints says
-# nothing. Programs of two levels of x86-64 are compared with `--any-level` alone.
+# These are the programs of crates/perkeep_cli and crates/lab, as a checkout of an earlier commit has built them. The
+# current ones are those of ./perkeep and crates/lab, or those that PERKEEP and LAB name. Without OLDER_LAB no scans and
+# no inserts are timed. NAMEs choose rows; a wrong one prints all names. `--size small` tries the script, and its output
+# then means nothing. Programs of two levels of x86-64 are compared only with `--any-level`.
 #
-# Prints the levels, medians of processor time and of wall, and what part of the older one's speed the one of now has.
-# Takes some fifteen minutes and 1.2 GiB of disk, and means something on a machine that does nothing else.
+# Prints the levels, medians of processor time and of wall time, and the current program's speed relative to the older
+# one's. Takes about fifteen minutes and 1.2 GiB of disk, and means something only on a machine without other work.
 older=$(realpath "${1:?which program to compare with}") || exit 2
 shift
 older_lab=

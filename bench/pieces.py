@@ -1,9 +1,10 @@
-"""Measures the peak memory of commands that go through a pack in pieces, and the processor time of searches beside a listing.
+"""Measures the peak memory of commands that read a pack in pieces, and the processor time of searches beside a listing.
 
     pieces.py PROGRAM KIND FOLDER
 
-The folder holds what make_pack.py has written for the kind. Of `list` it is printed what that is for a blob, too, since an open
-store keeps a row for each. Times are those of a processor, the best of three, in turn. Ends with status 1 where an answer is wrong.
+The folder has what make_pack.py has written for the kind. For `list` the memory per blob is printed too, since an open
+store keeps a row for each. Times are processor times, the best of three, in turn. Ends with status 1 if an answer is
+wrong.
 """
 
 import os
@@ -22,7 +23,7 @@ RECORD = len(record(bytes(300)))
 
 
 def lines_of(words):
-    """How many lines a program writes that has to end with status 0."""
+    """The number of lines that a program writes, which has to end with status 0."""
     with tempfile.TemporaryFile() as sink:
         subprocess.run(words, stdout=sink, check=True)
         sink.seek(0)
@@ -30,7 +31,7 @@ def lines_of(words):
 
 
 def peak_of_search(program, folder):
-    """The peak of `search-pack` over the pack, whose answer has to be the one that is written beside it."""
+    """The peak of `search-pack` over the pack, whose output has to be the answer that was written with the pack."""
     with open(folder / "pack", "rb") as pack, tempfile.TemporaryFile() as told:
         words = ["/usr/bin/time", "-q", "-f", "%M", program, "search-pack", "tag", "t0"]
         ended = subprocess.run(words, cwd=folder, stdin=pack, stdout=subprocess.PIPE, stderr=told)
@@ -41,7 +42,7 @@ def peak_of_search(program, folder):
 
 
 def processor(words, source, answer, **how):
-    """A job that answers the seconds of a processor that a program takes, whose output has to be this one where one is given."""
+    """A job that returns a program's processor seconds. If an output is given, the program has to write it."""
     def job():
         before = resource.getrusage(resource.RUSAGE_CHILDREN)
         ended = subprocess.run(words, input=source, stdout=subprocess.PIPE, check=True, **how)
@@ -67,7 +68,8 @@ def compare_times(program, kind, store, folder):
 
 
 def compare_bytes(program, folder):
-    """The processor time of `search-pack` where each read gives one byte, for a pack of small blobs and for its first half."""
+    """The processor time of `search-pack` when each read gives one byte, for a pack of small blobs and for its first
+    half."""
     with open(folder / "pack", "rb") as file:
         pack = file.read(2 * BY_BYTES * RECORD)
     how = {"cwd": folder, "env": {**os.environ, "LD_PRELOAD": str(folder / "one_byte.so")}}

@@ -1,4 +1,4 @@
-"""Digests standard input in chunks of 1 MiB, and appends each to a file and syncs it: what put-file costs at the least.
+"""Digests standard input in chunks of 1 MiB, and appends each to a file and syncs it: the least cost of put-file.
 
     plain_file.py FILE
 """

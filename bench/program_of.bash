@@ -1,5 +1,5 @@
-# A function that is sourced, at the top of the repository: `program_of NAME PATH WORD..` prints the path of the program of
-# crates/NAME, which `rt run -- WORD..` builds where it is missing or older than the sources; or PATH where that isn't
+# A function that is sourced, at the top of the repository: `program_of NAME PATH WORD..` prints the path of the program
+# of crates/NAME, which `rt run -- WORD..` builds if it is missing or older than the sources; or PATH if that isn't
 # empty.
 program_of() {
   local name=$1 given=$2

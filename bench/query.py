@@ -1,11 +1,12 @@
-"""Times queries per ref of the answer against SQLite in memory with an index, and a nested query against opening its store.
+"""Times queries per ref of the answer against SQLite in memory with an index, and a nested query against opening its
+store.
 
     query.py PROGRAM FOLDER
 
-The folder holds what make_pack.py has written for the kind `store`. What a query takes is its processor time, less that
-of a query over the same store whose answer is the first permanode alone: so the opening, and the filling of the index,
-are left out. A line of search words is timed against the same query as JSON, each with the opening. Each time is the
-best of five.
+The folder has what make_pack.py has written for the kind `store`. The time of a query is its processor time, less that
+of a query over the same store whose answer is only the first permanode. The opening, and the filling of the index, are
+therefore left out. A line of search words is timed against the same query as JSON, each with the opening. Each time is
+the best of five.
 """
 
 import json
@@ -18,7 +19,7 @@ import tempfile
 import time
 
 from compare import MIB
-# Before make_pack, which puts the folder of the tests in front of this one.
+# Before make_pack: importing it puts the folder of the tests first in the search path.
 from store import peak
 from make_pack import KEYRING, LOAD, LOAD_SECRET, record, reference
 
@@ -31,9 +32,9 @@ MOST = 1_000_000
 FIRST = {"constraint": {"permanode": {}}, "limit": 1}
 BY_VALUE = {"constraint": {"permanode": {"attr": "tag", "value": "t0"}}, "limit": MOST}
 BY_RELATION = {"constraint": {"permanode": {"relation": {"relation": "child", "all": {"blobRefPrefix": "x"}}}}, "limit": MOST}
-# As many permanodes, each with those that are so many places before and behind it as members.
+# As many permanodes, each with those that are so many places before and after it as members.
 RING, REACH, LEVELS = 1_000, 10, 5
-# A line of search words, and the query that it asks.
+# A line of search words, and the equivalent query.
 LINE = "tag:t0 -has:camliMember"
 LEAVES = {"permanode": {"attr": "tag", "value": "t0"}}, {"permanode": {"attr": "camliMember"}}
 ASKED = {"logical": {"op": "and", "a": LEAVES[0], "b": {"logical": {"op": "not", "a": LEAVES[1]}}}}
@@ -77,7 +78,7 @@ class Program:
 
 
 def tables(pack):
-    """A database in memory with what the permanodes hold."""
+    """A database in memory with the values of the permanodes."""
     archive = reference.archive_of(pack, KEYRING)
     base = sqlite3.connect(":memory:")
     base.execute("create table permanodes (ref text primary key) without rowid")
@@ -114,12 +115,12 @@ def per_ref(what, program, query, base, statement):
 
 
 def by_words(program):
-    """Prints how a line of search words compares with the query that it asks."""
+    """Prints how a line of search words compares with the equivalent query."""
     wanted, _ = program.answer(BY_WORDS)
     asked, _ = program.answer_to_words()
     if not wanted or asked != wanted:
         sys.exit(f"{LINE}: not the answer that is wanted")
-    # In turn, so that other work beside them slows both.
+    # In turn, so that other work at the time slows both.
     times = [(program.answer(BY_WORDS)[1], program.answer_to_words()[1]) for _ in range(2 * TIMES)]
     query, words = map(min, zip(*times))
     print(f"search words, {len(wanted)} refs: {query / words:.2f} of the speed of the same query as JSON, with the opening")

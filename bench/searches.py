@@ -1,9 +1,9 @@
-"""Times searches of a server by one client and by several, and what waits for a query that takes long, as tables.
+"""Times searches of a server by one client and by several, and waits beside a query that takes long; prints tables.
 
     searches.py PROGRAM HTTP_LOAD FOLDER
 
-The store is the ring of tests/serve_long.py. Its searches settle nothing, but for those beside uploads. Each pace is the best
-of three; a wait is the longest of all that were made.
+The store is the ring of tests/serve_long.py. Its searches settle nothing, except those beside uploads. Each pace is the
+best of three; a wait is the longest of all that were measured.
 """
 
 import os
@@ -15,7 +15,7 @@ import threading
 import time
 
 from compare import MIB
-# Before the modules of the tests, whose folder it puts in front.
+# Before the tests' modules: these imports put the tests' folder first in the search path.
 from serve import Bench, Served, best, heading, row
 from store import peak
 
@@ -28,15 +28,15 @@ from serve_long import PARTS, asked, has_member, long_query, ring, tagged
 from serving import Talk
 
 SEARCHES = 200
-# A query of so many times the parts of the test takes some ten seconds.
+# A query of so many times the parts of the test takes about ten seconds.
 LENGTH = 4
 SECONDS_OF_A_KIND = 2
-# So many permanodes, each with a value, and so many of another store whose peak is taken off.
+# So many permanodes, each with a value, and so many of another store whose peak is subtracted.
 FACTS, FEW = 50_000, 1
 
 
 class Ring(Served):
-    """A server over the ring, with a keyring, and perhaps on some of the processors alone."""
+    """A server over the ring, with a keyring, and perhaps on some of the processors only."""
 
     def __init__(self, bench, blobs, *words, processors=None):
         self.front = ["taskset", "-c", processors] if processors else []
@@ -53,7 +53,7 @@ def blobs_of_ring():
 
 
 def ask(talk, request):
-    """Sends a request, and answers how long its reply took."""
+    """Sends a request, and returns how long its reply took."""
     began = time.monotonic()
     talk.send(request)
     text = talk.read_text("a request")
@@ -65,7 +65,7 @@ def ask(talk, request):
 # Paces
 
 def paces(bench, blobs):
-    """Searches a second by so many clients, and what part they are of the processors times one client's."""
+    """Searches per second by so many clients, and their ratio to the processors times one client's."""
     search = asked(has_member("sha224-x"))
     for what, processors, count in (("all processors", None, os.cpu_count()), ("two processors", "0,1", 2)):
         heading(f"searches, {what}", "a second", "to one client", "to the processors", "ms of each")

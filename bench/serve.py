@@ -1,10 +1,10 @@
-"""Times `serve` beside programs that do the least of it, and prints how they compare, as tables.
+"""Times `serve` beside programs that do the least of the same work, and prints how they compare, as tables.
 
     serve.py PROGRAM HTTP_LOAD APPEND_SYNC PLAIN_PUT FOLDER
 
 Processor time is that of the server's process, all of its threads, while the requests were served; that of nginx is of
-all its processes. Each time is the best of three, taken in turn with what it is compared with. Each upload goes to a
-store of its own.
+all its processes. Each time is the best of three, taken in turn with that of the compared program. Each upload goes to
+a store of its own.
 """
 
 import os
@@ -17,7 +17,7 @@ import time
 from typing import NamedTuple
 
 from compare import MIB, TIMES
-# Before make_pack, which puts the folder of the tests in front of this one.
+# Before make_pack: importing it puts the folder of the tests first in the search path.
 from store import run
 from make_pack import record
 
@@ -28,11 +28,11 @@ from reference import LARGEST_BLOB, pack_name, ref_of
 from serving import HOST, PORTS, Server, is_listened_to, stored
 
 BLOBS = int(os.environ.get("BENCH_BLOBS") or 10_000)
-# The long upload goes on for longer than the indexers give way.
+# The long upload lasts longer than the indexers give way.
 UPLOADS, LONG_UPLOADS, LARGE_BLOBS = 1_000, 10_000, 16
 NGINX = os.environ.get("NGINX_PROGRAM") or shutil.which("nginx", path=os.environ["PATH"] + ":/usr/sbin")
 TICKS_A_SECOND = os.sysconf("SC_CLK_TCK")
-# As a client sends them.
+# In the form that a client sends.
 HEADERS = ["Host: localhost:3179", "User-Agent: bench", "Accept: */*"]
 BOUNDARY = b"------------------------0123456789abcdef"
 
@@ -79,7 +79,7 @@ def peak_of(process):
 
 
 class Nginx:
-    """nginx, with as many processes as it is usually given, over files of the same bytes under the same paths."""
+    """nginx, with its usual number of processes, over files of the same bytes under the same paths."""
 
     def __init__(self, folder, blobs):
         self.folder, self.port = folder / "nginx", PORTS.free()
@@ -117,8 +117,8 @@ class Nginx:
 
 
 class PlainPut:
-    """A server that does the least that an upload costs: it reads a request of this length, digests, appends and syncs a
-    record, and answers."""
+    """A server with the least cost of an upload: it reads a request of this length, digests, appends and syncs a
+    record, and replies."""
 
     def __init__(self, bench, request, record, body):
         self.port, self.file = PORTS.free(), bench.folder / "plain"
@@ -140,7 +140,7 @@ class PlainPut:
 
 
 class Served(Server):
-    """The program over a store of its own, of some blobs, so many in a pack. (The peak of memory has the opening in it,
+    """The program over a store of its own, of some blobs, so many in a pack. (The peak of memory includes the opening,
     which reads each pack whole.)"""
 
     def __init__(self, bench, blobs, *words, in_a_pack=BLOBS):
@@ -168,7 +168,7 @@ class Bench:
         self.folder = pathlib.Path(folder)
 
     def load(self, server, requests, connections=1, times=1, expected=None):
-        """The seconds that a server takes to answer requests, and so many bytes where these are known."""
+        """The seconds that a server takes to answer requests with replies of so many bytes, if these are known."""
         file = self.folder / "requests"
         file.write_bytes(b"".join(b"%d\n%b" % (len(request), request) for request in requests))
         before = sum(map(ticks, server.processes()))
@@ -205,7 +205,7 @@ class Bench:
 
 
 def best(*jobs):
-    """The least of each of the seconds of jobs that are done one after another, several times."""
+    """The least of the seconds of each job; the jobs are done one after another, several times."""
     rounds = [[job() for job in jobs] for _ in range(TIMES)]
     return [Seconds(*map(min, zip(*column))) for column in zip(*rounds)]
 
@@ -226,7 +226,7 @@ def ratio(one, other):
 
 
 def small_gets(bench):
-    """Requests a processor second, and those of nginx."""
+    """Requests per processor second, and those of nginx."""
     blobs = small_blobs(BLOBS)
     requests, bytes_of_all, times = gets(blobs), sum(map(len, blobs)), 5
     heading("GETs of small blobs", "a processor s", "of nginx", "by wall")
@@ -247,8 +247,8 @@ def small_gets(bench):
 
 
 def small_uploads(bench):
-    """Blobs a second, and those of a loop that appends and syncs, and of a server that does only that and a digest for
-    each request; also how much of that one processor was busy."""
+    """Blobs per second, those of a loop that appends and syncs, and those of a server that does only that and a digest
+    for each request; also how busy the latter's processor was."""
     blobs = small_blobs(LONG_UPLOADS)
     size = len(record(blobs[0]))
     heading("uploads of small blobs", "a second", "of append, sync", "of a plain server", "processor share")
@@ -275,7 +275,7 @@ def small_uploads(bench):
 
 
 def large(bench):
-    """MiB a second, beside openssl by processor time, and appending and syncing the same by wall time."""
+    """MiB per second, beside openssl by processor time, and beside appending and syncing the same by wall time."""
     blobs = large_blobs()
     total = sum(map(len, blobs))
     heading("blobs of 16 MiB", "MiB a second", "of openssl", "of append, sync", "peak MiB")
@@ -305,7 +305,8 @@ def large(bench):
 
 
 def many_connections(bench):
-    """The pace over more connections than there are processors, to that over one, by wall and by processor time."""
+    """The pace over more connections than there are processors, relative to that over one, by wall and by processor
+    time."""
     blobs = small_blobs(BLOBS)
     single = [upload([blob]) for blob in small_blobs(UPLOADS)]
     heading(f"64 workers, {os.cpu_count()} processors", "a second", "to one connection", "a processor s", "to one")

@@ -1,9 +1,9 @@
-"""Times `serve` of two programs, an older one and the one of now, and prints how the one of now compares, as a table.
+"""Times `serve` of two programs, an older one and the current one, and prints how the current one compares, as a table.
 
     serve_older.py PROGRAM OLDER HTTP_LOAD FOLDER [--any-level]
 
-Each is measured nine times, the two in turn, and the medians count: of processor time, and of wall for uploads one by one, which wait for
-the disk. A part above 1 is faster than the older one.
+Each is measured nine times, the two in turn, and the medians count: of processor time, and of wall time for uploads one
+by one, which wait for the disk. A figure above 1 is faster than the older one.
 """
 
 import statistics
@@ -13,19 +13,19 @@ from levels import ANY_LEVEL, tell_levels
 from serve import BLOBS, UPLOADS, Bench, Served, gets, heading, row, small_blobs, upload
 
 ROUNDS = 9
-# So many small blobs of the store that is read, and how often each is got; so many uploads of 1,000 blobs, and of one. Processor time is
-# told in hundredths of a second, so these take some half a second of it and more.
+# So many small blobs of the store that is read, and how often each is got; so many uploads of 1,000 blobs, and of one.
+# Processor time is measured in hundredths of a second, so that these take about half a second of it or more.
 GETS, TIMES, UPLOADS_OF_MANY, UPLOADS_OF_ONE = min(BLOBS, 5_000), 16, 20, 5_000
 
 
 class Two:
-    """What is measured, for each of the programs in turn."""
+    """The measured work, for each of the programs in turn."""
 
     def __init__(self, programs, http_load, folder):
         self.benches = [Bench(program, http_load, None, None, folder) for program in programs]
 
     def compare(self, what, seconds):
-        """Prints a row: the seconds that a bench takes, by `seconds`, of both, and the part."""
+        """Prints a row: the seconds of a bench for both programs, by `seconds`, and their ratio."""
         rounds = [[seconds(bench) for bench in (self.benches if number % 2 else self.benches[::-1])] for number in range(ROUNDS)]
         pairs = [pair if number % 2 else pair[::-1] for number, pair in enumerate(rounds)]
         now, older = (statistics.median(column) for column in zip(*pairs))

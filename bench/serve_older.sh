@@ -1,11 +1,13 @@
 #!/usr/bin/env bash
-# Times `serve` beside an older program of the same kind: GETs and uploads of small blobs, nine times each, the two in turn.
+# Times `serve` beside an older program of the same kind: GETs and uploads of small blobs, nine times each, the two in
+# turn.
 #
 #     bench/serve_older.sh OLDER [--any-level]
 #
-# OLDER is that program, as a checkout of an earlier commit has built it; the one of now is ./perkeep's, or what PERKEEP names. Programs of two
-# levels of x86-64 are compared with `--any-level` alone. Prints the levels, medians, and what part of the older one's speed the one of now has.
-# Needs g++, and openssl with its headers; takes some three minutes, and means something on a machine that does nothing else.
+# OLDER is that program, as a checkout of an earlier commit has built it; the current one is ./perkeep's, or the one
+# that PERKEEP names. Programs of two levels of x86-64 are compared only with `--any-level`. Prints the levels, medians,
+# and the current program's speed relative to the older one's. Needs g++, and openssl with its headers; takes about
+# three minutes, and means something only on a machine without other work.
 older=$(realpath "${1:?which program to compare with}") || exit 2
 shift
 . "$(dirname "$0")/preamble.bash"

@@ -1,23 +1,23 @@
-"""What claims of several changes cost an index, beside claims of one change that say the same, in order of dates.
+"""Times claims of several changes, beside claims of one change with the same meaning, in order of dates.
 
     several.py LAB FOLDER
 
 Each of 20 claims has 1,000 changes: once all of one permanode, and once one of each of 1,000. The other pack has 20,000
-claims. Prints the times of the first, those of the second being 1; each is the best of three, taken in turn, and has the
-reading of the blobs in it. Ends with status 1 where an answer is wrong.
+claims. Prints the times of the first relative to those of the second; each is the best of three, taken in turn, and
+includes reading the blobs. Ends with status 1 if an answer is wrong.
 """
 
 import pathlib
 import sys
 
-# Before the tests' modules, whose folder it puts in front of this one.
+# Before the tests' modules: these imports put the tests' folder first in the search path.
 from make_pack import reference
 from inserting import folder_of, seconds
 from writing import FIRST_MOMENT, claim, key_blob, multi, permanode
 
 CLAIMS, CHANGES, VALUES = 20, 1_000, 50
 WAYS = {"insert": "inserted in order", "fill": "filled at once"}
-# The permanode of a change, by the numbers of its claim and of its place there.
+# The permanode of a change, by the number of its claim and its place there.
 SHAPES = {"of one permanode": lambda number, place: number, "of 1,000 permanodes": lambda number, place: place}
 ASKED = "v7"
 

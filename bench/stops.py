@@ -15,8 +15,8 @@ WINDOW = 250
 
 def second_stops(program):
     """A stop at each call, and then at each call of the next opening, and crashes by each pair of choices. An opening
-    changes a disk by a sync of each pack alone, and these disks have one: so a stop at one of its calls leaves what one
-    before it would, or what one after it would."""
+    changes a disk only by a sync of each pack, and these disks have one. A stop at one of its calls therefore leaves
+    the same as one before it, or one after it."""
     return [
         lambda row=row, first=first, second=second: stops_in_turn(program, row, first, second)
         for row in stopped()

@@ -1,9 +1,9 @@
-"""Times the opening of large stores, and puts, against programs that do the least of it; prints ratios and peaks as a table.
+"""Times the opening of large stores, and puts, against programs that do the least of it.
 
     store.py PROGRAM APPEND_SYNC FOLDER
 
-A store is opened by `stat` of a ref that isn't in it. Each time is the best of three, taken in turn with what it is compared with.
-The packs are written here, not put.
+A store is opened by `stat` of a ref that isn't in it. Each time is the best of three, taken in turn with that of the
+compared program. The packs are written here, not put. Prints ratios and peaks as a table.
 """
 
 import pathlib
@@ -23,7 +23,7 @@ NOWHERE = reference.ref_of(b"a blob that is nowhere")
 # Stores
 
 def write_store(folder, blobs):
-    """Writes packs as puts would: each takes records while it is below the limit. Answers their bytes."""
+    """Writes packs as puts would: each takes records while it is below the limit. Returns their bytes."""
     folder.mkdir()
     total, room, file = 0, 0, None
     for number, blob in enumerate(blobs):
@@ -48,7 +48,7 @@ def large_blobs():
 # Measuring
 
 def run(words, source=b"", status=0):
-    """Runs a program that has to end with the status; answers its seconds."""
+    """Runs a program that has to end with the status; returns its seconds."""
     start = time.monotonic()
     ended = subprocess.run(words, input=source, stdout=subprocess.PIPE, stderr=subprocess.DEVNULL)
     seconds = time.monotonic() - start
@@ -58,7 +58,8 @@ def run(words, source=b"", status=0):
 
 
 def peak(words, source=b""):
-    """The most bytes of memory that a program had, by /usr/bin/time: a child of this script would count the script's own too."""
+    """The most bytes of memory that a program had, by /usr/bin/time: a child of this script would count the script's
+    own too."""
     timer = shutil.which("time", path="/usr/bin:/bin")
     if timer is None:
         return None
@@ -93,7 +94,8 @@ class Bench:
         return run([self.program, "put", str(store)], self.new_blob())
 
     def large_store(self, what, name, blobs):
-        """Measures a store: its opening, and a put into it. Answers the bytes of its packs and the peak of its opening."""
+        """Measures a store: its opening, and a put into it. Returns the bytes of its packs and the peak of its
+        opening."""
         store = self.folder / name
         size = write_store(store, blobs)
         packs = sorted(map(str, store.iterdir()))

@@ -3,8 +3,8 @@ how they compare, as tables.
 
     sync.py PROGRAM HTTP_LOAD APPEND_SYNC PLAIN_PUT FOLDER
 
-Each time is the best of three, taken in turn with what it is compared with. Each copy goes to a store of its own. The
-time of a copy is that of the whole command, so the opening of its store is in it.
+Each time is the best of three, taken in turn with that of the compared program. Each copy goes to a store of its own.
+The time of a copy is that of the whole command, so that it includes the opening of its store.
 """
 
 import contextlib
@@ -33,7 +33,7 @@ def large_blobs():
 
 def timed(bench, words, out):
     """The seconds of a command that has to print this, and its peak of memory in bytes."""
-    # A child of this one would be told to have had this one's memory, which holds all blobs.
+    # For a child of this process the system would report at least this process's memory, which holds all blobs.
     peak = bench.program.new_path()
     line = ["/usr/bin/time", "-f", "%M", "-o", str(peak), bench.program.path, *words]
     start = time.monotonic()
@@ -77,7 +77,7 @@ class Copies:
 
 class Rounds:
     """A round over a folder that isn't there yet and servers that have blobs of their own, and as many pulls and pushes
-    that copy the same."""
+    with the same result."""
 
     def __init__(self, bench, blobs):
         self.bench, self.shares, self.peak = bench, [blobs[place::PEERS] for place in range(PEERS)], 0
@@ -109,7 +109,7 @@ class Rounds:
 
 
 def plainly(bench, blobs, requests):
-    """The seconds that a server takes which does the least that an upload costs."""
+    """The seconds of a server with the least cost of an upload."""
     with PlainPut(bench, requests[0], record(blobs[0]), stored(blobs[0]).body) as server:
         return bench.load(server, requests)
 
@@ -165,7 +165,7 @@ class Snapshot:
 
 
 def copiers(bench, blobs):
-    """Programs of others that copy as many files, those that are there."""
+    """Other programs that copy as many files, if they are there."""
     files, found = Files(bench, blobs), {}
     if knows_fsync():
         found["of rsync --fsync"] = files.copy
@@ -177,7 +177,7 @@ def copiers(bench, blobs):
 # Tables
 
 def small(bench):
-    """Blobs a second, and those of the others."""
+    """Blobs per second, and those of the others."""
     blobs = small_blobs(BLOBS)
     copies, requests = Copies(bench, blobs), [upload([blob]) for blob in blobs]
     others = [
@@ -196,7 +196,7 @@ def small(bench):
 
 
 def large(bench):
-    """MiB a second, and those of the others."""
+    """MiB per second, and those of the others."""
     blobs = large_blobs()
     copies, requests = Copies(bench, blobs), [upload([blob]) for blob in blobs]
     columns = "MiB a second", "of append, sync", "of uploads", "of a plain server", "peak MiB"
@@ -214,7 +214,7 @@ def large(bench):
 
 
 def rounds(bench):
-    """Blobs that a round copies in a second, and what pulls and pushes of the same take beside it."""
+    """Blobs that a round copies per second, and the time of pulls and pushes of the same beside it."""
     own = Rounds(bench, small_blobs(PEERS * BLOBS))
     heading(f"rounds over {PEERS} servers", "a second", "of pull and push", "their processor", "peak MiB")
     mirror, others = best(own.mirror, own.pull_and_push)

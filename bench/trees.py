@@ -2,8 +2,8 @@
 
     trees.py PROGRAM HTTP_LOAD FOLDER
 
-Each time is the best of three, taken in turn with what it is compared with; each run goes to a store, and a cache, of
-its own. The uploads are requests that were made before, sent one after another by a client that does nothing else.
+Each time is the best of three, taken in turn with that of the compared program; each run goes to a store, and a cache,
+of its own. The uploads are requests that were made before, sent one after another by a client that does nothing else.
 """
 
 import os
@@ -25,7 +25,7 @@ FILES = int(os.environ.get("BENCH_FILES") or 20_000)
 FILES_OF_A_FOLDER = 100
 PARTS = 900
 SCRIPT = pathlib.Path(__file__).resolve().parent.parent / "examples" / "put_tree.py"
-# The goals: of the uploads, and of the first run.
+# The goals: relative to the uploads, and to the first run.
 MOST_OF_UPLOADS, MOST_OF_FIRST = 1.5, 0.1
 
 
@@ -49,7 +49,7 @@ class Trees:
     def __init__(self, bench):
         self.bench, self.files = bench, bench.program.new_path()
         write_files(self.files)
-        # Later than what a file system may tell apart.
+        # Later than a file system may distinguish.
         time.sleep(2.5)
         self.keyring = bench.program.new_path()
         self.keyring.write_bytes(inputs.KEYRING)
@@ -79,13 +79,13 @@ class Trees:
         shutil.rmtree(store)
 
     def uploads(self):
-        """The seconds of uploads of what a first run stores."""
+        """The seconds of uploads of the blobs that a first run stores."""
         runs = [self.blobs[at : at + PARTS] for at in range(0, len(self.blobs), PARTS)]
         return self.bench.fresh([upload(run) for run in runs])[0].wall
 
 
 class Restic:
-    """A repository of restic, which is told to leave its own cache out."""
+    """A repository of restic, without a cache of its own."""
 
     def __init__(self, trees):
         self.trees, self.firsts, self.seconds, self.stored = trees, [], [], 0

@@ -1,11 +1,12 @@
 #!/usr/bin/env bash
-# Tries the wrong bodies that the gate doesn't: the prover must refuse each edit of wrong_bodies/NAME/, on a clone of the last commit.
+# Tries the wrong bodies that the gate doesn't: the prover must refuse each edit of wrong_bodies/NAME/, on a clone of
+# the last commit.
 #
 #     bench/wrong_bodies.sh [NAME..]
 #
-# Without a name those of all crates are tried, which takes some three hours of a processor. The first edit of a crate takes as long as the
-# crate's proof, each further one ten seconds to a minute; what the checkout has built of the crates below isn't proved again. The last line
-# is `N passed, M failed`, and the status is 0 where nothing failed.
+# Without a name those of all crates are tried, which takes about three hours of a processor. The first edit of a crate
+# takes as long as the crate's proof, each further one ten seconds to a minute; crates below that the checkout has built
+# aren't proved again. The last line is `N passed, M failed`, and the status is 0 if nothing failed.
 set -eu
 cd "$(dirname "$0")/.."
 top=$PWD passed=0 failed=0

@@ -1,19 +1,19 @@
 #!/usr/bin/env python3
-"""Says which files, trees and notes of an archive aren't whole: a blob that they need is lacking, or damaged.
+"""Says which files, trees and notes of an archive aren't whole: a blob that they need is missing, or damaged.
 
     fsck_files.py ~/archive
     fsck_files.py ~/backup --keyring ~/archive/keyring
 
-DIR is the folder of the archive, or a copy of it: its packs are read, also while a server runs, and each blob is
-checked against its ref. A blob that is damaged in one pack and whole in another is whole. Printed is a line
+DIR is the folder of the archive, or a copy of it. Its packs are read, even while a server runs, and each blob is
+checked against its ref. A blob that is damaged in one pack and whole in another is whole. The output has a line
 
   file REF NAME: ..    for each file that can't be read whole: the first blob that fails, and what is wrong with it;
   tree REF NAME: ..    for each folder that is in no other one, if something in it isn't whole: how many entries, and
                        the path of the first;
   note REF TITLE: ..   for each note whose camliContent isn't there, for which the keyring is needed.
 
-`perkeep salvage` says which packs are broken, and docs/guide.md how a copy of a pack mends that. With --all each file
-that is whole is printed too, with its ref and its name. The last line counts what there is.
+`perkeep salvage` says which packs are broken, and docs/guide.md how to repair one with a copy. With --all each file
+that is whole is printed too, with its ref and its name. The last line has the counts.
 
 Status: 0 all is whole, 1 something isn't, 2 bad words, 3 it couldn't be done.
 """
@@ -31,8 +31,8 @@ from perkeep_archive import (
 
 
 class Node(NamedTuple):
-    """What a schema blob needs, as far as that is looked at: the parts of a file or of bytes, the members of a set, the
-    set of a folder; or why it says none of these."""
+    """The refs that a schema blob needs, as far as they are checked: the parts of a file or of bytes, the members of a
+    set, the set of a folder; or why it is none of these."""
 
     kind: str
     name: bytes
@@ -57,12 +57,12 @@ def node_of(ref: str, body: dict) -> Node:
 
 
 def shared(ref: Optional[str]) -> Optional[str]:
-    """The one copy of a ref that may be named by many blobs."""
+    """The same object for equal refs, since many blobs may name one."""
     return ref and sys.intern(ref)
 
 
 class Seen:
-    """What the blobs of an archive need, as they are shown."""
+    """The needs of an archive's blobs, gathered as they are shown."""
 
     def __init__(self, notes: Notes):
         self.notes = notes
@@ -79,7 +79,7 @@ class Seen:
 
 
 class Fault(NamedTuple):
-    """How many entries of a folder aren't whole, those of the folders in it counted too, and the first, by its path."""
+    """How many entries of a folder aren't whole, including those of the folders in it, and the first, by its path."""
 
     count: int
     path: str
@@ -90,7 +90,7 @@ class Fault(NamedTuple):
 
 
 class Check:
-    """What is wrong with the files and folders of an archive, of which each is looked at once."""
+    """What is wrong with the files and folders of an archive. Each is checked once."""
 
     def __init__(self, archive: Archive, seen: Seen):
         self.archive, self.nodes = archive, seen.nodes
@@ -104,7 +104,7 @@ class Check:
     # Files
 
     def file_fault(self, ref: str) -> Optional[str]:
-        """Why a file can't be read whole; None where it can."""
+        """Why a file can't be read whole; None if it can."""
         try:
             self.length(ref, ("file",), 1)
         except Lacking as why:
@@ -112,7 +112,7 @@ class Check:
         return None
 
     def length(self, ref: str, kinds: tuple[str, ...], depth: int) -> int:
-        """How many bytes a file or a tree has, where all of its blobs are there (docs/files.md, "Reading a file")."""
+        """How many bytes a file or a tree has, if all of its blobs are there (docs/files.md, "Reading a file")."""
         if ref not in self.lengths:
             node = self.nodes.get(ref)
             if node is None or node.kind not in kinds or node.fault:
@@ -140,7 +140,7 @@ class Check:
     # Folders
 
     def entries_of(self, folder: str) -> Iterator[str]:
-        """The refs of what is in a folder. A set of its set stands for its own members."""
+        """The refs of a folder's entries. A set of its set stands for its own members."""
         waiting = list(self.nodes[folder].members)
         while waiting:
             ref = waiting.pop()
@@ -207,8 +207,8 @@ def named(check: Check, ref: str) -> str:
 def main() -> int:
     parser = parser_of(__doc__)
     parser.add_argument("folder", metavar="DIR", type=pathlib.Path, help="the folder of the archive, or of a copy")
-    parser.add_argument("--keyring", metavar="FILE", help="a keyring, where it isn't that of DIR")
-    parser.add_argument("--all", action="store_true", help="prints each file that is whole, too")
+    parser.add_argument("--keyring", metavar="FILE", help="a keyring other than that of DIR")
+    parser.add_argument("--all", action="store_true", help="also prints each file that is whole")
     words = parser.parse_intermixed_args()
     notes = Notes(keyring_of(words.folder, words.keyring, is_needed=False))
     seen = Seen(notes)

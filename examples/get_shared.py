@@ -1,16 +1,16 @@
 #!/usr/bin/env python3
-"""Gets a file or a folder that somebody shares, whole.
+"""Downloads a file or a folder that somebody shares.
 
     get_shared.py 'https://example.org/share/sha224-..?via=sha224-..'
     get_shared.py http://127.0.0.1:3190/share/sha224-.. letters
 
-URL is what the other one has sent: the path that make_share.py has printed behind the address of their server. The ref
-of a share alone, without `via`, will do, too. It is as good as a password: pass it on only to those who may read it.
+URL is what the owner has sent: the address of their server, followed by the path that make_share.py has printed. The
+ref of a share alone, without `via`, works too. It is as good as a password: pass it on only to those who may read it.
 
-PATH is made, or, where it is a folder already, added to; where it isn't given it is the name of what is shared, in the
-working folder. Nothing is written outside it, whatever names and links the other one has given, and a file that is
-there already is left alone and reported. Each blob is checked against its ref. A connection that breaks is made again.
-Standard error says what can't be got, and nothing of that is left.
+PATH is made, or added to if it is a folder already. Without it, the name of the shared file or folder is used, in the
+working folder. Nothing is written outside it, whatever names and links the owner has given, and a file that is there
+already is left alone and reported. Each blob is checked against its ref. A connection that breaks is made again.
+Standard error says what can't be downloaded, and nothing of that is left.
 
 Status: 0 all is there, 1 something isn't, 2 bad words, 3 it couldn't be done.
 """
@@ -29,9 +29,9 @@ from perkeep_archive import (
     read_object, schema_in, shown, signed_in,
 )
 
-# How many short blobs are kept, so that none is asked for as an entry and again for its content.
+# How many short blobs are kept, so that none is requested as an entry and again for its content.
 KEPT = 64
-# What the words of a refusal mean to who has the URL (docs/shares.md, "Over HTTP").
+# What the words of a refusal mean to the user of the URL (docs/shares.md, "Over HTTP").
 MEANINGS = {
     "absent": "the archive lacks it",
     "deleted": "the share was taken back",
@@ -54,7 +54,7 @@ class ShareServer(Server):
 
 
 class Shared(Archive):
-    """The blobs that a share reaches, each asked for by the path of links that it was found by."""
+    """The blobs that a share reaches, each requested by the path of links on which it was found."""
 
     def __init__(self, server: ShareServer, path: list[str]):
         self.server = server
@@ -62,7 +62,7 @@ class Shared(Archive):
         self.kept: collections.OrderedDict[str, bytes] = collections.OrderedDict()
 
     def get(self, ref: str) -> bytes:
-        """A blob, which has this ref."""
+        """The blob with this ref."""
         if ref not in self.kept:
             blob = self.fetch(ref)
             body = schema_in(blob)
@@ -87,7 +87,7 @@ class Shared(Archive):
         return reply
 
     def path_to(self, ref: str) -> list[str]:
-        """The refs that lead to a ref, from the share on."""
+        """The refs that lead to a ref, beginning with the share."""
         path: list[str] = []
         above = self.above.get(ref)
         while above is not None:
@@ -104,7 +104,7 @@ def links_in(body: dict) -> list[str]:
 
 
 def refusal_in(status: int, reply: bytes) -> str:
-    """What a refusal says."""
+    """The reason that a refusal gives."""
     said = read_object(reply) or {}
     rule = said.get("rule") or said.get("error")
     if not isinstance(rule, str) or rule == "no route":
@@ -123,7 +123,7 @@ def server_and_path(url: str) -> tuple[ShareServer, list[str]]:
 
 
 def shared_by(shared: Shared, ref: str) -> str:
-    """What a share shares; where a ref is no share's, that ref."""
+    """The ref that a share shares; if a ref isn't a share's, that ref."""
     blob = shared.fetch(ref)
     said = signed_in(blob) if len(blob) <= LARGEST_SCHEMA else None
     if said is None or said[0].get("claimType") != "share" or not is_ref(said[0].get("target")):
@@ -133,7 +133,7 @@ def shared_by(shared: Shared, ref: str) -> str:
 
 
 def place_of(entry: Entry, given: Optional[str]) -> bytes:
-    """Where an entry goes: the path that was given, or its own name, which has to be one of a file."""
+    """Where an entry is written: the given path, or its own name, which has to be that of a file."""
     if given is not None:
         return given.encode(errors="surrogateescape")
     if entry.name in (b"", b".", b"..") or re.search(rb"[/\0]", entry.name):
@@ -144,7 +144,7 @@ def place_of(entry: Entry, given: Optional[str]) -> bytes:
 def main() -> int:
     parser = parser_of(__doc__)
     parser.add_argument("url", metavar="URL", help="http://HOST:PORT/share/REF?via=REF, or https")
-    parser.add_argument("path", metavar="PATH", nargs="?", help="where it goes; its own name where this isn't given")
+    parser.add_argument("path", metavar="PATH", nargs="?", help="where to write it; by default its own name")
     words = parser.parse_intermixed_args()
     server, path = server_and_path(words.url)
     shared = Shared(server, path)

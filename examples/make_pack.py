@@ -1,5 +1,5 @@
 #!/usr/bin/env python3
-"""Makes an example out of the format pages alone, with Python's own hashing.
+"""Makes an example from the format pages alone, with Python's own hashing.
 
 Written into the folder of this script:
 

@@ -1,18 +1,19 @@
 #!/usr/bin/env python3
-"""Makes a share: a signed blob by which others may read a file or a folder of an archive, and nothing else of it.
+"""Makes a share: a signed blob by which others may read one file or folder of an archive, and nothing else.
 
     make_share.py 127.0.0.1:3179 sha224-.. --keyring ~/archive/keyring
     make_share.py inbox sha224-.. --keyring ~/archive/keyring
 
-WHERE is the HOST:PORT of a running server, which stores the share and the key's blob; or an inbox, a folder that is
-made if it isn't there and has no pack, which gets both for `perkeep push inbox HOST:PORT`. REF is what is shared: the
-file, or the folder, as `put-file` or put_tree.py has printed it; not a note, from which nothing leads to its content.
+WHERE is the HOST:PORT of a running server, which stores the share and the key's blob. It may also be an inbox: a folder
+without packs, made if it isn't there, which gets both for `perkeep push inbox HOST:PORT`. REF is the file or
+folder to share, as `put-file` or put_tree.py has printed it. It can't be a note, since no link leads from a note to its
+content.
 
-Shared is REF and all that links lead to from it; with --alone the blob of REF alone, so no content of a file. Two lines
-are printed: the ref of the share, and the path at which `perkeep serve-shares` has what it shares once it was started
-anew (docs/shares.md). Whoever knows the ref of the share can read what it shares: it is the password.
+The share covers REF and all blobs to which links lead from it; with --alone only the blob of REF, so that no content of
+a file is shared. Two lines are printed: the ref of the share, and the path under which `perkeep serve-shares` serves it
+after its next start (docs/shares.md). Whoever knows the ref of the share can read what it shares: it is the password.
 
-`perkeep delete DIR SHARE --key NAME` takes a share back. Until serve-shares is started anew the share is still served.
+`perkeep delete DIR SHARE --key NAME` takes a share back. It is served until serve-shares is restarted.
 
 Status: 0 it is stored, 2 bad words, 3 it couldn't be done.
 """
@@ -38,7 +39,7 @@ def share_claim(key: Key, moment: int, target: str, transitive: bool) -> bytes:
 
 
 def key_of(path: pathlib.Path, name: str) -> Key:
-    """The key of a name; where none is named, the only one of the keyring."""
+    """The key of a name; without a name, the only key of the keyring."""
     keys = read_keyring(path)
     if name and name not in keys:
         raise Refused(f"the keyring {path} has no key {name}")
@@ -48,7 +49,8 @@ def key_of(path: pathlib.Path, name: str) -> Key:
 
 
 def send(address: str, target: str, is_alone: bool, blobs: dict[str, bytes]) -> None:
-    """Stores blobs by a server, which has to have the target; and links have to lead on from it, if it isn't alone."""
+    """Stores blobs on a server, which has to have the target. If the share isn't alone, links have to lead on from the
+    target."""
     server = Server(address)
     if not server.standing([target]):
         raise Refused(f"the server at {address} has no {target}")
@@ -58,7 +60,7 @@ def send(address: str, target: str, is_alone: bool, blobs: dict[str, bytes]) -> 
 
 
 def check_links(target: str, blob: bytes) -> None:
-    """Refuses a note and a claim, from which no link leads to what they are about."""
+    """Refuses a note and a claim: no link leads from them to their content."""
     kind = KINDS_WITHOUT_LINKS.get((schema_in(blob) or {}).get("camliType", ""))
     if kind is not None:
         way = "give the ref of the file or the folder, as put-file or put_tree.py has printed it"
@@ -66,7 +68,7 @@ def check_links(target: str, blob: bytes) -> None:
 
 
 def fill_inbox(folder: pathlib.Path, blobs: dict[str, bytes]) -> None:
-    """Writes blobs as the one pack of a folder (docs/formats/packs.md)."""
+    """Writes blobs as the only pack of a folder (docs/formats/packs.md)."""
     pack = b"".join(f"[{ref} {len(blob)}]".encode() + blob for ref, blob in blobs.items())
     try:
         folder.mkdir(mode=0o700, exist_ok=True)
@@ -83,10 +85,10 @@ def fill_inbox(folder: pathlib.Path, blobs: dict[str, bytes]) -> None:
 def main() -> int:
     parser = parser_of(__doc__)
     parser.add_argument("where", metavar="WHERE", help="HOST:PORT of a server, or the folder of an inbox")
-    parser.add_argument("target", metavar="REF", help="what is shared: a file or a folder")
+    parser.add_argument("target", metavar="REF", help="the file or folder to share")
     parser.add_argument("--keyring", metavar="FILE", type=pathlib.Path, required=True, help="the archive's keyring")
-    parser.add_argument("--key", metavar="NAME", default="", help="which key signs, where the keyring has several")
-    parser.add_argument("--alone", action="store_true", help="shares the blob of REF alone")
+    parser.add_argument("--key", metavar="NAME", default="", help="the key that signs, if the keyring has several")
+    parser.add_argument("--alone", action="store_true", help="shares only the blob of REF")
     words = parser.parse_intermixed_args()
     if not is_ref(words.target):
         raise Refused(f"{words.target!r} is no blobref")

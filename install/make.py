@@ -1,5 +1,5 @@
 #!/usr/bin/env python3
-"""Makes the files that are installed beside the program, from docs/commands.md, docs/guide.md and docs/search.md:
+"""Makes the files that are installed with the program, from docs/commands.md, docs/guide.md and docs/search.md:
 
     perkeep.1       the manual page
     perkeep.bash    completions for bash
@@ -7,9 +7,9 @@
 
     install/make.py [FOLDER]
 
-They are written into FOLDER, or, without one, into the folder of this script. The first table of docs/commands.md has the
-lines of the commands. Each section of that page becomes a section of the manual, except those that are about the
-repository alone. The guide provides the examples of the manual, which are the first commands of each task and all commands
+They are written into FOLDER or, without one, into the folder of this script. The first table of docs/commands.md has the
+lines of the commands. Each section of that page becomes a section of the manual, except those that are only about the
+repository. The guide provides the examples of the manual, which are the first commands of each task and all commands
 about shares, and its table of files. docs/search.md provides the table of search words.
 """
 
@@ -26,7 +26,7 @@ HEADS = ["command line", "what it does", "what it prints"]
 LEFT_OUT = ["The launcher"]
 # The section of the guide that is a table of files, and the one whose commands are all examples.
 FILES, SHARES = "Files", "Share a file or a folder"
-# The section of the manual, and of docs/search.md, that has the table of search words, and the sentence that links to it.
+# The section of the manual, and of docs/search.md, with the table of search words, and the sentence that links to it.
 WORDS = "Search words"
 LINK_TO_WORDS = re.compile(r"\[search\.md\]\(search\.md#search-words\)\s+has\s+a\s+table\s+of\s+the\s+search\s+words\.")
 PURPOSE = "keeps an archive of blobs, notes and files"
@@ -47,7 +47,7 @@ class Command(NamedTuple):
 
     @property
     def words(self):
-        """What follows the name, with no brackets: the names of options, and of values and positions."""
+        """The words after the name, without brackets: the names of options, and of values and positions."""
         return re.sub(r"[][]", "", self.usage).split()[1:]
 
     @property
@@ -87,13 +87,13 @@ def commands_of(blocks):
 
 
 def kinds_of(text):
-    """The words that KIND may be."""
+    """The possible values of KIND."""
     named = re.search(r"KIND is one of the words ((?:`\w+`(?:, | and )?)+)", " ".join(text.split()))
     return re.findall(r"`(\w+)`", named[1])
 
 
 def without_links(text):
-    """Text in which a link is its words, and a page is named by its place in the repository."""
+    """Text in which a link is its words, and a page is named by its path in the repository."""
     return re.sub(r"\[([^]]*)\]\(([^)]*)\)", told_link, text)
 
 
@@ -105,7 +105,7 @@ def told_link(link):
 
 
 def plain(text):
-    """Text with no marks."""
+    """Text without marks."""
     return without_links(text).replace("`", "")
 
 
@@ -134,7 +134,7 @@ def escaped(text):
 
 
 def formatted(text):
-    """A running text: its code is bold, and what it stresses is in italics."""
+    """A running text: its code is bold, and its emphasis is in italics."""
     parts = without_links(text).split("`")
     return "".join(bold(part) if place % 2 else stressed(escaped(part)) for place, part in enumerate(parts))
 
@@ -158,7 +158,7 @@ def manual_table(block):
 
 
 def manual_list(block):
-    """A list, whose items may go over several lines."""
+    """A list, whose items may have several lines."""
     lines = []
     for line in block:
         item = re.fullmatch(r"(-|\d+\.) (.*)", line)
@@ -168,7 +168,7 @@ def manual_list(block):
 
 
 def manual_code(lines):
-    """Commands, or a text, as they are."""
+    """Commands, or a block of text, unchanged."""
     return [".RS 4", ".EX", *(escaped(line).replace("./perkeep", "perkeep") for line in lines), ".EE", ".RE"]
 
 
@@ -233,7 +233,7 @@ _perkeep_words() {{
   esac
 }}
 
-# Offers the words that begin as the one that is being written.
+# Offers the words that begin with the one being typed.
 _perkeep_offer() {{
   mapfile -t COMPREPLY < <(compgen "$@" -- "$word")
 }}
@@ -254,7 +254,7 @@ _perkeep() {{
     elif [ -z "$is_over" ] && [[ ${{words[place]}} == --* ]]; then
       option=${{words[place]}}
       given+="$option "
-      # Its value comes next. A `=` before that is a word of its own here, and before a value that is yet to be written.
+      # Its value comes next. A `=` before it is a word of its own here, even before a value that is yet to be typed.
       [ "${{words[place + 1]}}" != = ] || [ $((place + 2)) -eq "${{#words[@]}}" ] || place=$((place + 1))
       place=$((place + 1))
     else
@@ -263,7 +263,7 @@ _perkeep() {{
     fi
   done
   if [ "$place" -eq "${{#words[@]}}" ]; then
-    # The value of an option. But for the name of a key it may be anything.
+    # The value of an option. It may be anything, except that of --key.
     word=${{word#=}}
     [ "$option" != --key ] || _perkeep_keys
     return
@@ -276,7 +276,7 @@ _perkeep() {{
   esac
 }}
 
-# The words up to the one that is being written. Bash takes colons for words of their own, or not: they are parts here.
+# The words up to the one being typed. Bash may take colons for words of their own; here they are parts of words.
 _perkeep_join() {{
   local place last=''
   for ((place = 1; place <= COMP_CWORD; place++)); do
@@ -289,7 +289,7 @@ _perkeep_join() {{
   done
 }}
 
-# Offers what may stand at a position, and the options where nothing is known of that.
+# Offers the values of a position, and the options if those aren't known.
 _perkeep_position() {{
   case $1 in
     DIR)
@@ -306,7 +306,7 @@ _perkeep_position() {{
   esac
 }}
 
-# Offers the names of the keys of the folder that was written before.
+# Offers the names of the keys of the folder that was typed before.
 _perkeep_keys() {{
   folder=${{folder//\\/}}
   _perkeep_offer -W "$(cut -d ' ' -f 1 "${{folder/#\~\//$HOME/}}/keyring" 2>/dev/null)"
@@ -319,11 +319,11 @@ _perkeep_addresses() {{
     [[ $local != 0100007F:* || $state != 0A ]] || addresses+=" 127.0.0.1:$((16#${{local#*:}}))"
   done 2>/dev/null </proc/net/tcp
   _perkeep_offer -W "$addresses"
-  # Where bash takes colons for words, what stands before the last one stays.
+  # If bash takes colons for words, the text before the last one stays.
   [[ $word != *:* || $COMP_WORDBREAKS != *:* ]] || COMPREPLY=("${{COMPREPLY[@]#"${{word%:*}}:"}}")
 }}
 
-# Offers the options that weren't given yet. There are none after a word `--`.
+# Offers the options that aren't there yet. There are none after a word `--`.
 _perkeep_options() {{
   local option left=()
   for option in "${{options[@]}}"; do
@@ -354,7 +354,7 @@ _perkeep() {{
   esac
 }}
 
-# The names of the keys of the folder that was written before.
+# The names of the keys of the folder that was typed before.
 _perkeep_keys() {{
   local folder=${{(Q)line[1]}}
   local keyring=${{folder/#\~\//$HOME/}}/keyring
@@ -387,7 +387,7 @@ def quoted(text):
 
 
 def zsh_words(command, kinds):
-    """What zsh is told of the positions and options of a command."""
+    """The zsh specification of the positions and options of a command."""
     offers = {"DIR": "_directories", "KIND": f"({' '.join(kinds)})", "NAME": "_files", "ADDR": "_perkeep_addresses"}
     for place, position in enumerate(command.positions, 1):
         mark = "::" if command.may_lack(position) else ":"

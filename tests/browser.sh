@@ -1,5 +1,5 @@
 #!/usr/bin/env bash
-# Opens pages before `perkeep serve` and `perkeep serve-shares` in headless Chromium, where that is installed: what a page of
-# another origin can do, and what is answered all the same.
+# Opens pages in headless Chromium, if that is installed, before `perkeep serve` and `perkeep serve-shares`: what a page
+# of another origin can do, and which requests are still answered.
 . "$(dirname "$0")/preamble.bash"
 run_tests browser "$@"

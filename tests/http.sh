@@ -1,7 +1,7 @@
 #!/usr/bin/env bash
-# Hands streams of requests to `lab http`, good ones and hostile ones, each whole, byte by byte and in other pieces, and
+# Gives streams of requests to `lab http`, good ones and hostile ones, each whole, byte by byte and in other pieces, and
 # compares every byte of the replies with a second implementation of the whole connection.
-# The program is that of crates/lab, which is built where it is missing or older than the sources, or what LAB names.
+# Runs the program of crates/lab, which is built if it is missing or older than the sources, or the one that LAB names.
 . "$(dirname "$0")/preamble.bash"
 . bench/lab.bash
 export PERKEEP=$program AGAIN="LAB=$program " PYTHONDONTWRITEBYTECODE=1

@@ -1,7 +1,7 @@
 #!/usr/bin/env bash
-# Runs `mirror` over a store and real servers, three and five of them: what each then has is compared byte by byte, as
-# are all listings and searches; also where servers and commands are killed in a round, stores are full, damaged or
-# held by another program, and where connections end between requests; and the timer's script of examples/, which needs
-# curl. That a second round sends no upload is looked at by a server in Python.
+# Runs `mirror` over a store and real servers, three and five of them: their blobs, listings and searches are then
+# compared byte by byte. Servers and commands are also killed in a round, stores are full, damaged or held by another
+# program, and connections end between requests. Also runs the timer's script of examples/, which needs curl. A server
+# in Python checks that a second round sends no upload.
 . "$(dirname "$0")/preamble.bash"
 run_tests mirror "$@"

@@ -1,5 +1,5 @@
 #!/usr/bin/env bash
-# Runs `perkeep permanode`, `claim` and `delete` over real folders, and compares each blob that they put, every other byte
-# that then stands on the disk, and what `search` finds by it.
+# Runs `perkeep permanode`, `claim` and `delete` over real folders, and compares each blob that they put, every other
+# byte that is then on the disk, and the results of `search` with it.
 . "$(dirname "$0")/preamble.bash"
 run_tests notes "$@"

@@ -1,6 +1,6 @@
 #!/usr/bin/env bash
 # Compares how lines of search words are read and refused with a second implementation.
-# The program is that of crates/lab, which is built where it is missing or older than the sources, or what LAB names.
+# Runs the program of crates/lab, which is built if it is missing or older than the sources, or the one that LAB names.
 . "$(dirname "$0")/preamble.bash"
 . bench/lab.bash
 export PERKEEP=$program AGAIN="LAB=$program " PYTHONDONTWRITEBYTECODE=1

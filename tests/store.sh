@@ -1,5 +1,5 @@
 #!/usr/bin/env bash
-# Runs `perkeep put`, `get`, `stat`, `list`, `search` and `salvage` over real folders, and compares what they print, how
-# they end and every byte that then stands on the disk.
+# Runs `perkeep put`, `get`, `stat`, `list`, `search` and `salvage` over real folders, and compares their output, their
+# status and every byte that is then on the disk.
 . "$(dirname "$0")/preamble.bash"
 run_tests store "$@"

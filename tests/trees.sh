@@ -1,7 +1,7 @@
 #!/usr/bin/env bash
 # Runs the scripts of examples/ over folders, servers and stores: put_tree.py, get_tree.py, notes.py and fsck_files.py.
-# What they store is compared blob by blob with what docs/formats/trees.md says, worked out a second time; what comes
-# back is compared with the folder that went in, to the byte, the mode and the nanosecond, also where the scripts were
-# killed, connections ended, and blobs were damaged.
+# The blobs that they store are compared one by one with those of docs/formats/trees.md, computed a second time. The
+# restored folder is compared with the original, to the byte, the mode and the nanosecond, even if the scripts were
+# killed, connections ended, or blobs were damaged.
 . "$(dirname "$0")/preamble.bash"
 run_tests trees "$@"

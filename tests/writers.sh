@@ -1,5 +1,5 @@
 #!/usr/bin/env bash
-# Runs many programs over one folder at once: writers beside writers, of which some are killed, readers beside a writer,
+# Runs many programs over one folder at once: writers beside writers, some of which are killed, readers beside a writer,
 # and a folder that another program has locked.
 . "$(dirname "$0")/preamble.bash"
 run_tests writers "$@"
