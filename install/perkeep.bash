@@ -28,7 +28,7 @@ _perkeep_words() {
   esac
 }
 
-# Offers the words that begin as the one that is being written.
+# Offers the words that begin with the one being typed.
 _perkeep_offer() {
   mapfile -t COMPREPLY < <(compgen "$@" -- "$word")
 }
@@ -49,7 +49,7 @@ _perkeep() {
     elif [ -z "$is_over" ] && [[ ${words[place]} == --* ]]; then
       option=${words[place]}
       given+="$option "
-      # Its value comes next. A `=` before that is a word of its own here, and before a value that is yet to be written.
+      # Its value comes next. A `=` before it is a word of its own here, even before a value that is yet to be typed.
       [ "${words[place + 1]}" != = ] || [ $((place + 2)) -eq "${#words[@]}" ] || place=$((place + 1))
       place=$((place + 1))
     else
@@ -58,7 +58,7 @@ _perkeep() {
     fi
   done
   if [ "$place" -eq "${#words[@]}" ]; then
-    # The value of an option. But for the name of a key it may be anything.
+    # The value of an option. It may be anything, except that of --key.
     word=${word#=}
     [ "$option" != --key ] || _perkeep_keys
     return
@@ -71,7 +71,7 @@ _perkeep() {
   esac
 }
 
-# The words up to the one that is being written. Bash takes colons for words of their own, or not: they are parts here.
+# The words up to the one being typed. Bash may take colons for words of their own; here they are parts of words.
 _perkeep_join() {
   local place last=''
   for ((place = 1; place <= COMP_CWORD; place++)); do
@@ -84,7 +84,7 @@ _perkeep_join() {
   done
 }
 
-# Offers what may stand at a position, and the options where nothing is known of that.
+# Offers the values of a position, and the options if those aren't known.
 _perkeep_position() {
   case $1 in
     DIR)
@@ -101,7 +101,7 @@ _perkeep_position() {
   esac
 }
 
-# Offers the names of the keys of the folder that was written before.
+# Offers the names of the keys of the folder that was typed before.
 _perkeep_keys() {
   folder=${folder//\\/}
   _perkeep_offer -W "$(cut -d ' ' -f 1 "${folder/#\~\//$HOME/}/keyring" 2>/dev/null)"
@@ -114,11 +114,11 @@ _perkeep_addresses() {
     [[ $local != 0100007F:* || $state != 0A ]] || addresses+=" 127.0.0.1:$((16#${local#*:}))"
   done 2>/dev/null </proc/net/tcp
   _perkeep_offer -W "$addresses"
-  # Where bash takes colons for words, what stands before the last one stays.
+  # If bash takes colons for words, the text before the last one stays.
   [[ $word != *:* || $COMP_WORDBREAKS != *:* ]] || COMPREPLY=("${COMPREPLY[@]#"${word%:*}:"}")
 }
 
-# Offers the options that weren't given yet. There are none after a word `--`.
+# Offers the options that aren't there yet. There are none after a word `--`.
 _perkeep_options() {
   local option left=()
   for option in "${options[@]}"; do

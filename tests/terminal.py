@@ -6,7 +6,9 @@ scripts compare.
 import contextlib
 import os
 import pty
+import pathlib
 import re
+import socket
 import subprocess
 import tempfile
 import termios
@@ -20,7 +22,7 @@ from inputs import ABSENT, KEYRING
 from peers import FalsePeer, plainly, sends
 from reference import pack_name, ref_of
 from serving import HOST, PORTS, is_listened_to
-from stores import Store
+from stores import NOTHING_FOUND, Store
 from writers import Locked
 from writing import file_blob, pack, part
 
@@ -32,6 +34,7 @@ LONGEST_KEYRING = 1_048_576
 PASSING = "\r\x1b[K"
 # The number of a user who has nothing.
 OTHER = 65_534
+PAGE = pathlib.Path(__file__).resolve().parent.parent / "docs" / "commands.md"
 
 
 class Terminal:
@@ -86,64 +89,115 @@ NO_LINE = (
 )
 DIGITS = "0123456789" * 6
 MIDDLE, LATE, EARLY = f"tag:{DIGITS}({DIGITS}", f"(tag:{DIGITS}{DIGITS}", f"tga:{DIGITS}{DIGITS}"
-# Lines of search words that aren't, what is shown of them, and the place in that at which they go wrong.
+ENDS = "input (TEXT lacks something at its end: a search word, a value, a quote or a ))"
+NO_WORD = (
+    "input (at the mark no search word begins: there are tag:, title:, attr:NAME:, has:, ref: and childrenof:, "
+    "as in title:Letters)"
+)
+SMALL = "input (or is written small; a space alone means and, and - before a search word means not)"
+# Lines of search words that aren't, the hint, what is shown of them, and the place in that at which they go wrong.
 MARKED = [
-    ((), "tag:a or or", "tag:a or or", 9),
+    ((), "tag:a or or", NO_LINE, "tag:a or or", 9),
     # What a shell leaves of title:"on the way".
-    ((), "title:on the way", "title:on the way", 10),
-    ((), "", "", 0),
-    ((), "  ", "  ", 2),
-    ((), "tag:é(", "tag:é(", 5),
-    (("--",), "- tag:a", "- tag:a", 1),
-    ((), "tag:\t\x1b:", "tag:\\u{9}\\u{1b}:", 15),
-    ((), MIDDLE, MIDDLE[64 - 30 : 64 + 30], 30),
-    ((), LATE, LATE[-60:], 60),
-    ((), EARLY, EARLY[:60], 1),
+    ((), "title:on the way", NO_LINE, "title:on the way", 10),
+    ((), "", ENDS, "", 0),
+    ((), "  ", ENDS, "  ", 2),
+    ((), "tag:a or", ENDS, "tag:a or", 8),
+    ((), "(tag:a", ENDS, "(tag:a", 6),
+    ((), 'title:"on', ENDS, 'title:"on', 9),
+    ((), "tag:a OR tag:b", SMALL, "tag:a OR tag:b", 6),
+    ((), "NOT tag:a", SMALL, "NOT tag:a", 0),
+    ((), "Letters of 1998", NO_WORD, "Letters of 1998", 0),
+    ((), "tag:é(", NO_LINE, "tag:é(", 5),
+    (("--",), "- tag:a", NO_WORD, "- tag:a", 1),
+    ((), "tag:\t\x1b:", NO_LINE, "tag:\\u{9}\\u{1b}:", 15),
+    ((), MIDDLE, NO_LINE, MIDDLE[64 - 30 : 64 + 30], 30),
+    ((), LATE, ENDS, LATE[-60:], 60),
+    ((), EARLY, NO_WORD, EARLY[:60], 1),
 ]
 
 
-NO_KEYRING = "isn't there: copy the archive's, or make one as man perkeep shows"
 NO_KEY = "each of its lines begins with the name of one"
 KEY_MISSING = "--key NAME is missing: the name of the key in the folder's keyring that signs"
+
+
+A_DATE = "a date has a time and a zone, as 2026-12-01T09:00:00Z"
 
 
 def no_date(text):
     return f'input ("{text}" is no date: a date has a time and a zone, as 2026-12-01T09:00:00Z, or +01:00 for Z)'
 
 
+def marked_text(row):
+    """The options and the text of a row, and what is told of it."""
+    front, text, hint, shown, place = row
+    return front, text, f"{hint}\n{shown}\n{' ' * place}^"
+
+
+def no_keyring(folder, key):
+    made = f"(umask 077; printf '{key} %s\\n' \"$(openssl rand -hex 32)\" > '{folder}/keyring')"
+    return f"input ({folder}/keyring isn't there: copy the archive's, or make one by {made})"
+
+
+def no_blob(folder, ref=ABSENT):
+    return f"absent (the store has no blob {ref}; perkeep salvage {folder} says whether a pack is damaged)"
+
+
+def no_ref(text):
+    form = "sha224- and 56 digits, 0 to 9 and a to f, as perkeep list prints it"
+    return f'input ("{text}" is no blobref, which is {form})'
+
+
+def no_file(blob):
+    hint = "a note's file is its camliContent, and examples/get_tree.py gets a folder"
+    return f"input ({ref_of(blob)} is no file: {hint})"
+
+
+def no_limit(text):
+    return f'input (--limit takes a number from 1 to 4,194,304, not "{text}")'
+
+
+LOAD = "input (COUNT is a number from 1 to 100,000, START one from 0 to 2^64 - 1)"
+
+
 def hints(program):
     """Each word, with what stands behind it."""
-    store = Store(program, {0: pack(b"abc", b"{")})
-    keyed = Store(program, {}, {"keyring": KEYRING})
-    folder = str(store.path)
+    store = Store(program, {0: pack(b"abc", b"{")}, {"keyring": KEYRING})
+    keyed, bare = Store(program, {}, {"keyring": KEYRING}), Store(program, {})
+    folder, nowhere = str(store.path), str(program.new_path())
     rows = [
-        (["get", folder, ABSENT], 3, f"absent (the store has no blob {ABSENT})"),
-        (["get", folder, "abc"], 4, "input (a text that should be a blobref is none)"),
+        (["get", folder, ABSENT], 3, no_blob(folder)),
+        (["get", folder, "abc"], 4, no_ref("abc")),
+        (["list", "--after=x", folder], 4, no_ref("x")),
+        (["claim", "--key=me", folder, "del", "sha224-0", "tag"], 4, no_ref("sha224-0")),
         (["search", folder, "--attr=a", "--value=b", "--at=x"], 4, no_date("x")),
         (["words", folder, "--at", "2026-12-01T09:00:00", "tag:a"], 4, no_date("2026-12-01T09:00:00")),
-        (["list", folder, "--limit=x"], 4, "input (a text that should be a number is none, or out of range)"),
+        (["list", folder, "--limit=x"], 4, no_limit("x")),
+        (["list", folder, "--limit", "0"], 4, no_limit("0")),
+        (["load", "0", "0"], 4, LOAD),
         (["search", folder, "--attr=", "--value=b"], 4, "input (the name of an attribute is empty)"),
         (["words", folder, "tag:a", "--at=x"], 4, no_date("x")),
         (["words", folder, "tag:a", "tag:b"], 2, f"words ({QUOTES})"),
         (["words", folder, "tag:a", "or", "tag:b", "--at", "2025-06-01"], 2, f"words ({QUOTES})"),
         (["words", folder, "tag:a", "-tag:b"], 2, f"words ({QUOTES})"),
         (["words", folder, "-tag:a"], 2, f"words ({QUOTES})"),
-        (["words", folder], 2, "words (a word is missing, too many or wrong; man perkeep has those of words)"),
-        (["words", folder, "tag:a", "--at"], 2, 'words ("--at" can\'t stand there; man perkeep has the words of words)'),
+        (["words", folder], 2, f"words (a word is missing: {LINES['words']})"),
+        (["words", folder, "tag:a", "--at"], 2, f"words ({needs_value('words', 'at')})"),
         (["words", folder, "tag:" + "a" * 1_021], 4, "input (TEXT is longer than 1,024 bytes)"),
         (["words", folder, " ".join(["tag:a"] * 33)], 4, "input (TEXT asks more than 32 constraints in one another)"),
-        *((["words", *front, folder, text], 4, f"{NO_LINE}\n{shown}\n{' ' * place}^") for front, text, shown, place in MARKED),
+        *((["words", *front, folder, text], 4, marked) for front, text, marked in map(marked_text, MARKED)),
         (["permanode", folder, "--key=a b"], 4, 'input ("a b" can\'t be the name of a key)'),
         (["permanode", folder, "--key", ""], 4, 'input ("" can\'t be the name of a key)'),
-        (["get-file", folder, ref_of(b"abc")], 4, "input (a blob that should be a file, or a part of one, is none)"),
-        (["permanode", folder, "--key=me"], 4, f"input ({folder}/keyring {NO_KEYRING})"),
+        (["get-file", folder, ref_of(b"abc")], 4, no_file(b"abc")),
+        (["permanode", str(bare.path), "--key=me"], 4, no_keyring(bare.path, "me")),
+        (["permanode", nowhere, "--key=me"], 4, f"input ({nowhere} isn't there: is its name mistyped?)"),
         (["permanode", "", "--key=me"], 4, "input (DIR is the empty text)"),
         (["permanode", str(keyed.path), "--key=you"], 4, f"input ({keyed.path}/keyring has no key you: {NO_KEY})"),
         (["multi", str(keyed.path), "--key=jefe"], 4, "input (standard input is no list of changes)"),
     ]
     checks = [lambda row=row: is_told(program, *row) for row in rows]
     checks += [lambda check=check: check(program) for check in (misfits, numbers, keyrings, queries, damaged_chunk)]
-    return checks + [lambda check=check: check(program) for check in (folders, held, unread, unwritten, done)]
+    return checks + [lambda check=check: check(program) for check in (folders, held, unread, unwritten, keyless, done)]
 
 
 def is_told(program, words, status, text, before="", source=b""):
@@ -160,25 +214,56 @@ def is_plain(program, words, status, source=b""):
     compare(what, "standard output", b"", out)
 
 
+def lines_of_commands():
+    """The line of each command, by docs/commands.md, as a hint shows it."""
+    table = PAGE.read_text().partition("\nDIR is the folder")[0]
+    rows = re.findall(r"^\| `([a-z-]+)([^`]*)` \| ([^|]*) \|", table, re.MULTILINE)
+    found = {name: f"{name}{rest}{' < FILE' if 'standard input' in does else ''}" for name, rest, does in rows}
+    found["claim"] += ", where KIND is set, add or del"
+    return found
+
+
+LINES = lines_of_commands()
+
+
+def needs_value(command, option):
+    return f"--{option} needs a value, after = where that begins with a dash: {LINES[command]}"
+
+
 def misfits(program):
     """Which of the words is to blame."""
-    those = "man perkeep has"
+    *names, last = LINES
+    those = f"the commands are {', '.join(names)} and {last}"
+    several = "can't stand there; a text of several words takes quotes"
+    no_words = 'standard input has the query, and its date as "at", not the words'
     rows = [
-        ([], f"a command is missing, or a word isn't UTF-8; {those} them all"),
-        (["puts", "d"], f'"puts" is no command; {those} them all'),
-        (["put"], f"a word is missing, too many or wrong; {those} those of put"),
-        (["get", "d", ABSENT, "more"], f'"more" can\'t stand there; {those} the words of get'),
-        (["list", "d", "--first", "1"], f'"--first" can\'t stand there; {those} the words of list'),
-        (["list", "d", "--limit"], f'"--limit" can\'t stand there; {those} the words of list'),
-        (["search", "d"], f"--attr is missing; {those} the words of search"),
-        (["search", "d", "--attr=a"], f"--value is missing; {those} the words of search"),
-        (["search", "--attr=a", "--value=a"], f"a word is missing, too many or wrong; {those} those of search"),
-        (["serve", "d"], f"--port is missing; {those} the words of serve"),
-        (["serve", "d", "e", "--port=1"], f"a word is missing, too many or wrong; {those} those of serve"),
-        (["serve-shares", "d"], f"--port is missing; {those} the words of serve-shares"),
-        (["mirror", "d"], f"a word is missing, too many or wrong; {those} those of mirror"),
-        (["list", b"\xff"], f"a command is missing, or a word isn't UTF-8; {those} them all"),
+        ([], f"a command is missing, or a word isn't UTF-8; {those}"),
+        (["puts", "d"], f'"puts" is no command; {those}'),
+        (["--help"], f'"--help" is no command; {those}'),
+        (["put", "d", "letter.txt"], f'"letter.txt" can\'t stand there; standard input has the blob: {LINES["put"]}'),
+        (["get", "d", ABSENT, "more"], f'"more" can\'t stand there: {LINES["get"]}'),
+        (["list", "d", "--first", "1"], f'"--first" can\'t stand there: {LINES["list"]}'),
+        (["list", "d", "--limit"], needs_value("list", "limit")),
+        (["list", "d", "--limit", "-5"], needs_value("list", "limit")),
+        (["list", "d", "--limit=5", "--limit", "6"], f"--limit is there more than once: {LINES['list']}"),
+        (["search", "d"], f"--attr is missing: {LINES['search']}"),
+        (["search", "d", "--attr=a"], f"--value is missing: {LINES['search']}"),
+        (["search", "--attr=a", "--value=a"], f"a word is missing: {LINES['search']}"),
+        (["search", "d", *"--attr title --value Letters of 1998".split()], f'"of" {several}: {LINES["search"]}'),
+        (["put-file", "d", "my", "letter"], f'"letter" {several}: {LINES["put-file"]}'),
+        (["claim", "d", "sett", ABSENT, "tag", "a", "--key=me"], f'"sett" {several}: {LINES["claim"]}'),
+        (["query", "d", "{}"], f"{no_words}: {LINES['query']}"),
+        (["query", "d", "--at", "2025-06-01T00:00:00Z"], f"{no_words}: {LINES['query']}"),
+        (["permanode", "d", "--key"], needs_value("permanode", "key")),
+        (["serve", "d"], f"--port is missing: {LINES['serve']}"),
+        (["serve", "d", "--port"], needs_value("serve", "port")),
+        (["serve", "d", "e", "--port=1"], f"a word is missing, too many or wrong: {LINES['serve']}"),
+        (["serve-shares", "d"], f"--port is missing: {LINES['serve-shares']}"),
+        (["mirror", "d"], f"a word is missing, too many or wrong: {LINES['mirror']}"),
+        (["list", b"\xff"], f"a command is missing, or a word isn't UTF-8; {those}"),
     ]
+    short = {name: line for name, line in LINES.items() if "--" not in line and name != "mirror"}
+    rows += [([name], f"a word is missing: {line}") for name, line in short.items()]
     for words, text in rows:
         is_told(program, words, 2, f"words ({text})")
     for words in ("permanode d", f"claim d set {ABSENT} tag a", f"delete d {ABSENT}", "multi d"):
@@ -216,12 +301,14 @@ def keyrings(program):
 
 def queries(program):
     """The kind and the place of a fault, by the table of docs/formats/queries.md."""
-    store = Store(program, {0: pack(b"abc")})
+    store = Store(program, {0: pack(b"abc")}, {"keyring": KEYRING})
     for query, fault in [
         ("", "NotJson"),
         ('{"constraint":{"anything":true},"limit":0}', 'BadValue at "limit"'),
         ('{"limit":5}', 'BadValue at ""'),
         ('{"constraint":{"logical":{"op":"not","a":{"x":1},"b":2}}}', 'BadKey at "constraint/logical/a/x"'),
+        ('{"constraint":{"anything":true},"at":"2025-06-01"}', f'BadValue at "at": {A_DATE}'),
+        ('{"constraint":{"permanode":{"at":"x"}}}', f'BadValue at "constraint/permanode/at": {A_DATE}'),
     ]:
         text = f"input (standard input is no query: {fault})"
         is_told(program, store.words("query"), 4, text, source=query.encode())
@@ -240,7 +327,7 @@ def folders(program):
     """A folder that isn't there reads as an empty store, or is made; a file is no folder."""
     nowhere, made, file = (str(program.new_path()) for _ in range(3))
     empty = f"perkeep: {nowhere} isn't there, and reads as an empty store\n"
-    is_told(program, ["get", nowhere, ABSENT], 3, f"absent (the store has no blob {ABSENT})", empty)
+    is_told(program, ["get", nowhere, ABSENT], 3, no_blob(nowhere), empty)
     got = told(program, ["list", nowhere])
     compare("a list of nothing", "status, output and what is told", (0, b"", empty.encode()), got)
     is_made = f"perkeep: {made} wasn't there, and was made\n".encode()
@@ -274,14 +361,25 @@ def unread(program):
     keyring = f"{store.path}/keyring can't be read"
     what_it_is = "it is to be a file, or a link to one, that you may read"
     is_told(program, store.words("list"), 5, f"read ({keyring}: {what_it_is})")
-    is_told(program, store.words("put"), 5, f"read ({keyring}, or standard input can't)")
-    folder = os.open(bare.path, os.O_RDONLY)
-    try:
-        got = told_with(program, bare.words("query"), stdin=folder)
-    finally:
-        os.close(folder)
+    is_told(program, store.words("put"), 5, f"read ({keyring}: {what_it_is})")
     text = b"perkeep: read (standard input is closed, or can't be read)\n"
-    compare("a folder as standard input", "status, output and what is told", (5, b"", text), got)
+    for one in (bare, Store(program, {}, {"keyring": KEYRING})):
+        folder = os.open(one.path, os.O_RDONLY)
+        try:
+            got = told_with(program, one.words("put"), stdin=folder)
+        finally:
+            os.close(folder)
+        compare("a folder as standard input", "status, output and what is told", (5, b"", text), got)
+
+
+def keyless(program):
+    """A search without a keyring, by which no note counts; what needs none says nothing of it."""
+    store = Store(program, {0: pack(b"abc")})
+    none = f"perkeep: {store.path}/keyring isn't there, so no note is found\n".encode()
+    for command, words in (("search", ["--attr=a", "--value=b"]), ("words", ["tag:a"])):
+        got = told(program, store.words(command, *words))
+        compare(command, "status, output and what is told", (0, NOTHING_FOUND, none), got)
+    compare("get", "what is told", (0, b"abc", b""), told(program, store.words("get", ref_of(b"abc"))))
 
 
 def unwritten(program):
@@ -333,7 +431,7 @@ def lost_pack(program):
 
 
 def odd_pack_of_a_server(program):
-    store, port = Store(program, {}), PORTS.free()
+    store, port = Store(program, {}, {"keyring": KEYRING}), PORTS.free()
     (store.path / pack_name(0)).mkdir()
     status, out, text = told(program, ["serve", str(store.path), f"--port={port}"])
     compare("a server", "status and output", (7, b""), (status, out))
@@ -391,7 +489,7 @@ def other_bytes(program):
     store, log = Store(program, {0: pack(b"abc")}), program.new_path()
     poke = ("-e", "inject=pread64:poke_exit=@arg2=78:when=2", "-P", f"{store.path}/{pack_name(0)}")
     front = ("strace", "-f", "-o", str(log), "-e", "trace=pread64", *poke)
-    text = f"what came for {ref_of(b'abc')} is {ref_of(b'xbc')}; perkeep salvage DIR tells what is whole"
+    text = f"what came for {ref_of(b'abc')} is {ref_of(b'xbc')}; perkeep salvage {store.path} says what is whole"
     expected = 10, b"", f"perkeep: damaged ({text})\n".encode()
     got = told(program, store.words("get", ref_of(b"abc")), front)
     compare("other bytes", "status, output and what is told", expected, got)
@@ -468,10 +566,10 @@ def copied_so_far(program):
 
 def named(program):
     store, nowhere = Store(program, {0: pack(b"abc")}), f"{HOST}:{PORTS.free()}"
-    hint = "nobody answers there, or the way there broke: is perkeep serve running there?"
+    hint = f"nobody answers at {nowhere}, or the way there broke: is perkeep serve running there?"
     with FalsePeer() as peer:
         got = told(program, store.words("mirror", peer.address, nowhere))
-        refused = f"perkeep: peer ({nowhere}: {hint})\n"
+        refused = f"perkeep: peer ({hint})\n"
         text = unanswered(nowhere) + turn("from", peer.address) + turn("from", nowhere) + refused
         compare("nobody", "status, output and what is told", (8, b"", text.encode()), got)
 
@@ -481,23 +579,20 @@ def strangers(program):
     other = "another program may listen there"
     no_room, not_found = (b"HTTP/1.1 %d X\r\nContent-Length: 0\r\n\r\n" % status for status in (507, 404))
     unlike = f"doesn't answer as perkeep serve does: {other}"
-    for text, hint, hint_of_round in [
-        (b"SSH-2.0-a\r\n", f"%s {unlike}", f"it {unlike}"),
-        (not_found, f"%s answers 404, as perkeep serve doesn't: {other}", REFUSES),
-        (no_room, "the server at %s answers 507: its store is full", REFUSES),
+    for text, hint in [
+        (b"SSH-2.0-a\r\n", f"%s {unlike}"),
+        (not_found, f"%s answers 404, as perkeep serve doesn't: {other}"),
+        (no_room, "the server at %s answers 507: its store is full"),
     ]:
-        is_strange(program, "pull", text, lambda address: hint % address)
-        is_strange(program, "mirror", text, lambda address: f"{address}: {hint_of_round}")
+        is_strange(program, "pull", text, hint)
+        is_strange(program, "mirror", text, hint)
 
 
-REFUSES = "it refuses: its disk failed, its store is full, or another program listens there"
-
-
-def is_strange(program, command, text, hint_of):
+def is_strange(program, command, text, hint):
     with FalsePeer(rights={0: sends(text, ends=True)}) as peer:
         words = Store(program, {}).words(command, peer.address)
         turns = turn("from", peer.address) if command == "mirror" else ""
-        told_text = f"{turns}perkeep: reply ({hint_of(peer.address)})\n".encode()
+        told_text = f"{turns}perkeep: reply ({hint % peer.address})\n".encode()
         compare((command, text), "status, output and what is told", (11, b"", told_text), told(program, words))
 
 
@@ -558,7 +653,7 @@ def nobody(program):
     store, nowhere = Store(program, {0: pack(b"abc")}), f"{HOST}:{PORTS.free()}"
     hint = f"nobody answers at {nowhere}, or the way there broke: is perkeep serve running there?"
     rows = {nowhere: hint}
-    for address in ("nowhere", "localhost:80000"):
+    for address in ("nowhere", "localhost:80000", f"http://{nowhere}", "://:1"):
         rows[address] = f'"{address}" isn\'t HOST:PORT, as 127.0.0.1:3179 is'
     for address, hint in rows.items():
         for command in ("push", "pull"):
@@ -618,19 +713,32 @@ def is_counted(what, status, text, verb, most):
 
 
 def servers(program):
-    return [lambda: server(program), lambda: server_of_shares(program)]
+    return [lambda: server(program), lambda: server_of_shares(program), lambda: taken_port(program)]
 
 
 def server(program):
     """A server tells that it has its port, and then that it listens."""
-    store, port = Store(program, {0: pack(b"abc")}), PORTS.free()
+    store, port, nowhere = Store(program, {0: pack(b"abc")}, {"keyring": KEYRING}), PORTS.free(), program.new_path()
     serves(program, "serve", store.path, port, "", "")
+    keyless = f"perkeep: {nowhere}/keyring isn't there, so no note is found\n"
+    serves(program, "serve", nowhere, PORTS.free(), keyless, f"perkeep: {nowhere} wasn't there, and was made\n")
+
+
+def taken_port(program):
+    """A port that another program has."""
+    store = Store(program, {}, {"keyring": KEYRING})
+    with socket.create_server((HOST, 0)) as listener:
+        port = listener.getsockname()[1]
+        text = f"listener (port {port} is taken, or no connection could be accepted; --port takes another one)"
+        for command in ("serve", "serve-shares"):
+            is_told(program, store.words(command, f"--port={port}"), 14, text)
 
 
 def server_of_shares(program):
     """It tells that there is no such folder, and serves the empty store."""
     path, port = program.new_path(), PORTS.free()
-    serves(program, "serve-shares", path, port, "", f"perkeep: {path} isn't there, and reads as an empty store\n")
+    keyless = f"perkeep: {path}/keyring isn't there, so no share is found\n"
+    serves(program, "serve-shares", path, port, keyless, f"perkeep: {path} isn't there, and reads as an empty store\n")
 
 
 def serves(program, command, path, port, before, between):

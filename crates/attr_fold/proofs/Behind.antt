@@ -1,5 +1,7 @@
 -- The changes behind a moment, one after another.
-use Rattle.std.proofs.Common.{◌≡◌, ◌≤◌, ◌+◌, ℕ, Bool, true, false, not, ◌&&◌, ◌||◌, cond, List, [], ◌∷◌, length, map, filter, Option, Some, None, refl, ap, subst, ◌∙◌, arith}
+use Rattle.std.proofs.Common.{◌≡◌, ◌≤◌, ◌+◌, ℕ, Bool, true, false, not, ◌&&◌, ◌||◌, cond, List, [], ◌∷◌, length, map}
+use Rattle.std.proofs.Common.{filter, Option, Some, None, refl, sym, ap, subst, ◌∙◌, arith}
+use Rattle.std.proofs.lemmas.Bool.{and_parts}
 use Rattle.std.proofs.lemmas.List.Folds.{list_any-append}
 use Rattle.std.specs.List.{filter_map, list_any, cons_option}
 use Rattle.std.specs.FinMap.{contains_key, entries}
@@ -7,22 +9,25 @@ use Rattle.std.specs.Ordering.{is_lt}
 use Rattle.std.specs.Str.{bytes_eq}
 use Rattle.schema_date.specs.declared.date.When.TheVariants.{Always}
 use Rattle.schema_fact.specs.declared.changes.Change.{Change}
-use Rattle.claim_model.specs.Facts.{Facts}
+use Rattle.claim_model.specs.Facts.{Facts, passes}
 use Rattle.claim_model.specs.Claims.{Moment, moment_cmp}
 use Rattle.index_rows.specs.Changes.{Changes, changes_after}
 use Rattle.index_rows.specs.Deletes.{Deletes, row_deleted}
+use Rattle.index_rows.specs.Removals.{AreRemovals, Removals, RemovalKey, has_mark, removals_after}
 use Rattle.index_rows.specs.Values.{change_at}
-use Rattle.attr_fold.specs.Following.{counted, counted_after}
+use Rattle.index_rows.proofs.Stands.{change_stands, removal_stands}
+use Rattle.attr_fold.specs.Following.{counted, counted_after, counted_under}
 use Rattle.attr_fold.proofs.Dropping.{counted-append}
-use Rattle.attr_fold.proofs.Walking.{Row, head_stands}
+use Rattle.attr_fold.proofs.Walking.{Row}
 
 module _ (changes : Changes) (p q : List ℕ) (own : q ≡ p) (at k : Moment)
     (found : changes_after changes q (Some at) ≡ ((q, k), tt) ∷ changes_after changes q (Some k)) where
   pub next_in : changes_after changes p (Some at) ≡ ((p, k), tt) ∷ changes_after changes p (Some k)
-  next_in = subst (λ (r : List ℕ). changes_after changes r (Some at) ≡ ((r, k), tt) ∷ changes_after changes r (Some k)) own found
+  next_in = subst (λ (r : List ℕ). changes_after changes r (Some at) ≡ ((r, k), tt) ∷ changes_after changes r
+      (Some k)) own found
 
   pub next_stands : contains_key changes (p, k) ≡ true
-  next_stands = head_stands changes p (Some at) k (changes_after changes p (Some k)) next_in
+  next_stands = change_stands changes p (Some at) k (changes_after changes p (Some k)) next_in
 
   pub one_behind : length (changes_after changes p (Some at)) ≡ length (changes_after changes p (Some k)) + 1
   one_behind = ap length next_in ∙ omega arith
@@ -32,32 +37,41 @@ module _ (changes : Changes) (p q : List ℕ) (own : q ≡ p) (at k : Moment)
         ≡ (list_any test (counted facts deletes (k ∷ [])) || list_any test (counted_after facts deletes changes p k))
     more_behind =
         ap (λ (es : List Row). list_any test (counted facts deletes (map (λ (e : Row). e.0.1) es))) next_in
-        ∙ ap (list_any test) (counted-append facts deletes (k ∷ []) (map (λ (e : Row). e.0.1) (changes_after changes p (Some k))))
+        ∙ ap (list_any test) (counted-append facts deletes (k ∷ [])
+        (map (λ (e : Row). e.0.1) (changes_after changes p (Some k))))
         ∙ list_any-append test (counted facts deletes (k ∷ [])) (counted_after facts deletes changes p k)
 
-pub none_behind : (changes : Changes) (p q : List ℕ) (own : q ≡ p) (at : Moment) → changes_after changes q (Some at) ≡ []
-    → (facts : Facts) (deletes : Deletes) (test : Change → Bool) → list_any test (counted_after facts deletes changes p at) ≡ false
+pub none_behind : (changes : Changes) (p q : List ℕ) (own : q ≡ p) (at : Moment)
+    → changes_after changes q (Some at) ≡ []
+    → (facts : Facts) (deletes : Deletes) (test : Change → Bool)
+    → list_any test (counted_after facts deletes changes p at) ≡ false
 none_behind changes p q own at none facts deletes test =
     ap (λ (es : List Row). list_any test (counted facts deletes (map (λ (e : Row). e.0.1) es)))
     (subst (λ (r : List ℕ). changes_after changes r (Some at) ≡ []) own none)
 
-module _ (facts : Facts) (deletes : Deletes) (k : Moment) (c : Change) (is : change_at facts k ≡ Some c) (test : Change → Bool) where
-  pub told_of_one : list_any test (counted facts deletes (k ∷ [])) ≡ cond (row_deleted facts deletes Always k.1) false (test c || false)
+module _ (facts : Facts) (deletes : Deletes) (k : Moment) (c : Change) (is : change_at facts k ≡ Some c)
+    (test : Change → Bool) where
+  pub told_of_one : list_any test (counted facts deletes (k ∷ [])) ≡ cond (row_deleted facts deletes Always k.1) false
+      (test c || false)
   told_of_one = by (row_deleted facts deletes Always k.1)
     where
-      by : (gone : Bool) → list_any test (filter_map (change_at facts) (cond (not gone) (k ∷ []) [])) ≡ cond gone false (test c || false)
+      by : (gone : Bool) → list_any test (filter_map (change_at facts) (cond (not gone) (k ∷ []) [])) ≡ cond gone
+          false (test c || false)
       by true = refl
       by false = ap (λ (o : Option Change). list_any test (cons_option o [])) is
 
   pub out_of_one : test c ≡ false → list_any test (counted facts deletes (k ∷ [])) ≡ false
-  out_of_one f = told_of_one ∙ ap (λ b. cond (row_deleted facts deletes Always k.1) false (b || false)) f ∙ by (row_deleted facts deletes Always k.1)
+  out_of_one f = told_of_one ∙ ap (λ b. cond (row_deleted facts deletes Always k.1) false (b || false)) f
+      ∙ by (row_deleted facts deletes Always k.1)
     where
       by : (gone : Bool) → cond gone false false ≡ false
       by true = refl
       by false = refl
 
-  pub in_one : test c ≡ true → list_any test (counted facts deletes (k ∷ [])) ≡ not (row_deleted facts deletes Always k.1)
-  in_one t = told_of_one ∙ ap (λ b. cond (row_deleted facts deletes Always k.1) false (b || false)) t ∙ by (row_deleted facts deletes Always k.1)
+  pub in_one : test c ≡ true → list_any test (counted facts deletes (k ∷ [])) ≡ not
+      (row_deleted facts deletes Always k.1)
+  in_one t = told_of_one ∙ ap (λ b. cond (row_deleted facts deletes Always k.1) false (b || false)) t
+      ∙ by (row_deleted facts deletes Always k.1)
     where
       by : (gone : Bool) → cond gone false true ≡ not gone
       by true = refl
@@ -75,10 +89,54 @@ module _ (p : List ℕ) (k : Moment) where
   fewer (e ∷ es) = by (bytes_eq p e.0.0) (is_lt (moment_cmp k e.0.1)) (fewer es)
     where
       by : (a b : Bool) → length (filter behind es) ≤ length (filter any es)
-          → length (cond (a && b) (e ∷ filter behind es) (filter behind es)) ≤ length (cond (a && true) (e ∷ filter any es) (filter any es))
+          → length (cond (a && b) (e ∷ filter behind es) (filter behind es)) ≤ length
+          (cond (a && true) (e ∷ filter any es) (filter any es))
       by true true h = omega (arith, h)
       by true false h = omega (arith, h)
       by false b h = h
 
-pub fewer_behind : (changes : Changes) (p : List ℕ) (k : Moment) → length (changes_after changes p (Some k)) ≤ length (changes_after changes p None)
+pub fewer_behind : (changes : Changes) (p : List ℕ) (k : Moment)
+    → length (changes_after changes p (Some k)) ≤ length (changes_after changes p None)
 fewer_behind changes p k = fewer p k (entries changes)
+
+-- ---- the removals under a mark
+
+abbrev Taking : Type 0
+Taking = RemovalKey × Unit {0}
+
+module _ (removals : Removals) (p q : List ℕ) (own : q ≡ p) (mark : ℕ) (at k : Moment)
+    (found : removals_after removals q mark at ≡ ((q, mark, k), tt) ∷ removals_after removals q mark k) where
+  pub next_under : removals_after removals p mark at ≡ ((p, mark, k), tt) ∷ removals_after removals p mark k
+  next_under = subst (λ (r : List ℕ).
+      removals_after removals r mark at ≡ ((r, mark, k), tt) ∷ removals_after removals r mark k) own found
+
+  pub under_stands : contains_key removals (p, mark, k) ≡ true
+  under_stands = removal_stands removals p mark at k (removals_after removals p mark k) next_under
+
+  pub one_under : length (removals_after removals p mark at) ≡ length (removals_after removals p mark k) + 1
+  one_under = ap length next_under ∙ omega arith
+
+  module _ (facts : Facts) (deletes : Deletes) (test : Change → Bool) where
+    pub more_under : list_any test (counted_under facts deletes removals p mark at)
+        ≡ (list_any test (counted facts deletes (k ∷ [])) || list_any test
+        (counted_under facts deletes removals p mark k))
+    more_under =
+        ap (λ (es : List Taking). list_any test (counted facts deletes (map (λ (e : Taking). e.0.2) es))) next_under
+        ∙ ap (list_any test)
+        (counted-append facts deletes (k ∷ []) (map (λ (e : Taking). e.0.2) (removals_after removals p mark k)))
+        ∙ list_any-append test (counted facts deletes (k ∷ [])) (counted_under facts deletes removals p mark k)
+
+pub none_under : (removals : Removals) (p q : List ℕ) (own : q ≡ p) (mark : ℕ) (at : Moment)
+    → removals_after removals q mark at ≡ [] → (facts : Facts) (deletes : Deletes) (test : Change → Bool)
+    → list_any test (counted_under facts deletes removals p mark at) ≡ false
+none_under removals p q own mark at none facts deletes test =
+    ap (λ (es : List Taking). list_any test (counted facts deletes (map (λ (e : Taking). e.0.2) es)))
+    (subst (λ (r : List ℕ). removals_after removals r mark at ≡ []) own none)
+
+-- a removal is a change
+pub removal_changes : (facts : Facts) (changes : Changes) (removals : Removals) → AreRemovals facts changes removals
+    → (p : List ℕ) (mark : ℕ) (k : Moment) → contains_key removals (p, mark, k) ≡ true
+    → contains_key changes (p, k) ≡ true
+removal_changes facts changes removals are p mark k there =
+    (and_parts (contains_key changes (p, k)) (passes (has_mark mark) (change_at facts k))
+    (sym (are p mark k) ∙ there)).0

@@ -13,4 +13,5 @@ pub mod Ticks
 pub mod Splitting
 pub mod Deciding
 pub mod Behind
+pub mod Taking
 pub mod Among

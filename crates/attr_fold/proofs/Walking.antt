@@ -1,7 +1,7 @@
 -- The changes of a permanode, one after another.
 use Rattle.std.proofs.lemmas.Slice.Eq.{bytes_eq-Decides}
 use Rattle.std.proofs.Common.{◌≡◌, ℕ, Bool, true, false, ◌&&◌, cond, List, [], ◌∷◌, map, filter, Option, Some, None}
-use Rattle.std.proofs.Common.{refl, ap, subst, ◌∙◌, option_and_then, is_some, slice_get}
+use Rattle.std.proofs.Common.{refl, ap, ◌∙◌, option_and_then, is_some, slice_get}
 use Rattle.std.proofs.lemmas.Bool.{and_parts}
 use Rattle.std.specs.List.{AllByRecursion}
 use Rattle.std.specs.Str.{bytes_eq}
@@ -46,11 +46,6 @@ module _ (changes : Changes) (p : List ℕ) where
   all_held after =
       filter_all _ (λ e. bytes_eq p e.0.0 && is_later after e.0.1) (entries changes)
       (entries_held change_total change_same changes)
-
-  pub head_stands : (after : Option Moment) (k : Moment) (es : List Row)
-      → changes_after changes p after ≡ ((p, k), tt) ∷ es → contains_key changes (p, k) ≡ true
-  head_stands after k es h =
-      ap is_some (subst (AllByRecursion (λ (e : Row). get changes e.0 ≡ Some e.1)) h (all_held after)).0
 
   -- each moment of p is that of a row
   pub all_stand : AllByRecursion (λ k. contains_key changes (p, k) ≡ true)

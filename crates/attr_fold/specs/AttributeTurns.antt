@@ -7,6 +7,6 @@ use Rattle.blobref.specs.Blobref.{ref_cmp}
 abbrev pub AttributeTurns : Type 0
 AttributeTurns = FinMap ref_cmp ℕ
 
--- those of a tree, each under the bytes of its text
+-- those of a tree, each under the bytes of its string
 abbrev pub seen : List (String Global × ℕ) → AttributeTurns
 seen es = from_entries (map (λ e. (string_bytes e.0, e.1)) es)

@@ -6,7 +6,7 @@ use Rattle.index_rows.specs.Deletes.{Deletes}
 use Rattle.index_rows.specs.States.{States}
 use Rattle.index_rows.specs.Holders.{Holders, says_permanode, IsHeldBut}
 
--- the rows are those of what holds, but perhaps for some permanodes
+-- the rows are those of the values that permanodes have, except perhaps for some permanodes
 abbrev pub IsHeldSomehow : Facts → States → Deletes → Changes → Holders → Type 0
 IsHeldSomehow facts state deletes changes holders =
     (but : List (List ℕ)) × IsHeldBut but facts state deletes changes holders

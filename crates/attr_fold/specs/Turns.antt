@@ -1,4 +1,4 @@
--- Which values are there after some changes, as turns tell it. The changes are counted from 0, the turns behind them from 1.
+-- Which values are there after some changes, by turns. The changes are counted from 0, the turns after them from 1.
 use Rattle.std.specs.Prelude.{◌≡◌, ◌≤◌, ◌==◌, ℕ, suc, Bool, true, false, not, List, length, map, Option, Some, None, option_map, unwrap_or, nat_lt, if◌then◌else◌}
 use Rattle.std.specs.List.{filter_map, list_any}
 use Rattle.std.specs.declared.cmp.Ordering.{Ordering}
@@ -22,7 +22,7 @@ use Rattle.attr_fold.specs.declared.turns.Turns.{Turns}
 abbrev pub ValueTurns : Type 0
 ValueTurns = FinMap holder_cmp ℕ
 
--- a turn, and 0 where there is none
+-- a turn, and 0 if there is none
 abbrev pub turn_at : {K : Type 0} {R : K → K → Ordering} → FinMap R ℕ → K → ℕ
 turn_at turns k = unwrap_or (get turns k) 0
 
@@ -34,7 +34,7 @@ is_there given emptied k = nat_lt (turn_at emptied k.0) (turn_at given k)
 abbrev pub known : ValueTurns → HolderKey → ValueTurns
 known turns k = if contains_key turns k then turns else insert turns k 0
 
--- the turns behind a change, which counts or doesn't
+-- the turns after a change, which counts or doesn't
 abbrev pub noted : Turns → Act → Bool → HolderKey → ℕ → Turns
 noted turns sets true k n =
     record { given = insert turns.given k (suc n); emptied = insert turns.emptied k.0 n }
@@ -46,12 +46,12 @@ noted turns removes true k n =
     else record { given = insert turns.given k 0; emptied = turns.emptied }
 noted turns removes false k n = turns
 
--- the turns behind a change of p, if there is one
+-- the turns after a change of p, if there is one
 abbrev pub change_noted : Turns → List ℕ → Option Change → Bool → ℕ → Turns
 change_noted turns p None counts n = turns
 change_noted turns p (Some c) counts n = noted turns c.act counts (c.attr, c.value, p) n
 
--- what the change of a moment leaves of the turns: it counts unless its claim is deleted, by claims of every date
+-- the turns after the change of a moment, which counts unless its claim is deleted, by claims of every date
 abbrev pub moment_noted : Facts → Deletes → List ℕ → Turns → Moment → ℕ → Turns
 moment_noted facts deletes p turns k n =
     change_noted turns p (change_at facts k) (not (row_deleted facts deletes Always k.1)) n
@@ -68,12 +68,12 @@ told facts deletes ks = filter_map (told_at facts deletes) ks
 abbrev pub all_moments : Changes → List ℕ → List Moment
 all_moments changes p = map (λ e. e.0.1) (changes_after changes p None)
 
--- whether p isn't deleted, by claims of every date, where it is a permanode whose row says that it is genuine
+-- whether p isn't deleted, by claims of every date, if it is a permanode whose row says that it is genuine
 abbrev pub standing : Facts → States → Deletes → List ℕ → Option Bool
 standing facts state deletes p =
     if says_permanode facts state p then Some (not (row_deleted facts deletes Always p)) else None
 
--- the turns tell which values of p are there after the changes, and know each value that one of these gives
+-- the turns say which values of p are there after the changes, and have each value that one of these gives
 pub record Tells (p : List ℕ) (changes : List (Change × Bool)) (turns : Turns) (n : ℕ) : Type 0 where
   pub there : (name value : List ℕ)
       → is_there turns.given turns.emptied (name, value, p) ≡ has_after name value (counting changes)

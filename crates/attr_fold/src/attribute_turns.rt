@@ -35,7 +35,7 @@ impl AttributeTurns {
         }
     }
 
-    // The turn of an attribute, and 0 where it has none.
+    // The turn of an attribute; 0 if it has none.
     pub(crate) fn turn(&self, attr: &str) -> usize
         ensures { result ≡ turn_at self.now attr.now }
     {

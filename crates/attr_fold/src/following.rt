@@ -1,38 +1,43 @@
-//! The rows of what a permanode holds, where one change came behind all others.
+//! The rows of the values that a permanode has, after a new change that is later than all others.
 ghost use Rattle.std.specs.Prelude.{◌≡◌, ◌≤◌, ◌+◌, ◌*◌, ◌∷◌, [], ℕ, List, length, Some, true, false, IfOk, OnOk};
 ghost use Rattle.std.specs.FinMap.{contains_key};
 ghost use Rattle.schema_fact.specs.declared.changes.Change.{Change};
-ghost use Rattle.schema_fact.specs.declared.changes.Act.TheVariants.{Set as sets, Del as removes};
+ghost use Rattle.schema_fact.specs.declared.changes.Act.TheVariants.{Set as sets, Add as adds, Del as removes};
 ghost use Rattle.index_rows.specs.Changes.{Changes, changes_after, changes_before};
 ghost use Rattle.index_rows.specs.Counted.{IsCounted};
 ghost use Rattle.index_rows.specs.Holders.{IsHeldBut};
+ghost use Rattle.index_rows.specs.Removals.{AreRemovals};
 ghost use Rattle.index_rows.specs.Values.{change_at, IsChange, IsListed};
-ghost use Rattle.attr_fold.specs.Following.{counted, counted_before, follow_steps, holds_values, is_end, AreFewer, AreGone, IsFollowed, IsOneMore, IsTakenBack};
+ghost use Rattle.attr_fold.specs.Following.{counted, counted_before, follow_steps, holds_values, is_end, taking_steps};
+ghost use Rattle.attr_fold.specs.Following.{AreFewer, AreGone, IsFollowed, IsOneMore, IsTakenBack};
 
 use crate::late::follow_late;
-use crate::refolding::{has_deleters, standing};
+use crate::refolding::standing;
 use blobref::{NoMemory, Ref};
 use edge_base::Steps;
 use index_look::claim::change_said;
-use index_rows::{ChangeRows, HolderKey, Moment, Rows};
+use index_rows::{ChangeRows, HolderKey, Moment, Rows, has_deleters};
 use schema_fact::Act;
 use std::alloc::Global;
 use std::sync::ledger::Ledger;
 
-/// Writes what one change more does to the rows of its attribute in `holders`, where that can be told without a fold of
-/// all changes. It answers whether it could: the rows of p are then right with this change exactly where they were
-/// right without it. It can't where the change leaves its value alone or removes all values, others come behind it, and
-/// none of these that counts does so again for its attribute; nothing changes then, and p has to be folded again.
+/// Writes the effect of one more change on the rows of its attribute in `holders`, if that can be found without a fold
+/// of all changes. Returns whether it could: the rows of p are then right with this change exactly if they were right
+/// without it. For an addition it always can. It can't if the change sets a value or removes all of them, others come
+/// after it, and none of these that counts sets or empties the attribute again. Then nothing changes, and p has to be
+/// folded again.
 ///
-/// The counts of delete claims must be right, each row of `changes` be that of a change of a genuine claim, and the
-/// change have its row. Rows of other permanodes stay as they are, also after `NoMemory`. No other table changes.
+/// The counts of delete claims must be right, each row of `changes` must be that of a change of a genuine claim, and
+/// those of `removals` must be the ones that may take values away. The change must have its row. Rows of other
+/// permanodes don't change, even after `NoMemory`. No other table changes.
 ///
-/// An addition, or the removal of one value, behind all other changes of p takes at most six look-ups, steps and changes.
-/// Where such a change leaves its value alone, or removes all values, it walks back over the changes of p to the last
-/// one that did so for the same attribute, or to the first of all, which takes at most four for each. From a change
-/// that comes before others it walks on over these, to the first one that decides alone what the change could do, which
-/// takes at most three for each. The whole never takes more than 7 + 4 k where p has k changes. It takes memory for two
-/// keys.
+/// If no change of p comes after it, a change that sets a value or removes all of them walks back over the changes of p
+/// to the last one that did so for the same attribute, or to the first of all. This takes at most four look-ups, steps
+/// and changes for each. If others come after it, it looks at the later removals under the mark of its attribute alone,
+/// and for an addition also under that of its value, up to the first one that decides the effect of the change. The
+/// removal of a value that is there then walks over the later changes in the same way. This takes at most three for
+/// each. An addition therefore takes at most 8, and 3 for each such removal, and any other change at most 7 + 4 k if p
+/// has k changes. It takes memory for two keys.
 pub fn follow<L: Ledger>(
     alloc: Global,
     rows: &mut Rows,
@@ -42,18 +47,24 @@ pub fn follow<L: Ledger>(
 ) -> Result<bool, NoMemory>
     requires counted { IsCounted rows.old.facts.ordered rows.old.deletes rows.old.state }
     requires listed { IsListed rows.old.facts.ordered rows.old.state rows.old.changes }
+    requires taken { AreRemovals rows.old.facts.ordered rows.old.changes rows.old.removals }
     requires there { contains_key rows.old.changes (p.now, moment.now) ≡ true }
     ensures facts { rows.new.facts ≡ rows.old.facts }
     ensures state { rows.new.state ≡ rows.old.state }
     ensures waiters { rows.new.waiters ≡ rows.old.waiters }
     ensures deletes { rows.new.deletes ≡ rows.old.deletes }
     ensures changes { rows.new.changes ≡ rows.old.changes }
+    ensures removals { rows.new.removals ≡ rows.old.removals }
     ensures followed { IfOk result (λ done. done ≡ true → (but : List (List ℕ)) (before : Changes)
         → IsOneMore before rows.old.changes p.now moment.now
         → IsHeldBut but rows.old.facts.ordered rows.old.state rows.old.deletes before rows.old.holders
         → IsHeldBut but rows.old.facts.ordered rows.old.state rows.old.deletes rows.old.changes rows.new.holders) }
     ensures left { IfOk result (λ done. done ≡ false → rows.new.holders ≡ rows.old.holders) }
     ensures ticks { steps.new ≤ steps.old + follow_steps rows.old.changes p.now }
+    ensures done { (c : Change) → change_at rows.old.facts.ordered moment.now ≡ Some c → c.act ≡ adds
+        → IfOk result (λ done. done ≡ true) }
+    ensures added { (c : Change) → change_at rows.old.facts.ordered moment.now ≡ Some c → c.act ≡ adds
+        → steps.new ≤ steps.old + 8 + taking_steps rows.old.removals p.now c.attr c.value moment.now }
 {
     if !holds_values(rows, p, steps) {
         return Ok(true);
@@ -79,9 +90,10 @@ fn holds_values<L: Ledger>(rows: &Rows, p: &Ref, steps: &mut Steps<L>) -> bool
     }
 }
 
-// Whether no change of p comes behind that of a moment.
+// Whether no change of p comes after that of a moment.
 fn is_last<L: Ledger>(changes: &ChangeRows, p: &Ref, moment: &Moment, steps: &mut Steps<L>) -> bool
     ensures last { result ≡ true → changes_after changes.now p.now (Some moment.now) ≡ [] }
+    ensures more { result ≡ false → 1 ≤ length (changes_after changes.now p.now (Some moment.now)) }
     ensures ticks { steps.new ≡ steps.old + 1 }
 {
     match changes.next_of(p, Some(moment), steps) {
@@ -90,7 +102,7 @@ fn is_last<L: Ledger>(changes: &ChangeRows, p: &Ref, moment: &Moment, steps: &mu
     }
 }
 
-// Writes what the change of a moment does, the last one of p.
+// Writes the effect of the change of a moment, the last one of p.
 fn follow_last<L: Ledger>(
     alloc: Global,
     rows: &mut Rows,
@@ -105,6 +117,7 @@ fn follow_last<L: Ledger>(
     ensures waiters { rows.new.waiters ≡ rows.old.waiters }
     ensures deletes { rows.new.deletes ≡ rows.old.deletes }
     ensures changes { rows.new.changes ≡ rows.old.changes }
+    ensures removals { rows.new.removals ≡ rows.old.removals }
     ensures followed { IfOk result (λ done. done ≡ true → (c : Change)
         → change_at rows.old.facts.ordered moment.now ≡ Some c
         → IsFollowed p.now c
@@ -112,6 +125,10 @@ fn follow_last<L: Ledger>(
         rows.old.holders rows.new.holders) }
     ensures left { IfOk result (λ done. done ≡ false → rows.new.holders ≡ rows.old.holders) }
     ensures ticks { steps.new ≤ steps.old + 3 + 4 * length (changes_before rows.old.changes p.now moment.now) }
+    ensures done { (c : Change) → change_at rows.old.facts.ordered moment.now ≡ Some c
+        → IfOk result (λ done. done ≡ true) }
+    ensures added { (c : Change) → change_at rows.old.facts.ordered moment.now ≡ Some c → c.act ≡ adds
+        → steps.new ≤ steps.old + 2 }
 {
     let Some(change) = change_said(&rows.facts.ordered, &moment.1, moment.2 as usize, steps) else {
         return Ok(false);
@@ -122,7 +139,7 @@ fn follow_last<L: Ledger>(
     Ok(true)
 }
 
-// Writes what a change does, the last one of the key's permanode.
+// Writes the effect of a change, the last one of the key's permanode.
 fn write_change<L: Ledger>(
     alloc: Global,
     rows: &mut Rows,
@@ -138,11 +155,13 @@ fn write_change<L: Ledger>(
     ensures waiters { rows.new.waiters ≡ rows.old.waiters }
     ensures deletes { rows.new.deletes ≡ rows.old.deletes }
     ensures changes { rows.new.changes ≡ rows.old.changes }
+    ensures removals { rows.new.removals ≡ rows.old.removals }
     ensures followed { OnOk result ((on : List ℕ)
         → IsFollowed key.2 (record { on = on; act = act; attr = key.0; value = key.1 })
         (counted_before rows.old.facts.ordered rows.old.deletes rows.old.changes key.2 moment.now)
         rows.old.holders rows.new.holders) }
     ensures ticks { steps.new ≤ steps.old + 2 + 4 * length (changes_before rows.old.changes key.2 moment.now) }
+    ensures added { act ≡ adds → steps.new ≤ steps.old + 1 }
 {
     match act {
         Act::Set => set_value(alloc, rows, moment, key, steps),
@@ -151,7 +170,7 @@ fn write_change<L: Ledger>(
     }
 }
 
-// Leaves the row of one value alone.
+// Leaves the row of one value only.
 fn set_value<L: Ledger>(
     alloc: Global,
     rows: &mut Rows,
@@ -166,6 +185,7 @@ fn set_value<L: Ledger>(
     ensures waiters { rows.new.waiters ≡ rows.old.waiters }
     ensures deletes { rows.new.deletes ≡ rows.old.deletes }
     ensures changes { rows.new.changes ≡ rows.old.changes }
+    ensures removals { rows.new.removals ≡ rows.old.removals }
     ensures followed { OnOk result ((on : List ℕ)
         → IsFollowed key.2 (record { on = on; act = sets; attr = key.0; value = key.1 })
         (counted_before rows.old.facts.ordered rows.old.deletes rows.old.changes key.2 moment.now)
@@ -191,6 +211,7 @@ fn remove_value<L: Ledger>(
     ensures waiters { rows.new.waiters ≡ rows.old.waiters }
     ensures deletes { rows.new.deletes ≡ rows.old.deletes }
     ensures changes { rows.new.changes ≡ rows.old.changes }
+    ensures removals { rows.new.removals ≡ rows.old.removals }
     ensures followed { OnOk result ((on : List ℕ)
         → IsFollowed key.now.2 (record { on = on; act = removes; attr = key.now.0; value = key.now.1 })
         (counted_before rows.old.facts.ordered rows.old.deletes rows.old.changes key.now.2 moment.now)
@@ -220,6 +241,7 @@ fn drop_values<L: Ledger>(
     ensures waiters { rows.new.waiters ≡ rows.old.waiters }
     ensures deletes { rows.new.deletes ≡ rows.old.deletes }
     ensures changes { rows.new.changes ≡ rows.old.changes }
+    ensures removals { rows.new.removals ≡ rows.old.removals }
     ensures fewer { OnOk result (AreFewer key.now.0 key.now.2 rows.old.holders rows.new.holders) }
     ensures gone { OnOk result (AreGone key.now.0 key.now.2
         (counted_before rows.old.facts.ordered rows.old.deletes rows.old.changes key.now.2 moment.now)
@@ -236,7 +258,7 @@ fn drop_values<L: Ledger>(
     Ok(())
 }
 
-// Drops the row of the value that the change of a moment gives to the key's attribute. It answers whether that change
+// Drops the row of the value that the change of a moment gives to the key's attribute. Returns whether that change
 // left no other value.
 fn take_back<L: Ledger>(
     alloc: Global,
@@ -252,6 +274,7 @@ fn take_back<L: Ledger>(
     ensures waiters { rows.new.waiters ≡ rows.old.waiters }
     ensures deletes { rows.new.deletes ≡ rows.old.deletes }
     ensures changes { rows.new.changes ≡ rows.old.changes }
+    ensures removals { rows.new.removals ≡ rows.old.removals }
     ensures fewer { OnOk result (AreFewer key.now.0 key.now.2 rows.old.holders rows.new.holders) }
     ensures back { IfOk result (λ done. IsTakenBack key.now.0 key.now.2
         (counted rows.old.facts.ordered rows.old.deletes (moment.now ∷ [])) done rows.new.holders) }

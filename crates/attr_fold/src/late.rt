@@ -1,25 +1,27 @@
-//! The rows of what a permanode holds, where one change came before others.
-ghost use Rattle.std.specs.Prelude.{◌≡◌, ◌≤◌, ◌+◌, ◌*◌, ◌∷◌, [], ℕ, List, length, Some, true, false, IfOk, not};
+//! The rows of the values that a permanode has, after a new change that is earlier than others.
+ghost use Rattle.std.specs.Prelude.{◌≡◌, ◌≤◌, ◌+◌, ◌*◌, ◌∷◌, [], ℕ, List, length, Some, true, false, IfOk, OnOk, not};
 ghost use Rattle.std.specs.List.{list_any};
 ghost use Rattle.schema_fact.specs.Changes.{change_seen};
+ghost use Rattle.schema_fact.specs.declared.changes.Act.TheVariants.{Add as adds, Del as removes};
 ghost use Rattle.schema_fact.specs.declared.changes.Change.{Change};
 ghost use Rattle.index_rows.specs.Changes.{changes_after};
 ghost use Rattle.index_rows.specs.Counted.{IsCounted};
+ghost use Rattle.index_rows.specs.Removals.{AreRemovals, removals_after};
 ghost use Rattle.index_rows.specs.Values.{change_at, IsChange, IsListed};
-ghost use Rattle.attr_fold.specs.Following.{counted, counted_after, counted_before, decides, IsSettled};
+ghost use Rattle.attr_fold.specs.Following.{counted, counted_after, counted_before, counted_under, decides};
+ghost use Rattle.attr_fold.specs.Following.{taking_steps, takes, IsSettled};
 
 use crate::following::is_end;
-use crate::refolding::has_deleters;
 use blobref::{NoMemory, Ref};
 use edge_base::Steps;
 use index_look::claim::change_said;
-use index_rows::{HolderKey, Moment, Rows};
+use index_rows::{HolderKey, Moment, Rows, has_deleters, mark_of};
 use schema_fact::{Act, ChangeView};
 use std::alloc::Global;
 use std::sync::ledger::Ledger;
 
-// Writes what the change of a moment does, behind which others of p may come. It can't where all values of an attribute
-// went by it, and none of the later changes that count does so again.
+// Writes the effect of the change of a moment, after which others of p may come. It can't if the change leaves none of
+// the earlier values of its attribute, and no later change that counts does so again.
 pub(crate) fn follow_late<L: Ledger>(
     alloc: Global,
     rows: &mut Rows,
@@ -29,11 +31,13 @@ pub(crate) fn follow_late<L: Ledger>(
 ) -> Result<bool, NoMemory>
     requires counted { IsCounted rows.old.facts.ordered rows.old.deletes rows.old.state }
     requires listed { IsListed rows.old.facts.ordered rows.old.state rows.old.changes }
+    requires taken { AreRemovals rows.old.facts.ordered rows.old.changes rows.old.removals }
     ensures facts { rows.new.facts ≡ rows.old.facts }
     ensures state { rows.new.state ≡ rows.old.state }
     ensures waiters { rows.new.waiters ≡ rows.old.waiters }
     ensures deletes { rows.new.deletes ≡ rows.old.deletes }
     ensures changes { rows.new.changes ≡ rows.old.changes }
+    ensures removals { rows.new.removals ≡ rows.old.removals }
     ensures settled { IfOk result (λ done. done ≡ true → (c : Change)
         → change_at rows.old.facts.ordered moment.now ≡ Some c
         → IsSettled p.now c
@@ -41,8 +45,12 @@ pub(crate) fn follow_late<L: Ledger>(
         (counted_after rows.old.facts.ordered rows.old.deletes rows.old.changes p.now moment.now)
         rows.old.holders rows.new.holders) }
     ensures left { IfOk result (λ done. done ≡ false → rows.new.holders ≡ rows.old.holders) }
-    ensures ticks { steps.new ≤ steps.old + 3
+    ensures ticks { steps.new ≤ steps.old + 4
         + 3 * length (changes_after rows.old.changes p.now (Some moment.now)) }
+    ensures done { (c : Change) → change_at rows.old.facts.ordered moment.now ≡ Some c → c.act ≡ adds
+        → IfOk result (λ done. done ≡ true) }
+    ensures added { (c : Change) → change_at rows.old.facts.ordered moment.now ≡ Some c → c.act ≡ adds
+        → steps.new ≤ steps.old + 4 + taking_steps rows.old.removals p.now c.attr c.value moment.now }
 {
     let Some(change) = change_said(&rows.facts.ordered, &moment.1, moment.2 as usize, steps) else {
         return Ok(false);
@@ -52,7 +60,7 @@ pub(crate) fn follow_late<L: Ledger>(
     write_late(rows, moment, act, key, steps)
 }
 
-// Writes what a change of the key's permanode does, behind which others may come.
+// Writes the effect of a change of the key's permanode, after which others may come.
 fn write_late<L: Ledger>(
     rows: &mut Rows,
     moment: &Moment,
@@ -62,58 +70,197 @@ fn write_late<L: Ledger>(
 ) -> Result<bool, NoMemory>
     requires counted { IsCounted rows.old.facts.ordered rows.old.deletes rows.old.state }
     requires listed { IsListed rows.old.facts.ordered rows.old.state rows.old.changes }
+    requires taken { AreRemovals rows.old.facts.ordered rows.old.changes rows.old.removals }
     ensures facts { rows.new.facts ≡ rows.old.facts }
     ensures state { rows.new.state ≡ rows.old.state }
     ensures waiters { rows.new.waiters ≡ rows.old.waiters }
     ensures deletes { rows.new.deletes ≡ rows.old.deletes }
     ensures changes { rows.new.changes ≡ rows.old.changes }
+    ensures removals { rows.new.removals ≡ rows.old.removals }
     ensures settled { IfOk result (λ done. done ≡ true → (on : List ℕ)
         → IsSettled key.2 (record { on = on; act = act; attr = key.0; value = key.1 })
         (counted_before rows.old.facts.ordered rows.old.deletes rows.old.changes key.2 moment.now)
         (counted_after rows.old.facts.ordered rows.old.deletes rows.old.changes key.2 moment.now)
         rows.old.holders rows.new.holders) }
     ensures left { IfOk result (λ done. done ≡ false → rows.new.holders ≡ rows.old.holders) }
-    ensures ticks { steps.new ≤ steps.old + 2
+    ensures ticks { steps.new ≤ steps.old + 3
         + 3 * length (changes_after rows.old.changes key.2 (Some moment.now)) }
+    ensures done { act ≡ adds → IfOk result (λ done. done ≡ true) }
+    ensures added { act ≡ adds
+        → steps.new ≤ steps.old + 3 + taking_steps rows.old.removals key.2 key.0 key.1 moment.now }
 {
-    let all = is_end(act, key.value());
-    if is_decided_after(rows, moment, &key, all, steps) {
-        return Ok(true);
-    }
     match act {
-        Act::Set => Ok(false),
+        Act::Set => Ok(is_emptied_after(rows, moment, &key, steps)),
         Act::Add => {
-            rows.holders.put(key, steps)?;
+            add_late(rows, moment, key, steps)?;
             Ok(true)
         }
-        Act::Del => if all {
-            Ok(false)
-        } else {
-            rows.holders.drop_row(&key, steps);
-            Ok(true)
-        },
+        Act::Del => Ok(remove_late(rows, moment, &key, steps)),
     }
 }
 
-// Whether a change behind the moment that counts decides alone whether the key's value is there, or with `all` whether
-// any value of the key's attribute is.
-fn is_decided_after<L: Ledger>(
+// Puts the row of a value that is added, unless a later change that counts takes it away or sets the attribute to it.
+fn add_late<L: Ledger>(
+    rows: &mut Rows,
+    moment: &Moment,
+    key: HolderKey,
+    steps: &mut Steps<L>,
+) -> Result<(), NoMemory>
+    requires counted { IsCounted rows.old.facts.ordered rows.old.deletes rows.old.state }
+    requires listed { IsListed rows.old.facts.ordered rows.old.state rows.old.changes }
+    requires taken { AreRemovals rows.old.facts.ordered rows.old.changes rows.old.removals }
+    ensures facts { rows.new.facts ≡ rows.old.facts }
+    ensures state { rows.new.state ≡ rows.old.state }
+    ensures waiters { rows.new.waiters ≡ rows.old.waiters }
+    ensures deletes { rows.new.deletes ≡ rows.old.deletes }
+    ensures changes { rows.new.changes ≡ rows.old.changes }
+    ensures removals { rows.new.removals ≡ rows.old.removals }
+    ensures settled { OnOk result ((on : List ℕ)
+        → IsSettled key.2 (record { on = on; act = adds; attr = key.0; value = key.1 })
+        (counted_before rows.old.facts.ordered rows.old.deletes rows.old.changes key.2 moment.now)
+        (counted_after rows.old.facts.ordered rows.old.deletes rows.old.changes key.2 moment.now)
+        rows.old.holders rows.new.holders) }
+    ensures ticks { steps.new ≤ steps.old + 3
+        + 3 * length (changes_after rows.old.changes key.2 (Some moment.now)) }
+    ensures added { steps.new ≤ steps.old + 3 + taking_steps rows.old.removals key.2 key.0 key.1 moment.now }
+{
+    if is_taken_after(rows, moment, &key, steps) {
+        return Ok(());
+    }
+    rows.holders.put(key, steps)
+}
+
+// Drops the row of a value that is removed, unless a later change that counts decides whether it is there; an empty
+// value means all values. Returns whether it could.
+fn remove_late<L: Ledger>(
+    rows: &mut Rows,
+    moment: &Moment,
+    key: &HolderKey,
+    steps: &mut Steps<L>,
+) -> bool
+    requires counted { IsCounted rows.old.facts.ordered rows.old.deletes rows.old.state }
+    requires listed { IsListed rows.old.facts.ordered rows.old.state rows.old.changes }
+    requires taken { AreRemovals rows.old.facts.ordered rows.old.changes rows.old.removals }
+    ensures facts { rows.new.facts ≡ rows.old.facts }
+    ensures state { rows.new.state ≡ rows.old.state }
+    ensures waiters { rows.new.waiters ≡ rows.old.waiters }
+    ensures deletes { rows.new.deletes ≡ rows.old.deletes }
+    ensures changes { rows.new.changes ≡ rows.old.changes }
+    ensures removals { rows.new.removals ≡ rows.old.removals }
+    ensures settled { result ≡ true → (on : List ℕ)
+        → IsSettled key.now.2 (record { on = on; act = removes; attr = key.now.0; value = key.now.1 })
+        (counted_before rows.old.facts.ordered rows.old.deletes rows.old.changes key.now.2 moment.now)
+        (counted_after rows.old.facts.ordered rows.old.deletes rows.old.changes key.now.2 moment.now)
+        rows.old.holders rows.new.holders }
+    ensures left { result ≡ false → rows.new.holders ≡ rows.old.holders }
+    ensures ticks { steps.new ≤ steps.old + 3
+        + 3 * length (changes_after rows.old.changes key.now.2 (Some moment.now)) }
+{
+    if key.value().is_empty() {
+        return is_emptied_after(rows, moment, key, steps);
+    }
+    if !rows.holders.has(key, steps) {
+        return true;
+    }
+    if is_decided_after(rows, moment, key, steps) {
+        return true;
+    }
+    rows.holders.drop_row(key, steps);
+    true
+}
+
+// Whether a later change that counts leaves no value of the key's attribute that was there before it.
+fn is_emptied_after<L: Ledger>(
     rows: &Rows,
     moment: &Moment,
+    key: &HolderKey,
+    steps: &mut Steps<L>,
+) -> bool
+    requires counted { IsCounted rows.now.facts.ordered rows.now.deletes rows.now.state }
+    requires listed { IsListed rows.now.facts.ordered rows.now.state rows.now.changes }
+    requires taken { AreRemovals rows.now.facts.ordered rows.now.changes rows.now.removals }
+    ensures emptied { result ≡ list_any (decides true key.now.0 key.now.1)
+        (counted_after rows.now.facts.ordered rows.now.deletes rows.now.changes key.now.2 moment.now) }
+    ensures ticks { steps.new ≤ steps.old + 1
+        + 3 * length (changes_after rows.now.changes key.now.2 (Some moment.now)) }
+{
+    let mark = mark_of(key.attr(), "");
+    is_decided_under(rows, moment, mark, key, true, steps)
+}
+
+// Whether a later change that counts takes the key's value away, or sets its attribute to it.
+fn is_taken_after<L: Ledger>(
+    rows: &Rows,
+    moment: &Moment,
+    key: &HolderKey,
+    steps: &mut Steps<L>,
+) -> bool
+    requires counted { IsCounted rows.now.facts.ordered rows.now.deletes rows.now.state }
+    requires listed { IsListed rows.now.facts.ordered rows.now.state rows.now.changes }
+    requires taken { AreRemovals rows.now.facts.ordered rows.now.changes rows.now.removals }
+    ensures taken { result ≡ list_any (takes key.now.0 key.now.1)
+        (counted_after rows.now.facts.ordered rows.now.deletes rows.now.changes key.now.2 moment.now) }
+    ensures ticks { steps.new ≤ steps.old + 2
+        + 3 * length (changes_after rows.now.changes key.now.2 (Some moment.now)) }
+    ensures added { steps.new ≤ steps.old + 2
+        + taking_steps rows.now.removals key.now.2 key.now.0 key.now.1 moment.now }
+{
+    let all = mark_of(key.attr(), "");
+    let own = mark_of(key.attr(), key.value());
+    if is_decided_under(rows, moment, all, key, false, steps) {
+        return true;
+    }
+    if own == all {
+        return false;
+    }
+    is_decided_under(rows, moment, own, key, false, steps)
+}
+
+// Whether a later removal under the mark that counts decides by itself whether the key's value is there, or with `all`
+// whether any value of the key's attribute is.
+fn is_decided_under<L: Ledger>(
+    rows: &Rows,
+    moment: &Moment,
+    mark: u32,
     key: &HolderKey,
     all: bool,
     steps: &mut Steps<L>,
 ) -> bool
     requires counted { IsCounted rows.now.facts.ordered rows.now.deletes rows.now.state }
     requires listed { IsListed rows.now.facts.ordered rows.now.state rows.now.changes }
+    requires taken { AreRemovals rows.now.facts.ordered rows.now.changes rows.now.removals }
     ensures decided { result ≡ list_any (decides all key.now.0 key.now.1)
+        (counted_under rows.now.facts.ordered rows.now.deletes rows.now.removals key.now.2 mark moment.now) }
+    ensures ticks { steps.new ≤ steps.old + 1
+        + 3 * length (removals_after rows.now.removals key.now.2 mark moment.now) }
+{
+    let mut at = *moment;
+    'walk: while let Some(next) = rows.removals.next_of(key.permanode(), mark, &at, steps) {
+        if is_decided_by(rows, &next, key, all, steps) {
+            return true;
+        }
+        at = next;
+    }
+    false
+}
+
+// Whether a later change that counts decides by itself whether the key's value is there.
+fn is_decided_after<L: Ledger>(
+    rows: &Rows,
+    moment: &Moment,
+    key: &HolderKey,
+    steps: &mut Steps<L>,
+) -> bool
+    requires counted { IsCounted rows.now.facts.ordered rows.now.deletes rows.now.state }
+    requires listed { IsListed rows.now.facts.ordered rows.now.state rows.now.changes }
+    ensures decided { result ≡ list_any (decides false key.now.0 key.now.1)
         (counted_after rows.now.facts.ordered rows.now.deletes rows.now.changes key.now.2 moment.now) }
     ensures ticks { steps.new ≤ steps.old + 1
         + 3 * length (changes_after rows.now.changes key.now.2 (Some moment.now)) }
 {
     let mut at = *moment;
     'walk: while let Some(next) = rows.changes.next_of(key.permanode(), Some(&at), steps) {
-        if is_decided_by(rows, &next, key, all, steps) {
+        if is_decided_by(rows, &next, key, false, steps) {
             return true;
         }
         at = next;

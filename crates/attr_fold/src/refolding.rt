@@ -1,34 +1,36 @@
-//! The rows of what a permanode holds, written again.
-ghost use Rattle.std.specs.Prelude.{◌≡◌, ◌+◌, ◌*◌, ◌<◌, ◌≤◌, ◌^◌, ◌∷◌, [], ◌++◌, ◌&&◌, ℕ, List, length, nat_lt, None, false, true, if◌then◌else◌, IfOk, OnErr, OnOk};
+//! The rows of the values that a permanode has, written again.
+ghost use Rattle.std.specs.Prelude.{◌≡◌, ◌+◌, ◌*◌, ◌<◌, ◌≤◌, ◌^◌, ◌∷◌, [], ◌++◌, ◌&&◌, ℕ, List, length, nat_lt, None};
+ghost use Rattle.std.specs.Prelude.{false, true, if◌then◌else◌, IfOk, OnErr, OnOk};
 ghost use Rattle.std.specs.FinMap.{contains_key, entries};
 ghost use Rattle.index_rows.specs.Pairs.{number};
 ghost use Rattle.std.specs.Str.{bytes_eq};
 ghost use Rattle.index_rows.specs.Changes.{changes_after};
-ghost use Rattle.index_rows.specs.Counted.{has_deleters, IsCounted};
+ghost use Rattle.index_rows.specs.Counted.{IsCounted};
 ghost use Rattle.index_rows.specs.Holders.{row_holds, HolderKey as Seen, IsHeldBut};
 ghost use Rattle.index_rows.specs.Values.{IsChange, IsListed};
 ghost use Rattle.attr_fold.specs.Refolded.{refold_steps, IsHeldSomehow};
-ghost use Rattle.attr_fold.specs.Turns.{all_moments, is_there, moment_noted, row_written, standing, told, turn_at, Tells};
+ghost use Rattle.attr_fold.specs.Turns.{all_moments, is_there, moment_noted, row_written, standing, told, turn_at};
+ghost use Rattle.attr_fold.specs.Turns.{Tells};
 
 use crate::attribute_turns::AttributeTurns;
 use crate::turns::Turns;
 use blobref::{NoMemory, Ref};
 use edge_base::Steps;
 use index_look::claim::{change_said, is_permanode_at};
-use index_rows::{ChangeRows, HolderKey, HolderRows, Moment, RefRows, Rows, StateRow};
+use index_rows::{ChangeRows, HolderKey, HolderRows, Moment, Rows, has_deleters};
 use std::alloc::Global;
 use std::sync::ledger::Ledger;
 
 /// Writes the rows of one permanode in `holders` again, so that they are those of the attributes and values that it
-/// has, by claims of every date. A ref that is no genuine permanode has none, nor has a permanode that is deleted.
+/// has, by claims of every date. A ref that isn't a genuine permanode has none, nor has a permanode that is deleted.
 ///
 /// The counts of delete claims must be right, each row of `changes` must be that of a change of a genuine claim, and
 /// each row of `holders` must be of a genuine permanode and of a value that one of its changes sets or adds. All other
-/// rows stay as they are, also after `NoMemory`; those of the permanode may then be anything. No other table changes.
+/// rows don't change, even after `NoMemory`; those of the permanode may then be anything. No other table changes.
 ///
-/// It walks over the changes of the permanode once: where there are k, it takes at most 3 + 4 k look-ups, steps and
-/// changes, and time in k log k; of a ref that is no genuine permanode at most 2 look-ups. It takes memory for the
-/// moments of these changes and for their values.
+/// It walks over the changes of the permanode once: if there are k, it takes at most 3 + 4 k look-ups, steps and
+/// changes, and time in k log k. For a ref that isn't a genuine permanode it takes at most 2 look-ups. It takes memory
+/// for the moments of these changes and for their values.
 pub fn refold<L: Ledger>(
     alloc: Global,
     rows: &mut Rows,
@@ -44,6 +46,7 @@ pub fn refold<L: Ledger>(
     ensures waiters { rows.new.waiters ≡ rows.old.waiters }
     ensures deletes { rows.new.deletes ≡ rows.old.deletes }
     ensures changes { rows.new.changes ≡ rows.old.changes }
+    ensures removals { rows.new.removals ≡ rows.old.removals }
     ensures others { (name value q : List ℕ) → bytes_eq q p.now ≡ false
         → contains_key rows.new.holders (name, value, q) ≡ contains_key rows.old.holders (name, value, q) }
     ensures own { OnOk result ((name value : List ℕ) → contains_key rows.new.holders (name, value, p.now)
@@ -61,7 +64,7 @@ pub fn refold<L: Ledger>(
     write_rows(&mut rows.holders, turns, p, stands, steps)
 }
 
-// Whether p isn't deleted, where it is a genuine permanode.
+// Whether p isn't deleted, if it is a genuine permanode; `None` if it isn't one.
 pub(crate) fn standing<L: Ledger>(rows: &Rows, p: &Ref, steps: &mut Steps<L>) -> Option<bool>
     requires { IsCounted rows.now.facts.ordered rows.now.deletes rows.now.state }
     ensures stands { result ≡ standing rows.now.facts.ordered rows.now.state rows.now.deletes p.now }
@@ -76,7 +79,7 @@ pub(crate) fn standing<L: Ledger>(rows: &Rows, p: &Ref, steps: &mut Steps<L>) ->
     }
 }
 
-// Which values the changes of p leave.
+// The turns of the values that the changes of p give.
 fn turns_of<L: Ledger>(
     alloc: Global,
     rows: &Rows,
@@ -126,7 +129,7 @@ fn push(moments: &mut Vec<Moment>, moment: &Moment) -> Result<(), NoMemory>
     Ok(())
 }
 
-// Takes up the change n of p, that of a moment.
+// Notes the change n of p, that of a moment.
 fn note_moment<L: Ledger>(
     alloc: Global,
     rows: &Rows,
@@ -150,23 +153,8 @@ fn note_moment<L: Ledger>(
     turns.note(alloc, p, change, counts, n)
 }
 
-// Whether the row of a ref counts some delete claim.
-pub(crate) fn has_deleters<L: Ledger>(
-    state: &RefRows<StateRow>,
-    r: &Ref,
-    steps: &mut Steps<L>,
-) -> bool
-    ensures some { result ≡ has_deleters state.now r.now }
-    ensures ticks { steps.new ≡ steps.old + 1 }
-{
-    match state.row(r, steps) {
-        Some(row) => 0 < row.deleters,
-        None => false,
-    }
-}
-
-// Puts the row of each value that is there, and drops that of each other one that was ever given; none is there where
-// p doesn't stand.
+// Puts the row of each value that is there, and drops that of each other one that was ever given. None is there if p is
+// deleted.
 fn write_rows<L: Ledger>(
     holders: &mut HolderRows,
     mut turns: Turns,
@@ -189,7 +177,7 @@ fn write_rows<L: Ledger>(
     Ok(())
 }
 
-// Puts the row of a value where it is there, and else drops it.
+// Puts the row of a value if it is there, and otherwise drops it.
 fn write_row<L: Ledger>(
     holders: &mut HolderRows,
     emptied: &AttributeTurns,

@@ -12,7 +12,7 @@ use schema_fact::{Act, ChangeView};
 use std::alloc::Global;
 
 // The turn at which each value was last given, or 0, and the turn at which all values of an attribute were last
-// removed. The turn behind the change n is n + 1, so a value is there where its turn is greater than that of its
+// removed. The turn after the change n is n + 1, so a value is there if its turn is greater than that of its
 // attribute.
 #[derive(Drop)]
 pub(crate) struct Turns {
@@ -31,7 +31,7 @@ impl Turns {
         }
     }
 
-    // Takes up a change of p as the change n, which counts or doesn't.
+    // Notes a change of p as the change n, which counts or doesn't.
     pub(crate) fn note(
         &mut self,
         alloc: Global,

@@ -45,7 +45,7 @@ impl ValueTurns {
         Ok(())
     }
 
-    // Gives a key the turn 0 where it has none.
+    // Gives a key the turn 0 if it has none.
     pub(crate) fn know(&mut self, key: HolderKey) -> Result<(), NoMemory>
         ensures { OnOk result (self.new ≡ known self.old key) }
     {
@@ -61,7 +61,7 @@ impl ValueTurns {
         self.turns.contains_key(key)
     }
 
-    // Takes out the first key with its turn, where there is one.
+    // Takes out the first key with its turn, if there is one.
     pub(crate) fn pop_first(&mut self) -> Option<(HolderKey, usize)>
         ensures held { IfSome result (λ e. finite.get self.old e.0 ≡ Some e.1) }
         ensures taken { IfSome result (λ e. self.new ≡ finite.remove self.old e.0) }

@@ -13,6 +13,7 @@ pub mod OneEntered
 pub mod Refolds
 mod OneFollowed
 pub mod Telling
+mod Removed
 mod Whole
 mod OneMore
 pub mod Settled

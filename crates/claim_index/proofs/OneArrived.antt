@@ -1,5 +1,6 @@
 -- What the tables mean once a ref has arrived.
-use Rattle.std.proofs.Common.{◌≡◌, ℕ, ℤ, Bool, true, false, ◌&&◌, ◌||◌, not, cond, List, [], ◌∷◌, ◌++◌, Option, Some, None, option_and_then, refl, sym, ap, subst, ◌∙◌}
+use Rattle.std.proofs.Common.{◌≡◌, ℕ, ℤ, Bool, true, false, ◌&&◌, ◌||◌, not, cond, List, [], ◌∷◌, ◌++◌, Option, Some}
+use Rattle.std.proofs.Common.{None, option_and_then, refl, sym, ap, subst, ◌∙◌}
 use Rattle.std.proofs.lemmas.Bool.{and_parts, false≢true}
 use Rattle.std.proofs.lemmas.List.Folds.{list_any-append}
 use Rattle.std.specs.List.{list_any}
@@ -28,11 +29,13 @@ use Rattle.claim_index.proofs.Orders.{new_to_fewer, new_fails, reached_from_more
 use Rattle.claim_index.proofs.OneJudged.{arrived_within}
 
 -- a genuine delete claim is ready, and stays one with more facts
-module _ (facts more : Facts) (accepts : Accepts) (within : IsWithin facts more) (d : List ℕ) (is : IsGenuineDelete facts accepts d) where
+module _ (facts more : Facts) (accepts : Accepts) (within : IsWithin facts more) (d : List ℕ)
+    (is : IsGenuineDelete facts accepts d) where
   is_true : is_genuine facts accepts d ≡ true
   is_true = by (is_genuine facts accepts d) is.says
     where
-      by : (b : Bool) → cond b (option_and_then (λ (fact : Fact). delete_date is.target fact.kind) (get facts d)) None ≡ Some is.date → b ≡ true
+      by : (b : Bool) → cond b (option_and_then (λ (fact : Fact). delete_date is.target fact.kind) (get facts d))
+          None ≡ Some is.date → b ≡ true
       by true e = refl
       by false e = let n : None ≡ Some is.date = e in absurd (cc n)
 
@@ -53,13 +56,24 @@ module _ (facts more : Facts) (accepts : Accepts) (within : IsWithin facts more)
       same (Some fact) e t = within d fact e ∙ sym e
 
       says : genuine_delete more accepts is.target d ≡ Some is.date
-      says = ap (λ b. cond b (date_in (get more d)) None) (genuine_stays facts more accepts within d delete_ready ∙ is_true)
+      says = ap (λ b. cond b (date_in (get more d)) None) (genuine_stays facts more accepts within d delete_ready
+          ∙ is_true)
           ∙ ap date_in (same (get facts d) refl dated) ∙ dated
 
 abbrev pub with_arrived : Rows → States → Waiters → Rows
-with_arrived rows state waiters = record { facts = rows.facts; state = state; waiters = waiters; deletes = rows.deletes; changes = rows.changes; holders = rows.holders }
+with_arrived rows state waiters = record {
+  facts = rows.facts;
+  state = state;
+  waiters = waiters;
+  deletes =
+      rows.deletes;
+  changes = rows.changes;
+  removals = rows.removals;
+  holders = rows.holders;
+}
 
-module _ (accepts : Accepts) (rows : Rows) (state : States) (waiters : Waiters) (r : List ℕ) (order deletes concerned : List (List ℕ))
+module _ (accepts : Accepts) (rows : Rows) (state : States) (waiters : Waiters) (r : List ℕ)
+    (order deletes concerned : List (List ℕ))
     (h : IsHalfway accepts [] deletes concerned rows) (absent : get rows.state r ≡ None)
     (came : HasArrived rows.facts.ordered rows.state state waiters r order) where
   abbrev pub now : Rows
@@ -76,9 +90,20 @@ module _ (accepts : Accepts) (rows : Rows) (state : States) (waiters : Waiters) 
   within = arrived_grows rows.facts.ordered rows.state state grown
 
   taken_up : IsTakingUp order (order ++ deletes) rows.facts.ordered accepts state waiters rows.deletes rows.changes
-  taken_up = one_arrives deletes (order ++ deletes) rows.facts.ordered accepts rows.state state rows.waiters waiters rows.deletes rows.changes r order
-      (record { absent = absent; waiting = came.waiting; ready = came.became.ready; once = came.once; same = came.same; kept = came.kept; own = came.own })
-      (λ d. list_any-append (bytes_eq d) order deletes ∙ turned (list_any (bytes_eq d) order) (list_any (bytes_eq d) deletes))
+  taken_up = one_arrives deletes (order ++ deletes) rows.facts.ordered accepts rows.state state rows.waiters waiters
+      rows.deletes rows.changes r order
+      (record {
+        absent = absent;
+        waiting = came.waiting;
+        ready = came.became.ready;
+        once = came.once;
+        same =
+            came.same;
+        kept = came.kept;
+        own = came.own;
+      })
+      (λ d. list_any-append (bytes_eq d) order deletes ∙ turned (list_any (bytes_eq d) order)
+      (list_any (bytes_eq d) deletes))
       (record { waiting = h.waiting; judged = h.judged; deleted = h.deleted; changed = h.changed; counted = h.counted })
     where
       turned : (a b : Bool) → (a || b) ≡ (b || a)
@@ -88,8 +113,10 @@ module _ (accepts : Accepts) (rows : Rows) (state : States) (waiters : Waiters) 
       turned false false = refl
 
   listed : IsListed rows.facts.ordered rows.state rows.changes
-  listed = rows_stay_listed (taken rows) rows.facts.ordered rows.state rows.state rows.changes (arrived_within rows.facts.ordered rows.state) (λ y t. t)
-      (rows_are_listed (taken rows) accepts [] rows.state rows.changes (arrived_is_known rows.facts.ordered rows.state h.waiting.known) h.judged h.changed)
+  listed = rows_stay_listed (taken rows) rows.facts.ordered rows.state rows.state rows.changes
+      (arrived_within rows.facts.ordered rows.state) (λ y t. t)
+      (rows_are_listed (taken rows) accepts [] rows.state rows.changes
+      (arrived_is_known rows.facts.ordered rows.state h.waiting.known) h.judged h.changed)
 
   order_new : (y : List ℕ) → list_any (bytes_eq y) order ≡ true → is_ready (taken rows) y ≡ false
   order_new = new_fails (is_ready (taken rows)) [] order came.once
@@ -103,16 +130,21 @@ module _ (accepts : Accepts) (rows : Rows) (state : States) (waiters : Waiters) 
     deleted = taken_up.deleted;
     claims = λ d t. delete_stays (taken rows) (taken now) accepts within d (h.claims d t);
     once = h.once;
-    apart = λ d t. not_true (list_any (bytes_eq d) order) (λ there. false≢true (sym (order_new d there) ∙ delete_ready (taken rows) (taken now) accepts within d (h.claims d t)));
-    held = held_stays_with_facts concerned rows.facts.ordered rows.facts.ordered rows.state state rows.deletes rows.changes rows.holders (λ y fact e. e) h.counted.ringless listed h.waiting.known
+    apart = λ d t. not_true (list_any (bytes_eq d) order) (λ there. false≢true
+        (sym (order_new d there) ∙ delete_ready (taken rows) (taken now) accepts within d (h.claims d t)));
+    held = held_stays_with_facts concerned rows.facts.ordered rows.facts.ordered rows.state state rows.deletes
+        rows.changes rows.holders (λ y fact e. e) h.counted.ringless listed h.waiting.known
         (one_has_arrived r rows.state state absent came.same came.kept came.own) h.held;
+    removals = h.removals;
   }
 
   pub can_be_judged : CanBeJudged order now
   can_be_judged = record {
     ready = λ y t. came.became.ready y ∙ or_right (is_ready (taken rows) y) (list_any (bytes_eq y) order) t;
-    reached = reached_from_more (taken now) (is_ready (taken rows)) (was_judged now order) [] [] order more came.became.reached;
-    once = new_to_fewer (is_ready (taken rows)) (λ y. false) [] [] order (λ y t. absurd (false≢true t)) (λ y t. t) came.once;
+    reached = reached_from_more (taken now) (is_ready (taken rows)) (was_judged now order) [] [] order more
+        came.became.reached;
+    once = new_to_fewer (is_ready (taken rows)) (λ y. false) [] [] order (λ y t. absurd (false≢true t)) (λ y t. t)
+        came.once;
   }
     where
       or_right : (a b : Bool) → b ≡ true → (a || b) ≡ true
@@ -123,28 +155,44 @@ module _ (accepts : Accepts) (rows : Rows) (state : States) (waiters : Waiters) 
       sure true t = refl
       sure false t = t
 
-      more : (y : List ℕ) → passes_or_in (is_ready (taken rows)) [] y ≡ true → passes_or_in (was_judged now order) [] y ≡ true
+      more : (y : List ℕ) → passes_or_in (is_ready (taken rows)) [] y ≡ true
+          → passes_or_in (was_judged now order) [] y ≡ true
       more y t =
           let was = sure (is_ready (taken rows) y) t in
           let out = not_true (list_any (bytes_eq y) order) (λ there. false≢true (sym (order_new y there) ∙ was)) in
           λ i. ((came.became.ready y ∙ ap (λ b. b || list_any (bytes_eq y) order) was) i && not (out i)) || false
 
-pub arrived_is : (rows new : Rows) → new.facts ≡ rows.facts → new.deletes ≡ rows.deletes → new.changes ≡ rows.changes → new.holders ≡ rows.holders
+pub arrived_is : (rows new : Rows) → new.facts ≡ rows.facts → new.deletes ≡ rows.deletes → new.changes ≡ rows.changes
+    → new.removals ≡ rows.removals → new.holders ≡ rows.holders
     → with_arrived rows new.state new.waiters ≡ new
-arrived_is rows new facts deletes changes holders = λ i.
-    record { facts = sym facts i; state = new.state; waiters = new.waiters; deletes = sym deletes i; changes = sym changes i; holders = sym holders i }
+arrived_is rows new facts deletes changes removals holders = λ i.
+    record {
+      facts = sym facts i;
+      state = new.state;
+      waiters = new.waiters;
+      deletes = sym deletes i;
+      changes = sym
+          changes i;
+      removals = sym removals i;
+      holders = sym holders i;
+    }
 
 -- the tables after a ref has arrived, whose order is at hand as a slice
-module _ (accepts : Accepts) (rows new : Rows) (facts : new.facts ≡ rows.facts) (same_deletes : new.deletes ≡ rows.deletes) (changes : new.changes ≡ rows.changes) (holders : new.holders ≡ rows.holders)
-    (r : List ℕ) (order refs deletes concerned : List (List ℕ)) (same : refs ≡ order) (h : IsHalfway accepts [] deletes concerned rows) (absent : get rows.state r ≡ None)
+module _ (accepts : Accepts) (rows new : Rows) (facts : new.facts ≡ rows.facts)
+    (same_deletes : new.deletes ≡ rows.deletes) (changes : new.changes ≡ rows.changes)
+    (removals : new.removals ≡ rows.removals) (holders : new.holders ≡ rows.holders)
+    (r : List ℕ) (order refs deletes concerned : List (List ℕ)) (same : refs ≡ order)
+    (h : IsHalfway accepts [] deletes concerned rows) (absent : get rows.state r ≡ None)
     (came : HasArrived rows.facts.ordered rows.state new.state new.waiters r order) where
   pub half_arrived : IsHalfway accepts refs deletes concerned new
-  half_arrived = subst (IsHalfway accepts refs deletes concerned) (arrived_is rows new facts same_deletes changes holders)
-      (subst (λ (xs : List (List ℕ)). IsHalfway accepts xs deletes concerned (with_arrived rows new.state new.waiters)) (sym same)
+  half_arrived = subst (IsHalfway accepts refs deletes concerned)
+      (arrived_is rows new facts same_deletes changes removals holders)
+      (subst (λ (xs : List (List ℕ)). IsHalfway accepts xs deletes concerned
+      (with_arrived rows new.state new.waiters)) (sym same)
       (left_to_judge accepts rows new.state new.waiters r order deletes concerned h absent came))
 
   pub able_arrived : CanBeJudged refs new
-  able_arrived = subst (CanBeJudged refs) (arrived_is rows new facts same_deletes changes holders)
+  able_arrived = subst (CanBeJudged refs) (arrived_is rows new facts same_deletes changes removals holders)
       (subst (λ (xs : List (List ℕ)). CanBeJudged xs (with_arrived rows new.state new.waiters)) (sym same)
       (can_be_judged accepts rows new.state new.waiters r order deletes concerned h absent came))
 

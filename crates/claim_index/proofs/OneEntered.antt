@@ -1,5 +1,6 @@
 -- What one delete claim that is entered leaves of what the tables mean.
-use Rattle.std.proofs.Common.{◌≡◌, ℕ, true, false, ◌||◌, cond, option_and_then, List, [], ◌∷◌, ◌++◌, map, Option, Some, None}
+use Rattle.std.proofs.Common.{◌≡◌, ℕ, true, false, ◌||◌, cond, option_and_then, List, [], ◌∷◌, ◌++◌, map, Option, Some}
+use Rattle.std.proofs.Common.{None}
 use Rattle.std.proofs.Common.{refl, sym, ap, subst, ◌∙◌, Ordering}
 use Rattle.std.proofs.lemmas.Bool.{false≢true, or_left, or_right}
 use Rattle.std.proofs.lemmas.List.Folds.{list_any-append}
@@ -12,7 +13,8 @@ use Rattle.std.specs.FinMap.{get, insert, get-insert}
 use Rattle.claim_verify.specs.Verifier.{Accepts}
 use Rattle.schema_fact.specs.declared.kinds.Fact.{Fact}
 use Rattle.schema_fact.specs.declared.kinds.Kind.{Kind}
-use Rattle.schema_fact.specs.declared.kinds.Kind.TheVariants.{Plain, Key, File, Bytes, Directory, StaticSet, Permanode, Claim, Unread}
+use Rattle.schema_fact.specs.declared.kinds.Kind.TheVariants.{Plain, Key, File, Bytes, Directory, StaticSet, Permanode}
+use Rattle.schema_fact.specs.declared.kinds.Kind.TheVariants.{Claim, Unread}
 use Rattle.claim_model.specs.Facts.{Facts}
 use Rattle.claim_model.specs.Genuine.{is_genuine}
 use Rattle.schema_fact.specs.declared.changes.Change.{Change}
@@ -53,6 +55,7 @@ module _ (rows : Rows) (entered : Deletes) (state : States) (d : List ℕ) (chan
     waiters = rows.waiters;
     deletes = entered;
     changes = rows.changes;
+    removals = rows.removals;
     holders = rows.holders;
   }
 
@@ -152,7 +155,8 @@ module _ (rows : Rows) (entered : Deletes) (state : States) (d : List ℕ) (chan
   -- ---- what the tables mean
 
   same_taken : taken rows ≡ taken after
-  same_taken = arrived_same rows.facts.ordered rows.state state (λ y. sym (same_refs beside_count rows.state state is.kept y))
+  same_taken = arrived_same rows.facts.ordered rows.state state
+      (λ y. sym (same_refs beside_count rows.state state is.kept y))
 
   module _ (accepts : Accepts) where
     still_judged : IsJudged (taken rows) accepts [] rows.state → IsJudged (taken rows) accepts [] state
@@ -217,13 +221,15 @@ module _ (rows : Rows) (entered : Deletes) (state : States) (d : List ℕ) (chan
             once = can.once;
             apart = λ y h. refl;
             held = can.held;
+            removals = half.removals;
           }
 
 -- the same where the tables behind it are given
 module _ (rows new : Rows) (d : List ℕ) (changed : List (List ℕ))
     (is : IsEntered rows.facts.ordered rows.deletes new.deletes rows.state new.state d changed)
     (same_facts : new.facts ≡ rows.facts) (same_waiters : new.waiters ≡ rows.waiters)
-    (same_changes : new.changes ≡ rows.changes) (same_holders : new.holders ≡ rows.holders)
+    (same_changes : new.changes ≡ rows.changes) (same_removals : new.removals ≡ rows.removals)
+    (same_holders : new.holders ≡ rows.holders)
     (slice concerned more : List (List ℕ)) (all : slice ≡ changed)
     (told : more ≡ concerned ++ flat_map (concerned_by new.facts.ordered new.state) slice) where
   abbrev behind : Rows
@@ -236,6 +242,7 @@ module _ (rows new : Rows) (d : List ℕ) (changed : List (List ℕ))
     waiters = sym same_waiters i;
     deletes = new.deletes;
     changes = sym same_changes i;
+    removals = sym same_removals i;
     holders = sym same_holders i;
   }
 

@@ -1,5 +1,7 @@
 -- What the tables mean once one ref more was judged.
-use Rattle.std.proofs.Common.{◌≡◌, ℕ, ℤ, Bool, true, false, ◌&&◌, ◌||◌, not, cond, List, [], ◌∷◌, ◌++◌, map, Option, Some, None, option_and_then, is_some, refl, sym, ap, subst, ◌∙◌, ◌⊎◌, inl, inr, Result, Ok, Err, OnOk}
+use Rattle.std.proofs.Common.{◌≡◌, ℕ, ℤ, Bool, true, false, ◌&&◌, ◌||◌, not, cond, List, [], ◌∷◌, ◌++◌, map, Option}
+use Rattle.std.proofs.Common.{Some, None, option_and_then, is_some, refl, sym, ap, subst, ◌∙◌, ◌⊎◌, inl, inr, Result}
+use Rattle.std.proofs.Common.{Ok, Err, OnOk}
 use Rattle.std.proofs.lemmas.Bool.{and_parts, or_cases, false≢true}
 use Rattle.std.proofs.lemmas.List.Folds.{list_any-append}
 use Rattle.std.proofs.lemmas.Slice.Eq.{bytes_eq-Decides}
@@ -10,7 +12,8 @@ use Rattle.claim_verify.specs.Verifier.{Accepts}
 use Rattle.schema_fact.specs.declared.kinds.Fact.{Fact}
 use Rattle.schema_fact.specs.declared.kinds.What.TheVariants.{Set, Add, Del, Delete, Multi}
 use Rattle.schema_fact.specs.declared.kinds.Kind.{Kind}
-use Rattle.schema_fact.specs.declared.kinds.Kind.TheVariants.{Plain, Key, File, Bytes, Directory, StaticSet, Permanode, Claim, Unread}
+use Rattle.schema_fact.specs.declared.kinds.Kind.TheVariants.{Plain, Key, File, Bytes, Directory, StaticSet, Permanode}
+use Rattle.schema_fact.specs.declared.kinds.Kind.TheVariants.{Claim, Unread}
 use Rattle.claim_model.specs.Facts.{Facts, passes}
 use Rattle.claim_model.specs.Ready.{is_ready}
 use Rattle.claim_model.specs.Genuine.{is_signed, is_genuine}
@@ -21,6 +24,7 @@ use Rattle.index_rows.specs.declared.rows.Rows.{Rows}
 use Rattle.index_rows.specs.declared.rows.StateRow.{StateRow}
 use Rattle.index_rows.specs.Changes.{Changes}
 use Rattle.index_rows.specs.Once.{AreOnce}
+use Rattle.index_rows.specs.Removals.{AreRemovals, Removals}
 use Rattle.index_rows.specs.States.{States, says_genuine}
 use Rattle.index_rows.specs.Values.{IsListed}
 use Rattle.index_rows.specs.Waiting.{arrived}
@@ -87,7 +91,8 @@ not_delete t (Unread name) h = refl
 nothing_is_delete : judged.Nothing ≡ judged.Delete → ⊥
 nothing_is_delete e = cc e
 
-some_delete : (kind : Kind) → kind_judged kind ≡ judged.Delete → (target : List ℕ) × (date : ℤ) × (delete_date target kind ≡ Some date)
+some_delete : (kind : Kind) → kind_judged kind ≡ judged.Delete → (target : List ℕ) × (date : ℤ)
+    × (delete_date target kind ≡ Some date)
 some_delete Plain h = absurd (nothing_is_delete h)
 some_delete (Key name) h = absurd (nothing_is_delete h)
 some_delete (File name parts) h = absurd (nothing_is_delete h)
@@ -103,7 +108,8 @@ some_delete (Claim signed date (Delete target)) h = (target, date, ap (λ b. con
 some_delete (Unread name) h = absurd (nothing_is_delete h)
 
 -- neither a delete claim nor what is nothing concerns anyone
-concerns_none : (x : List ℕ) (kind : Kind) → (kind_judged kind ≡ judged.Nothing) ⊎ (kind_judged kind ≡ judged.Delete) → concerned_of x kind ≡ []
+concerns_none : (x : List ℕ) (kind : Kind) → (kind_judged kind ≡ judged.Nothing) ⊎ (kind_judged kind ≡ judged.Delete)
+    → concerned_of x kind ≡ []
 concerns_none x Plain h = refl
 concerns_none x (Key name) h = refl
 concerns_none x (File name parts) h = refl
@@ -112,19 +118,28 @@ concerns_none x (Directory name listing) h = refl
 concerns_none x (StaticSet members) h = refl
 concerns_none x (Permanode signed) (inl h) = let e : judged.Permanode ≡ judged.Nothing = h in absurd (cc e)
 concerns_none x (Permanode signed) (inr h) = let e : judged.Permanode ≡ judged.Delete = h in absurd (cc e)
-concerns_none x (Claim signed date (Set on attr value)) (inl h) = let e : judged.Changes ≡ judged.Nothing = h in absurd (cc e)
-concerns_none x (Claim signed date (Set on attr value)) (inr h) = let e : judged.Changes ≡ judged.Delete = h in absurd (cc e)
-concerns_none x (Claim signed date (Add on attr value)) (inl h) = let e : judged.Changes ≡ judged.Nothing = h in absurd (cc e)
-concerns_none x (Claim signed date (Add on attr value)) (inr h) = let e : judged.Changes ≡ judged.Delete = h in absurd (cc e)
-concerns_none x (Claim signed date (Del on attr value)) (inl h) = let e : judged.Changes ≡ judged.Nothing = h in absurd (cc e)
-concerns_none x (Claim signed date (Del on attr value)) (inr h) = let e : judged.Changes ≡ judged.Delete = h in absurd (cc e)
+concerns_none x (Claim signed date (Set on attr value)) (inl h) = let e : judged.Changes ≡ judged.Nothing = h in
+    absurd (cc e)
+concerns_none x (Claim signed date (Set on attr value)) (inr h) = let e : judged.Changes ≡ judged.Delete = h in absurd
+    (cc e)
+concerns_none x (Claim signed date (Add on attr value)) (inl h) = let e : judged.Changes ≡ judged.Nothing = h in
+    absurd (cc e)
+concerns_none x (Claim signed date (Add on attr value)) (inr h) = let e : judged.Changes ≡ judged.Delete = h in absurd
+    (cc e)
+concerns_none x (Claim signed date (Del on attr value)) (inl h) = let e : judged.Changes ≡ judged.Nothing = h in
+    absurd (cc e)
+concerns_none x (Claim signed date (Del on attr value)) (inr h) = let e : judged.Changes ≡ judged.Delete = h in absurd
+    (cc e)
 concerns_none x (Claim signed date (Delete target)) h = refl
-concerns_none x (Claim signed date (Multi changes)) (inl h) = let e : judged.Changes ≡ judged.Nothing = h in absurd (cc e)
-concerns_none x (Claim signed date (Multi changes)) (inr h) = let e : judged.Changes ≡ judged.Delete = h in absurd (cc e)
+concerns_none x (Claim signed date (Multi changes)) (inl h) = let e : judged.Changes ≡ judged.Nothing = h in absurd
+    (cc e)
+concerns_none x (Claim signed date (Multi changes)) (inr h) = let e : judged.Changes ≡ judged.Delete = h in absurd
+    (cc e)
 concerns_none x (Unread name) h = refl
 
 -- whom it concerns is added, where its row says that it is genuine
-kind_concerns_same : (state : States) (x : List ℕ) (o : Option Fact) → says_genuine state x ≡ true → fact_concerns state x o ≡ fact_concerned x o
+kind_concerns_same : (state : States) (x : List ℕ) (o : Option Fact) → says_genuine state x ≡ true
+    → fact_concerns state x o ≡ fact_concerned x o
 kind_concerns_same state x None h = refl
 kind_concerns_same state x (Some fact) h = by fact.kind
   where
@@ -141,8 +156,17 @@ kind_concerns_same state x (Some fact) h = by fact.kind
 
 -- ---- one step
 
-abbrev pub with_judged : Rows → States → Changes → Rows
-with_judged rows state changes = record { facts = rows.facts; state = state; waiters = rows.waiters; deletes = rows.deletes; changes = changes; holders = rows.holders }
+abbrev pub with_judged : Rows → States → Changes → Removals → Rows
+with_judged rows state changes removals = record {
+  facts = rows.facts;
+  state = state;
+  waiters = rows.waiters;
+  deletes
+      = rows.deletes;
+  changes = changes;
+  removals = removals;
+  holders = rows.holders;
+}
 
 module _ (accepts : Accepts) (rows : Rows) (x : List ℕ) (left deletes concerned : List (List ℕ))
     (h : IsHalfway accepts (x ∷ left) deletes concerned rows) (can : CanBeJudged (x ∷ left) rows) where
@@ -150,7 +174,8 @@ module _ (accepts : Accepts) (rows : Rows) (x : List ℕ) (left deletes concerne
   x_apart = new_apart (λ r. false) (x ∷ []) left can.once.1 x (or_left (bytes_eq x x) false (own x))
 
   left_once : AreOnce left
-  left_once = new_to_fewer (λ r. false) (λ r. false) (x ∷ []) [] left (λ y t. t) (λ y t. absurd (false≢true t)) can.once.1
+  left_once = new_to_fewer (λ r. false) (λ r. false) (x ∷ []) [] left (λ y t. t) (λ y t. absurd (false≢true t))
+      can.once.1
 
   x_ready : is_ready (taken rows) x ≡ true
   x_ready = can.ready x (or_left (bytes_eq x x) (list_any (bytes_eq x) left) (own x))
@@ -160,8 +185,10 @@ module _ (accepts : Accepts) (rows : Rows) (x : List ℕ) (left deletes concerne
     within = arrived_within rows.facts.ordered rows.state;
     ready = x_ready;
     known = λ y t. arrived_is_known rows.facts.ordered rows.state h.waiting.known y ∙ t;
-    before = has_all-implies (taken rows) (passes_or_in (was_judged rows (x ∷ left)) []) (λ d. not (list_any (bytes_eq d) (x ∷ left)))
-        (λ d t. (and_parts (is_ready (taken rows) d) (not (list_any (bytes_eq d) (x ∷ left))) (one (was_judged rows (x ∷ left) d) t)).1) x can.reached.0;
+    before = has_all-implies (taken rows) (passes_or_in (was_judged rows (x ∷ left)) [])
+        (λ d. not (list_any (bytes_eq d) (x ∷ left)))
+        (λ d t. (and_parts (is_ready (taken rows) d) (not (list_any (bytes_eq d) (x ∷ left)))
+        (one (was_judged rows (x ∷ left) d) t)).1) x can.reached.0;
     once = x_apart;
   }
     where
@@ -174,63 +201,85 @@ module _ (accepts : Accepts) (rows : Rows) (x : List ℕ) (left deletes concerne
     where
       by : (o : Option StateRow) → get rows.state x ≡ o → passes (λ (row : StateRow). row.genuine) o ≡ false
       by None is = refl
-      by (Some row) is = h.judged.genuine x row is ∙ none (is_genuine (taken rows) accepts x) (list_any (bytes_eq x) (x ∷ left)) (or_left (bytes_eq x x) _ (own x))
+      by (Some row) is = h.judged.genuine x row is ∙ none (is_genuine (taken rows) accepts x)
+          (list_any (bytes_eq x) (x ∷ left)) (or_left (bytes_eq x x) _ (own x))
         where
           none : (a b : Bool) → b ≡ true → (a && not b) ≡ false
           none true b t = ap not t
           none false b t = refl
 
   pub listed_now : IsListed rows.facts.ordered rows.state rows.changes
-  listed_now = rows_stay_listed (taken rows) rows.facts.ordered rows.state rows.state rows.changes (arrived_within rows.facts.ordered rows.state) (λ y t. t)
-      (rows_are_listed (taken rows) accepts (x ∷ left) rows.state rows.changes (arrived_is_known rows.facts.ordered rows.state h.waiting.known) h.judged h.changed)
+  listed_now = rows_stay_listed (taken rows) rows.facts.ordered rows.state rows.state rows.changes
+      (arrived_within rows.facts.ordered rows.state) (λ y t. t)
+      (rows_are_listed (taken rows) accepts (x ∷ left) rows.state rows.changes
+      (arrived_is_known rows.facts.ordered rows.state h.waiting.known) h.judged h.changed)
 
-  module _ (state : States) (changes : Changes) (marks : IsMarked rows.facts.ordered accepts rows.state state x) (puts : IsChanged rows.facts.ordered accepts rows.changes changes x)
-      (judged_now : IsJudged (taken rows) accepts left state) (changed_now : IsChangesOf (taken rows) accepts left changes) where
+  module _ (state : States) (changes : Changes) (removals : Removals)
+      (marks : IsMarked rows.facts.ordered accepts rows.state state x)
+      (puts : IsChanged rows.facts.ordered accepts rows.changes changes x)
+      (removed : AreRemovals rows.facts.ordered changes removals)
+      (judged_now : IsJudged (taken rows) accepts left state)
+      (changed_now : IsChangesOf (taken rows) accepts left changes) where
     keys : (y : List ℕ) → contains_key state y ≡ contains_key rows.state y
     keys = keys_stay rows.facts.ordered accepts rows.state state x marks
 
-    same : taken rows ≡ taken (with_judged rows state changes)
+    same : taken rows ≡ taken (with_judged rows state changes removals)
     same = sym (arrived_same rows.facts.ordered state rows.state keys)
 
     -- what is left can be judged next
-    pub can_go_on : CanBeJudged left (with_judged rows state changes)
+    pub can_go_on : CanBeJudged left (with_judged rows state changes removals)
     can_go_on = record {
-      ready = λ y t. ap (λ (at : Facts). is_ready at y) (sym same) ∙ can.ready y (or_right (bytes_eq y x) (list_any (bytes_eq y) left) t);
-      reached = subst (λ (at : Facts). AreReached at (λ y. is_ready at y && not (list_any (bytes_eq y) left)) [] left) same
-          (reached_from_more (taken rows) (was_judged rows (x ∷ left)) (was_judged rows left) (x ∷ []) [] left more can.reached.1);
+      ready = λ y t. ap (λ (at : Facts). is_ready at y) (sym same)
+          ∙ can.ready y (or_right (bytes_eq y x) (list_any (bytes_eq y) left) t);
+      reached = subst (λ (at : Facts). AreReached at (λ y. is_ready at y && not (list_any (bytes_eq y) left)) [] left)
+          same
+          (reached_from_more (taken rows) (was_judged rows (x ∷ left)) (was_judged rows left) (x ∷ []) [] left more
+          can.reached.1);
       once = left_once;
     }
       where
-        more : (y : List ℕ) → passes_or_in (was_judged rows (x ∷ left)) (x ∷ []) y ≡ true → passes_or_in (was_judged rows left) [] y ≡ true
-        more y t = or_left (was_judged rows left y) false (by (or_cases (was_judged rows (x ∷ left) y) (list_any (bytes_eq y) (x ∷ [])) t))
+        more : (y : List ℕ) → passes_or_in (was_judged rows (x ∷ left)) (x ∷ []) y ≡ true
+            → passes_or_in (was_judged rows left) [] y ≡ true
+        more y t = or_left (was_judged rows left y) false (by
+            (or_cases (was_judged rows (x ∷ left) y) (list_any (bytes_eq y) (x ∷ [])) t))
           where
-            by : (was_judged rows (x ∷ left) y ≡ true) ⊎ (list_any (bytes_eq y) (x ∷ []) ≡ true) → was_judged rows left y ≡ true
+            by : (was_judged rows (x ∷ left) y ≡ true) ⊎ (list_any (bytes_eq y) (x ∷ []) ≡ true)
+                → was_judged rows left y ≡ true
             by (inl a) =
                 let parts = and_parts (is_ready (taken rows) y) (not (list_any (bytes_eq y) (x ∷ left))) a in
                 λ i. parts.0 i && not_or (bytes_eq y x) (list_any (bytes_eq y) left) parts.1 i
-            by (inr b) = ap (was_judged rows left) ((bytes_eq-Decides y x).0 (sure (bytes_eq y x) b)) ∙ (λ i. x_ready i && not (x_apart i))
+            by (inr b) = ap (was_judged rows left) ((bytes_eq-Decides y x).0 (sure (bytes_eq y x) b))
+                ∙ (λ i. x_ready i && not (x_apart i))
               where
                 sure : (a : Bool) → (a || false) ≡ true → a ≡ true
                 sure true t = refl
                 sure false t = t
 
     -- whatever of the delete claims is left, and whoever is concerned
-    after : (deletes_now concerned_now : List (List ℕ)) → IsDeletesBut (left ++ deletes_now) (taken rows) accepts rows.deletes
+    after : (deletes_now concerned_now : List (List ℕ)) → IsDeletesBut (left ++ deletes_now) (taken rows) accepts
+        rows.deletes
         → ((d : List ℕ) → list_any (bytes_eq d) deletes_now ≡ true → IsGenuineDelete (taken rows) accepts d)
-        → AreOnce deletes_now → ((d : List ℕ) → list_any (bytes_eq d) deletes_now ≡ true → list_any (bytes_eq d) left ≡ false)
+        → AreOnce deletes_now → ((d : List ℕ) → list_any (bytes_eq d) deletes_now ≡ true
+        → list_any (bytes_eq d) left ≡ false)
         → ((q : List ℕ) → list_any (bytes_eq q) concerned ≡ true → list_any (bytes_eq q) concerned_now ≡ true)
-        → ((q : List ℕ) → is_signed_at rows.facts.ordered accepts x ≡ true → list_any (bytes_eq q) (fact_concerned x (get rows.facts.ordered x)) ≡ true → list_any (bytes_eq q) concerned_now ≡ true)
-        → IsHalfway accepts left deletes_now concerned_now (with_judged rows state changes)
+        → ((q : List ℕ) → is_signed_at rows.facts.ordered accepts x ≡ true
+        → list_any (bytes_eq q) (fact_concerned x (get rows.facts.ordered x)) ≡ true
+        → list_any (bytes_eq q) concerned_now ≡ true)
+        → IsHalfway accepts left deletes_now concerned_now (with_judged rows state changes removals)
     after deletes_now concerned_now but claims once apart wider covers = record {
-      waiting = waits_still rows.facts.ordered accepts rows.state state x marks rows.facts.ordered rows.waiters h.waiting;
-      counted = counts_still rows.facts.ordered accepts rows.state state x marks rows.facts.ordered rows.deletes h.counted;
+      waiting = waits_still rows.facts.ordered accepts rows.state state x marks rows.facts.ordered rows.waiters
+          h.waiting;
+      counted = counts_still rows.facts.ordered accepts rows.state state x marks rows.facts.ordered rows.deletes
+          h.counted;
       judged = subst (λ (at : Facts). IsJudged at accepts left state) same judged_now;
       changed = subst (λ (at : Facts). IsChangesOf at accepts left changes) same changed_now;
       deleted = subst (λ (at : Facts). IsDeletesBut (left ++ deletes_now) at accepts rows.deletes) same but;
       claims = λ d t. subst (λ (at : Facts). IsGenuineDelete at accepts d) same (claims d t);
       once = once;
       apart = apart;
-      held = held_once_judged rows.facts.ordered accepts rows.state state rows.changes changes x marks puts fresh concerned_now covers concerned rows.deletes rows.holders wider listed_now h.held;
+      held = held_once_judged rows.facts.ordered accepts rows.state state rows.changes changes x marks puts fresh
+          concerned_now covers concerned rows.deletes rows.holders wider listed_now h.held;
+      removals = removed;
     }
 
     still_apart : (d : List ℕ) → list_any (bytes_eq d) deletes ≡ true → list_any (bytes_eq d) left ≡ false
@@ -246,8 +295,11 @@ module _ (accepts : Accepts) (rows : Rows) (x : List ℕ) (left deletes concerne
     signed_same = signed_is (taken rows) rows.facts.ordered accepts rows.state left x can_judge
 
     -- it is judged by its kind where it is signed
-    by_kind : is_signed_at rows.facts.ordered accepts x ≡ true → judged_in rows.facts.ordered accepts x ≡ kind_judged held_fact.0.kind
-    by_kind t = ap (fact_judged rows.facts.ordered accepts) in_facts ∙ ap (λ b. cond b (kind_judged held_fact.0.kind) judged.Nothing) (sym (ap (passes (is_signed rows.facts.ordered accepts)) in_facts) ∙ t)
+    by_kind : is_signed_at rows.facts.ordered accepts x ≡ true
+        → judged_in rows.facts.ordered accepts x ≡ kind_judged held_fact.0.kind
+    by_kind t = ap (fact_judged rows.facts.ordered accepts) in_facts
+        ∙ ap (λ b. cond b (kind_judged held_fact.0.kind) judged.Nothing)
+        (sym (ap (passes (is_signed rows.facts.ordered accepts)) in_facts) ∙ t)
 
     concerned_here : fact_concerned x (get rows.facts.ordered x) ≡ concerned_of x held_fact.0.kind
     concerned_here = ap (fact_concerned x) in_facts
@@ -255,8 +307,10 @@ module _ (accepts : Accepts) (rows : Rows) (x : List ℕ) (left deletes concerne
     -- where it is no genuine delete claim, none is left more or less
     pub stays_as_it_is : (concerned_now : List (List ℕ)) → (judged_in rows.facts.ordered accepts x ≡ judged.Delete → ⊥)
         → ((q : List ℕ) → list_any (bytes_eq q) concerned ≡ true → list_any (bytes_eq q) concerned_now ≡ true)
-        → ((q : List ℕ) → is_signed_at rows.facts.ordered accepts x ≡ true → list_any (bytes_eq q) (fact_concerned x (get rows.facts.ordered x)) ≡ true → list_any (bytes_eq q) concerned_now ≡ true)
-        → IsHalfway accepts left deletes concerned_now (with_judged rows state changes)
+        → ((q : List ℕ) → is_signed_at rows.facts.ordered accepts x ≡ true
+        → list_any (bytes_eq q) (fact_concerned x (get rows.facts.ordered x)) ≡ true
+        → list_any (bytes_eq q) concerned_now ≡ true)
+        → IsHalfway accepts left deletes concerned_now (with_judged rows state changes removals)
     stays_as_it_is concerned_now never wider covers =
         after deletes concerned_now
         (fewer_are_left ((x ∷ left) ++ deletes) (left ++ deletes) (taken rows) accepts rows.deletes h.deleted
@@ -268,24 +322,31 @@ module _ (accepts : Accepts) (rows : Rows) (x : List ℕ) (left deletes concerne
         sure true b t f = refl
         sure false b t f = absurd (false≢true (sym f ∙ t))
 
-        no_date : (t : List ℕ) (b : Bool) → is_genuine (taken rows) accepts x ≡ b → cond b (option_and_then (λ (fact : Fact). delete_date t fact.kind) (get (taken rows) x)) None ≡ None
+        no_date : (t : List ℕ) (b : Bool) → is_genuine (taken rows) accepts x ≡ b
+            → cond b (option_and_then (λ (fact : Fact). delete_date t fact.kind) (get (taken rows) x)) None ≡ None
         no_date t true is = ap (option_and_then (λ (fact : Fact). delete_date t fact.kind)) held_fact.1
             ∙ not_delete t held_fact.0.kind (λ e. never (by_kind (signed_same ∙ is) ∙ e))
         no_date t false is = refl
 
         none : (t d : List ℕ) → bytes_eq d x ≡ true → genuine_delete (taken rows) accepts t d ≡ None
-        none t d e = ap (genuine_delete (taken rows) accepts t) ((bytes_eq-Decides d x).0 e) ∙ no_date t (is_genuine (taken rows) accepts x) refl
+        none t d e = ap (genuine_delete (taken rows) accepts t) ((bytes_eq-Decides d x).0 e)
+            ∙ no_date t (is_genuine (taken rows) accepts x) refl
 
-    pub nothing_more : judged_in rows.facts.ordered accepts x ≡ judged.Nothing → IsHalfway accepts left deletes concerned (with_judged rows state changes)
-    nothing_more is = stays_as_it_is concerned (λ e. nothing_is_delete (sym is ∙ e)) (λ q t. t) (λ q signed t. absurd (false≢true
-        (sym (ap (list_any (bytes_eq q)) (concerned_here ∙ concerns_none x held_fact.0.kind (inl (sym (by_kind signed) ∙ is)))) ∙ t)))
+    pub nothing_more : judged_in rows.facts.ordered accepts x ≡ judged.Nothing
+        → IsHalfway accepts left deletes concerned (with_judged rows state changes removals)
+    nothing_more is = stays_as_it_is concerned (λ e. nothing_is_delete (sym is ∙ e)) (λ q t. t)
+        (λ q signed t. absurd (false≢true
+        (sym (ap (list_any (bytes_eq q)) (concerned_here ∙ concerns_none x held_fact.0.kind
+        (inl (sym (by_kind signed) ∙ is)))) ∙ t)))
 
     pub concerns_more : (judged_in rows.facts.ordered accepts x ≡ judged.Delete → ⊥)
-        → IsHalfway accepts left deletes (concerned ++ concerned_by rows.facts.ordered state x) (with_judged rows state changes)
+        → IsHalfway accepts left deletes (concerned ++ concerned_by rows.facts.ordered state x)
+        (with_judged rows state changes removals)
     concerns_more never = stays_as_it_is (concerned ++ concerned_by rows.facts.ordered state x) never
         (λ q t. list_any-append (bytes_eq q) concerned _ ∙ or_left (list_any (bytes_eq q) concerned) _ t)
         (λ q signed t. list_any-append (bytes_eq q) concerned _
-        ∙ or_right (list_any (bytes_eq q) concerned) _ (ap (list_any (bytes_eq q)) (kind_concerns_same state x (get rows.facts.ordered x) (genuine_now signed)) ∙ t))
+        ∙ or_right (list_any (bytes_eq q) concerned) _ (ap (list_any (bytes_eq q))
+        (kind_concerns_same state x (get rows.facts.ordered x) (genuine_now signed)) ∙ t))
       where
         genuine_now : is_signed_at rows.facts.ordered accepts x ≡ true → says_genuine state x ≡ true
         genuine_now signed = by (get state x) refl
@@ -298,16 +359,22 @@ module _ (accepts : Accepts) (rows : Rows) (x : List ℕ) (left deletes concerne
             by (Some row) is = judged_now.genuine x row is ∙ (λ i. (sym signed_same ∙ signed) i && not (x_apart i))
 
     -- a genuine delete claim joins those that are left to be entered
-    pub delete_more : judged_in rows.facts.ordered accepts x ≡ judged.Delete → IsHalfway accepts left (deletes ++ x ∷ []) concerned (with_judged rows state changes)
+    pub delete_more : judged_in rows.facts.ordered accepts x ≡ judged.Delete
+        → IsHalfway accepts left (deletes ++ x ∷ []) concerned (with_judged rows state changes removals)
     delete_more is =
         after (deletes ++ x ∷ []) concerned
-        (fewer_are_left ((x ∷ left) ++ deletes) (left ++ (deletes ++ x ∷ [])) (taken rows) accepts rows.deletes h.deleted
+        (fewer_are_left ((x ∷ left) ++ deletes) (left ++ (deletes ++ x ∷ [])) (taken rows) accepts rows.deletes
+        h.deleted
         (λ d t. sym (moved d) ∙ t) (λ t d there out. absurd (false≢true (sym out ∙ (moved d ∙ there)))))
-        (λ d t. by d (or_cases (list_any (bytes_eq d) deletes) (list_any (bytes_eq d) (x ∷ [])) (sym (list_any-append (bytes_eq d) deletes (x ∷ [])) ∙ t)))
-        (new-push (λ r. false) [] deletes x h.once (not_true (list_any (bytes_eq x) deletes) (λ t. false≢true (sym (h.apart x t) ∙ or_left (bytes_eq x x) _ (own x)))))
-        (λ d t. apart d (or_cases (list_any (bytes_eq d) deletes) (list_any (bytes_eq d) (x ∷ [])) (sym (list_any-append (bytes_eq d) deletes (x ∷ [])) ∙ t)))
+        (λ d t. by d (or_cases (list_any (bytes_eq d) deletes) (list_any (bytes_eq d) (x ∷ []))
+        (sym (list_any-append (bytes_eq d) deletes (x ∷ [])) ∙ t)))
+        (new-push (λ r. false) [] deletes x h.once (not_true (list_any (bytes_eq x) deletes)
+        (λ t. false≢true (sym (h.apart x t) ∙ or_left (bytes_eq x x) _ (own x)))))
+        (λ d t. apart d (or_cases (list_any (bytes_eq d) deletes) (list_any (bytes_eq d) (x ∷ []))
+        (sym (list_any-append (bytes_eq d) deletes (x ∷ [])) ∙ t)))
         (λ q t. t)
-        (λ q signed t. absurd (false≢true (sym (ap (list_any (bytes_eq q)) (concerned_here ∙ concerns_none x held_fact.0.kind (inr (sym (by_kind signed) ∙ is)))) ∙ t)))
+        (λ q signed t. absurd (false≢true (sym (ap (list_any (bytes_eq q))
+        (concerned_here ∙ concerns_none x held_fact.0.kind (inr (sym (by_kind signed) ∙ is)))) ∙ t)))
       where
         sure : (a : Bool) → (a || false) ≡ true → a ≡ true
         sure true t = refl
@@ -322,18 +389,23 @@ module _ (accepts : Accepts) (rows : Rows) (x : List ℕ) (left deletes concerne
         turned false false true = refl
         turned false false false = refl
 
-        moved : (d : List ℕ) → list_any (bytes_eq d) (left ++ (deletes ++ x ∷ [])) ≡ list_any (bytes_eq d) ((x ∷ left) ++ deletes)
+        moved : (d : List ℕ) → list_any (bytes_eq d) (left ++ (deletes ++ x ∷ [])) ≡ list_any (bytes_eq d)
+            ((x ∷ left) ++ deletes)
         moved d =
-            list_any-append (bytes_eq d) left (deletes ++ x ∷ []) ∙ ap (λ b. list_any (bytes_eq d) left || b) (list_any-append (bytes_eq d) deletes (x ∷ []))
-            ∙ turned (bytes_eq d x) (list_any (bytes_eq d) left) (list_any (bytes_eq d) deletes) ∙ ap (λ b. bytes_eq d x || b) (sym (list_any-append (bytes_eq d) left deletes))
+            list_any-append (bytes_eq d) left (deletes ++ x ∷ [])
+            ∙ ap (λ b. list_any (bytes_eq d) left || b) (list_any-append (bytes_eq d) deletes (x ∷ []))
+            ∙ turned (bytes_eq d x) (list_any (bytes_eq d) left) (list_any (bytes_eq d) deletes)
+            ∙ ap (λ b. bytes_eq d x || b) (sym (list_any-append (bytes_eq d) left deletes))
 
         signed_true : is_signed_at rows.facts.ordered accepts x ≡ true
         signed_true = from (passes (is_signed rows.facts.ordered accepts) (get rows.facts.ordered x)) refl
           where
-            from : (b : Bool) → passes (is_signed rows.facts.ordered accepts) (get rows.facts.ordered x) ≡ b → is_signed_at rows.facts.ordered accepts x ≡ true
+            from : (b : Bool) → passes (is_signed rows.facts.ordered accepts) (get rows.facts.ordered x) ≡ b
+                → is_signed_at rows.facts.ordered accepts x ≡ true
             from true e = e
             from false e = absurd (nothing_is_delete (sym (ap (fact_judged rows.facts.ordered accepts) in_facts
-                ∙ ap (λ b. cond b (kind_judged held_fact.0.kind) judged.Nothing) (sym (ap (passes (is_signed rows.facts.ordered accepts)) in_facts) ∙ e)) ∙ is))
+                ∙ ap (λ b. cond b (kind_judged held_fact.0.kind) judged.Nothing)
+                (sym (ap (passes (is_signed rows.facts.ordered accepts)) in_facts) ∙ e)) ∙ is))
 
         this_one : IsGenuineDelete (taken rows) accepts x
         this_one =
@@ -341,23 +413,38 @@ module _ (accepts : Accepts) (rows : Rows) (x : List ℕ) (left deletes concerne
             record {
               target = found.0;
               date = found.1;
-              says = ap (λ b. cond b (option_and_then (λ (fact : Fact). delete_date found.0 fact.kind) (get (taken rows) x)) None) (sym signed_same ∙ signed_true)
+              says = ap (λ b. cond b (option_and_then (λ (fact : Fact). delete_date found.0 fact.kind)
+                  (get (taken rows) x)) None) (sym signed_same ∙ signed_true)
                   ∙ ap (option_and_then (λ (fact : Fact). delete_date found.0 fact.kind)) held_fact.1 ∙ found.2;
             }
 
-        by : (d : List ℕ) → (list_any (bytes_eq d) deletes ≡ true) ⊎ (list_any (bytes_eq d) (x ∷ []) ≡ true) → IsGenuineDelete (taken rows) accepts d
+        by : (d : List ℕ) → (list_any (bytes_eq d) deletes ≡ true) ⊎ (list_any (bytes_eq d) (x ∷ []) ≡ true)
+            → IsGenuineDelete (taken rows) accepts d
         by d (inl a) = h.claims d a
-        by d (inr b) = subst (IsGenuineDelete (taken rows) accepts) (sym ((bytes_eq-Decides d x).0 (sure (bytes_eq d x) b))) this_one
+        by d (inr b) = subst (IsGenuineDelete (taken rows) accepts)
+            (sym ((bytes_eq-Decides d x).0 (sure (bytes_eq d x) b))) this_one
 
-        apart : (d : List ℕ) → (list_any (bytes_eq d) deletes ≡ true) ⊎ (list_any (bytes_eq d) (x ∷ []) ≡ true) → list_any (bytes_eq d) left ≡ false
+        apart : (d : List ℕ) → (list_any (bytes_eq d) deletes ≡ true) ⊎ (list_any (bytes_eq d) (x ∷ []) ≡ true)
+            → list_any (bytes_eq d) left ≡ false
         apart d (inl a) = still_apart d a
-        apart d (inr b) = ap (λ z. list_any (bytes_eq z) left) ((bytes_eq-Decides d x).0 (sure (bytes_eq d x) b)) ∙ x_apart
+        apart d (inr b) = ap (λ z. list_any (bytes_eq z) left) ((bytes_eq-Decides d x).0 (sure (bytes_eq d x) b))
+            ∙ x_apart
 
 -- where nothing but these two tables changed
-pub judged_is : (rows new : Rows) → new.facts ≡ rows.facts → new.waiters ≡ rows.waiters → new.deletes ≡ rows.deletes → new.holders ≡ rows.holders
-    → with_judged rows new.state new.changes ≡ new
+pub judged_is : (rows new : Rows) → new.facts ≡ rows.facts → new.waiters ≡ rows.waiters → new.deletes ≡ rows.deletes
+    → new.holders ≡ rows.holders
+    → with_judged rows new.state new.changes new.removals ≡ new
 judged_is rows new facts waiters deletes holders = λ i.
-    record { facts = sym facts i; state = new.state; waiters = sym waiters i; deletes = sym deletes i; changes = new.changes; holders = sym holders i }
+    record {
+      facts = sym facts i;
+      state = new.state;
+      waiters = sym waiters i;
+      deletes = sym deletes i;
+      changes =
+          new.changes;
+      removals = new.removals;
+      holders = sym holders i;
+    }
 
 -- a permanode or attribute claim is no delete claim
 pub others_are_no_delete : {j : Judged} → (j ≡ judged.Permanode) ⊎ (j ≡ judged.Changes) → j ≡ judged.Delete → ⊥

@@ -16,6 +16,7 @@ with_holders rows holders = record {
   waiters = rows.waiters;
   deletes = rows.deletes;
   changes = rows.changes;
+  removals = rows.removals;
   holders = holders;
 }
 
@@ -26,9 +27,10 @@ pub record IsSameBeside (rows new : Rows) : Type 0 where
   pub waiters : new.waiters ≡ rows.waiters
   pub deletes : new.deletes ≡ rows.deletes
   pub changes : new.changes ≡ rows.changes
+  pub removals : new.removals ≡ rows.removals
 
 pub same-refl : (rows : Rows) → IsSameBeside rows rows
-same-refl rows = record { facts = refl; state = refl; waiters = refl; deletes = refl; changes = refl }
+same-refl rows = record { facts = refl; state = refl; waiters = refl; deletes = refl; changes = refl; removals = refl }
 
 pub same-trans : (rows mid new : Rows) → IsSameBeside rows mid → IsSameBeside mid new → IsSameBeside rows new
 same-trans rows mid new a b = record {
@@ -37,6 +39,7 @@ same-trans rows mid new a b = record {
   waiters = b.waiters ∙ a.waiters;
   deletes = b.deletes ∙ a.deletes;
   changes = b.changes ∙ a.changes;
+  removals = b.removals ∙ a.removals;
 }
 
 -- the rows of holders are right but for these permanodes
@@ -51,6 +54,7 @@ module _ (rows new : Rows) (same : IsSameBeside rows new) where
     waiters = sym same.waiters i;
     deletes = sym same.deletes i;
     changes = sym same.changes i;
+    removals = sym same.removals i;
     holders = new.holders;
   }
 
@@ -89,6 +93,7 @@ module _ (rows new : Rows) (same : IsSameBeside rows new) where
         once = half.once;
         apart = half.apart;
         held = held_before [] held;
+        removals = half.removals;
       })
 
 -- which permanodes may be wrong is told by the refs of a list, whatever their order

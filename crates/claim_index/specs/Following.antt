@@ -1,4 +1,4 @@
--- What one claim more does to the rows of the permanode that it changes.
+-- The effect of one more claim on the rows of the permanode that it changes.
 use Rattle.std.specs.Prelude.{◌≡◌, ◌≤◌, ℕ, ℤ, true, List, length, [], ◌∷◌, ◌++◌, Option, Some, None, option_and_then}
 use Rattle.std.specs.List.{list_any}
 use Rattle.std.specs.Str.{bytes_eq}
@@ -6,7 +6,8 @@ use Rattle.std.specs.FinMap.{get, contains_key}
 use Rattle.schema_fact.specs.Changes.{changes_of}
 use Rattle.schema_fact.specs.declared.changes.Change.{Change}
 use Rattle.schema_fact.specs.declared.kinds.Kind.{Kind}
-use Rattle.schema_fact.specs.declared.kinds.Kind.TheVariants.{Plain, Key, File, Bytes, Directory, StaticSet, Permanode, Claim, Unread}
+use Rattle.schema_fact.specs.declared.kinds.Kind.TheVariants.{Plain, Key, File, Bytes, Directory, StaticSet, Permanode}
+use Rattle.schema_fact.specs.declared.kinds.Kind.TheVariants.{Claim, Unread}
 use Rattle.claim_verify.specs.Verifier.{Accepts}
 use Rattle.claim_model.specs.Facts.{Facts}
 use Rattle.claim_model.specs.Claims.{Moment}
@@ -14,13 +15,14 @@ use Rattle.index_rows.specs.declared.rows.Rows.{Rows}
 use Rattle.index_rows.specs.Changes.{Changes, changes_after}
 use Rattle.index_rows.specs.Counted.{IsCounted}
 use Rattle.index_rows.specs.Holders.{Holders, IsHeldBut}
+use Rattle.index_rows.specs.Removals.{AreRemovals}
 use Rattle.index_rows.specs.Values.{IsListed}
 use Rattle.index_meaning.specs.Touching.{concerned_by}
 use Rattle.index_rows.specs.Touched.{changed_by}
 use Rattle.attr_fold.specs.Following.{IsOneMore}
 use Rattle.claim_index.specs.Costs.{change_count}
 
--- where a claim has one change alone: the permanode that this is on, and its moment
+-- if a claim has only one change: the permanode that it is on, and its moment
 abbrev pub only_change : List ℕ → ℤ → List Change → Option (List ℕ × Moment)
 only_change x date [] = None
 only_change x date (c ∷ []) = Some (c.on, (date, x, 0))
@@ -40,11 +42,14 @@ kind_change x (Unread name) = None
 abbrev pub change_by : Facts → List ℕ → Option (List ℕ × Moment)
 change_by facts x = option_and_then (λ fact. kind_change x fact.kind) (get facts x)
 
--- the counts are right, each row of a change is that of a change, and the change of x has its row
+-- the counts are right, each row of a change is that of a change, those that may take values away are listed, and the
+-- change of x has its row
 pub record CanBeFollowed (rows : Rows) (x : List ℕ) : Type 0 where
   pub counted : IsCounted rows.facts.ordered rows.deletes rows.state
   pub listed : IsListed rows.facts.ordered rows.state rows.changes
-  pub there : (p : List ℕ) (k : Moment) → change_by rows.facts.ordered x ≡ Some (p, k) → contains_key rows.changes (p, k) ≡ true
+  pub removals : AreRemovals rows.facts.ordered rows.changes rows.removals
+  pub there : (p : List ℕ) (k : Moment) → change_by rows.facts.ordered x ≡ Some (p, k)
+      → contains_key rows.changes (p, k) ≡ true
 
 -- rows that were right without the change of x are right with it
 pub record IsFollowed (rows : Rows) (holders : Holders) (x : List ℕ) : Type 0 where
@@ -55,24 +60,26 @@ pub record IsFollowed (rows : Rows) (holders : Holders) (x : List ℕ) : Type 0 
       → IsHeldBut but rows.facts.ordered rows.state rows.deletes before rows.holders
       → IsHeldBut but rows.facts.ordered rows.state rows.deletes rows.changes holders
 
--- whom x changes was added to the list, and nothing was written
+-- the permanodes that x changes were added to the list, and nothing was written
 pub record IsLeft (rows : Rows) (holders : Holders) (x : List ℕ) (before concerned : List (List ℕ)) : Type 0 where
   pub added : concerned ≡ before ++ concerned_by rows.facts.ordered rows.state x
   pub same : holders ≡ rows.holders
 
--- the one or the other
+-- either of the two
 pub data IsTaken (rows : Rows) (holders : Holders) (x : List ℕ) (before concerned : List (List ℕ)) : Type 0 where
   written : IsFollowed rows holders x → concerned ≡ before → IsTaken rows holders x before concerned
   left : IsLeft rows holders x before concerned → IsTaken rows holders x before concerned
 
--- n is at least the number of the changes of whom x changes
+-- n is at least the number of changes of the permanode that x changes
 abbrev pub IsNumbered : Facts → Changes → List ℕ → ℕ → Type 0
-IsNumbered facts changes x n = (p : List ℕ) (k : Moment) → change_by facts x ≡ Some (p, k) → length (changes_after changes p None) ≤ n
+IsNumbered facts changes x n = (p : List ℕ) (k : Moment) → change_by facts x ≡ Some (p, k)
+    → length (changes_after changes p None) ≤ n
 
 -- each ref that x changes has at most so many changes by genuine claims
 abbrev pub AreFew : Facts → Accepts → List ℕ → ℕ → Type 0
-AreFew facts accepts x n = (p : List ℕ) → list_any (bytes_eq p) (changed_by facts x) ≡ true → change_count facts accepts p ≤ n
+AreFew facts accepts x n = (p : List ℕ) → list_any (bytes_eq p) (changed_by facts x) ≡ true
+    → change_count facts accepts p ≤ n
 
--- and so for each of these claims
+-- the same for each of these claims
 abbrev pub AreFewOn : Facts → Accepts → List (List ℕ) → ℕ → Type 0
 AreFewOn facts accepts xs n = (x : List ℕ) → list_any (bytes_eq x) xs ≡ true → AreFew facts accepts x n

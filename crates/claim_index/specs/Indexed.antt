@@ -10,7 +10,7 @@ use Rattle.schema_fact.specs.contracts.kinds.Fact as fact
 use Rattle.claim_model.specs.Facts.{Entry, Facts}
 use Rattle.claim_index.specs.Numbers.{NumberSet}
 
--- the facts that were inserted, under which numbers, the keys, and whether the other tables are of no use
+-- the facts that were inserted, their numbers, the keys, and whether the other tables can't be used
 pub record Indexed (V : Type 0) : Type 0 where
   pub facts : Facts
   pub numbers : NumberSet
@@ -24,7 +24,7 @@ indexed_code {V} keys =
     (λ a. ((a.facts, a.numbers), (a.keys, a.stale)))
     (λ p. record { facts = p.0.0; numbers = p.0.1; keys = p.1.0; stale = p.1.1 }) (λ a i. a)
 
--- the facts and the numbers are as they were
+-- the facts and the numbers are unchanged
 pub record IsSame {V : Type 0} (old new : Indexed V) : Type 0 where
   pub facts : new.facts ≡ old.facts
   pub numbers : new.numbers ≡ old.numbers
@@ -35,12 +35,12 @@ pub record IsPut {V : Type 0} (old new : Indexed V) (number : ℕ) (r : List ℕ
   pub facts : new.facts ≡ insert old.facts r fact
   pub numbers : new.numbers ≡ insert old.numbers number tt
 
--- what an insert leaves, by its answer
+-- the index after an insert, by its result
 abbrev pub Inserts : {V : Type 0} → Indexed V → Indexed V → ℕ → List ℕ → Fact → Inserted → Type 0
 Inserts old new number r fact New = IsPut old new number r fact
 Inserts old new number r fact Already = IsSame old new × (contains_key old.numbers number ≡ true)
 
--- facts, with those of a list put among them: of those under the same ref the first one stands
+-- facts, with those of a list put among them: of those under the same ref the first one is kept
 abbrev pub with_all : Facts → List Entry → Facts
 with_all facts [] = facts
 with_all facts (e ∷ es) = insert (with_all facts es) e.0 e.1

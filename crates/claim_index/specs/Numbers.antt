@@ -1,4 +1,4 @@
--- Sets of numbers, as masks tell them: each mask says which of 64 numbers that follow one another are there.
+-- Sets of numbers, as masks: each mask says which of 64 consecutive numbers are there.
 use Rattle.std.specs.Prelude.{ℕ, ◌+◌, ◌*◌, ◌/◌, ◌==◌, ◌&&◌, Bool, List, [], ◌∷◌, map, filter, nat_lt}
 use Rattle.std.specs.List.{flat_map, range_with_len}
 use Rattle.std.specs.Int.{bit_at}

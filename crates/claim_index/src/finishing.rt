@@ -1,4 +1,4 @@
-//! What is left once refs were judged: delete claims are entered, and permanodes looked at again.
+//! The work that is left after refs were judged: delete claims are entered, and permanodes looked at again.
 ghost use Rattle.std.specs.Prelude.{◌≡◌, ◌≤◌, ◌+◌, ◌*◌, ◌∷◌, ◌++◌, [], ℕ, List, length, OnOk};
 ghost use Rattle.std.specs.List.{flat_map, sum_by};
 ghost use Rattle.std.specs.FinMap.{contains_key};
@@ -20,7 +20,7 @@ use index_rows::Rows;
 use std::alloc::Global;
 use std::sync::ledger::Ledger;
 
-// Does what is left. Where there is no memory the facts are as they were, and the other tables may be anything.
+// Does the work that is left. If there is no memory, the facts are unchanged and the other tables may be anything.
 pub(crate) fn finish<L: Ledger>(
     alloc: Global,
     rows: &mut Rows,
@@ -73,7 +73,7 @@ fn enter_all<L: Ledger>(
     Ok(())
 }
 
-// Enters a delete claim, and adds to the list whom it concerns.
+// Enters a delete claim, and appends the permanodes that it concerns to the list.
 fn enter_one<L: Ledger>(
     alloc: Global,
     rows: &mut Rows,
@@ -101,7 +101,7 @@ fn enter_one<L: Ledger>(
     concern_all(rows, changed.as_slice(), concerned, steps)
 }
 
-// Adds to the list whom these concern.
+// Appends the permanodes that these refs concern to the list.
 fn concern_all<L: Ledger>(
     rows: &Rows,
     changed: &[Ref],

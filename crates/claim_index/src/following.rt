@@ -1,7 +1,8 @@
-//! What is done about a change that has its row: the rows of its values are written at once where that is enough.
+//! How a change that has its row is taken up: the rows of its values are written at once, if that is enough.
 ghost use Rattle.std.specs.Prelude.{◌≡◌, ◌≤◌, ◌+◌, ◌*◌, ℕ, OnOk, IfOk, false, true};
 ghost use Rattle.schema_fact.specs.Changes.{changes_of};
-ghost use Rattle.claim_index.specs.Following.{change_by, kind_change, only_change, CanBeFollowed, IsFollowed, IsNumbered, IsTaken};
+ghost use Rattle.claim_index.specs.Following.{change_by, kind_change, only_change, CanBeFollowed, IsFollowed};
+ghost use Rattle.claim_index.specs.Following.{IsNumbered, IsTaken};
 
 use crate::touching::concern;
 use attr_fold::follow;
@@ -13,8 +14,8 @@ use schema_fact::{Kind, What};
 use std::alloc::Global;
 use std::sync::ledger::Ledger;
 
-// Adds the permanodes that the claim x changes to the list. Where x alone became ready, what its change does is written
-// at once instead, if that is enough.
+// Appends the permanodes that the claim x changes to the list. If only x became ready, the effect of its change is
+// written at once instead, if that is enough.
 pub(crate) fn take_changes<L: Ledger>(
     alloc: Global,
     rows: &mut Rows,
@@ -29,6 +30,7 @@ pub(crate) fn take_changes<L: Ledger>(
     ensures waiters { rows.new.waiters ≡ rows.old.waiters }
     ensures deletes { rows.new.deletes ≡ rows.old.deletes }
     ensures changes { rows.new.changes ≡ rows.old.changes }
+    ensures removals { rows.new.removals ≡ rows.old.removals }
     ensures taken { OnOk result (IsTaken rows.old rows.new.holders x.now concerned.old concerned.new) }
     ensures ticks { alone ≡ false → steps.new ≤ steps.old + 2 }
     ensures more_ticks { (n : ℕ) → IsNumbered rows.old.facts.ordered rows.old.changes x.now n
@@ -43,7 +45,7 @@ pub(crate) fn take_changes<L: Ledger>(
     concern(rows, x, concerned, steps)
 }
 
-// Writes what the change of the claim x does, if it has one change alone, and that can be told by itself.
+// Writes the effect of the change of the claim x, if it has only one and its effect can be found without a fold.
 fn follow_claim<L: Ledger>(
     alloc: Global,
     rows: &mut Rows,
@@ -56,6 +58,7 @@ fn follow_claim<L: Ledger>(
     ensures waiters { rows.new.waiters ≡ rows.old.waiters }
     ensures deletes { rows.new.deletes ≡ rows.old.deletes }
     ensures changes { rows.new.changes ≡ rows.old.changes }
+    ensures removals { rows.new.removals ≡ rows.old.removals }
     ensures followed { IfOk result (λ done. done ≡ true → IsFollowed rows.old rows.new.holders x.now) }
     ensures left { IfOk result (λ done. done ≡ false → rows.new.holders ≡ rows.old.holders) }
     ensures ticks { (n : ℕ) → IsNumbered rows.old.facts.ordered rows.old.changes x.now n
@@ -67,7 +70,7 @@ fn follow_claim<L: Ledger>(
     follow(alloc, rows, &change.0, &change.1, steps)
 }
 
-// The permanode that the claim x changes, and the moment of that, where it has one change alone.
+// The permanode that the claim x changes, and the moment of the change, if x has only one.
 fn change_by<L: Ledger>(
     facts: &OrderedFacts,
     x: &Ref,

@@ -9,7 +9,8 @@ use index_rows::OrderedFacts;
 use schema_fact::Fact;
 use std::sync::ledger::Ledger;
 
-// Whether the fact is a permanode or a claim that the key it names accepts. A ready one is genuine then. One look-up.
+// Whether the fact is a permanode or a claim that the key it names accepts. If so and if it is ready, it is genuine.
+// One look-up.
 pub(crate) fn is_signed<V: Verifier, L: Ledger>(
     facts: &OrderedFacts,
     keys: &V,

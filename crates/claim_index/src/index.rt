@@ -24,15 +24,15 @@ use std::sync::ledger::Ledger;
 pub type FactList = ListOf<(Ref, Fact)>;
 
 /// An index of facts that come as a list or one by one, in any order. A contract sees the facts under their refs, the
-/// numbers under which they came, the keys, and whether the index is stale: its other tables are then of no use, after
-/// a want of memory, and it answers from the facts alone.
+/// numbers under which they came, the keys, and whether the index is stale. If it is, memory was short: its other
+/// tables can't be used, and it answers from the facts alone.
 #[derive(Drop)]
 pub struct Index<V: Verifier> {
     alloc: Global,
     rows: Rows,
-    // Those of the facts that are in order.
+    // The numbers of the facts that are in order.
     numbers: Numbers,
-    // How many numbers stand, those of the loose rows among them.
+    // How many numbers there are, including those of the loose rows.
     count: u64,
     keys: V,
     stale: bool,
@@ -83,14 +83,14 @@ impl<V: Verifier> Index<V> {
         }
     }
 
-    /// An index of a list of facts, which are taken up all at once. Each stands under the number of its place in the
-    /// list, counted from 0. Of facts under the same ref the first one stands. It isn't stale. It keeps the allocator,
-    /// and takes all its memory from it.
+    /// An index of a list of facts, which are taken up all at once. The number of each is its place in the list,
+    /// counted from 0. Of facts under the same ref the first one is kept. It isn't stale. It keeps the allocator, and
+    /// takes all its memory from it.
     ///
-    /// `NoMemory` comes only where no memory is left. There is then no index, and the facts and the keys are dropped.
+    /// `NoMemory` comes only if no memory is left. There is then no index, and the facts and the keys are dropped.
     ///
-    /// It puts each fact, asks the keys once for each permanode and claim that is ready, and looks at the changes of
-    /// each permanode once. All told it takes time in n log n for n rows in the tables.
+    /// It puts each fact, verifies each permanode and claim that is ready once, and looks at the changes of each
+    /// permanode once. In all it takes time in n log n for n rows in the tables.
     pub fn of<L: Ledger>(
         alloc: Global,
         facts: FactList,
@@ -121,19 +121,20 @@ impl<V: Verifier> Index<V> {
         })
     }
 
-    /// Puts a fact under a number and a ref, and takes it up. `Already` comes exactly where the number stood in the
-    /// index; then nothing is put. After both the index isn't stale: where it was, the tables are made anew of all
-    /// facts. A ref must stand under one number alone.
+    /// Puts a fact under a number and a ref, and takes it up. `Already` comes exactly if the index had the number;
+    /// then nothing is put. After both the index isn't stale: if it was, the tables are made again from all facts. A
+    /// ref must have one number only.
     ///
-    /// `NoMemory` comes only where no memory is left. The facts and the numbers are then as they were, and the index
-    /// may be stale. It answers by the facts all the same, and the next insert makes the tables anew.
+    /// `NoMemory` comes only if no memory is left. The facts and the numbers are then unchanged, and the index may be
+    /// stale. It still answers from the facts, and the next insert makes the tables again.
     ///
-    /// It looks at what waited for the ref, at what became ready and the delete claims that this concerns, and at the
-    /// changes of each permanode that is concerned, once each. Where a claim of one change is all that becomes ready,
-    /// and comes behind all others on its permanode, it looks at no more than the changes since the attribute was last
-    /// set or emptied, and at none of them for an addition or the removal of one value.
+    /// It looks at the refs that waited for this one, at those that became ready and the delete claims that this
+    /// concerns, and at the changes of each permanode that is concerned, once each. If only a claim of one change
+    /// becomes ready, it looks at less. For an addition it looks at no more than the later changes that may take its
+    /// value away. For another change, if it is the last one on its permanode, it looks at no more than those since its
+    /// attribute was last set or emptied.
     ///
-    /// Where the index isn't stale it takes at most 16 (1 + n) steps, whatever it answers, for n entries of `touched`
+    /// If the index isn't stale, it takes at most 16 (1 + n) steps, whatever it returns, for n entries of `touched`
     /// in `index_rows/specs/Touched.antt`.
     pub fn insert<L: Ledger>(
         &mut self,
@@ -177,15 +178,15 @@ impl<V: Verifier> Index<V> {
         Ok(Inserted::New)
     }
 
-    /// Puts a fact that brought its memory, and takes it up, so it can't be refused. Nothing is put where its number
-    /// stood in the index. Where the index was stale, the tables are made anew of all facts. A ref must stand under one
-    /// number alone, and with the new one fewer than 2^63 numbers must stand in the index.
+    /// Puts a fact whose memory was taken before, and takes it up, so it can't be refused. Nothing is put if the index
+    /// had its number. If the index was stale, the tables are made again from all facts. A ref must have one number
+    /// only, and with the new one the index must have fewer than 2^63 numbers.
     ///
-    /// Afterwards the index may be stale only where no memory is left for its tables. It answers by the facts all the
-    /// same, and the next insert or place makes the tables anew.
+    /// Afterwards the index may be stale only if no memory is left for its tables. It still answers from the facts, and
+    /// the next insert or place makes the tables again.
     ///
-    /// It does what `insert` does, and moves a row. Where the index isn't stale it takes at most as many steps, 16 (1 +
-    /// n).
+    /// It does what `insert` does, and moves a row. If the index isn't stale, it takes at most as many steps: 16
+    /// (1 + n).
     pub fn place<L: Ledger>(&mut self, made: Made, steps: &mut Steps<L>)
         requires valid { IsValid made.2 }
         requires alone { finite.contains_key self.old.numbers made.0 ≡ false
@@ -220,7 +221,7 @@ impl<V: Verifier> Index<V> {
         self.stale = settled.is_err();
     }
 
-    // Makes the tables anew of all facts, where the index is stale.
+    // Makes the tables again from all facts, if the index is stale.
     fn refresh<L: Ledger>(&mut self, steps: &mut Steps<L>) -> Result<(), NoMemory>
         ensures same { IsSame self.old self.new }
         ensures keys { self.new.keys ≡ self.old.keys }
@@ -240,29 +241,29 @@ impl<V: Verifier> Index<V> {
         Ok(())
     }
 
-    /// How many numbers stand in the index.
+    /// How many numbers the index has.
     pub fn len(&self) -> u64
         ensures { result ≡ finite.len self.now.numbers }
     {
         self.count
     }
 
-    /// Whether a number stands in the index. It takes time in the logarithm of the number of blocks of 64 numbers, and
-    /// looks at the rows that were placed and wait for memory, which are none where the index isn't stale.
+    /// Whether the index has a number. It takes time in the logarithm of the number of blocks of 64 numbers, and looks
+    /// at the rows that were placed and wait for memory. There are none if the index isn't stale.
     pub fn holds(&self, number: u64) -> bool
         ensures { result ≡ finite.contains_key self.now.numbers number }
     {
         self.numbers.has(number) || self.rows.facts.loose.has(number)
     }
 
-    /// Whether the index is stale. It then answers as before, but walks over all facts for each answer.
+    /// Whether the index is stale. If so, its answers are the same, but for each it walks over all facts.
     pub fn stale(&self) -> bool
         ensures { result ≡ self.now.stale }
     {
         self.stale
     }
 
-    /// Whether a fact was put under the ref. One look-up where the index isn't stale.
+    /// Whether a fact was put under the ref. One look-up if the index isn't stale.
     pub fn stands<L: Ledger>(&self, r: &Ref, steps: &mut Steps<L>) -> bool
         ensures value { result ≡ finite.contains_key self.now.facts r.now }
         ensures ticks { self.now.stale ≡ false → steps.new ≤ steps.old + 1 }
@@ -287,7 +288,7 @@ impl<V: Verifier> Look for Index<V> {
         }
     }
 
-    /// Two look-ups, and `known` isn't used, but where the index is stale.
+    /// Two look-ups. `known` is used only if the index is stale.
     fn fact_known<L: Ledger>(
         &self,
         known: &mut Known,
@@ -319,8 +320,8 @@ impl<V: Verifier> Look for Index<V> {
         }
     }
 
-    /// Two look-ups for all dates. At another it walks over the delete claims on the ref, those on these, and so on,
-    /// each once; it takes no memory, and the stack doesn't grow.
+    /// Two look-ups for all dates. At another time it walks over the delete claims on the ref, those on these, and so
+    /// on, each once; it takes no memory, and the stack doesn't grow.
     fn deleted<L: Ledger>(&self, r: &Ref, when: &When, steps: &mut Steps<L>) -> bool {
         if self.stale {
             plain_answers::deleted(&self.rows.facts, &self.keys, r, when, steps)
@@ -329,7 +330,7 @@ impl<V: Verifier> Look for Index<V> {
         }
     }
 
-    /// It walks over the changes of the permanode up to that time, and asks for each whether its claim is deleted.
+    /// It walks over the changes of the permanode up to that time, and checks for each whether its claim is deleted.
     fn values<L: Ledger>(
         &self,
         p: &Ref,
@@ -363,7 +364,7 @@ impl<V: Verifier> Look for Index<V> {
         }
     }
 
-    /// Two look-ups, and `known` isn't used, but where the index is stale.
+    /// Two look-ups. `known` is used only if the index is stale.
     fn size_known<L: Ledger>(
         &self,
         known: &mut Known,
@@ -391,8 +392,8 @@ impl<V: Verifier> Look for Index<V> {
         }
     }
 
-    /// For all dates a step for each parent, and one more. At another it walks over all facts, and over the changes
-    /// of each permanode.
+    /// For all dates a step for each parent, and one more. At another time it walks over all facts, and over the
+    /// changes of each permanode.
     fn parents<L: Ledger>(
         &self,
         child: &Ref,
@@ -407,7 +408,7 @@ impl<V: Verifier> Look for Index<V> {
     }
 }
 
-// Puts the facts of a list, the last one first: of facts under the same ref the first one stands.
+// Puts the facts of a list, the last one first: of facts under the same ref the first one is kept.
 fn put_all<L: Ledger>(
     alloc: Global,
     facts: &mut OrderedFacts,

@@ -1,5 +1,6 @@
-//! What is found out of a ref that became ready.
-ghost use Rattle.std.specs.Prelude.{◌≡◌, ◌≤◌, ◌+◌, ◌&&◌, ◌||◌, ◌∷◌, ℕ, List, length, IfOk, OnOk, nat_eq, option_map};
+//! How a ref that became ready is judged.
+ghost use Rattle.std.specs.Prelude.{◌≡◌, ◌≤◌, ◌+◌, ◌*◌, ◌&&◌, ◌||◌, ◌∷◌, ℕ, List, length, IfOk, OnOk, nat_eq};
+ghost use Rattle.std.specs.Prelude.{option_map};
 ghost use Rattle.std.specs.Ordering.{is_eq, int_cmp};
 ghost use Rattle.schema_fact.specs.Changes.{change_seen, changes_of};
 ghost use Rattle.std.specs.Str.{bytes_eq};
@@ -8,22 +9,24 @@ ghost use Rattle.schema_fact.specs.Validity.{HasValidChanges, IsValidKind};
 ghost use Rattle.claim_model.specs.Facts.{Facts, passes};
 ghost use Rattle.claim_model.specs.Claims.{Moment};
 ghost use Rattle.index_meaning.specs.Meaning.{is_change_on, IsJudged, IsChangesOf};
-ghost use Rattle.claim_index.specs.Judging.{is_change_by, judged_in, kind_judged, marked, what_judged, with_marks};
+ghost use Rattle.claim_index.specs.Judging.{is_change_by, is_removal_by, is_removal_on, judged_in, kind_judged, marked};
+ghost use Rattle.claim_index.specs.Judging.{what_judged, with_marks};
 ghost use Rattle.index_rows.specs.Touched.{kind_changes};
 ghost use Rattle.claim_index.specs.Costs.{judge_steps};
-ghost use Rattle.claim_index.specs.Judging.{IsMarked, IsChanged, CanJudge};
+ghost use Rattle.claim_index.specs.Judging.{IsMarked, IsChanged, HasRemovals, CanJudge};
+ghost use Rattle.index_rows.specs.Removals.{AreRemovals, has_mark};
 
 use crate::genuine::is_signed;
 use crate::soundness::parts_fit;
 use blobref::{NoMemory, Ref};
 use claim_verify::Verifier;
 use edge_base::Steps;
-use index_rows::{ChangeRows, RefRows, Rows, StateRow};
+use index_rows::{ChangeRows, RefRows, RemovalRows, Rows, StateRow, removal_mark};
 use schema_date::Date;
 use schema_fact::{ChangeView, Kind, What};
 use std::sync::ledger::Ledger;
 
-// What a ref that was judged is to an index.
+// What an index has to do for a ref that was judged.
 #[derive(Clone, Copy)]
 pub(crate) enum Judged {
     // Neither a genuine permanode nor a genuine claim.
@@ -36,12 +39,12 @@ pub(crate) enum Judged {
     Changes,
 }
 
-// Judges a ref that became ready, once what it depends on was judged: its row of `state` says from then on whether it
-// is genuine and whether it is a sound tree, and the changes of a genuine attribute claim have their rows. The answer
-// says what the ref is, which is all that is left to do for it. Facts, and the tables that aren't named here, stay.
-// `NoMemory` comes only where no memory is left, and the rows of `state` and `changes` may be anything then. It takes at
-// most 4 steps for the fact, its signer and its row, 2 for the origin of each part, and 1 for each change of a genuine
-// claim.
+// Judges a ref that became ready, after its dependencies were judged: from then on its row of `state` says whether it
+// is genuine and whether it is a sound tree, and the changes of a genuine attribute claim have their rows. Returns what
+// the ref is, which determines the work that is left for it. Facts, and the tables that aren't named here, stay.
+// `NoMemory` comes only if no memory is left, and then the rows of `state`, `changes` and `removals` may be anything.
+// It takes at most 4 steps for the fact, its signer and its row, 2 for the origin of each part, and 2 for each change
+// of a genuine claim.
 pub(crate) fn judge<V: Verifier, L: Ledger>(
     rows: &mut Rows,
     keys: &V,
@@ -56,6 +59,8 @@ pub(crate) fn judge<V: Verifier, L: Ledger>(
         (IsMarked rows.old.facts.ordered (V.accepts keys.now) rows.old.state rows.new.state x.now) }
     ensures changes { OnOk result
         (IsChanged rows.old.facts.ordered (V.accepts keys.now) rows.old.changes rows.new.changes x.now) }
+    ensures removals { OnOk result (AreRemovals rows.old.facts.ordered rows.old.changes rows.old.removals
+        → AreRemovals rows.old.facts.ordered rows.new.changes rows.new.removals) }
     ensures answer { IfOk result (λ judged. judged ≡ judged_in rows.old.facts.ordered (V.accepts keys.now) x.now) }
     ensures judged { OnOk result ((facts : Facts) (left : List (List ℕ))
         → CanJudge facts rows.old.facts.ordered rows.old.state left x.now
@@ -70,7 +75,7 @@ pub(crate) fn judge<V: Verifier, L: Ledger>(
     look_into(rows, keys, x, steps)
 }
 
-// Writes down what is found of x.
+// Writes into the tables what is found about x.
 fn look_into<V: Verifier, L: Ledger>(
     rows: &mut Rows,
     keys: &V,
@@ -85,6 +90,8 @@ fn look_into<V: Verifier, L: Ledger>(
         (IsMarked rows.old.facts.ordered (V.accepts keys.now) rows.old.state rows.new.state x.now) }
     ensures changes { OnOk result
         (IsChanged rows.old.facts.ordered (V.accepts keys.now) rows.old.changes rows.new.changes x.now) }
+    ensures removals { OnOk result
+        (HasRemovals rows.old.facts.ordered (V.accepts keys.now) rows.old.removals rows.new.removals x.now) }
     ensures answer { IfOk result (λ judged. judged ≡ judged_in rows.old.facts.ordered (V.accepts keys.now) x.now) }
     ensures ticks { steps.new ≤ steps.old + judge_steps rows.old.facts.ordered (V.accepts keys.now) x.now }
 {
@@ -97,11 +104,11 @@ fn look_into<V: Verifier, L: Ledger>(
     if !genuine {
         return Ok(Judged::Nothing);
     }
-    list_changes(&mut rows.changes, x, &fact.kind, steps)?;
+    list_changes(&mut rows.changes, &mut rows.removals, x, &fact.kind, steps)?;
     Ok(kind_judged(&fact.kind))
 }
 
-// Writes into the row of x what was found of it.
+// Writes into the row of x what was found about it.
 fn mark<L: Ledger>(
     state: &mut RefRows<StateRow>,
     x: &Ref,
@@ -135,9 +142,10 @@ fn with_marks(row: StateRow, genuine: bool, sound: bool) -> StateRow
     }
 }
 
-// Puts the rows of the changes of a genuine blob, where it is a claim.
+// Puts the rows of the changes of a genuine blob, if it is a claim.
 fn list_changes<L: Ledger>(
     changes: &mut ChangeRows,
+    removals: &mut RemovalRows,
     x: &Ref,
     kind: &Kind,
     steps: &mut Steps<L>,
@@ -145,10 +153,12 @@ fn list_changes<L: Ledger>(
     requires { IsValidKind kind.now }
     ensures listed { OnOk result ((p : List ℕ) (k : Moment) → contains_key changes.new (p, k)
         ≡ (contains_key changes.old (p, k) || (bytes_eq k.1 x.now && is_change_on p k kind.now))) }
-    ensures ticks { steps.new ≤ steps.old + length (kind_changes kind.now) }
+    ensures removed { OnOk result ((p : List ℕ) (mark : ℕ) (k : Moment) → contains_key removals.new (p, mark, k)
+        ≡ (contains_key removals.old (p, mark, k) || (bytes_eq k.1 x.now && is_removal_on p mark k kind.now))) }
+    ensures ticks { steps.new ≤ steps.old + 2 * length (kind_changes kind.now) }
 {
     match kind {
-        Kind::Claim { date, what, .. } => put_changes(changes, x, date, what, steps),
+        Kind::Claim { date, what, .. } => put_changes(changes, removals, x, date, what, steps),
         _ => Ok(()),
     }
 }
@@ -156,6 +166,7 @@ fn list_changes<L: Ledger>(
 // Puts a row for each change of a claim.
 fn put_changes<L: Ledger>(
     changes: &mut ChangeRows,
+    removals: &mut RemovalRows,
     claim: &Ref,
     date: &Date,
     what: &What,
@@ -164,11 +175,15 @@ fn put_changes<L: Ledger>(
     requires { HasValidChanges what.now }
     ensures listed { OnOk result ((p : List ℕ) (k : Moment) → contains_key changes.new (p, k)
         ≡ (contains_key changes.old (p, k) || (bytes_eq k.1 claim.now && is_change_by p k date.now what.now))) }
-    ensures ticks { steps.new ≤ steps.old + length (changes_of what.now) }
+    ensures removed { OnOk result ((p : List ℕ) (mark : ℕ) (k : Moment) → contains_key removals.new (p, mark, k)
+        ≡ (contains_key removals.old (p, mark, k)
+        || (bytes_eq k.1 claim.now && is_removal_by p mark k date.now what.now))) }
+    ensures ticks { steps.new ≤ steps.old + 2 * length (changes_of what.now) }
 {
     for place in 0..what.change_count() {
         put_change(
             changes,
+            removals,
             claim,
             date,
             what.change(place),
@@ -181,6 +196,7 @@ fn put_changes<L: Ledger>(
 
 fn put_change<L: Ledger>(
     changes: &mut ChangeRows,
+    removals: &mut RemovalRows,
     claim: &Ref,
     date: &Date,
     change: Option<ChangeView<'_>>,
@@ -190,18 +206,43 @@ fn put_change<L: Ledger>(
     ensures listed { OnOk result ((p : List ℕ) (k : Moment) → contains_key changes.new (p, k)
         ≡ (contains_key changes.old (p, k) || (bytes_eq k.1 claim.now && (is_eq (int_cmp k.0 date.now)
         && (passes (λ c. bytes_eq p c.on) (option_map change_seen change.entry) && nat_eq k.2 place))))) }
-    ensures ticks { steps.new ≤ steps.old + 1 }
+    ensures removed { OnOk result ((p : List ℕ) (mark : ℕ) (k : Moment) → contains_key removals.new (p, mark, k)
+        ≡ (contains_key removals.old (p, mark, k) || (bytes_eq k.1 claim.now && (is_eq (int_cmp k.0 date.now)
+        && (passes (λ c. bytes_eq p c.on && has_mark mark c) (option_map change_seen change.entry)
+        && nat_eq k.2 place))))) }
+    ensures ticks { steps.new ≤ steps.old + 2 }
 {
     match change {
         Some(change) => {
             changes.put(change.on, date, claim, place, steps)?;
-            Ok(())
+            put_removal(removals, claim, date, &change, place, steps)
         }
         None => Ok(()),
     }
 }
 
-// What a genuine blob of this kind is to an index.
+// Puts the row of a change into `removals`, if it may take values away.
+fn put_removal<L: Ledger>(
+    removals: &mut RemovalRows,
+    claim: &Ref,
+    date: &Date,
+    change: &ChangeView<'_>,
+    place: u32,
+    steps: &mut Steps<L>,
+) -> Result<(), NoMemory>
+    ensures removed { OnOk result ((p : List ℕ) (mark : ℕ) (k : Moment) → contains_key removals.new (p, mark, k)
+        ≡ (contains_key removals.old (p, mark, k) || (bytes_eq k.1 claim.now && (is_eq (int_cmp k.0 date.now)
+        && ((bytes_eq p (change_seen change.now).on && has_mark mark (change_seen change.now))
+        && nat_eq k.2 place))))) }
+    ensures ticks { steps.new ≤ steps.old + 1 }
+{
+    match removal_mark(change) {
+        Some(mark) => removals.put(change.on, mark, date, claim, place, steps),
+        None => Ok(()),
+    }
+}
+
+// The result for a genuine blob of this kind.
 fn kind_judged(kind: &Kind) -> Judged
     ensures { result ≡ kind_judged kind.now }
 {

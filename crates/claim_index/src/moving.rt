@@ -18,8 +18,8 @@ use schema_fact::Fact;
 use std::alloc::Global;
 use std::sync::ledger::Ledger;
 
-// Moves the loose rows, and takes up one fact more, or all of them anew where the other tables are stale. Where there
-// is no memory the facts and their numbers are as they were, and the other tables may be anything.
+// Moves the loose rows, and takes up one more fact, or all of them again if the other tables are stale. If there is no
+// memory, the facts and their numbers are unchanged, and the other tables may be anything.
 pub(crate) fn settle<V: Verifier, L: Ledger>(
     alloc: Global,
     rows: &mut Rows,
@@ -43,7 +43,7 @@ pub(crate) fn settle<V: Verifier, L: Ledger>(
     take_up(alloc, rows, keys, stale, r, steps)
 }
 
-// Moves the loose rows, and makes the other tables anew of all facts. Likewise.
+// Moves the loose rows, and makes the other tables again from all facts. The same holds if there is no memory.
 pub(crate) fn renew<V: Verifier, L: Ledger>(
     alloc: Global,
     rows: &mut Rows,
@@ -61,8 +61,8 @@ pub(crate) fn renew<V: Verifier, L: Ledger>(
     rebuild(alloc, rows, keys, steps)
 }
 
-// Moves the loose rows, makes room for a number, and puts a valid fact among those in order. Where there is no memory
-// the facts and their numbers are as they were.
+// Moves the loose rows, makes room for a number, and puts a valid fact among those in order. If there is no memory,
+// the facts and their numbers are unchanged.
 pub(crate) fn put_in_order<L: Ledger>(
     alloc: Global,
     facts: &mut FactRows,
@@ -88,8 +88,8 @@ pub(crate) fn put_in_order<L: Ledger>(
     facts.ordered.put(alloc, r, fact, steps)
 }
 
-// Moves all loose rows, the last one put first. `NoMemory` comes only where no memory is left; the rows that weren't
-// moved are then still loose. No fact and no number comes or goes.
+// Moves all loose rows, the last one put first. `NoMemory` comes only if no memory is left; the rows that weren't
+// moved are then still loose. No fact and no number is added or lost.
 pub(crate) fn move_all<L: Ledger>(
     alloc: Global,
     facts: &mut FactRows,

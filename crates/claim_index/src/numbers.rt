@@ -8,7 +8,7 @@ use std::alloc::Global;
 use std::collections::BTreeMap;
 use std::marker::Model;
 
-/// A set of numbers. 64 numbers that follow one another take one row, so numbers that are given in turn take little.
+/// A set of numbers. 64 consecutive numbers take one row, so that numbers that are used in order take little memory.
 /// A contract sees the set, and the blocks of numbers for which there is room. Each call takes time in the logarithm
 /// of the number of blocks.
 #[derive(Drop)]
@@ -45,8 +45,8 @@ impl Numbers {
         }
     }
 
-    /// The numbers below a count. `NoMemory` comes only where no memory is left, and what was taken is then given back.
-    /// It puts them one by one, in time in n log n for n numbers.
+    /// The numbers below a count. `NoMemory` comes only if no memory is left, and the memory taken so far is then
+    /// freed. It puts them one by one, in time in n log n for n numbers.
     pub fn below(alloc: Global, count: u64) -> Result<Numbers, NoMemory>
         ensures { IfOk result (λ numbers. (q : ℕ) → finite.contains_key numbers.numbers q ≡ nat_lt q count) }
     {
@@ -75,7 +75,7 @@ impl Numbers {
         self.count
     }
 
-    /// Makes room for a number, so that `set` can put it. No number comes or goes. `NoMemory` comes only where no
+    /// Makes room for a number, so that `set` can put it. The numbers stay the same. `NoMemory` comes only if no
     /// memory is left, and then nothing changes.
     pub fn make_room(&mut self, n: u64) -> Result<(), NoMemory>
         ensures numbers { self.new.numbers ≡ self.old.numbers }

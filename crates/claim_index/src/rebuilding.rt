@@ -1,5 +1,6 @@
-//! The tables made anew, of all facts at once.
-ghost use Rattle.std.specs.Prelude.{◌≡◌, ◌≤◌, ◌+◌, ◌*◌, ℕ, List, length, [], IfSome, IfNone, None, OnOk, option_copied, false};
+//! The tables, made again from all facts at once.
+ghost use Rattle.std.specs.Prelude.{◌≡◌, ◌≤◌, ◌+◌, ◌*◌, ℕ, List, length, [], IfSome, IfNone, None, OnOk, option_copied};
+ghost use Rattle.std.specs.Prelude.{false};
 ghost use Rattle.std.specs.FinMap.{contains_key};
 ghost use Rattle.index_look.specs.Walk.{entries_after};
 ghost use Rattle.index_rows.specs.Touched.{touched_in};
@@ -11,12 +12,12 @@ use crate::work::Work;
 use blobref::{NoMemory, Ref};
 use claim_verify::Verifier;
 use edge_base::Steps;
-use index_rows::{ChangeRows, HolderRows, OrderedFacts, PairRows, RefRows, Rows};
+use index_rows::{ChangeRows, HolderRows, OrderedFacts, PairRows, RefRows, RemovalRows, Rows};
 use std::alloc::Global;
 use std::sync::ledger::Ledger;
 
-// Takes up one fact more, or all of them anew where the other tables are stale. Where there is no memory the facts are
-// as they were, and the other tables may be anything.
+// Takes up one more fact, or all of them again if the other tables are stale. If there is no memory, the facts are
+// unchanged, and the other tables may be anything.
 pub(crate) fn take_up<V: Verifier, L: Ledger>(
     alloc: Global,
     rows: &mut Rows,
@@ -39,7 +40,7 @@ pub(crate) fn take_up<V: Verifier, L: Ledger>(
     finish(alloc, rows, work, steps)
 }
 
-// Makes all tables but that of the facts anew. Where there is no memory these may be anything.
+// Makes all tables again except that of the facts. If there is no memory, these may be anything.
 pub(crate) fn rebuild<V: Verifier, L: Ledger>(
     alloc: Global,
     rows: &mut Rows,
@@ -53,6 +54,7 @@ pub(crate) fn rebuild<V: Verifier, L: Ledger>(
     rows.waiters = PairRows::empty(alloc);
     rows.deletes = PairRows::empty(alloc);
     rows.changes = ChangeRows::empty(alloc);
+    rows.removals = RemovalRows::empty(alloc);
     rows.holders = HolderRows::empty(alloc);
     let mut work = Work::none(alloc);
     take_all(alloc, rows, keys, &mut work, steps)?;

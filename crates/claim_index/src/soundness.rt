@@ -1,4 +1,4 @@
-//! Whether the parts of a file stand in their origins, where the rows say which trees are sound.
+//! Whether the parts of a file lie within their origins, given rows that say which trees are sound.
 ghost use Rattle.std.specs.Prelude.{◌≡◌, ◌≤◌, ◌+◌, ◌*◌, length, ◌∷◌, [], All};
 ghost use Rattle.std.specs.List.{list_all};
 ghost use Rattle.schema_fact.specs.Dependencies.{dependencies, part_refs};
@@ -15,7 +15,7 @@ use row_answers::says_sound;
 use schema_fact::{Fact, Origin, Part};
 use std::sync::ledger::Ledger;
 
-// Whether the fact is a file or bytes blob all of whose parts stand in their origins, where a tree is sound if its row
+// Whether the fact is a file or bytes blob all of whose parts lie within their origins. A tree is sound if its row
 // says so. A part of a blob takes one look-up, and one of a tree two.
 pub(crate) fn parts_fit<L: Ledger>(
     facts: &OrderedFacts,

@@ -1,4 +1,4 @@
-//! A ref that is taken up, and what becomes ready by it.
+//! A ref that is taken up, and the refs that become ready by it.
 ghost use Rattle.std.specs.Prelude.{◌≡◌, ◌≤◌, ◌+◌, ◌*◌, ◌||◌, ◌∷◌, [], ℕ, List, true, false, OnOk};
 ghost use Rattle.std.specs.List.{sum_by};
 ghost use Rattle.std.specs.Str.{bytes_eq};
@@ -20,8 +20,8 @@ use pending_deps::arrive;
 use std::alloc::Global;
 use std::sync::ledger::Ledger;
 
-// Takes up a ref whose fact stands: what becomes ready is judged, and what is left to do for it joins the work. Where
-// there is no memory the facts are as they were, and the other tables may be anything.
+// Takes up a ref whose fact was put: the refs that become ready are judged, and the work that is left for them is added
+// to `work`. If there is no memory, the facts are unchanged, and the other tables may be anything.
 pub(crate) fn take_in<V: Verifier, L: Ledger>(
     alloc: Global,
     rows: &mut Rows,
@@ -47,8 +47,8 @@ pub(crate) fn take_in<V: Verifier, L: Ledger>(
     judge_all(alloc, rows, keys, order.as_slice(), work, steps)
 }
 
-// Takes up a ref as `take_in` does, the last one whose fact stands. Where it alone becomes ready, what it changes is
-// written at once, if that is enough.
+// Takes up a ref as `take_in` does, the last one whose fact was put. If it alone becomes ready, the effect of its
+// change is written at once, if that is enough.
 pub(crate) fn take_last<V: Verifier, L: Ledger>(
     alloc: Global,
     rows: &mut Rows,
@@ -107,8 +107,8 @@ fn judge_all<V: Verifier, L: Ledger>(
     Ok(())
 }
 
-// Judges a ref, and adds what is left to do for it to the work. Where it alone became ready, what it changes is written
-// at once, if that is enough.
+// Judges a ref, and adds the work that is left for it. If it alone became ready, the effect of its change is written at
+// once, if that is enough.
 fn judge_one<V: Verifier, L: Ledger>(
     alloc: Global,
     rows: &mut Rows,

@@ -1,4 +1,4 @@
-//! Whom the deletion of a ref touches.
+//! The permanodes that the deletion of a ref touches.
 ghost use Rattle.std.specs.Prelude.{◌≡◌, ◌≤◌, ◌+◌, ◌++◌, OnOk, map, option_map, option_to_list};
 ghost use Rattle.schema_fact.specs.Changes.{change_seen};
 ghost use Rattle.index_meaning.specs.Touching.{concerned_by, changes_concern};
@@ -10,9 +10,9 @@ use row_answers::says_genuine;
 use schema_fact::{ChangeView, Kind, What};
 use std::sync::ledger::Ledger;
 
-// Appends the permanodes whose rows of `holders` may change where the deletion of y changed, or where y is new: y
-// itself if it is a permanode, and those that it changes if it is an attribute claim that its row calls genuine. A
-// look-up or two. `NoMemory` comes only where no memory is left.
+// Appends the permanodes whose rows of `holders` may change when the deletion of y changed, or when y is new: y itself
+// if it is a permanode, and those that it changes if it is an attribute claim that its row calls genuine. One or two
+// look-ups. `NoMemory` comes only if no memory is left.
 pub(crate) fn concern<L: Ledger>(
     rows: &Rows,
     y: &Ref,

@@ -1,20 +1,20 @@
-//! What is left to do while an index takes up facts.
+//! The work that is left while an index takes up facts.
 ghost use Rattle.std.specs.Prelude.{◌≡◌, []};
 
 use blobref::RefList;
 use std::alloc::Global;
 
-// What is left to do for refs that were judged.
+// The work that is left for refs that were judged.
 #[derive(Drop)]
 pub(crate) struct Work {
     // Genuine delete claims that have no row yet, in the order in which they became ready.
     pub deletes: RefList,
-    // Permanodes whose rows of holders may be wrong. One may stand several times.
+    // Permanodes whose rows of holders may be wrong. One may be there several times.
     pub concerned: RefList,
 }
 
 impl Work {
-    // Nothing.
+    // No work.
     pub fn none(alloc: Global) -> Work
         ensures deletes { result.deletes ≡ [] }
         ensures concerned { result.concerned ≡ [] }

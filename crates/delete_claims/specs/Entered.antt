@@ -51,7 +51,7 @@ put_row deletes d (Some found) = insert deletes (found.0, d) found.1
 abbrev pub with_row : Facts → Deletes → List ℕ → Deletes
 with_row facts deletes d = put_row deletes d (delete_in facts d)
 
--- the target of d, and further targets as long as the last one is a delete claim whose row stands, with the row of d
+-- the target of d, and further targets as long as the last one is a delete claim that has a row, counting that of d
 abbrev pub entered_targets : Facts → Deletes → List ℕ → List (List ℕ)
 entered_targets facts deletes d =
     targets_from facts (row_stands facts (with_row facts deletes d)) (target_in facts d)
@@ -65,7 +65,7 @@ pub record IsNewDelete (facts : Facts) (deletes : Deletes) (state : States) (d :
   pub arrived : contains_key state d ≡ true
   pub fresh : get deletes (target, d) ≡ None
 
--- d is entered: from the rows before come the rows after
+-- d is entered: the rows before become the rows after
 pub record IsEntered (facts : Facts) (deletes deletes' : Deletes) (state state' : States) (d : List ℕ)
     (changed : List (List ℕ)) : Type 0 where
   pub target : List ℕ
@@ -76,7 +76,7 @@ pub record IsEntered (facts : Facts) (deletes deletes' : Deletes) (state state' 
   -- the counts are right again, and nothing else of `state` changed
   pub counted : IsCounted facts deletes' state'
   pub kept : (y : List ℕ) → option_map beside_count (get state' y) ≡ option_map beside_count (get state y)
-  -- `changed` has just the refs that are now deleted and weren't, or were and aren't, each once
+  -- `changed` has exactly the refs that are now deleted and weren't, or were and aren't, each once
   pub turns : (y : List ℕ) → row_deleted facts deletes' Always y
       ≡ turned (row_deleted facts deletes Always y) (list_any (bytes_eq y) changed)
   pub once : AreOnce changed

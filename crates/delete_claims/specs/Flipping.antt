@@ -1,4 +1,4 @@
--- What a delete claim more or less on a ref changes, from target to target.
+-- The changes that one delete claim more or less on a ref makes, from target to target.
 use Rattle.std.specs.Prelude.{◌≡◌, ◌<◌, ◌+◌, ◌-◌, ◌^◌, ◌++◌, ◌==◌, ℕ, suc, Bool, true, false, not, List, Option, Some, None, if◌then◌else◌, option_map}
 use Rattle.std.specs.List.{list_any}
 use Rattle.std.specs.Str.{bytes_eq}
@@ -35,7 +35,7 @@ pub record CanRecount (state : States) (at : List ℕ) (up : Bool) : Type 0 wher
   pub more : up ≡ true → row.deleters + 1 < 2 ^ 64
   pub less : up ≡ false → 0 < row.deleters
 
--- it was changed, and that was the first one, or the last, just where `flipped` says so
+-- the count was changed, and that was the first one, or the last, exactly if `flipped` says so
 pub record IsRecounted (old new : States) (at : List ℕ) (up flipped : Bool) : Type 0 where
   pub row : StateRow
   pub found : get old at ≡ Some row
@@ -50,23 +50,23 @@ fact_deletable (Some fact) = if can_be_deleted fact.kind then Some fact.kind els
 abbrev pub deletable : Facts → List ℕ → Option Kind
 deletable facts y = fact_deletable (get facts y)
 
--- the target of a delete claim whose row stands
+-- the target of a delete claim that has a row
 abbrev pub row_target : Deletes → List ℕ → Kind → Option (List ℕ)
 row_target deletes d kind = if kind_has_row deletes d kind then Some (kind_target d kind) else None
 
--- the one list begins the other
+-- the first list is a prefix of the second
 abbrev pub IsFront : List (List ℕ) → List (List ℕ) → Type 0
 IsFront xs ys = (rest : List (List ℕ)) × (xs ++ rest ≡ ys)
 
--- a truth, or its opposite where it is turned
+-- `a`, negated if `b`
 abbrev pub turned : Bool → Bool → Bool
 turned a b = if b then not a else a
 
--- what is known of a ref beside its count
+-- the columns of a row other than its count
 abbrev pub beside_count : StateRow → Bool × Bool × Bool × ℕ
 beside_count row = (row.ready, row.genuine, row.sound, row.missing)
 
--- the counts are right, and `changed` has just the refs whose deletion by their counts isn't as before
+-- the counts are right, and `changed` has exactly the refs whose deletion by their counts changed
 pub record Flipped (facts : Facts) (deletes : Deletes) (before after : States) (changed : List (List ℕ)) : Type 0 where
   pub counted : IsCounted facts deletes after
   pub kept : (y : List ℕ) → option_map beside_count (get after y) ≡ option_map beside_count (get before y)
@@ -78,7 +78,7 @@ abbrev pub IsOff : Bool → ℕ → ℕ → Type 0
 IsOff true count live = count + 1 ≡ live
 IsOff false count live = count ≡ live + 1
 
--- the counts are right but for one at `at`, and `changed` has the refs that were turned on the way there
+-- the counts are right except that of `at`, and `changed` has the refs whose deletion changed on the way there
 pub record Flipping (facts : Facts) (deletes : Deletes) (before state : States) (changed : List (List ℕ)) (at : List ℕ)
     (up : Bool) : Type 0 where
   pub ringless : Ringless facts deletes

@@ -1,31 +1,31 @@
 //! Delete claims that are entered, one after another.
 ghost use Rattle.std.specs.Prelude.{◌≡◌, ◌≤◌, ◌+◌, ◌*◌, IfOk, length};
-ghost use Rattle.index_rows.specs.Counted.{has_deleters, IsCounted};
+ghost use Rattle.index_rows.specs.Counted.{IsCounted};
 ghost use Rattle.delete_claims.specs.Flipping.{IsFront};
 ghost use Rattle.delete_claims.specs.Entered.{delete_in, entered_targets, IsNewDelete, IsEntered};
 
 use crate::flipping::flip_from;
 use blobref::{NoMemory, Ref, RefList};
 use edge_base::Steps;
-use index_rows::{OrderedFacts, RefRows, Rows, StateRow};
+use index_rows::{OrderedFacts, Rows, has_deleters};
 use schema_date::Date;
 use schema_fact::{Kind, What};
 use std::alloc::Global;
 use std::sync::ledger::Ledger;
 
-/// Enters a delete claim: puts its row, and counts it at its target where it isn't deleted itself. Answers the refs
-/// whose deletion at `When::Always` this changed, each once: they are now deleted and weren't, or were and aren't.
+/// Enters a delete claim: puts its row, and counts it at its target if it isn't deleted itself. Returns the refs whose
+/// deletion at `When::Always` this changed, each once: they are now deleted and weren't, or were and aren't.
 ///
 /// The counts of delete claims must be right for the rows of `deletes`. The claim must be ready, it and its target must
-/// have arrived, and it must have no row. After `Ok` its row stands, the counts are right again, and no other row and
+/// have arrived, and it must have no row. After `Ok` it has its row, the counts are right again, and no other row and
 /// no other column of `state` changed. After `NoMemory` the tables `deletes` and `state` may be anything, and the other
-/// tables are as they were.
+/// tables are unchanged.
 ///
 /// A target whose deletion changes may itself be a delete claim that counted, or now counts, at its own target, and so
 /// on from target to target. It takes at most 3 look-ups and changes for the claim, and 4 for each target up to the
-/// first whose deletion stays, also where it ends with `NoMemory`. So of n delete claims that each delete the one
-/// before, entered in this order, the last one alone looks at up to n targets, and all together at up to the square of
-/// n. Entered in the reverse order, each looks at one.
+/// first whose deletion doesn't change, even if it ends with `NoMemory`. Let each of n delete claims delete the one
+/// before it. Entered in this order, the last one looks at up to n targets, and all of them at up to n^2. Entered in
+/// the reverse order, each looks at one.
 pub fn enter<L: Ledger>(
     alloc: Global,
     rows: &mut Rows,
@@ -37,6 +37,7 @@ pub fn enter<L: Ledger>(
     ensures facts { rows.new.facts ≡ rows.old.facts }
     ensures waiters { rows.new.waiters ≡ rows.old.waiters }
     ensures changes { rows.new.changes ≡ rows.old.changes }
+    ensures removals { rows.new.removals ≡ rows.old.removals }
     ensures holders { rows.new.holders ≡ rows.old.holders }
     ensures entered { IfOk result (λ changed.
         IsEntered rows.old.facts.ordered rows.old.deletes rows.new.deletes rows.old.state rows.new.state
@@ -61,16 +62,6 @@ pub fn enter<L: Ledger>(
         &target,
         steps,
     )
-}
-
-fn has_deleters<L: Ledger>(state: &RefRows<StateRow>, y: &Ref, steps: &mut Steps<L>) -> bool
-    ensures some { result ≡ has_deleters state.now y.now }
-    ensures ticks { steps.new ≡ steps.old + 1 }
-{
-    match state.row(y, steps) {
-        Some(row) => 0 < row.deleters,
-        None => false,
-    }
 }
 
 // The target and the date of a delete claim.

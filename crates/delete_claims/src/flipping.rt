@@ -14,8 +14,8 @@ use schema_fact::{Kind, What};
 use std::alloc::Global;
 use std::sync::ledger::Ledger;
 
-// Counts one delete claim more on `start`, and what follows from that. Gives what is deleted by it and wasn't, or was
-// and isn't.
+// Counts one more delete claim on `start`, and updates the counts that change by that. Returns the refs that are now
+// deleted and weren't, or were and aren't.
 pub(crate) fn flip_from<L: Ledger>(
     alloc: Global,
     facts: &OrderedFacts,
@@ -31,7 +31,7 @@ pub(crate) fn flip_from<L: Ledger>(
     ensures ticks { steps.new ≤ steps.old
         + 4 * length (targets_from facts.now (row_stands facts.now deletes.now) start.now) }
 {
-    // A ref counts at most all of these rows, so each count fits in 64 bits.
+    // No ref counts more than all of these rows, so each count fits in 64 bits.
     deletes.is_countable();
     let mut changed = RefList::empty(alloc);
     let mut at = *start;
@@ -52,7 +52,7 @@ pub(crate) fn flip_from<L: Ledger>(
     }
 }
 
-// Counts one delete claim more, or one less, and says whether that was the first one, or the last.
+// Counts one delete claim more or less, and returns whether it was the first one, or the last.
 fn recount<L: Ledger>(
     state: &mut RefRows<StateRow>,
     at: &Ref,
@@ -91,7 +91,7 @@ fn row_of<L: Ledger>(
     }
 }
 
-// What a ref says, if it is a permanode or a claim.
+// The kind of a ref, if it is a permanode or a claim.
 fn deletable<'a, L: Ledger>(
     facts: &'a OrderedFacts,
     y: &Ref,
@@ -106,7 +106,7 @@ fn deletable<'a, L: Ledger>(
     }
 }
 
-// The target of a delete claim whose row stands.
+// The target of a delete claim that has a row.
 fn row_target<L: Ledger>(
     deletes: &PairRows<Date>,
     d: &Ref,

@@ -1,4 +1,4 @@
-//! Which blobs are deleted, as delete claims come.
+//! Which blobs are deleted, updated as delete claims arrive.
 #![tactic(auto)]
 
 mod entering;

@@ -1,4 +1,4 @@
--- What the blobs of a pack and of a store say (docs/formats/packs.md, docs/formats/schema.md).
+-- The facts of the blobs of a pack and of a store (docs/formats/packs.md, docs/formats/schema.md).
 use Rattle.std.specs.Prelude.{◌≡◌, ℕ, Bool, List, [], ◌∷◌, ◌++◌, if◌then◌else◌}
 use Rattle.std.specs.List.{list_any}
 use Rattle.std.specs.Str.{bytes_eq}
@@ -30,15 +30,15 @@ pack_facts pack = facts_of_content (content ((0, pack) ∷ []))
 
 -- ---- the steps of gathering them
 
--- whether one of the facts stands under the ref
+-- whether one of the facts has the ref
 abbrev pub has_fact : List Entry → List ℕ → Bool
 has_fact facts r = list_any (λ (e : Entry). bytes_eq e.0 r) facts
 
--- the fact of a blob behind the others, where none stands under its ref
+-- the facts with that of a blob appended, unless its ref has one
 abbrev pub with_blob : List Entry → Blob → List Entry
 with_blob facts blob = if has_fact facts blob.0 then facts else facts ++ entry_of blob ∷ []
 
--- the facts once these blobs were taken up in turn
+-- the facts after these blobs were added in turn
 abbrev pub with_blobs : List Entry → List Blob → List Entry
 with_blobs facts [] = facts
 with_blobs facts (blob ∷ blobs) = with_blobs (with_blob facts blob) blobs

@@ -1,4 +1,4 @@
--- What the blobs of a pack say that comes in pieces (docs/formats/packs.md, docs/formats/schema.md).
+-- The facts of the blobs of a pack that comes in pieces (docs/formats/packs.md, docs/formats/schema.md).
 use Rattle.std.specs.Prelude.{◌≡◌, ◌≤◌, ℕ, List, [], ◌++◌, length, map, Option}
 use Rattle.std.specs.BTreeSet.{BTreeSet}
 use Rattle.std.specs.FinMap.{from_entries}
@@ -14,16 +14,15 @@ use Rattle.fact_lines.specs.Blobs.{Blob, pack_facts, with_blobs, HasRefsOf}
 abbrev pub kept_blob : Scanning → Found → Blob
 kept_blob scan f = (f.r, kept_at scan f)
 
--- These bytes came, and their blobs were taken up as far as they were told: whatever follows, what is told of that
--- makes the
--- facts of all.
+-- These bytes came, and the blobs that the scanner found in them were added. Whatever bytes follow, the blobs that it
+-- finds then complete the facts of all.
 pub record IsTaken (front : List ℕ) (scan : Scanning) (seen : BTreeSet (List ℕ)) (facts : List Entry) : Type 0 where
   pub counts : fed scan ≡ length front
   pub refs : HasRefsOf seen facts
   pub says : (more : List ℕ) → with_blobs facts (map blob_of (still_found scan more))
       ≡ with_blobs [] (map blob_of (salvage (front ++ more)))
 
--- a source gave so many bytes, which were taken up
+-- a source gave so many bytes, and their blobs were added
 pub record Came (left left_now : Option (List ℕ)) (count : ℕ) (scan : Scanning) (seen : BTreeSet (List ℕ))
     (facts : List Entry) : Type 0 where
   pub front : List ℕ
@@ -35,7 +34,7 @@ pub record Came (left left_now : Option (List ℕ)) (count : ℕ) (scan : Scanni
 abbrev pub IsAllOf : List ℕ → List Entry → Type 0
 IsAllOf pack facts = facts ≡ with_blobs [] (map blob_of (salvage pack))
 
--- what a source had left was at most so many bytes, and these are the facts of its blobs
+-- a source had at most so many bytes left, and these are the facts of their blobs
 pub record GaveFacts (most : ℕ) (left left_now : Option (List ℕ)) (facts : List Entry) : Type 0 where
   pub input : List ℕ
   pub short : length input ≤ most

@@ -1,4 +1,4 @@
--- What two indexes tell of the blobs of a generated store (docs/commands.md).
+-- The lines of two indexes about the blobs of a generated store (docs/commands.md).
 use Rattle.std.specs.Prelude.{ℕ, List, [], ◌++◌, codes, length, map}
 use Rattle.std.specs.FinMap.{from_entries}
 use Rattle.blobref.specs.Blobref.{ref_of}
@@ -20,12 +20,12 @@ load_facts count start = from_entries (with_blobs [] (map named (load_blobs coun
 abbrev pub tagged : Facts → Accepts → List ℕ
 tagged facts accepts = ref_of (answer_bytes facts accepts (value_query (codes "tag") (codes "t0") Always))
 
--- what an index of these facts tells, which were inserted in that order
+-- the line of an index into which these facts were inserted in that order
 abbrev pub order_line : List ℕ → ℕ → Facts → Accepts → List ℕ
 order_line order count facts accepts =
     load_line order count (length (live_permanodes facts accepts Always)) (tagged facts accepts)
 
--- the same of both orders
+-- the lines of both orders
 unfoldable pub load_text : ℕ → ℕ → Accepts → List ℕ
 load_text count start accepts =
     order_line (codes "forward") count (load_facts count start) accepts

@@ -1,4 +1,4 @@
-//! What blobs say, and those of a store.
+//! The facts of blobs, and of the blobs of a store.
 ghost use Rattle.std.specs.Prelude.{◌≡◌, ◌≤◌, ◌^◌, [], ◌∷◌, ◌++◌, map, IfOk, IfErr, OnOk};
 ghost use Rattle.std.specs.Option.{ForSome};
 ghost use Rattle.claim_model.specs.Facts.{AreDistinct, AreValid};
@@ -17,10 +17,10 @@ use schema_json::fact;
 use std::alloc::Global;
 use std::collections::BTreeSet;
 
-// The most bytes that one read of a pack asks for, where its records are long.
+// The most bytes that one read of a pack requests, if its records are long.
 const PACK_PIECE: usize = 8_388_608;
 
-/// The facts of these blobs, each ref at its first. `NoMemory` comes only where no memory is left.
+/// The facts of these blobs, each ref at its first blob. `NoMemory` comes only if no memory is left.
 pub(crate) fn facts_of(alloc: Global, blobs: &[Octets]) -> Result<FactList, NoMemory>
     ensures { IfOk result (λ facts. facts ≡ with_blobs [] (map named blobs.now)) }
 {
@@ -33,10 +33,9 @@ pub(crate) fn facts_of(alloc: Global, blobs: &[Octets]) -> Result<FactList, NoMe
     Ok(facts)
 }
 
-/// Opens the store that a disk holds, and gathers the facts of its blobs as they arrive, in their order: no byte is
-/// read for that but by the opening (`Store::open_watched`). No two arrivals have one ref (`Store::arrivals_are_held`),
-/// so each ref comes once. What else is said of the store and of the disk, and when each error comes, is as of
-/// `Store::open_on`.
+/// Opens the store that a disk holds, and gathers the facts of its blobs as they arrive, in their order. Only the
+/// opening reads bytes (`Store::open_watched`). No two arrivals have the same ref (`Store::arrivals_are_held`), so that
+/// each ref comes once. For the rest, and for when each error comes, see `Store::open_on`.
 pub fn store_facts<D: Disk>(
     alloc: Global,
     disk: D,

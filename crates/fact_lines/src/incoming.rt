@@ -1,4 +1,4 @@
-//! What the blobs of a pack say that a source gives piece by piece.
+//! The facts of the blobs of a pack that a source gives in pieces.
 ghost use Rattle.std.specs.Prelude.{◌≡◌, ◌+◌, ◌<◌, ◌≤◌, ◌^◌, ◌++◌, ℕ, List, [], length, map, All};
 ghost use Rattle.std.specs.Prelude.{IfOk, IfSome, OnOk, OnErr, IsErrOf, Err};
 ghost use Rattle.claim_model.specs.Facts.{AreDistinct, AreValid};
@@ -15,13 +15,13 @@ use salvage_scan::{Found, Scanner};
 use std::alloc::Global;
 use std::collections::BTreeSet;
 
-/// The facts of the blobs that are salvaged from the bytes that a source has left, at most so many, each ref once: the
-/// first finding of a ref counts, and later ones are passed over (`docs/formats/packs.md`, `docs/formats/schema.md`).
-/// The bytes are read in pieces, of up to 8 MiB where records of some length follow one another, so that several are
-/// hashed together. Beside the facts it takes memory for one record and two pieces.
+/// The facts of the blobs that are salvaged from the bytes that a source has left, at most `limit`, each ref once: the
+/// first finding of a ref counts, and later ones are skipped (`docs/formats/packs.md`, `docs/formats/schema.md`). The
+/// bytes are read in pieces. A piece has up to 8 MiB if longer records follow one another, so that several are hashed
+/// together. Besides the facts it takes memory for one record and two pieces.
 ///
-/// `TooLong` comes only where more than `limit` bytes were left, and where that is so `Ok` never comes; the source
-/// has then given `limit + 1` bytes, and is read no further. `ReadFault` comes only where the source's count of
+/// `TooLong` comes only if more than `limit` bytes were left, and then `Ok` never comes. The source has then given
+/// `limit + 1` bytes, and is read no further. `ReadFault` comes only if the source's count of
 /// faults rose.
 pub fn source_facts<S: Source>(
     alloc: Global,
@@ -56,7 +56,7 @@ pub fn source_facts<S: Source>(
     }
 }
 
-// How many bytes the next read asks for: at most one byte more than may still come, so that a longer source is seen.
+// How many bytes the next read requests: at most one byte more than may still come, so that a longer source is noticed.
 fn next_room(scanner: &Scanner, left: usize) -> usize
     ensures some { 0 < result }
     ensures within { result ≤ left + 1 }
@@ -64,7 +64,7 @@ fn next_room(scanner: &Scanner, left: usize) -> usize
     left.min(scanner.room() - 1) + 1
 }
 
-// Makes space for so many bytes, where it has fewer.
+// Grows the space to `len` bytes, if it has fewer.
 fn widen(space: &mut Vec<u8>, len: usize) -> Result<(), NoMemory>
     ensures { OnOk result (len ≤ length space.new.items) }
 {
@@ -74,7 +74,7 @@ fn widen(space: &mut Vec<u8>, len: usize) -> Result<(), NoMemory>
     Ok(())
 }
 
-// What was taken up of the bytes so far.
+// The bytes so far, and the facts of their blobs.
 #[derive(Drop)]
 struct Incoming {
     scanner: Scanner,
@@ -82,7 +82,7 @@ struct Incoming {
     facts: FactList,
 }
 
-// Nothing was taken up.
+// No bytes came yet.
 fn nothing(alloc: Global) -> Result<Incoming, NoMemory>
     ensures { IfOk result (λ i. IsTaken [] i.scanner i.seen i.facts) }
 {
@@ -94,7 +94,7 @@ fn nothing(alloc: Global) -> Result<Incoming, NoMemory>
     })
 }
 
-// Takes up a piece.
+// Scans a piece, and adds the facts of its blobs.
 fn feed(alloc: Global, incoming: &mut Incoming, piece: &[u8]) -> Result<(), NoMemory>
     requires fits { fed incoming.old.scanner + length piece.now < 2 ^ 64 }
     requires seen { HasRefsOf incoming.old.seen incoming.old.facts }
@@ -112,7 +112,7 @@ fn feed(alloc: Global, incoming: &mut Incoming, piece: &[u8]) -> Result<(), NoMe
     Ok(())
 }
 
-// The facts of all, at the end.
+// The facts of all blobs, at the end.
 fn finish(alloc: Global, incoming: Incoming) -> Result<FactList, ReadAllError>
     requires { HasRefsOf incoming.seen incoming.facts }
     ensures facts { IfOk result (λ facts. (front : List ℕ) → IsTaken front incoming.scanner incoming.seen incoming.facts
@@ -129,7 +129,7 @@ fn finish(alloc: Global, incoming: Incoming) -> Result<FactList, ReadAllError>
     Ok(facts)
 }
 
-// Takes up what the last call of the scanner told.
+// Adds the facts of the blobs that the last call of the scanner found.
 fn take_all(
     alloc: Global,
     scanner: &Scanner,

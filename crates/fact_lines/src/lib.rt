@@ -1,6 +1,6 @@
-//! Facts of blobs, those of a store, of a pack or of a generated store, and the lines that answer what commands ask of
-//! them: searches, and what two indexes say of them. No run, and no status: how a command goes and ends is said above
-//! (`docs/commands.md`).
+//! Facts of the blobs of a store, of a pack or of a generated store, and the lines that commands write about them:
+//! answers to searches, and a comparison of two indexes. How a command runs, and with which status it ends, is for its
+//! callers (`docs/commands.md`).
 #![tactic(auto)]
 
 mod blobs;

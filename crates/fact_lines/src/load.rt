@@ -24,9 +24,9 @@ use std::alloc::Global;
 use std::marker::Brand;
 use std::sync::ledger::{Blank, Ledger};
 
-/// What is told of the blobs of a generated store (`docs/formats/generated.md`), inserted in their order and in reverse
-/// order: a line for each order. The blobs are made (`schema_write::load_blobs`) and let go once their facts are read;
-/// the facts and both indexes are then held at once. `NoMemory` comes only where no memory is left.
+/// The lines about the blobs of a generated store (`docs/formats/generated.md`), inserted in their order and in reverse
+/// order: a line for each order. The blobs are made (`schema_write::load_blobs`), and dropped after their facts are
+/// read. The facts and both indexes are then held at once. `NoMemory` comes only if no memory is left.
 #[tactic(auto, unfolding(crate::specs::Load::load_text))]
 pub fn load_text<V: Verifier>(
     alloc: Global,
@@ -106,8 +106,8 @@ fn push_backward<V: Verifier>(
     push_order_line(alloc, text, "backward", count, &index)
 }
 
-// An index into which the facts were inserted in their order. The steps are counted in the blank ledger, and told to
-// nobody.
+// An index into which the facts were inserted in their order. The steps are counted in the blank ledger, which nobody
+// reads.
 fn forward<V: Verifier, L: Ledger>(
     alloc: Global,
     facts: &FactList,
@@ -206,14 +206,14 @@ fn tagged<K: Look>(alloc: Global, look: &K) -> Result<Ref, NoMemory>
     Ok(Ref::of(text.as_slice()))
 }
 
-// The answer to a query, which is let go.
+// The answer to a query, which is dropped.
 fn answer_to<K: Look>(alloc: Global, look: &K, query: Query) -> Result<RefList, NoMemory>
     ensures { IfOk result (λ refs. refs ≡ answer (K.facts look.now) (K.accepts look.now) query) }
 {
     answer_of(alloc, look, &query)
 }
 
-// How many genuine permanodes aren't deleted. The steps are counted likewise.
+// How many genuine permanodes aren't deleted. The steps are counted in the same way.
 fn count_live<K: Look, L: Ledger>(alloc: Global, look: &K, blank: Blank) -> Result<u64, NoMemory>
     requires name { blank.name ≡ L.name }
     requires parts { blank.parts ≡ L.parts }

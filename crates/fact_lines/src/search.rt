@@ -15,7 +15,8 @@ use schema_date::When;
 use search_query::Query;
 use std::alloc::Global;
 
-/// The line that answers a search for an attribute's value at a time over facts. Cost and error as of `query_line`.
+/// The line that answers a search for an attribute's value at a time over facts. Cost and error are those of
+/// `query_line`.
 pub fn search_line<V: Verifier>(
     alloc: Global,
     facts: FactList,
@@ -33,8 +34,8 @@ pub fn search_line<V: Verifier>(
 }
 
 /// The line that answers a query over facts (`docs/search.md`). It takes the time of making an index of the facts, and
-/// then that of a search. It is for commands, which end with the line: the memory of the index is given back as the
-/// process ends (`fact_search::last_answer_over`). `NoMemory` comes only where no memory is left.
+/// then that of a search. It is for commands that end with the line: the memory of the index is freed when the process
+/// ends (`fact_search::last_answer_over`). `NoMemory` comes only if no memory is left.
 pub fn query_line<V: Verifier>(
     alloc: Global,
     facts: FactList,

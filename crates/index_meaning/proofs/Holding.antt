@@ -1,5 +1,6 @@
 -- The rows of a value of an attribute are those of its holders.
-use Rattle.std.proofs.Common.{◌≡◌, ℕ, Bool, true, false, not, ◌&&◌, ◌||◌, cond, List, [], ◌∷◌, filter, map, Option, None, Some, refl, sym, ap, ◌∙◌, is_some, Ordering, option_map}
+use Rattle.std.proofs.Common.{◌≡◌, ℕ, Bool, true, false, not, ◌&&◌, ◌||◌, cond, List, [], ◌∷◌, filter, map, Option}
+use Rattle.std.proofs.Common.{None, Some, refl, sym, ap, ◌∙◌, is_some, Ordering, option_map}
 use Rattle.std.proofs.lemmas.Bool.{and_parts, false≢true, true≢false}
 use Rattle.std.proofs.lemmas.Cmp.{tied_itself}
 use Rattle.std.proofs.lemmas.Map.Text.{is_eq-slice_cmp}
@@ -33,7 +34,7 @@ use Rattle.index_meaning.specs.Laws.{RowsTellHolders, RowIsOfHolder}
 use Rattle.index_meaning.proofs.Said.{and_true, and_false, genuine_said}
 use Rattle.index_meaning.proofs.Deletions.{deletion}
 use Rattle.index_meaning.proofs.Values.{rows_tell_values}
-use Rattle.index_meaning.proofs.Parts as parts
+use Rattle.index_rows.proofs.Parts as parts
 
 swapped : (a b : Bool) → (a && b) ≡ (b && a)
 swapped true b = sym (and_true b)

@@ -1,5 +1,4 @@
 pub mod Deletions
-pub mod Parts
 pub mod Moments
 pub mod Values
 pub mod Said

@@ -1,39 +1,38 @@
 -- The rows of a genuine permanode give its values.
-use Rattle.std.proofs.Common.{◌≡◌, ℕ, ℤ, Bool, true, false, not, ◌&&◌, cond, List, [], ◌∷◌, filter, map, Option, None, Some, option_and_then, option_map, refl, sym, ap, ◌∙◌, is_some, Ordering}
+use Rattle.std.proofs.Common.{◌≡◌, ℕ, ℤ, Bool, true, false, not, ◌&&◌, cond, List, [], ◌∷◌, filter, map, Option, None}
+use Rattle.std.proofs.Common.{Some, option_and_then, option_map, refl, sym, ap, ◌∙◌, is_some}
 use Rattle.std.specs.Prelude.{slice_get}
 use Rattle.std.proofs.lemmas.Bool.{and_parts, false≢true}
-use Rattle.std.proofs.lemmas.Cmp.{tied_itself}
-use Rattle.std.proofs.lemmas.Map.Text.{is_eq-slice_cmp}
 use Rattle.std.proofs.lemmas.Slice.Eq.{bytes_eq-Decides}
-use Rattle.std.specs.declared.cmp.Ordering.TheVariants.{Less, Equal, Greater}
 use Rattle.std.specs.List.{filter_map, cons_option, last_or, AllByRecursion}
 use Rattle.std.specs.Str.{bytes_eq}
-use Rattle.std.specs.Ordering.{is_eq, int_cmp, ordering_then}
+use Rattle.std.specs.Ordering.{is_eq, int_cmp}
 use Rattle.std.specs.FinMap.{get, contains_key, entries}
-use Rattle.blobref.specs.Blobref.{ref_cmp}
 use Rattle.claim_verify.specs.Verifier.{Accepts}
 use Rattle.schema_date.specs.declared.date.When.{When}
 use Rattle.schema_fact.specs.declared.kinds.Fact.{Fact}
 use Rattle.schema_fact.specs.declared.kinds.Kind.{Kind}
-use Rattle.schema_fact.specs.declared.kinds.Kind.TheVariants.{Plain, Key, File, Bytes, Directory, StaticSet, Permanode, Claim, Unread}
+use Rattle.schema_fact.specs.declared.kinds.Kind.TheVariants.{Plain, Key, File, Bytes, Directory, StaticSet, Permanode}
+use Rattle.schema_fact.specs.declared.kinds.Kind.TheVariants.{Claim, Unread}
 use Rattle.claim_model.specs.Facts.{Facts, passes}
 use Rattle.claim_model.specs.Genuine.{is_genuine, is_genuine_permanode}
 use Rattle.claim_model.specs.Deleted.{counts_at, is_deleted}
 use Rattle.schema_fact.specs.declared.changes.Change.{Change}
 use Rattle.schema_fact.specs.Changes.{changes_of}
 use Rattle.claim_model.specs.Changes.{values_after}
-use Rattle.claim_model.specs.Claims.{Moment, moment_cmp, counted, values, last_change}
+use Rattle.claim_model.specs.Claims.{Moment, counted, values, last_change}
 use Rattle.index_look.specs.Claims.{claim_says}
 use Rattle.index_look.proofs.Keys.{entries_held}
-use Rattle.index_rows.specs.Changes.{Changes, ChangeKey, change_cmp}
+use Rattle.index_rows.specs.Changes.{Changes, ChangeKey}
 use Rattle.index_rows.specs.Deletes.{Deletes}
 use Rattle.index_rows.specs.Values.{change_at, moment_counts, row_values, row_last_change}
-use Rattle.index_rows.proofs.Orders.{ref_total, moment_total, moment_same, change_total, change_same}
+use Rattle.index_rows.proofs.Orders.{moment_total, moment_same, change_total, change_same}
 use Rattle.index_meaning.specs.Meaning.{IsDeletesOf, IsChangesOf, is_change_on, genuine_change}
 use Rattle.index_meaning.specs.Laws.{RowsTellValues, RowsTellLastChange}
 use Rattle.index_meaning.proofs.Deletions.{deletion}
 use Rattle.index_meaning.proofs.Moments.{claim_change, change_there, counted_at}
-use Rattle.index_meaning.proofs.Parts as parts
+use Rattle.index_rows.proofs.ByMark.{changes_part}
+use Rattle.index_rows.proofs.Parts as parts
 
 abbrev Row : Type 0
 Row = ChangeKey × Unit {0}
@@ -43,24 +42,6 @@ Row = ChangeKey × Unit {0}
 module _ (p : List ℕ) where
   abbrev of_p : ChangeKey → Bool
   of_p k = bytes_eq p k.0
-
-  is_part : parts.IsPart change_cmp moment_cmp of_p (λ k. k.1) (λ m. (p, m))
-  is_part = record { tied = tied; apart = apart; own = own }
-    where
-      tied : (m : Moment) (k : ChangeKey) → of_p k ≡ true → change_cmp (p, m) k ≡ moment_cmp m k.1
-      tied m k h = ap (λ r. ordering_then r (moment_cmp m k.1))
-          (ap (λ y. ref_cmp y k.0) ((bytes_eq-Decides p k.0).0 h) ∙ tied_itself ref_total k.0)
-
-      by : (a b : Ordering) → is_eq a ≡ false → is_eq (ordering_then a b) ≡ false
-      by Less b h = refl
-      by Equal b h = absurd (false≢true (sym h))
-      by Greater b h = refl
-
-      apart : (m : Moment) (k : ChangeKey) → of_p k ≡ false → is_eq (change_cmp (p, m) k) ≡ false
-      apart m k h = by (ref_cmp p k.0) (moment_cmp m k.1) (is_eq-slice_cmp p k.0 ∙ h)
-
-      own : (k : ChangeKey) → of_p k ≡ true → (p, k.1) ≡ k
-      own k h = λ i. ((bytes_eq-Decides p k.0).0 h i, k.1)
 
   abbrev pub told : (Moment → Option Change) → List Row → List (Moment × Change)
   told tell = parts.told of_p (λ k. k.1) tell
@@ -149,7 +130,7 @@ module _ (p : List ℕ) where
   same_values facts more deletes entered changes listed when name h =
       values_told facts deletes changes when name
       ∙ ap (λ (es : List (Moment × Change)). values_after name (map (λ (c : Moment × Change). c.1) es))
-      (parts.same_told moment_total moment_same is_part (row_tells facts deletes when)
+      (parts.same_told moment_total moment_same (changes_part p) (row_tells facts deletes when)
       (row_tells more entered when) changes listed h)
       ∙ sym (values_told more entered listed when name)
 
@@ -242,7 +223,7 @@ module _ (facts : Facts) (accepts : Accepts) (deletes : Deletes) (changes : Chan
   listed : is_genuine_permanode facts accepts p ≡ true
       → told p (row_tells p facts deletes when) (entries changes) ≡ entries (counted facts accepts when p)
   listed genuine =
-      parts.entries_told moment_total moment_same (is_part p) (row_tells p facts deletes when) changes
+      parts.entries_told moment_total moment_same (changes_part p) (row_tells p facts deletes when) changes
       (counted facts accepts when p) (λ q. same_change q genuine)
 
   values_are : (name : List ℕ) → is_genuine_permanode facts accepts p ≡ true

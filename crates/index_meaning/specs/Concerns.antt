@@ -24,7 +24,7 @@ HeldButMore = (but more : List (List ℕ)) (facts : Facts) (state : States) (del
     (holders : Holders) → AreAmong but more → IsHeldBut but facts state deletes changes holders
     → IsHeldBut more facts state deletes changes holders
 
--- where there are none yet they have to be made for all permanodes
+-- if there are none yet, they have to be made for all permanodes
 abbrev pub NoneIsHeld : Type 0
 NoneIsHeld = (but : List (List ℕ)) (facts : Facts) (state : States) (deletes : Deletes) (changes : Changes)
     → ((p : List ℕ) → says_permanode facts state p ≡ true → list_any (bytes_eq p) but ≡ true)
@@ -46,7 +46,8 @@ JudgingConcerns = (but concerned : List (List ℕ)) (facts : Facts) (before afte
     → AreAmong but concerned → (says_genuine after x ≡ true → AreAmong (concerned_by facts after x) concerned)
     → IsHeldBut but facts before deletes changes holders → IsHeldBut concerned facts after deletes listed holders
 
--- and where a delete claim is entered, those that are touched by the refs that are deleted now, or stand again
+-- and after delete claims were entered, those that are touched by the refs that are now deleted and weren't, or were
+-- and aren't
 abbrev pub EnteringConcerns : Type 0
 EnteringConcerns = (but concerned changed : List (List ℕ)) (facts : Facts) (before after : States)
     (deletes entered : Deletes) (changes : Changes) (holders : Holders) (x d : List ℕ) (date : ℤ)

@@ -1,5 +1,5 @@
--- What the tables tell, by the definitions.
-use Rattle.std.specs.Prelude.{◌≡◌, ℕ, true, List, [], map, None}
+-- What the tables say, by the definitions.
+use Rattle.std.specs.Prelude.{◌≡◌, ℕ, true, List, []}
 use Rattle.std.specs.List.{list_any}
 use Rattle.std.specs.Str.{bytes_eq}
 use Rattle.std.specs.FinMap.{get, contains_key}
@@ -22,7 +22,7 @@ use Rattle.index_rows.specs.Values.{IsListed, row_values, row_last_change}
 use Rattle.index_rows.specs.Holders.{Holders, rows_holding, says_permanode, row_holds}
 use Rattle.index_meaning.specs.Meaning.{IsDeletesOf, IsChangesOf, IsJudged, IsAtRest}
 
--- the rows of `state` say what is known of each ref, and count whether it is deleted
+-- the rows of `state` say whether each ref is ready, genuine and sound, and their counts whether it is deleted
 pub record TellStates (facts : Facts) (accepts : Accepts) (state : States) : Type 0 where
   pub ready : (y : List ℕ) → passes (λ row. row.ready) (get state y) ≡ is_ready facts y
   pub genuine : (y : List ℕ) → says_genuine state y ≡ is_genuine facts accepts y
@@ -39,7 +39,7 @@ abbrev pub RowsAreRingless : Type 0
 RowsAreRingless = (facts : Facts) (accepts : Accepts) (deletes : Deletes) → IsDeletesOf facts accepts deletes
     → Ringless facts deletes
 
--- and what they delete is deleted
+-- and the refs that they delete are those that are deleted
 abbrev pub RowsTellDeletion : Type 0
 RowsTellDeletion = (facts : Facts) (accepts : Accepts) (deletes : Deletes) → IsDeletesOf facts accepts deletes
     → (when : When) (x : List ℕ) → row_deleted facts deletes when x ≡ is_deleted facts accepts when x
@@ -65,7 +65,7 @@ RowsTellHolders = (facts : Facts) (accepts : Accepts) (state : States) (waiters 
     → IsAtRest facts accepts state waiters deletes changes rows
     → (name value : List ℕ) → rows_holding rows name value ≡ holders facts accepts name value
 
--- so each of these rows is that of a holder, and each holder has one
+-- each of these rows is therefore that of a holder, and each holder has one
 abbrev pub RowIsOfHolder : Type 0
 RowIsOfHolder = (facts : Facts) (accepts : Accepts) (state : States) (waiters : Waiters) (deletes : Deletes)
     (changes : Changes) (rows : Holders)
@@ -73,7 +73,7 @@ RowIsOfHolder = (facts : Facts) (accepts : Accepts) (state : States) (waiters : 
     → (name value p : List ℕ) → contains_key rows (name, value, p)
     ≡ list_any (bytes_eq p) (holders facts accepts name value)
 
--- whether q is a genuine permanode is as it was, and if it is one, so is all that decides what it holds
+-- q is a genuine permanode exactly if it was one before, and then everything that decides its values is unchanged
 pub record IsUnconcerned (facts more : Facts) (before after : States) (deletes entered : Deletes)
     (changes listed : Changes) (q : List ℕ) : Type 0 where
   pub permanode : says_permanode more after q ≡ says_permanode facts before q
@@ -84,7 +84,7 @@ pub record IsUnconcerned (facts more : Facts) (before after : States) (deletes e
   pub claims : says_permanode facts before q ≡ true → (k : Moment) → contains_key changes (q, k) ≡ true
       → row_deleted more entered Always k.1 ≡ row_deleted facts deletes Always k.1
 
--- then it holds what it held
+-- then it has the values that it had
 abbrev pub UnconcernedStay : Type 0
 UnconcernedStay = (facts more : Facts) (before after : States) (deletes entered : Deletes) (changes listed : Changes)
     (q : List ℕ)
@@ -93,7 +93,7 @@ UnconcernedStay = (facts more : Facts) (before after : States) (deletes entered 
     → (name value : List ℕ) → row_holds more after entered listed name value q
     ≡ row_holds facts before deletes changes name value q
 
--- the rows of the changes of genuine claims are listed
+-- each of the rows of changes of genuine claims is that of a claim whose row says that it is genuine
 abbrev pub RowsAreListed : Type 0
 RowsAreListed = (facts : Facts) (accepts : Accepts) (left : List (List ℕ)) (state : States) (changes : Changes)
     → ((y : List ℕ) → contains_key state y ≡ contains_key facts y) → IsJudged facts accepts left state

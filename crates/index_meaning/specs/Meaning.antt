@@ -1,4 +1,4 @@
--- What the tables of an index mean, over the facts and what keys accept.
+-- What the tables of an index mean, by the facts and by what keys accept.
 use Rattle.std.specs.Prelude.{◌≡◌, ℕ, ◌&&◌, Bool, false, not, List, [], Option, Some, None, ℤ, slice_get, option_and_then, if◌then◌else◌}
 use Rattle.std.specs.List.{list_any}
 use Rattle.std.specs.Str.{bytes_eq}
@@ -33,7 +33,7 @@ delete_date x (Permanode signed) = None
 delete_date x (Claim signed date what) = if what_deletes x what then Some date else None
 delete_date x (Unread name) = None
 
--- the date of d, where it is a genuine delete claim on x
+-- the date of d, if it is a genuine delete claim on x
 abbrev pub genuine_delete : Facts → Accepts → List ℕ → List ℕ → Option ℤ
 genuine_delete facts accepts x d =
     if is_genuine facts accepts d then option_and_then (λ fact. delete_date x fact.kind) (get facts d) else None
@@ -60,19 +60,19 @@ abbrev pub genuine_change : Facts → Accepts → List ℕ → Moment → Bool
 genuine_change facts accepts p k =
     is_genuine facts accepts k.1 && passes (λ fact. is_change_on p k fact.kind) (get facts k.1)
 
--- the rows are those of the changes of the genuine claims, but for some claims that weren't judged yet
+-- the rows are those of the changes of the genuine claims, except for some claims that weren't judged yet
 abbrev pub IsChangesOf : Facts → Accepts → List (List ℕ) → Changes → Type 0
 IsChangesOf facts accepts left changes = (p : List ℕ) (k : Moment)
     → contains_key changes (p, k) ≡ (genuine_change facts accepts p k && not (list_any (bytes_eq k.1) left))
 
--- the rows say which refs are genuine, and which are sound trees, but for some that weren't judged yet
+-- the rows say which refs are genuine, and which are sound trees, except for some that weren't judged yet
 pub record IsJudged (facts : Facts) (accepts : Accepts) (left : List (List ℕ)) (state : States) : Type 0 where
   pub genuine : (y : List ℕ) (row : StateRow) → get state y ≡ Some row
       → row.genuine ≡ (is_genuine facts accepts y && not (list_any (bytes_eq y) left))
   pub sound : (y : List ℕ) (row : StateRow) → get state y ≡ Some row
       → row.sound ≡ (is_sound_tree facts y && not (list_any (bytes_eq y) left))
 
--- the tables of an index that nothing is left to do for
+-- the tables of an index for which nothing is left to do
 pub record IsAtRest (facts : Facts) (accepts : Accepts) (state : States) (waiters : Waiters) (deletes : Deletes)
     (changes : Changes) (holders : Holders) : Type 0 where
   pub arrived : (y : List ℕ) → contains_key state y ≡ contains_key facts y

@@ -1,4 +1,4 @@
--- An index that takes up what was added: what its tables mean, with what is left to do.
+-- An index that takes up added facts: what its tables mean, while some work is left to do.
 use Rattle.std.specs.Prelude.{◌≡◌, ℕ, ℤ, ◌||◌, Bool, true, false, not, List, [], None, Some, option_map, if◌then◌else◌}
 use Rattle.std.specs.List.{list_any}
 use Rattle.std.specs.Str.{bytes_eq}
@@ -21,8 +21,8 @@ use Rattle.index_rows.specs.Holders.{Holders, IsHeldBut}
 use Rattle.index_meaning.specs.Meaning.{IsChangesOf, IsJudged, IsAtRest}
 use Rattle.index_meaning.specs.Steps.{IsDeletesBut, beside_readiness}
 
--- the tables beside that of holders, where some refs are left to be judged, and some delete claims to be entered. They
--- mean the facts that have arrived
+-- the tables other than that of holders, while some refs are left to be judged, and some delete claims to be entered.
+-- They represent the facts that have arrived
 pub record IsTakingUp (judging entering : List (List ℕ)) (facts : Facts) (accepts : Accepts) (state : States)
     (waiters : Waiters) (deletes : Deletes) (changes : Changes) : Type 0 where
   pub waiting : IsWaiting facts state waiters
@@ -31,7 +31,7 @@ pub record IsTakingUp (judging entering : List (List ℕ)) (facts : Facts) (acce
   pub changed : IsChangesOf (arrived facts state) accepts judging changes
   pub counted : IsCounted facts deletes state
 
--- the rows of changes are listed all the while
+-- meanwhile each row of `changes` is that of a change of a genuine claim
 abbrev pub TakingUpIsListed : Type 0
 TakingUpIsListed = (judging entering : List (List ℕ)) (facts : Facts) (accepts : Accepts) (state : States)
     (waiters : Waiters) (deletes : Deletes) (changes : Changes)
@@ -43,7 +43,7 @@ RestIsTakenUp = (facts : Facts) (accepts : Accepts) (state : States) (waiters : 
     (changes : Changes) (holders : Holders) → IsAtRest facts accepts state waiters deletes changes holders
     → IsTakingUp [] [] facts accepts state waiters deletes changes
 
--- and where nothing is left of all facts the tables are at rest
+-- and if all facts have arrived, nothing is left and the rows of holders are right, the tables are at rest
 abbrev pub TakenUpIsAtRest : Type 0
 TakenUpIsAtRest = (facts : Facts) (accepts : Accepts) (state : States) (waiters : Waiters) (deletes : Deletes)
     (changes : Changes) (holders : Holders) → IsTakingUp [] [] facts accepts state waiters deletes changes
@@ -51,7 +51,7 @@ TakenUpIsAtRest = (facts : Facts) (accepts : Accepts) (state : States) (waiters 
     → IsHeldBut [] facts state deletes changes holders
     → IsAtRest facts accepts state waiters deletes changes holders
 
--- tables without rows have taken up what has arrived, which is nothing
+-- tables without rows have taken up the facts that have arrived, which are none
 abbrev pub NothingIsTakenUp : Type 0
 NothingIsTakenUp = (facts : Facts) (accepts : Accepts) → IsTakingUp [] [] facts accepts empty empty empty empty
 
@@ -62,7 +62,7 @@ FactsAreAdded = (judging entering : List (List ℕ)) (facts more : Facts) (accep
     → IsTakingUp judging entering facts accepts state waiters deletes changes
     → IsTakingUp judging entering more accepts state waiters deletes changes
 
--- r arrives, and `order` becomes ready
+-- r arrives, and the refs of `order` become ready
 pub record Arrives (facts : Facts) (before after : States) (waiters : Waiters) (r : List ℕ) (order : List (List ℕ)) :
     Type 0 where
   pub absent : get before r ≡ None
@@ -74,7 +74,7 @@ pub record Arrives (facts : Facts) (before after : States) (waiters : Waiters) (
       → option_map beside_readiness (get after y) ≡ option_map beside_readiness (get before y)
   pub own : option_map beside_readiness (get after r) ≡ Some (false, false, 0)
 
--- this is left to be judged, and to be entered
+-- these are left to be judged, and to be entered
 abbrev pub OneArrives : Type 0
 OneArrives = (entering wider : List (List ℕ)) (facts : Facts) (accepts : Accepts) (before after : States)
     (waiters now : Waiters) (deletes : Deletes) (changes : Changes) (r : List ℕ) (order : List (List ℕ))
@@ -83,11 +83,11 @@ OneArrives = (entering wider : List (List ℕ)) (facts : Facts) (accepts : Accep
     → IsTakingUp [] entering facts accepts before waiters deletes changes
     → IsTakingUp order wider facts accepts after now deletes changes
 
--- what a row says beside what is judged
+-- the columns of a row that judging doesn't write
 abbrev pub beside_judgement : StateRow → Bool × ℕ × ℕ
 beside_judgement row = (row.ready, row.missing, row.deleters)
 
--- where judging writes nothing else, less is left to be judged
+-- if judging writes no other column, the ref is no longer left to be judged
 abbrev pub OneIsJudged : Type 0
 OneIsJudged = (judging left entering : List (List ℕ)) (facts : Facts) (accepts : Accepts) (before after : States)
     (waiters : Waiters) (deletes : Deletes) (changes listed : Changes)
@@ -97,11 +97,11 @@ OneIsJudged = (judging left entering : List (List ℕ)) (facts : Facts) (accepts
     → IsTakingUp judging entering facts accepts before waiters deletes changes
     → IsTakingUp left entering facts accepts after waiters deletes listed
 
--- what a row says beside its count
+-- the columns of a row other than its count
 abbrev pub beside_count : StateRow → Bool × Bool × Bool × ℕ
 beside_count row = (row.ready, row.genuine, row.sound, row.missing)
 
--- d is entered, which is a delete claim on x. Nothing but counts changes, and by that whether the refs of `changed` are
+-- d, a delete claim on x, is entered. In `state` only counts change, and by that whether the refs of `changed` are
 -- deleted
 pub record Enters (facts : Facts) (before after : States) (deletes entered : Deletes) (x d : List ℕ) (date : ℤ)
     (changed : List (List ℕ)) : Type 0 where
@@ -113,7 +113,7 @@ pub record Enters (facts : Facts) (before after : States) (deletes entered : Del
       ≡ (if list_any (bytes_eq y) changed then not (row_deleted facts deletes Always y)
       else row_deleted facts deletes Always y)
 
--- less is left to be entered
+-- it is no longer left to be entered
 abbrev pub OneIsEntered : Type 0
 OneIsEntered = (judging entering fewer : List (List ℕ)) (facts : Facts) (accepts : Accepts) (before after : States)
     (waiters : Waiters) (deletes entered : Deletes) (changes : Changes) (x d : List ℕ) (date : ℤ)

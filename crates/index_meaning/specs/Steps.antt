@@ -1,4 +1,4 @@
--- What the tables still mean while an index takes up what was added. Between the steps something is left to do.
+-- What the tables still mean while an index takes up added facts. Between the steps some work is left to do.
 use Rattle.std.specs.Prelude.{◌≡◌, ℕ, ℤ, ◌||◌, Bool, true, false, List, [], Some, None, option_map, if◌then◌else◌}
 use Rattle.std.specs.Option.{option_map_or}
 use Rattle.std.specs.List.{list_any}
@@ -25,7 +25,7 @@ use Rattle.index_meaning.specs.Laws.{IsUnconcerned}
 
 -- ---- more facts
 
--- with more refs more facts have arrived
+-- if more refs have arrived, so have more facts
 abbrev pub ArrivedGrows : Type 0
 ArrivedGrows = (facts : Facts) (before after : States)
     → ((y : List ℕ) → contains_key before y ≡ true → contains_key after y ≡ true)
@@ -43,33 +43,33 @@ ArrivedIsKnown = (facts : Facts) (state : States)
     → ((y : List ℕ) → contains_key state y ≡ true → contains_key facts y ≡ true)
     → (y : List ℕ) → contains_key state y ≡ contains_key (arrived facts state) y
 
--- all have arrived
+-- if each ref with a fact has arrived, all facts have
 abbrev pub AllHaveArrived : Type 0
 AllHaveArrived = (facts : Facts) (state : States) → ((y : List ℕ) → contains_key state y ≡ contains_key facts y)
     → arrived facts state ≡ facts
 
--- what waits goes on waiting
+-- the refs that wait continue to wait
 abbrev pub WaitingStays : Type 0
 WaitingStays = (facts more : Facts) (state : States) (waiters : Waiters) → IsWithin facts more
     → IsWaiting facts state waiters → IsWaiting more state waiters
 
--- rows of ready delete claims are so with more facts
+-- rows of ready delete claims are still that with more facts
 abbrev pub RowsStayRingless : Type 0
 RowsStayRingless = (facts more : Facts) (deletes : Deletes) → IsWithin facts more → Ringless facts deletes
     → Ringless more deletes
 
--- and delete what they did
+-- and delete the same refs
 abbrev pub RowDeletionStays : Type 0
 RowDeletionStays = (facts more : Facts) (deletes : Deletes) → IsWithin facts more → Ringless facts deletes
     → (when : When) (x : List ℕ) → row_deleted more deletes when x ≡ row_deleted facts deletes when x
 
--- facts were added, and what the rows say was added to
+-- facts and rows of changes were added, and the refs that the rows call genuine are kept
 pub record IsGrown (facts more : Facts) (before after : States) (changes listed : Changes) : Type 0 where
   pub within : IsWithin facts more
   pub genuine : (y : List ℕ) → says_genuine before y ≡ true → says_genuine after y ≡ true
   pub rows : (p : List ℕ) (k : Moment) → contains_key changes (p, k) ≡ true → contains_key listed (p, k) ≡ true
 
--- the rows of holders are as right as they were but for the permanodes that are concerned
+-- the rows of holders are as right as before, except for the permanodes that are concerned
 abbrev pub HeldStays : Type 0
 HeldStays = (but concerned : List (List ℕ)) (facts more : Facts) (before after : States) (deletes entered : Deletes)
     (changes listed : Changes) (holders : Holders)
@@ -80,13 +80,13 @@ HeldStays = (but concerned : List (List ℕ)) (facts more : Facts) (before after
     → IsUnconcerned facts more before after deletes entered changes listed q)
     → IsHeldBut concerned more after entered listed holders
 
--- each row counts what was counted, and a new row nothing
+-- each row counts what it did before, and a new row nothing
 pub record CountsAsBefore (before after : States) : Type 0 where
   pub stays : (y : List ℕ) → contains_key before y ≡ true → contains_key after y ≡ true
   pub deleters : (y : List ℕ) (row : StateRow) → get after y ≡ Some row
       → row.deleters ≡ option_map_or (λ r. r.deleters) (get before y) 0
 
--- and says of its ref what was said of it, and a new row nothing
+-- and says of its ref what it did before, and a new row nothing
 pub record IsAsBefore (before after : States) : Type 0 where
   pub counts : CountsAsBefore before after
   pub genuine : (y : List ℕ) (row : StateRow) → get after y ≡ Some row
@@ -97,11 +97,11 @@ pub record IsAsBefore (before after : States) : Type 0 where
 abbrev pub RowsAreAsBefore : Type 0
 RowsAreAsBefore = (state : States) → IsAsBefore state state
 
--- what a row says and counts beside readiness
+-- the columns of a row that say nothing of readiness
 abbrev pub beside_readiness : StateRow → Bool × Bool × ℕ
 beside_readiness row = (row.genuine, row.sound, row.deleters)
 
--- one has arrived
+-- one ref has arrived
 abbrev pub OneHasArrived : Type 0
 OneHasArrived = (r : List ℕ) (before after : States) → get before r ≡ None
     → ((y : List ℕ) → contains_key after y ≡ (bytes_eq y r || contains_key before y))
@@ -116,13 +116,13 @@ CountedStays = (facts more : Facts) (deletes : Deletes) (before after : States) 
     → ((y : List ℕ) → contains_key before y ≡ true → contains_key facts y ≡ true) → CountsAsBefore before after
     → IsCounted facts deletes before → IsCounted more deletes after
 
--- rows of changes stay listed
+-- each row of `changes` is still that of a change of a genuine claim
 abbrev pub RowsStayListed : Type 0
 RowsStayListed = (facts more : Facts) (before after : States) (changes : Changes) → IsWithin facts more
     → ((y : List ℕ) → says_genuine before y ≡ true → says_genuine after y ≡ true)
     → IsListed facts before changes → IsListed more after changes
 
--- and where nothing else changed the rows of holders are as right as they were
+-- and if nothing else changed, the rows of holders are as right as before
 abbrev pub HeldStaysWithFacts : Type 0
 HeldStaysWithFacts = (but : List (List ℕ)) (facts more : Facts) (before after : States) (deletes : Deletes)
     (changes : Changes) (holders : Holders) → IsWithin facts more
@@ -130,9 +130,9 @@ HeldStaysWithFacts = (but : List (List ℕ)) (facts more : Facts) (before after 
     → ((y : List ℕ) → contains_key before y ≡ true → contains_key facts y ≡ true) → IsAsBefore before after
     → IsHeldBut but facts before deletes changes holders → IsHeldBut but more after deletes changes holders
 
--- ---- what became ready is left to be judged
+-- ---- the refs that became ready are left to be judged
 
--- facts were added, and `order` has just what became ready, each once
+-- facts were added, and `order` has exactly the refs that became ready, each once
 pub record BecomesReady (facts more : Facts) (order : List (List ℕ)) : Type 0 where
   pub within : IsWithin facts more
   pub ready : (y : List ℕ) → is_ready more y ≡ passes_or_in (is_ready facts) order y
@@ -158,20 +158,20 @@ LeftSaysNothing = (judging : List (List ℕ)) (facts : Facts) (accepts : Accepts
 
 -- ---- delete claims are left to be entered
 
--- the rows are those of the genuine delete claims, but for some that weren't entered yet. Where none of these is left
+-- the rows are those of the genuine delete claims, except for some that weren't entered yet. If none of these is left,
 -- this is `IsDeletesOf`
 abbrev pub IsDeletesBut : List (List ℕ) → Facts → Accepts → Deletes → Type 0
 IsDeletesBut left facts accepts deletes = (x d : List ℕ)
     → get deletes (x, d) ≡ (if list_any (bytes_eq d) left then None else genuine_delete facts accepts x d)
 
--- what became ready is left too
+-- the refs that became ready are left too
 abbrev pub DeletesAreLeft : Type 0
 DeletesAreLeft = (left wider : List (List ℕ)) (facts more : Facts) (accepts : Accepts) (order : List (List ℕ))
     (deletes : Deletes) → BecomesReady facts more order
     → ((d : List ℕ) → list_any (bytes_eq d) wider ≡ (list_any (bytes_eq d) left || list_any (bytes_eq d) order))
     → IsDeletesBut left facts accepts deletes → IsDeletesBut wider more accepts deletes
 
--- what is no genuine delete claim needn't be entered
+-- a ref that isn't a genuine delete claim needn't be entered
 abbrev pub FewerAreLeft : Type 0
 FewerAreLeft = (left fewer : List (List ℕ)) (facts : Facts) (accepts : Accepts) (deletes : Deletes)
     → IsDeletesBut left facts accepts deletes
@@ -180,7 +180,7 @@ FewerAreLeft = (left fewer : List (List ℕ)) (facts : Facts) (accepts : Accepts
     → genuine_delete facts accepts x d ≡ None)
     → IsDeletesBut fewer facts accepts deletes
 
--- one that was entered is left no more
+-- one that was entered is no longer left
 abbrev pub OneLessIsLeft : Type 0
 OneLessIsLeft = (left fewer : List (List ℕ)) (facts : Facts) (accepts : Accepts) (deletes : Deletes) (x d : List ℕ)
     (date : ℤ) → IsDeletesBut left facts accepts deletes

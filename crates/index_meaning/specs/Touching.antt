@@ -1,4 +1,4 @@
--- Whom a ref touches: whose values may change where it is deleted, or stands again, or is new.
+-- The permanodes that a ref touches: their values may change when its deletion changes, or when it is new.
 use Rattle.std.specs.Prelude.{ℕ, List, [], ◌∷◌, map, Option, Some, None, if◌then◌else◌}
 use Rattle.std.specs.FinMap.{get}
 use Rattle.schema_fact.specs.declared.kinds.Fact.{Fact}
@@ -9,7 +9,7 @@ use Rattle.claim_model.specs.Facts.{Facts}
 use Rattle.schema_fact.specs.Changes.{changes_of}
 use Rattle.index_rows.specs.States.{States, says_genuine}
 
--- the permanodes that a claim changes, where its row says that it is genuine
+-- the permanodes that a claim changes, if its row says that it is genuine
 abbrev pub changes_concern : States → List ℕ → What → List (List ℕ)
 changes_concern state y what = if says_genuine state y then map (λ change. change.on) (changes_of what) else []
 
@@ -28,6 +28,6 @@ abbrev pub fact_concerns : States → List ℕ → Option Fact → List (List �
 fact_concerns state y None = []
 fact_concerns state y (Some fact) = kind_concerns state y fact.kind
 
--- the permanodes whose values may change where the deletion of y changes, or where y is new
+-- the permanodes whose values may change when the deletion of y changes, or when y is new
 abbrev pub concerned_by : Facts → States → List ℕ → List (List ℕ)
 concerned_by facts state y = fact_concerns state y (get facts y)

@@ -13,7 +13,7 @@ pub fn rows_are_ringless()
     ensures { RowsAreRingless }
 {}
 
-/// What the rows of the genuine delete claims delete is deleted, at each date.
+/// The refs that the rows of the genuine delete claims delete are those that are deleted, at each date.
 pub fn rows_tell_deletion()
     ensures { RowsTellDeletion }
 {}
@@ -33,12 +33,12 @@ pub fn rows_tell_holders()
     ensures { RowsTellHolders }
 {}
 
-/// At rest a permanode has a row under a value of an attribute exactly where it is among its holders.
+/// At rest a permanode has a row under a value of an attribute exactly if it is among its holders.
 pub fn row_is_of_holder()
     ensures { RowIsOfHolder }
 {}
 
-/// What a permanode holds stays as facts are added, where its own row, its changes and what is deleted of these stay.
+/// As facts are added, a permanode keeps its values if its row, its changes and the deletion of these stay the same.
 pub fn unconcerned_stay()
     ensures { UnconcernedStay }
 {}

@@ -1,5 +1,5 @@
 //! What the tables of an index mean, by the definitions over facts and the meaning of keys. There is no code here: the
-//! definitions stand in `specs/`, and each law is the contract of a function without a body.
+//! definitions are in `specs/`, and each law is the contract of a function with an empty body.
 #![tactic(auto)]
 
 mod concerns;

@@ -1,8 +1,8 @@
-//! Laws of an index that takes up what was added.
+//! Laws of an index that takes up added facts.
 ghost use Rattle.index_meaning.specs.Progress.{TakingUpIsListed, RestIsTakenUp, TakenUpIsAtRest, NothingIsTakenUp};
 ghost use Rattle.index_meaning.specs.Progress.{FactsAreAdded, OneArrives, OneIsJudged, OneIsEntered};
 
-/// The rows of changes are listed all the while.
+/// Meanwhile each row of `changes` is that of a change of a genuine claim.
 pub fn taking_up_is_listed()
     ensures { TakingUpIsListed }
 {}
@@ -12,12 +12,12 @@ pub fn rest_is_taken_up()
     ensures { RestIsTakenUp }
 {}
 
-/// Where all facts have arrived and nothing is left the tables are at rest, if the rows of holders are right.
+/// If all facts have arrived, nothing is left and the rows of holders are right, then the tables are at rest.
 pub fn taken_up_is_at_rest()
     ensures { TakenUpIsAtRest }
 {}
 
-/// Tables without rows have taken up all that has arrived, which is nothing.
+/// Tables without rows have taken up every fact that has arrived, which is none.
 pub fn nothing_is_taken_up()
     ensures { NothingIsTakenUp }
 {}
@@ -27,17 +27,17 @@ pub fn facts_are_added()
     ensures { FactsAreAdded }
 {}
 
-/// What becomes ready as a ref arrives is left to be judged, and to be entered.
+/// The refs that become ready as a ref arrives are left to be judged, and to be entered.
 pub fn one_arrives()
     ensures { OneArrives }
 {}
 
-/// What was judged is left no more.
+/// A ref that was judged is no longer left.
 pub fn one_is_judged()
     ensures { OneIsJudged }
 {}
 
-/// What was entered is left no more.
+/// A ref that was entered is no longer left.
 pub fn one_is_entered()
     ensures { OneIsEntered }
 {}

@@ -1,4 +1,4 @@
-//! Laws of the tables between the steps of what an index takes up.
+//! Laws of the tables between the steps in which an index takes up facts.
 ghost use Rattle.index_meaning.specs.Steps.{ArrivedGrows, ArrivedStays, ArrivedIsKnown, AllHaveArrived, WaitingStays};
 ghost use Rattle.index_meaning.specs.Steps.{RowsAreAsBefore, OneHasArrived};
 ghost use Rattle.index_meaning.specs.Steps.{RowsStayRingless, RowDeletionStays, CountedStays, RowsStayListed};
@@ -21,57 +21,57 @@ pub fn arrived_is_known()
     ensures { ArrivedIsKnown }
 {}
 
-/// Where each ref has a row all facts have arrived.
+/// If each ref with a fact has a row, all facts have arrived.
 pub fn all_have_arrived()
     ensures { AllHaveArrived }
 {}
 
-/// As facts are added what waits goes on waiting.
+/// As facts are added, the refs that wait continue to wait.
 pub fn waiting_stays()
     ensures { WaitingStays }
 {}
 
-/// Rows that stay say and count what they did.
+/// Unchanged rows say and count what they did before.
 pub fn rows_are_as_before()
     ensures { RowsAreAsBefore }
 {}
 
-/// So they do as one ref arrives, whatever becomes ready.
+/// So do the rows when one ref arrives, whichever refs become ready.
 pub fn one_has_arrived()
     ensures { OneHasArrived }
 {}
 
-/// Rows of ready delete claims are so with more facts.
+/// With more facts, rows of ready delete claims are still those of ready delete claims.
 pub fn rows_stay_ringless()
     ensures { RowsStayRingless }
 {}
 
-/// With more facts such rows delete just what they did, at each date.
+/// With more facts such rows delete exactly the same refs, at each date.
 pub fn row_deletion_stays()
     ensures { RowDeletionStays }
 {}
 
-/// With more facts the counts of delete claims stay right, where they stay and are 0 for refs that weren't there.
+/// With more facts the counts of delete claims stay right, if they don't change and are 0 for new refs.
 pub fn counted_stays()
     ensures { CountedStays }
 {}
 
-/// With more facts rows of changes stay listed.
+/// With more facts each row of `changes` is still that of a change of a genuine claim.
 pub fn rows_stay_listed()
     ensures { RowsStayListed }
 {}
 
-/// With more facts, where rows of changes and of delete claims stay, the rows of holders are as right as they were.
+/// With more facts, if the rows of changes and of delete claims stay, the rows of holders are as right as before.
 pub fn held_stays_with_facts()
     ensures { HeldStaysWithFacts }
 {}
 
-/// As the tables grow, the rows of holders are as right as they were but for the permanodes that are concerned.
+/// As the tables grow, the rows of holders are as right as before, except for the permanodes that are concerned.
 pub fn held_stays()
     ensures { HeldStays }
 {}
 
-/// As refs become ready what they are is left to be judged, and of all other refs the rows say it.
+/// As refs become ready they are left to be judged, and the rows of all other refs are judged.
 pub fn judged_is_left()
     ensures { JudgedIsLeft }
 {}
@@ -91,12 +91,12 @@ pub fn deletes_are_left()
     ensures { DeletesAreLeft }
 {}
 
-/// What is no genuine delete claim needn't be entered.
+/// A ref that isn't a genuine delete claim needn't be entered.
 pub fn fewer_are_left()
     ensures { FewerAreLeft }
 {}
 
-/// A genuine delete claim that has its row is left no more.
+/// A genuine delete claim that has its row is no longer left.
 pub fn one_less_is_left()
     ensures { OneLessIsLeft }
 {}

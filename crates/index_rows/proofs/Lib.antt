@@ -8,6 +8,10 @@ pub mod Groups
 pub mod Alone
 pub mod Walks
 pub mod WalksBack
+pub mod RemovalWalks
+pub mod Parts
+pub mod ByMark
+pub mod Stands
 pub mod HolderGroups
 pub mod Deleting
 pub mod DeletionWalk

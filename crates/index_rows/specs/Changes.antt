@@ -22,7 +22,7 @@ change_cmp a b = ordering_then (ref_cmp a.0 b.0) (moment_cmp a.1 b.1)
 abbrev pub Changes : Type 0
 Changes = FinMap change_cmp (Unit {0})
 
--- keys with rows that say nothing
+-- keys with empty rows
 abbrev pub keys_alone : {K : Type 0} → List K → List (K × Unit {0})
 keys_alone ks = map (λ k. (k, tt)) ks
 
@@ -44,12 +44,12 @@ abbrev pub is_later : Option Moment → Moment → Bool
 is_later None k = true
 is_later (Some other) k = is_lt (moment_cmp other k)
 
--- where the changes of p begin, or go on after a moment
+-- the bound at which the changes of p begin, or continue after a moment
 abbrev pub changes_start : List ℕ → Option Moment → Bound ChangeKey
 changes_start p None = Included (p, first_moment)
 changes_start p (Some k) = Excluded (p, k)
 
--- the changes of p behind a moment, or all
+-- the changes of p after a moment, or all
 abbrev pub changes_after : Changes → List ℕ → Option Moment → List (ChangeKey × Unit {0})
 changes_after m p after = filter (λ e. bytes_eq p e.0.0 && is_later after e.0.1) (entries m)
 
@@ -66,7 +66,7 @@ changes_before m p k = filter (λ e. bytes_eq p e.0.0 && is_lt (moment_cmp e.0.1
 abbrev pub changes_below : Changes → ChangeKey → List (ChangeKey × Unit {0})
 changes_below m k = filter (λ e. is_lt (change_cmp e.0 k)) (entries m)
 
--- a moment is told apart by its parts
+-- a moment is determined by its parts
 abbrev pub moment_code : Coded Moment
 moment_code =
     code_by ((ℤ × List ℕ) × ℕ) (coded× (coded× coded_ℤ (coded_list coded_ℕ)) coded_ℕ)

@@ -13,7 +13,7 @@ use Rattle.index_rows.specs.States.{States}
 abbrev pub is_deletable : Facts → List ℕ → Bool
 is_deletable facts y = passes (λ fact. can_be_deleted fact.kind) (get facts y)
 
--- whether the row of y counts some delete claim
+-- whether the row of y counts a delete claim
 abbrev pub has_deleters : States → List ℕ → Bool
 has_deleters state y = passes (λ row. nat_lt 0 row.deleters) (get state y)
 
@@ -21,7 +21,7 @@ has_deleters state y = passes (λ row. nat_lt 0 row.deleters) (get state y)
 abbrev pub is_gone : Facts → States → List ℕ → Bool
 is_gone facts state y = is_deletable facts y && has_deleters state y
 
--- how many rows are of a delete claim on y that isn't deleted
+-- the number of rows of delete claims on y that aren't deleted
 abbrev pub live_rows : Deletes → (List ℕ → Bool) → List ℕ → ℕ
 live_rows deletes gone y = number (λ e. bytes_eq y e.0.0 && not (gone e.0.1)) (entries deletes)
 

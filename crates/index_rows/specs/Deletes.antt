@@ -1,4 +1,4 @@
--- Deletion as rows tell it: by the delete claims whose rows stand.
+-- Deletion by rows: by the delete claims that have rows.
 use Rattle.std.specs.Prelude.{◌≡◌, ◌+◌, ℕ, zero, suc, ◌&&◌, Bool, true, false, not, List, [], ◌∷◌, Option, Some, None, ℤ}
 use Rattle.std.specs.List.{list_any}
 use Rattle.std.specs.FinMap.{FinMap, get, contains_key, len}
@@ -26,7 +26,7 @@ what_target y (Del on attr value) = y
 what_target y (Delete target) = target
 what_target y (Multi changes) = y
 
--- the target of a delete claim, and of all else the ref itself
+-- the target of a delete claim; for any other ref, the ref itself
 abbrev pub kind_target : List ℕ → Kind → List ℕ
 kind_target y Plain = y
 kind_target y (Key name) = y
@@ -63,7 +63,7 @@ kind_has_row rows d (Permanode signed) = false
 kind_has_row rows d (Claim signed date what) = what_has_row rows d what
 kind_has_row rows d (Unread name) = false
 
--- whether this is a delete claim whose row stands
+-- whether this is a delete claim that has a row
 abbrev pub row_stands : Facts → Deletes → List ℕ → Bool
 row_stands facts rows d = passes (λ fact. kind_has_row rows d fact.kind) (get facts d)
 
@@ -79,11 +79,11 @@ pub record IsDelete (facts : Facts) (x d : List ℕ) (date : ℤ) : Type 0 where
 abbrev pub Ringless : Facts → Deletes → Type 0
 Ringless facts rows = (x d : List ℕ) (date : ℤ) → get rows (x, d) ≡ Some date → IsDelete facts x d date
 
--- whether the row counts then, and its claim isn't gone
+-- whether the row counts at that time, and its claim isn't gone
 abbrev pub is_live : When → (List ℕ → Bool) → Pair × ℤ → Bool
 is_live when gone e = counts_at when e.1 && not (gone e.0.1)
 
--- whether some such row stands in the group x, behind a claim
+-- whether the group x has such a row, after a claim
 abbrev pub any_live : Deletes → When → (List ℕ → Bool) → List ℕ → Option (List ℕ) → Bool
 any_live rows when gone x after = list_any (is_live when gone) (group_after rows x after)
 
@@ -91,15 +91,15 @@ abbrev pub total : {A : Type 0} → (A → ℕ) → List A → ℕ
 total f [] = 0
 total f (x ∷ xs) = f x + total f xs
 
--- a delete claim, and those on it, and on these, looked at n deep: how many rows they have
+-- the number of rows of a delete claim, those on it, those on these, and so on, n deep
 abbrev pub rows_under : Deletes → ℕ → List ℕ → ℕ
 rows_under rows zero d = 1
 rows_under rows (suc n) d = suc (total (λ e. rows_under rows n e.0.1) (group_after rows d None))
 
--- how many rows of delete claims are on x, on these claims, and so on
+-- the number of rows of delete claims on x, on these claims, and so on
 abbrev pub tree_rows : Facts → Deletes → List ℕ → ℕ
 tree_rows facts rows x = total (λ e. rows_under rows (len facts) e.0.1) (group_after rows x None)
 
--- whether x is deleted, by the delete claims whose rows stand
+-- whether x is deleted, by the delete claims that have rows
 abbrev pub row_deleted : Facts → Deletes → When → List ℕ → Bool
 row_deleted facts rows when x = deleted_by facts (row_stands facts rows) when x

@@ -31,7 +31,7 @@ holder_total =
     (then_total (on_total (λ (k : HolderKey). k.1) nat_list_cmp_total)
     (on_total (λ (k : HolderKey). k.2) nat_list_cmp_total))
 
--- a key is told apart by its parts
+-- a key is determined by its parts
 abbrev pub holder_code : Coded HolderKey
 holder_code =
     code_by ((List ℕ × List ℕ) × List ℕ)
@@ -49,7 +49,7 @@ AllOfRefs m = (k : HolderKey) → contains_key m k ≡ true → IsFromLeast k.2
 abbrev pub is_of : List ℕ → List ℕ → HolderKey → Bool
 is_of name value k = bytes_eq name k.0 && bytes_eq value k.1
 
--- the permanodes whose rows stand under an attribute and a value, in their order
+-- the permanodes that have rows under an attribute and a value, in their order
 abbrev pub rows_holding : Holders → List ℕ → List ℕ → List (List ℕ)
 rows_holding rows name value = map (λ e. e.0.2) (filter (λ e. is_of name value e.0) (entries rows))
 
@@ -63,13 +63,13 @@ row_holds facts state deletes changes name value p =
     (says_permanode facts state p && not (row_deleted facts deletes Always p))
     && list_any (bytes_eq value) (row_values facts deletes changes Always p name)
 
--- whether some change of p sets or adds the value
+-- whether a change of p sets or adds the value
 abbrev pub is_given : Facts → Changes → List ℕ → List ℕ → List ℕ → Bool
 is_given facts changes name value p =
     list_any (λ e. passes (gives name value) (change_at facts e.0.1)) (changes_after changes p None)
 
--- the rows are those of what holds, but perhaps for some permanodes: each row of these is still of a value that a change
--- gives
+-- the rows are those of the values that permanodes have, except perhaps for some permanodes: each row of these is still
+-- of a value that a change gives
 pub record IsHeldBut (but : List (List ℕ)) (facts : Facts) (state : States) (deletes : Deletes) (changes : Changes)
     (holders : Holders) : Type 0 where
   pub held : (name value p : List ℕ) → list_any (bytes_eq p) but ≡ false

@@ -8,5 +8,6 @@ pub mod Once
 pub mod Counted
 pub mod Values
 pub mod Holders
+pub mod Removals
 pub mod Touched
 pub mod Loose

@@ -1,4 +1,4 @@
--- Rows that bring their memory, each with its number.
+-- Rows that are allocated before they are put, each with its number.
 use Rattle.std.specs.Prelude.{◌≡◌, ℕ, ◌==◌, Bool, true, ◌&&◌, List, [], ◌∷◌, Option, Some, None, map, if◌then◌else◌}
 use Rattle.std.specs.List.{AllByRecursion}
 use Rattle.std.specs.Str.{bytes_eq}
@@ -39,7 +39,7 @@ abbrev pub is_better : Option (List ℕ) → List ℕ → Bool
 is_better None r = true
 is_better (Some other) r = is_lt (ref_cmp r other)
 
--- a ref behind another, where it is less than the best one so far, and else that one
+-- a ref, if it is after another and less than the best one so far; otherwise the best one
 abbrev pub lesser : Option (List ℕ) → Option (List ℕ) → List ℕ → Option (List ℕ)
 lesser after best r = if is_after after r && is_better best r then Some r else best
 
@@ -55,24 +55,24 @@ abbrev pub first_row : List LooseRow → Option (List ℕ × Fact)
 first_row [] = None
 first_row (row ∷ rows) = Some (row.1, row.2)
 
--- with a fact, where its ref has none
+-- with a fact, if its ref has none
 abbrev pub with_fact : Facts → List ℕ → Fact → Facts
 with_fact facts r fact = if contains_key facts r then facts else insert facts r fact
 
 abbrev pub with_row : Facts → LooseRow → Facts
 with_row facts row = with_fact facts row.1 row.2
 
--- with that of the first row
+-- with the fact of the first row
 abbrev pub with_first : Facts → List LooseRow → Facts
 with_first facts [] = facts
 with_first facts (row ∷ rows) = with_row facts row
 
--- the first number was taken off, where there was one
+-- the first number was removed, if there was one
 abbrev pub IsMoved : Option ℕ → List ℕ → List ℕ → Type 0
 IsMoved None before after = (before ≡ []) × (after ≡ [])
 IsMoved (Some n) before after = before ≡ n ∷ after
 
--- the facts of a table, and behind them those of loose rows
+-- the facts of a table, followed by those of loose rows
 abbrev pub with_loose : List LooseRow → Facts → Facts
 with_loose [] facts = facts
 with_loose (row ∷ rows) facts = with_loose rows (with_row facts row)

@@ -16,7 +16,7 @@ Pair = List ℕ × List ℕ
 abbrev pub pair_cmp : Pair → Pair → Ordering
 pair_cmp a b = ordering_then (ref_cmp a.0 b.0) (ref_cmp a.1 b.1)
 
--- where the group x begins, or goes on after a second part
+-- the bound at which the group x begins, or continues after a second part
 abbrev pub start_of : List ℕ → Option (List ℕ) → Bound Pair
 start_of x None = Included (x, least_ref)
 start_of x (Some d) = Excluded (x, d)

@@ -1,4 +1,4 @@
--- What is known of the refs that have arrived.
+-- The state of each ref that has arrived.
 use Rattle.std.specs.Prelude.{ℕ, Bool, List}
 use Rattle.std.specs.FinMap.{FinMap, get}
 use Rattle.blobref.specs.Blobref.{ref_cmp}

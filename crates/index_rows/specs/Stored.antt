@@ -18,7 +18,7 @@ stored_facts es = from_entries (map (λ e. (e.0, e.1.value)) es)
 abbrev pub AreAllValid : Facts → Type 0
 AreAllValid facts = (r : List ℕ) (fact : Fact) → get facts r ≡ Some fact → IsValid fact
 
--- where the rows behind a ref begin
+-- the bound at which the rows after a ref begin
 abbrev pub start_after : Option (List ℕ) → Bound (List ℕ)
 start_after None = Unbounded
 start_after (Some r) = Excluded r

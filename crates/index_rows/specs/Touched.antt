@@ -1,4 +1,4 @@
--- What one fact more touches, as a list: the steps that an index takes for the fact are counted by it.
+-- The refs that one fact more touches, as a list. The steps that an index takes for the fact are counted by it.
 use Rattle.std.specs.Prelude.{ℕ, zero, suc, ◌&&◌, ◌||◌, ◌++◌, Bool, true, false, not, List, [], ◌∷◌, map, filter, flat_map, Option, Some, None, if◌then◌else◌}
 use Rattle.std.specs.Str.{bytes_eq}
 use Rattle.std.specs.FinMap.{get, insert, keys, entries, from_entries, len}
@@ -20,7 +20,7 @@ use Rattle.claim_model.specs.Claims.{Moment, changes_on}
 use Rattle.index_rows.specs.Changes.{keys_alone}
 use Rattle.index_rows.specs.Deletes.{target_in}
 
--- ---- what becomes ready, and what depends on what
+-- ---- the refs that become ready, and dependencies
 
 -- whether y is ready, and wasn't before
 abbrev pub becomes : (List ℕ → Bool) → Facts → List ℕ → Bool
@@ -65,7 +65,8 @@ is_delete (Unread name) = false
 abbrev pub is_genuine_delete : Facts → Accepts → List ℕ → Bool
 is_genuine_delete facts accepts d = is_genuine facts accepts d && passes (λ fact. is_delete fact.kind) (get facts d)
 
--- y, its target if y is a delete claim that counts, and further targets as long as the last one is such a claim: at most n refs
+-- y, its target if y is a delete claim that counts, and further targets as long as the last one is such a claim: at
+-- most n refs
 abbrev pub chain_within : Facts → (List ℕ → Bool) → ℕ → List ℕ → List (List ℕ)
 chain_within facts counts zero y = []
 chain_within facts counts (suc n) y = y ∷ (if counts y then chain_within facts counts n (target_in facts y) else [])
@@ -101,7 +102,7 @@ abbrev pub fact_changes : Option Fact → List Change
 fact_changes None = []
 fact_changes (Some fact) = kind_changes fact.kind
 
--- the changes of a claim; of all else none
+-- the changes of a claim; none for any other ref
 abbrev pub changes_in : Facts → List ℕ → List Change
 changes_in facts x = fact_changes (get facts x)
 
@@ -118,9 +119,9 @@ group_of facts accepts p =
 abbrev pub each_once : List (List ℕ) → List (List ℕ)
 each_once rs = keys (from_entries {R = ref_cmp} (keys_alone rs))
 
--- ---- all that is touched
+-- ---- the refs that are touched
 
--- r, and what is ready with its fact and wasn't without
+-- r, and the refs that are ready with its fact and weren't without it
 abbrev pub is_new : Facts → Facts → List ℕ → List ℕ → Bool
 is_new facts more r y = bytes_eq y r || becomes (is_ready facts) more y
 
@@ -139,15 +140,15 @@ chain_end facts accepts d = last_ref d (chain facts accepts d)
 abbrev pub chain_ends : Facts → Facts → Accepts → List ℕ → List (List ℕ)
 chain_ends facts more accepts r = map (chain_end more accepts) (new_deletes facts more accepts r)
 
--- the refs whose changes are looked at again, each once: the new permanodes, the refs that end a chain, and those that are changed by a
--- claim that is new or ends a chain
+-- the refs whose changes are looked at again, each once: the new permanodes, the refs that end a chain, and those that
+-- are changed by a claim that is new or ends a chain
 abbrev pub changed_refs : Facts → Facts → Accepts → List ℕ → List (List ℕ)
 changed_refs facts more accepts r =
     each_once (filter (λ p. passes (λ fact. is_permanode fact.kind) (get more p)) (new_refs facts more r)
     ++ chain_ends facts more accepts r
     ++ flat_map (changed_by more) (new_refs facts more r ++ chain_ends facts more accepts r))
 
--- the refs of what is touched, where the facts become more by that of r
+-- the refs that are touched when the fact of r is added
 abbrev pub touched_in : Facts → Facts → Accepts → List ℕ → List (List ℕ)
 touched_in facts more accepts r =
     -- each new ref
@@ -161,6 +162,6 @@ touched_in facts more accepts r =
     -- for each of these refs the claim of each genuine change on it
     ++ flat_map (λ p. map (λ c. c.0.1) (group_of more accepts p)) (changed_refs facts more accepts r)
 
--- what the fact touches that comes under r
+-- the refs that the fact touches when it is put under r
 abbrev pub touched : Facts → Accepts → List ℕ → Fact → List (List ℕ)
 touched facts accepts r fact = touched_in facts (insert facts r fact) accepts r

@@ -1,4 +1,4 @@
--- The values of permanodes, as the rows of changes tell them.
+-- The values of permanodes, by the rows of changes.
 use Rattle.std.specs.Prelude.{◌≡◌, ℕ, ◌&&◌, Bool, true, not, List, map, filter, Option, Some, None, ℤ, slice_get}
 use Rattle.std.specs.List.{filter_map, last_or}
 use Rattle.std.specs.FinMap.{get, contains_key}
@@ -18,7 +18,7 @@ use Rattle.index_rows.specs.Changes.{Changes, changes_after}
 use Rattle.index_rows.specs.Deletes.{Deletes, row_deleted}
 use Rattle.index_rows.specs.States.{States, says_genuine}
 
--- the change of a moment: that at its place in its claim
+-- the change of a moment: the one at its place in its claim
 abbrev pub change_at : Facts → Moment → Option Change
 change_at facts k = change_said facts k.1 k.2
 
@@ -31,7 +31,7 @@ abbrev pub row_moments : Facts → Deletes → Changes → When → List ℕ →
 row_moments facts deletes changes when p =
     filter (moment_counts facts deletes when) (map (λ e. e.0.1) (changes_after changes p None))
 
--- the values of an attribute of p at that time, as the rows tell them
+-- the values of an attribute of p at that time, by the rows
 abbrev pub row_values : Facts → Deletes → Changes → When → List ℕ → List ℕ → List (List ℕ)
 row_values facts deletes changes when p name =
     values_after name (filter_map (change_at facts) (row_moments facts deletes changes when p))

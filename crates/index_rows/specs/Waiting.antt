@@ -1,4 +1,4 @@
--- Readiness by rows: what is ready, and what waits for what.
+-- Readiness by rows: which refs are ready, and which wait for which.
 use Rattle.std.specs.Prelude.{◌≡◌, ◌==◌, ℕ, ◌&&◌, Bool, true, not, List, Some}
 use Rattle.std.specs.List.{list_any}
 use Rattle.std.specs.Str.{bytes_eq}
@@ -10,7 +10,7 @@ use Rattle.index_rows.specs.declared.rows.StateRow.{StateRow}
 use Rattle.index_rows.specs.Pairs.{Pair, pair_cmp, number}
 use Rattle.index_rows.specs.States.{States}
 
--- a ref and what waits for it
+-- a ref, and a ref that waits for it
 abbrev pub Waiters : Type 0
 Waiters = FinMap pair_cmp (Unit {0})
 
@@ -22,11 +22,12 @@ arrived facts state = retain_keys facts (λ x. contains_key state x)
 abbrev pub depends : Facts → List ℕ → List ℕ → Bool
 depends facts y d = passes (λ fact. list_any (bytes_eq d) (dependencies fact)) (get facts y)
 
--- whether this is a row of y, which waits
+-- whether this is a row of y as the ref that waits
 abbrev pub waits : List ℕ → Pair × Unit {0} → Bool
 waits y e = bytes_eq y e.0.1
 
--- readiness is that among the facts that have arrived, and what isn't ready waits for just those that aren't
+-- `ready` is readiness among the facts that have arrived; a ref that isn't ready waits for exactly its dependencies
+-- that aren't
 pub record IsWaiting (facts : Facts) (state : States) (waiters : Waiters) : Type 0 where
   pub known : (y : List ℕ) → contains_key state y ≡ true → contains_key facts y ≡ true
   pub ready : (y : List ℕ) (row : StateRow) → get state y ≡ Some row → row.ready ≡ is_ready (arrived facts state) y

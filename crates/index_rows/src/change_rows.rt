@@ -1,7 +1,8 @@
 //! Which claims change a permanode, and when.
 ghost use Rattle.std.specs.Prelude.{◌≡◌, ◌+◌, ◌∷◌, ◌++◌, [], Some, OnOk, OnErr, IfSome, IfNone, option_copied};
 ghost use Rattle.std.specs.FinMap as finite;
-ghost use Rattle.index_rows.specs.Changes.{changes_above, changes_after, changes_before, changes_below, changes_from, changes_start, AllFromFirst, IsFromFirst};
+ghost use Rattle.index_rows.specs.Changes.{changes_above, changes_after, changes_before, changes_below, changes_from};
+ghost use Rattle.index_rows.specs.Changes.{changes_start, AllFromFirst, IsFromFirst};
 
 use blobref::{NoMemory, Ref};
 use edge_base::Steps;
@@ -15,7 +16,7 @@ use std::sync::ledger::Ledger;
 /// When a change counts: the number of its claim's date, as `Date::ns` gives it; the claim; the change's place there.
 pub type Moment = (i128, Ref, u32);
 
-/// The changes of permanodes by their moments. A contract sees them as a map with rows that say nothing. `steps`
+/// The changes of permanodes by their moments. A contract sees them as a map whose rows are empty. `steps`
 /// counts the steps from one row to the next and the rows put, each of which takes time in the logarithm of the number
 /// of rows.
 #[derive(Drop)]
@@ -48,7 +49,7 @@ impl ChangeRows {
         }
     }
 
-    /// Puts a row: the claim of that date changes p by its change at this place. Where there is no memory nothing
+    /// Puts a row: the claim of that date changes p by its change at this place. If there is no memory, nothing
     /// changes.
     pub fn put<L: Ledger>(
         &mut self,
@@ -68,7 +69,7 @@ impl ChangeRows {
         Ok(())
     }
 
-    /// The first moment of p behind `after`, or of all where `after` is `None`; `None` exactly where there is none.
+    /// The first moment of p after `after`, or the first of all if `after` is `None`; `None` exactly if there is none.
     pub fn next_of<L: Ledger>(
         &self,
         p: &Ref,
@@ -87,7 +88,7 @@ impl ChangeRows {
         }
     }
 
-    /// The last moment of p before another; `None` exactly where there is none.
+    /// The last moment of p before another; `None` exactly if there is none.
     pub fn prev_of<L: Ledger>(
         &self,
         p: &Ref,
@@ -105,7 +106,7 @@ impl ChangeRows {
         }
     }
 
-    // The greatest key of p before a moment, or of another permanode below p.
+    // The greatest key of p before a moment; if there is none, the greatest of a permanode below p.
     fn prev_from<L: Ledger>(
         &self,
         p: &Ref,
@@ -128,7 +129,7 @@ impl ChangeRows {
         }
     }
 
-    // The least key of p behind `after`, or at all, or of another permanode above p.
+    // The least key of p after `after`, or at all; if there is none, the least of a permanode above p.
     fn next_from<L: Ledger>(
         &self,
         p: &Ref,
@@ -154,7 +155,7 @@ impl ChangeRows {
     }
 }
 
-fn moment_of(date: &Date, claim: &Ref, place: u32) -> Moment
+pub(crate) fn moment_of(date: &Date, claim: &Ref, place: u32) -> Moment
     ensures value { result ≡ (date.now, claim.now, place) }
     ensures first { IsFromFirst result }
 {
@@ -162,7 +163,7 @@ fn moment_of(date: &Date, claim: &Ref, place: u32) -> Moment
     (date.ns(), *claim, place)
 }
 
-// Where the changes of p begin, or go on.
+// The bound at which the changes of p begin, or continue after a moment.
 fn changes_start(p: &Ref, after: Option<&Moment>) -> Bound<(Ref, Moment)>
     ensures { result ≡ changes_start p.now (option_copied after.entry) }
 {

@@ -1,8 +1,10 @@
 //! Deletion at a date, by a walk over the rows of delete claims.
 ghost use Rattle.std.specs.Prelude.{◌≡◌, ◌≤◌, ◌+◌, ◌*◌};
+ghost use Rattle.index_rows.specs.Counted.{has_deleters};
 ghost use Rattle.index_rows.specs.Deletes.{Ringless, row_deleted, tree_rows, target_in, kind_target, what_target};
 
-use crate::rows::Rows;
+use crate::ref_rows::RefRows;
+use crate::rows::{Rows, StateRow};
 use blobref::Ref;
 use edge_base::Steps;
 use index_look::claim::{can_be_deleted_at, counts_at};
@@ -10,9 +12,9 @@ use schema_date::When;
 use schema_fact::{Kind, What};
 use std::sync::ledger::Ledger;
 
-/// Whether a blob is deleted at that time, by the delete claims whose rows stand. Each row of `deletes` must be that of
-/// a ready delete claim, so that no chain of them is a ring. It takes no memory and isn't recursive. Its time is that
-/// of looking through the delete claims on the blob, those on these, and so on, once each.
+/// Whether a blob is deleted at that time, by the delete claims that have rows. Each row of `deletes` must be that of a
+/// ready delete claim, so that no chain of them is a ring. It takes no memory and isn't recursive. It looks through the
+/// delete claims on the blob, those on these, and so on, once each.
 pub fn deleted_at<L: Ledger>(rows: &Rows, r: &Ref, when: &When, steps: &mut Steps<L>) -> bool
     requires { Ringless rows.now.facts.ordered rows.now.deletes }
     ensures deleted { result ≡ row_deleted rows.now.facts.ordered rows.now.deletes when.now r.now }
@@ -21,7 +23,7 @@ pub fn deleted_at<L: Ledger>(rows: &Rows, r: &Ref, when: &When, steps: &mut Step
     if !can_be_deleted_at(&rows.facts.ordered, r, steps) {
         return false;
     }
-    // `at` is the blob whose delete claims are looked through, and those up to `last` don't make it deleted.
+    // `at` is the blob whose delete claims are looked through. Those up to `last` don't delete it.
     let mut at = *r;
     let mut last: Option<Ref> = None;
     'walk: loop {
@@ -49,7 +51,18 @@ pub fn deleted_at<L: Ledger>(rows: &Rows, r: &Ref, when: &When, steps: &mut Step
     }
 }
 
-// The target of a delete claim, and of all else the ref itself.
+/// Whether the row of a ref counts some delete claim. One look-up.
+pub fn has_deleters<L: Ledger>(state: &RefRows<StateRow>, r: &Ref, steps: &mut Steps<L>) -> bool
+    ensures some { result ≡ has_deleters state.now r.now }
+    ensures ticks { steps.new ≡ steps.old + 1 }
+{
+    match state.row(r, steps) {
+        Some(row) => 0 < row.deleters,
+        None => false,
+    }
+}
+
+// The target of a delete claim; for any other ref, the ref itself.
 fn target_in<L: Ledger>(rows: &Rows, y: &Ref, steps: &mut Steps<L>) -> Ref
     ensures target { result ≡ target_in rows.now.facts.ordered y.now }
     ensures ticks { steps.new ≡ steps.old + 1 }

@@ -1,4 +1,4 @@
-//! Facts under refs: those in a tree, and those of rows that brought their memory.
+//! Facts under refs: those in a tree, and those in loose rows, which were allocated before they were put.
 ghost use Rattle.std.specs.Prelude.{◌≡◌, ◌+◌, ◌≤◌, ◌<◌, ◌^◌, ◌∷◌, [], false, length, option_map, IfOk, OnOk, OnErr};
 ghost use Rattle.std.specs.FinMap as finite;
 ghost use Rattle.std.specs.List.{list_any};
@@ -14,15 +14,15 @@ use schema_fact::Fact;
 use std::alloc::Global;
 use std::sync::ledger::Ledger;
 
-/// Valid facts under their refs. As a table they are those in order, and behind them those of the loose rows: a look-up
-/// asks the tree, and then the loose rows one by one. `put` and the other calls on the tree alone are those of
+/// Valid facts under their refs. As a table they are those of the tree, followed by those of the loose rows: a look-up
+/// searches the tree, and then the loose rows one by one. `put` and the other calls on the tree alone are those of
 /// `ordered`.
 #[derive(Drop)]
 pub struct FactRows {
     /// The facts in the order of their refs.
     pub ordered: OrderedFacts,
-    /// The rows that were put without memory, and not moved into the tree since. While there is one, no other table of
-    /// an index is of use.
+    /// The rows that were put without taking memory and haven't been moved into the tree. While there is one, the other
+    /// tables of an index can't be used.
     pub loose: LooseRows,
 }
 
@@ -38,8 +38,8 @@ impl FactRows {
         }
     }
 
-    /// Puts a fact under a new ref. It takes no memory: the row is put in front of the loose ones, which with it must be
-    /// fewer than 2^63.
+    /// Puts a fact under a new ref. It takes no memory: the row is put in front of the loose ones. With it these must
+    /// be fewer than 2^63.
     pub fn put_made<L: Ledger>(&mut self, made: Made, steps: &mut Steps<L>)
         requires valid { IsValid made.2 }
         requires room { length self.old.loose + 1 < 2 ^ 63 }
@@ -54,10 +54,9 @@ impl FactRows {
         self.loose.push(made);
     }
 
-    /// Moves the loose row that was put last into the tree, and answers its number; `None` exactly where there is none.
-    /// A copy of the fact is put, and the row is taken off only when it was. `NoMemory` comes only where no memory is
-    /// left, and then the loose rows are as they were. No fact comes or goes. It ticks for the row, a look-up and a
-    /// put.
+    /// Moves the loose row that was put last into the tree, and returns its number; `None` exactly if there is none.
+    /// A copy of the fact is put, and only then is the row removed. `NoMemory` comes only if no memory is left, and
+    /// then the loose rows are unchanged. No fact is added or lost. It ticks for the row, a look-up and a put.
     pub fn move_one<L: Ledger>(
         &mut self,
         alloc: Global,
@@ -100,7 +99,7 @@ fn number_of(row: Option<Row>) -> Option<u64>
     }
 }
 
-// Puts a copy of the first loose fact into the tree, unless one of its ref is there. Where there is no memory nothing
+// Puts a copy of the first loose fact into the tree, unless its ref has one there. If there is no memory, nothing
 // changes.
 fn copy_first<L: Ledger>(
     alloc: Global,
@@ -119,7 +118,7 @@ fn copy_first<L: Ledger>(
     put_new(alloc, ordered, &first.0, first.1, steps)
 }
 
-// Puts a copy of a valid fact, unless one of its ref is there.
+// Puts a copy of a valid fact, unless its ref has one.
 fn put_new<L: Ledger>(
     alloc: Global,
     ordered: &mut OrderedFacts,

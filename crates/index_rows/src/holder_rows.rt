@@ -15,7 +15,7 @@ use std::ops::Bound;
 use std::sync::ledger::Ledger;
 
 /// An attribute, a value of it, and a permanode that holds this value. A contract sees it as these three. Keys are
-/// ordered by the attribute, then by the value, then by the permanode, the texts byte by byte.
+/// ordered by the attribute, then by the value, then by the permanode, the strings byte by byte.
 #[derive(Drop)]
 pub struct HolderKey {
     attr: Text,
@@ -34,7 +34,7 @@ impl Model for HolderKey {
 }
 
 impl HolderKey {
-    /// The key of copies of the texts. `NoMemory` comes only where no memory is left.
+    /// The key with copies of the two strings. `NoMemory` comes only if no memory is left.
     pub fn copy(
         alloc: Global,
         attr: &str,
@@ -116,7 +116,7 @@ impl Ord for HolderKey {
     }
 }
 
-/// The permanodes that hold the values of attributes. A contract sees them as a map with rows that say nothing.
+/// The permanodes that hold the values of attributes. A contract sees them as a map whose rows are empty.
 /// `steps` counts the look-ups, the steps from one row to the next and the changes, each of which takes time in the
 /// logarithm of the number of rows.
 #[derive(Drop)]
@@ -149,7 +149,7 @@ impl HolderRows {
         }
     }
 
-    /// Whether the row of a key stands.
+    /// Whether there is a row under the key.
     pub fn has<L: Ledger>(&self, key: &HolderKey, steps: &mut Steps<L>) -> bool
         ensures value { result ≡ finite.contains_key self.now key.now }
         ensures ticks { steps.new ≡ steps.old + 1 }
@@ -158,7 +158,7 @@ impl HolderRows {
         self.rows.contains(key)
     }
 
-    /// Puts the row of a key. Where there is no memory nothing changes, and the key is dropped.
+    /// Puts the row of a key. If there is no memory, nothing changes, and the key is dropped.
     pub fn put<L: Ledger>(&mut self, key: HolderKey, steps: &mut Steps<L>) -> Result<(), NoMemory>
         ensures ok { OnOk result (self.new ≡ finite.insert self.old key tt) }
         ensures err { OnErr result (self.new ≡ self.old) }
@@ -170,7 +170,7 @@ impl HolderRows {
         Ok(())
     }
 
-    /// Drops the row of a key. Where there is none nothing changes.
+    /// Drops the row of a key. If there is none, nothing changes.
     pub fn drop_row<L: Ledger>(&mut self, key: &HolderKey, steps: &mut Steps<L>)
         ensures value { self.new ≡ finite.remove self.old key.now }
         ensures ticks { steps.new ≡ steps.old + 1 }
@@ -179,8 +179,8 @@ impl HolderRows {
         self.rows.remove(key);
     }
 
-    /// The permanodes that have this value of the attribute, ascending. It looks the first one up and takes a step for
-    /// each; `NoMemory` comes only where no memory is left for copies of the two texts and for the list.
+    /// The permanodes that have this value of the attribute, ascending. It looks up the first one and takes a step for
+    /// each. `NoMemory` comes only if no memory is left for copies of the two strings and for the list.
     pub fn all_of<L: Ledger>(
         &self,
         alloc: Global,

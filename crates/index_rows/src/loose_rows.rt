@@ -1,4 +1,4 @@
-//! Facts that bring their memory, and a list of them.
+//! Facts in nodes that are allocated before they are put, and a list of them.
 ghost use Rattle.std.specs.Prelude.{◌≡◌, ◌+◌, ◌≤◌, ◌<◌, ◌^◌, ◌∷◌, [], length, IfOk, IfSome, IfNone, option_copied, option_map};
 ghost use Rattle.std.specs.List.{list_any};
 ghost use Rattle.blobref.specs.Blobref.{is_after};
@@ -16,7 +16,7 @@ use std::sync::ledger::Ledger;
 // A number, a ref and a fact.
 pub(crate) type Row = (u64, Ref, Fact);
 
-/// A fact with its number and its ref, in a node of a list: it can be put into a table without memory. A contract sees
+/// A fact with its number and its ref, in a node of a list. Putting it into a table takes no memory. A contract sees
 /// the number, the ref and the fact.
 #[derive(Drop)]
 pub struct Made {
@@ -38,7 +38,7 @@ impl Model for Made {
 }
 
 impl Made {
-    /// Takes all the memory that the fact takes in a table. `NoMemory` comes only where no memory is left, and the fact
+    /// Takes all the memory that the fact needs in a table. `NoMemory` comes only if no memory is left, and the fact
     /// is then dropped.
     pub fn make(alloc: Global, number: u64, r: &Ref, fact: Fact) -> Result<Made, NoMemory>
         ensures { IfOk result (λ made. made ≡ (number, r.now, fact)) }
@@ -63,7 +63,7 @@ impl Made {
     }
 }
 
-/// Valid facts with their numbers and their refs, the one that was put last first. A contract sees the list.
+/// Valid facts with their numbers and their refs. The one that was put last is first. A contract sees the list.
 #[derive(Drop)]
 pub struct LooseRows {
     rows: LinkedList<Row>,
@@ -104,7 +104,7 @@ impl LooseRows {
         self.rows = rows;
     }
 
-    // Takes off the first row, where there is one.
+    // Removes and returns the first row, if there is one.
     pub(crate) fn pop(&mut self) -> Option<Row>
         ensures taken { IfSome result (λ row. self.old ≡ row ∷ self.new) }
         ensures none { IfNone result (self.old ≡ []) }
@@ -113,7 +113,7 @@ impl LooseRows {
         self.rows.pop_front()
     }
 
-    // The fact of a ref, and `None` where there is none. It ticks for each row that it looks at.
+    // The fact of a ref; `None` if there is none. It ticks for each row that it looks at.
     pub(crate) fn find<L: Ledger>(&self, r: &Ref, steps: &mut Steps<L>) -> Option<&Fact>
         ensures value { option_copied result ≡ loose_fact self.now r.now }
         ensures valid { IfSome result (λ fact. IsValid fact.now) }
@@ -122,7 +122,7 @@ impl LooseRows {
         find_in(&self.rows, r, steps)
     }
 
-    // The least ref of a row that is greater than `after`, where it is less than the best one so far, and else that
+    // The least ref of a row that is greater than `after`, if it is less than the best one so far; otherwise the best
     // one. It ticks for each row.
     pub(crate) fn least_after<L: Ledger>(
         &self,
@@ -141,7 +141,7 @@ impl LooseRows {
         best
     }
 
-    // The ref and the fact of the first row, where there is one.
+    // The ref and the fact of the first row, if there is one.
     pub(crate) fn first(&self) -> Option<(Ref, &Fact)>
         ensures first { option_map (λ e. (e.0, e.1.now)) result ≡ first_row self.now }
         ensures valid { IfSome result (λ e. IsValid e.1.now) }
@@ -152,7 +152,7 @@ impl LooseRows {
         }
     }
 
-    /// The number of the row that was put last; `None` exactly where there is none.
+    /// The number of the row that was put last; `None` exactly if there is none.
     pub fn first_number(&self) -> Option<u64>
         ensures { result ≡ first_of (numbers_of self.now) }
     {
@@ -162,7 +162,7 @@ impl LooseRows {
         }
     }
 
-    /// Whether a row has the number. It looks at one row after the other.
+    /// Whether a row has the number. It looks at the rows one by one.
     pub fn has(&self, number: u64) -> bool
         ensures { result ≡ list_any (is_number number) self.now }
     {
@@ -175,7 +175,7 @@ impl LooseRows {
     }
 }
 
-// A ref greater than `after`, where it is less than the best one so far, and else that one.
+// A ref, if it is greater than `after` and less than the best one so far; otherwise the best one.
 fn lesser(after: Option<&Ref>, best: Option<Ref>, r: &Ref) -> Option<Ref>
     ensures { result ≡ lesser (option_copied after.entry) best r.now }
 {

@@ -15,8 +15,8 @@ use std::marker::Model;
 use std::ops::Bound;
 use std::sync::ledger::Ledger;
 
-/// Valid facts in a tree, under their refs. A contract sees them as the map. `steps` counts the look-ups, the steps from
-/// one row to the next and the changes, each of which takes time in the logarithm of the number of rows.
+/// Valid facts in a tree, under their refs. A contract sees them as the map. `steps` counts the look-ups, the steps
+/// from one row to the next and the changes, each of which takes time in the logarithm of the number of rows.
 #[derive(Drop)]
 pub struct OrderedFacts {
     rows: BTreeMap<Ref, Box<Fact>>,
@@ -48,7 +48,7 @@ impl OrderedFacts {
         }
     }
 
-    /// The fact of a ref, and `None` exactly where there is none.
+    /// The fact of a ref; `None` exactly if there is none.
     pub fn row<L: Ledger>(&self, r: &Ref, steps: &mut Steps<L>) -> Option<&Fact>
         ensures value { option_copied result ≡ finite.get self.now r.now }
         ensures valid { IfSome result (λ fact. IsValid fact.now) }
@@ -61,7 +61,7 @@ impl OrderedFacts {
         }
     }
 
-    /// The least ref greater than `after`, or of all where `after` is `None`, with its fact; `None` exactly where there
+    /// The least ref greater than `after`, or of all if `after` is `None`, with its fact; `None` exactly if there
     /// is none.
     pub fn next_after<L: Ledger>(
         &self,
@@ -84,7 +84,7 @@ impl OrderedFacts {
         }
     }
 
-    /// Puts a valid fact under a ref, in place of the one there. Where there is no memory nothing changes, and the fact
+    /// Puts a valid fact under a ref, replacing the one there. If there is no memory, nothing changes, and the fact
     /// is dropped.
     pub fn put<L: Ledger>(
         &mut self,
@@ -104,7 +104,7 @@ impl OrderedFacts {
         Ok(())
     }
 
-    /// Drops the fact of a ref. Where there is none nothing changes.
+    /// Drops the fact of a ref. If there is none, nothing changes.
     pub fn drop_row<L: Ledger>(&mut self, r: &Ref, steps: &mut Steps<L>)
         ensures value { self.new ≡ finite.remove self.old r.now }
         ensures ticks { steps.new ≡ steps.old + 1 }
@@ -131,7 +131,7 @@ impl FactTable for OrderedFacts {
     }
 }
 
-// Where the rows behind a ref begin.
+// The bound at which the rows after a ref begin.
 fn start_after(after: Option<&Ref>) -> Bound<Ref>
     ensures { result ≡ start_after (option_copied after.entry) }
 {

@@ -42,14 +42,14 @@ impl<R: Copy> PairRows<R> {
         }
     }
 
-    /// A law: there are so few rows that the number of all, or of some, fits in 64 bits.
+    /// A law: the number of rows fits in 64 bits.
     pub fn is_countable(&self)
         ensures { number (λ e. true) (finite.entries self.now) < 2 ^ 64 }
     {
         let _len = self.rows.len();
     }
 
-    /// The row of a pair, and `None` exactly where there is none.
+    /// The row of a pair; `None` exactly if there is none.
     pub fn row<L: Ledger>(&self, x: &Ref, d: &Ref, steps: &mut Steps<L>) -> Option<&R>
         ensures value { option_copied result ≡ finite.get self.now (x.now, d.now) }
         ensures ticks { steps.new ≡ steps.old + 1 }
@@ -58,7 +58,7 @@ impl<R: Copy> PairRows<R> {
         self.rows.get(&(*x, *d))
     }
 
-    /// Puts a row under a pair, in place of the one there. Where there is no memory nothing changes.
+    /// Puts a row under a pair, replacing the one there. If there is no memory, nothing changes.
     pub fn put<L: Ledger>(
         &mut self,
         x: &Ref,
@@ -76,7 +76,7 @@ impl<R: Copy> PairRows<R> {
         Ok(())
     }
 
-    /// Drops the row of a pair. Where there is none nothing changes.
+    /// Drops the row of a pair. If there is none, nothing changes.
     pub fn drop_row<L: Ledger>(&mut self, x: &Ref, d: &Ref, steps: &mut Steps<L>)
         ensures value { self.new ≡ finite.remove self.old (x.now, d.now) }
         ensures ticks { steps.new ≡ steps.old + 1 }
@@ -85,8 +85,8 @@ impl<R: Copy> PairRows<R> {
         self.rows.remove(&(*x, *d));
     }
 
-    /// The least second part greater than `after`, or of all where `after` is `None`, among the keys with this first
-    /// part, with its row; `None` exactly where there is none. So a whole group of k rows is walked in k + 1 steps.
+    /// The least second part greater than `after`, or of all if `after` is `None`, among the keys with this first
+    /// part, with its row; `None` exactly if there is none. A whole group of k rows is walked in k + 1 steps.
     pub fn next_of<L: Ledger>(
         &self,
         x: &Ref,
@@ -109,8 +109,8 @@ impl<R: Copy> PairRows<R> {
         }
     }
 
-    // The least key with this first part and a second part greater than `after`, or at all, or with a greater first
-    // part.
+    // The least key with this first part and a second part greater than `after`, or any; if there is none, the least
+    // with a greater first part.
     fn next_from<L: Ledger>(
         &self,
         x: &Ref,
@@ -136,7 +136,7 @@ impl<R: Copy> PairRows<R> {
     }
 }
 
-// Where a group begins, or goes on.
+// The bound at which a group begins, or continues after a second part.
 fn start_of(x: &Ref, after: Option<&Ref>) -> Bound<(Ref, Ref)>
     ensures { result ≡ start_of x.now (option_copied after.entry) }
 {

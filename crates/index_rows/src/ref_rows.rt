@@ -38,7 +38,7 @@ impl<R: Drop> RefRows<R> {
         }
     }
 
-    /// The row of a ref, and `None` exactly where there is none.
+    /// The row of a ref; `None` exactly if there is none.
     pub fn row<L: Ledger>(&self, r: &Ref, steps: &mut Steps<L>) -> Option<&R>
         ensures value { option_copied result ≡ finite.get self.now r.now }
         ensures ticks { steps.new ≡ steps.old + 1 }
@@ -47,7 +47,7 @@ impl<R: Drop> RefRows<R> {
         self.rows.get(r)
     }
 
-    /// Puts a row under a ref, in place of the one there. Where there is no memory nothing changes.
+    /// Puts a row under a ref, replacing the one there. If there is no memory, nothing changes.
     pub fn put<L: Ledger>(&mut self, r: &Ref, row: R, steps: &mut Steps<L>) -> Result<(), NoMemory>
         ensures ok { OnOk result (self.new ≡ finite.insert self.old r.now row) }
         ensures err { OnErr result (self.new ≡ self.old) }

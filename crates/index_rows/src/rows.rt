@@ -7,13 +7,14 @@ use crate::fact_rows::FactRows;
 use crate::holder_rows::HolderRows;
 use crate::pair_rows::PairRows;
 use crate::ref_rows::RefRows;
+use crate::removal_rows::RemovalRows;
 use schema_date::Date;
 use std::alloc::Global;
 
-/// What is known of a ref that has arrived.
+/// The state of a ref that has arrived.
 #[derive(Clone, Copy)]
 pub struct StateRow {
-    /// Whether all that it depends on is there and ready.
+    /// Whether every ref that it depends on is there and ready.
     pub ready: bool,
     /// Whether it is a permanode or a claim that its key accepts.
     pub genuine: bool,
@@ -28,16 +29,18 @@ pub struct StateRow {
 /// The tables of an index. No fact is kept elsewhere.
 #[derive(Drop)]
 pub struct Rows {
-    /// What each blob says.
+    /// The fact of each blob.
     pub facts: FactRows,
-    /// What is known of each ref that has arrived.
+    /// The state of each ref that has arrived.
     pub state: RefRows<StateRow>,
-    /// What waits for a ref.
+    /// The refs that wait for a ref.
     pub waiters: PairRows<()>,
     /// The delete claims on a ref, with their dates.
     pub deletes: PairRows<Date>,
     /// The changes of a permanode, by date, claim and place.
     pub changes: ChangeRows,
+    /// The changes that may take values away, under marks of these values.
+    pub removals: RemovalRows,
     /// The permanodes that hold a value of an attribute.
     pub holders: HolderRows,
 }
@@ -51,6 +54,7 @@ impl Rows {
         ensures waiters { result.waiters ≡ finite.empty }
         ensures deletes { result.deletes ≡ finite.empty }
         ensures changes { result.changes ≡ finite.empty }
+        ensures removals { result.removals ≡ finite.empty }
         ensures holders { result.holders ≡ finite.empty }
     {
         Rows {
@@ -59,6 +63,7 @@ impl Rows {
             waiters: PairRows::empty(alloc),
             deletes: PairRows::empty(alloc),
             changes: ChangeRows::empty(alloc),
+            removals: RemovalRows::empty(alloc),
             holders: HolderRows::empty(alloc),
         }
     }

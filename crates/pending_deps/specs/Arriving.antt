@@ -18,7 +18,7 @@ use Rattle.pending_deps.specs.Settling.{others}
 abbrev pub says_ready : States → List ℕ → Bool
 says_ready state d = passes (λ row. row.ready) (get state d)
 
--- at most one row more, of r for d
+-- at most one more row: that r waits for d
 pub record HasPut (state : States) (old new : Waiters) (d r : List ℕ) (n : ℕ) : Type 0 where
   pub rows : (e y : List ℕ) → contains_key new (e, y)
       ≡ (contains_key old (e, y) || (bytes_eq y r && bytes_eq e d && not (says_ready state e)))
@@ -40,7 +40,7 @@ pub record IsNew (facts : Facts) (state : States) (r : List ℕ) : Type 0 where
   pub found : get facts r ≡ Some fact
   pub absent : get state r ≡ None
 
--- what became ready, each behind what it depends on
+-- the refs that became ready, each after its dependencies
 pub record BecameReady (before after : Facts) (order : List (List ℕ)) : Type 0 where
   pub ready : (y : List ℕ) → is_ready after y ≡ passes_or_in (is_ready before) order y
   pub reached : AreReached after (is_ready before) [] order
@@ -52,7 +52,7 @@ pub record HasArrived (facts : Facts) (before after : States) (waiters : Waiters
   pub became : BecameReady (arrived facts before) (arrived facts after) order
   -- each once, and none was ready before
   pub once : AreNew (is_ready (arrived facts before)) [] order
-  -- r has arrived, and what else had
+  -- the refs that have arrived are r and those that had before
   pub same : (y : List ℕ) → contains_key after y ≡ (bytes_eq y r || contains_key before y)
   -- the columns of other calls are as before, and empty for r
   pub kept : (y : List ℕ) → bytes_eq y r ≡ false → option_map others (get after y) ≡ option_map others (get before y)

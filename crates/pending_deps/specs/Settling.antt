@@ -22,7 +22,7 @@ one_less row = record {
   deleters = row.deleters;
 }
 
--- a ref joins the order where its last dependency was taken off
+-- a ref joins the order when its last dependency is removed
 abbrev pub order_with : List (List ℕ) → List ℕ → StateRow → List (List ℕ)
 order_with order w row = if row.missing == 1 then order ++ w ∷ [] else order
 
@@ -32,20 +32,20 @@ pub record HasMissing (state : States) (w : List ℕ) : Type 0 where
   pub found : get state w ≡ Some row
   pub some : 0 < row.missing
 
--- what waits has a row, which counts for how many it waits
+-- each ref that waits has a row, which counts the refs that it waits for
 pub record CountsMissing (state : States) (waiters : Waiters) : Type 0 where
   pub known : (d y : List ℕ) → contains_key waiters (d, y) ≡ true → contains_key state y ≡ true
   pub missing : (y : List ℕ) (row : StateRow) → get state y ≡ Some row
       → row.missing ≡ number (waits y) (entries waiters)
 
--- what is known of a ref beside its readiness
+-- the other columns of a row, which say nothing of readiness
 abbrev pub others : StateRow → Bool × Bool × ℕ
 others row = (row.genuine, row.sound, row.deleters)
 
 abbrev pub KeepsOthers : States → States → Type 0
 KeepsOthers old new = (y : List ℕ) → option_map others (get new y) ≡ option_map others (get old y)
 
--- `order` was reached from what was ready before, and those before the place were told
+-- `order` was reached from the refs that were ready before; the waiters of those before the place were updated
 pub record Settling (facts : Facts) (old : List ℕ → Bool) (state : States) (waiters : Waiters) (order : List (List ℕ))
     (place : ℕ) : Type 0 where
   pub rows : (d y : List ℕ) → contains_key waiters (d, y)

@@ -11,9 +11,9 @@ use index_rows::{OrderedFacts, PairRows, RefRows, Rows, StateRow};
 use std::alloc::Global;
 use std::sync::ledger::Ledger;
 
-/// Takes up a ref whose fact came, and answers what became ready by it, each ref once and behind what it depends on.
-/// The rows of `state` and `waiters` must be right, the fact put, and the ref without a row of `state`. It has one from
-/// then on, the rows of these two tables are right again, and no other table changes. After `NoMemory` these two may be
+/// Records that a ref has arrived, and returns the refs that became ready by it, each once and after its dependencies.
+/// The rows of `state` and `waiters` must be right, the fact put, and the ref without a row of `state`. Afterwards it
+/// has one, the rows of these two tables are right again, and no other table changes. After `NoMemory` these two may be
 /// anything. It takes at most 2 steps for the ref, 3 for each place at which it depends on another, 1 for each ref that
 /// becomes ready, and 4 for each place at which one depends on such a ref.
 pub fn arrive<L: Ledger>(
@@ -27,6 +27,7 @@ pub fn arrive<L: Ledger>(
     ensures facts { rows.new.facts ≡ rows.old.facts }
     ensures deletes { rows.new.deletes ≡ rows.old.deletes }
     ensures changes { rows.new.changes ≡ rows.old.changes }
+    ensures removals { rows.new.removals ≡ rows.old.removals }
     ensures holders { rows.new.holders ≡ rows.old.holders }
     ensures arrived { IfOk result (λ order.
         HasArrived rows.old.facts.ordered rows.old.state rows.new.state rows.new.waiters r.now order) }
@@ -77,7 +78,7 @@ fn enlist<L: Ledger>(
     Ok(missing)
 }
 
-// Puts a row where r has to wait for d and has none.
+// Puts a row if r has to wait for d and has none.
 fn enlist_one<L: Ledger>(
     state: &RefRows<StateRow>,
     waiters: &mut PairRows<()>,

@@ -1,4 +1,4 @@
-//! What waits for what, and what becomes ready by one fact more.
+//! Which refs wait for which, and which become ready by one fact more.
 #![tactic(auto)]
 
 mod arriving;

@@ -1,4 +1,4 @@
-//! What becomes ready one after another.
+//! Refs that become ready one after another.
 ghost use Rattle.std.specs.Prelude.{◌≡◌, ◌<◌, ◌≤◌, ◌+◌, ◌*◌, ℕ, Bool, List, [], length, OnOk, OnErr};
 ghost use Rattle.std.specs.List.{list_any};
 ghost use Rattle.std.specs.Str.{bytes_eq};
@@ -14,7 +14,7 @@ use edge_base::Steps;
 use index_rows::{PairRows, RefRows, StateRow};
 use std::sync::ledger::Ledger;
 
-// Tells those that wait for the refs of `order`, which grows by what becomes ready.
+// Updates the refs that wait for those of `order`. Each ref that becomes ready is appended to `order`.
 pub(crate) fn settle<L: Ledger>(
     state: &mut RefRows<StateRow>,
     waiters: &mut PairRows<()>,
@@ -43,7 +43,7 @@ pub(crate) fn settle<L: Ledger>(
     Ok(())
 }
 
-// Takes off the row that says that w waits for x; w is ready where it was the last.
+// Drops the row that says that w waits for x. If it was the last one of w, then w is ready.
 fn drop_waiter<L: Ledger>(
     state: &mut RefRows<StateRow>,
     waiters: &mut PairRows<()>,

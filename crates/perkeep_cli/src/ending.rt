@@ -32,10 +32,13 @@ impl Ending {
         }
     }
 
-    /// As it ends where the keyring can't be used: such a one holds no key.
+    /// As it ends where the keyring can't be read, or can't be used: such a one holds no key.
     pub(crate) fn of_keyring(keyring: BadKeyring) -> Ending {
         Ending {
-            status: Status::BadInput(InputFault::NoKey),
+            status: match keyring {
+                BadKeyring::Unreadable => Status::ReadFault,
+                _ => Status::BadInput(InputFault::NoKey),
+            },
             peer: None,
             keyring: Some(keyring),
         }

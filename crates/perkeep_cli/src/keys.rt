@@ -32,7 +32,7 @@ pub(crate) fn read_keyring(
         Err(error) if error.kind() == ErrorKind::OutOfMemory => {
             return Err(Ending::of(Status::NoMemory));
         }
-        Err(_) => return Err(Ending::of(Status::ReadFault)),
+        Err(_) => return Err(Ending::of_keyring(BadKeyring::Unreadable)),
     };
     let mut source = ReadSource::new(file);
     let text = read_all(rt.alloc(), &mut source, LONGEST_KEYRING).map_err(unread)?;
@@ -42,8 +42,25 @@ pub(crate) fn read_keyring(
 /// Whether a folder has something by the name of a keyring, as far as that is seen.
 pub(crate) fn has_keyring(rt: &HostRuntime, folder: &str) -> bool {
     match format!(in rt.alloc(); "{folder}/keyring") {
-        Ok(path) => uninterrupted(|| fs::symlink_metadata(rt, &path)).is_ok(),
+        Ok(path) => is_there(rt, &path),
         Err(_) => true,
+    }
+}
+
+/// Whether something is there under a path, as far as that is seen.
+pub(crate) fn is_there(rt: &HostRuntime, path: &str) -> bool {
+    uninterrupted(|| fs::symlink_metadata(rt, path)).is_ok()
+}
+
+/// Tells a person of a folder without a keyring that nothing is found in it, be it notes or shares.
+pub(crate) fn tell_of_no_keyring(
+    rt: &HostRuntime,
+    screen: &Screen<'_>,
+    folder: &str,
+    sought: &str,
+) {
+    if screen.is_shown() && !folder.is_empty() && !has_keyring(rt, folder) {
+        screen.tell(format_args!("perkeep: {folder}/keyring isn't there, so no {sought} is found"));
     }
 }
 
@@ -60,7 +77,7 @@ fn open_keyring(rt: &HostRuntime, path: &str) -> io::Result<Option<File>> {
 
 fn unread(error: ReadAllError) -> Ending {
     match error {
-        ReadAllError::ReadFault => Ending::of(Status::ReadFault),
+        ReadAllError::ReadFault => Ending::of_keyring(BadKeyring::Unreadable),
         ReadAllError::TooLong => Ending::of_keyring(BadKeyring::TooLong),
         ReadAllError::NoMemory => Ending::of(Status::NoMemory),
     }

@@ -19,7 +19,7 @@ use crate::console::Console;
 use crate::ending::Ending;
 use crate::hand::{SystemClock, SystemDice};
 use crate::hints::tell_of_peer;
-use crate::keys::read_keyring;
+use crate::keys::{read_keyring, tell_of_no_keyring};
 use crate::mirroring::mirror;
 use crate::serving::serve;
 use crate::sharing::serve_folder_shares;
@@ -30,6 +30,7 @@ use blobref::{NoMemory, Text};
 use edge_dial::peer_at;
 use edge_os::{standard_input, standard_output};
 use folder_disk::{Access, FolderDisk};
+use perkeep_hints::seeks_notes;
 use perkeep_top::{Status, run};
 use perkeep_words::{Line, mirror_words, places, serve_words, share_words};
 use std::alloc::Global;
@@ -91,6 +92,9 @@ fn ending_of<R: Threads + Wait + Sync>(
         Err(ending) => return ending,
     };
     tell_of_peer(rt, screen, named.address);
+    if seeks_notes(words) {
+        tell_of_no_keyring(rt, screen, named.folder, "note");
+    }
     let access = Access::of(&line);
     let disk = FolderDisk::new(rt, screen, console.trouble(), named.folder, access);
     let peer = peer_at(rt, screen, named.address);

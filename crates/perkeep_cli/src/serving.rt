@@ -3,7 +3,7 @@ ghost use Rattle.std.specs.Prelude.{◌≤◌, All, IfOk, vec_len};
 
 use crate::console::Console;
 use crate::ending::Ending;
-use crate::keys::read_keyring;
+use crate::keys::{read_keyring, tell_of_no_keyring};
 use crate::pauses::Pauses;
 use blob_server::{desks, serve_all};
 use blobref::NoMemory;
@@ -12,6 +12,7 @@ use edge_os::Readiness;
 use edge_tcp::{Door, TcpListenerOn};
 use folder_disk::{Access, FolderDisk};
 use home_places::Home;
+use pack_disk::Disk;
 use perkeep_top::Status;
 use perkeep_words::ServePlan;
 use server_home::{HomeFault, home_over};
@@ -34,6 +35,7 @@ pub(crate) fn serve<R: Threads + Wait + Sync>(
         Ok(keys) => keys,
         Err(ending) => return ending,
     };
+    tell_of_no_keyring(rt, console.screen(), folder, "note");
     let address = SocketAddr::from((Ipv4Addr::LOCALHOST, plan.port));
     let Ok(listener) = TcpListener::bind(rt, address) else {
         return Ending::of(Status::ListenerFault);
@@ -42,8 +44,7 @@ pub(crate) fn serve<R: Threads + Wait + Sync>(
     Ending::of(serve_folder(threads, threads, console, folder, &keys, &listener, plan))
 }
 
-// Opens the store of a folder, and serves it to those who connect to the listener. The home keeps `handle`. It is never
-// dropped: its memory goes with the process, which ends, and the proof of its drop would be most of this crate's.
+// Serves the store of a folder to those who connect to the listener. The home keeps `handle`.
 fn serve_folder<
     V: Verifier + Copy + Drop + Send + Sync,
     H: Wait + Drop + Send,
@@ -62,11 +63,31 @@ fn serve_folder<
     let access = Access::Write;
     let disk = FolderDisk::new(rt, console.screen(), console.trouble(), folder, access);
     let disk = disk.counting(&appends);
-    let count = plan.workers.saturating_add(plan.indexers);
     let gate = Pauses::new(rt, &appends);
-    match home_over(handle, rt.alloc(), disk, keys, count) {
+    serve_disk(threads, handle, console, disk, keys, listener, &gate, plan)
+}
+
+// Opens the store that a disk holds, and serves it. The home is never dropped: its memory goes with the process, which
+// ends, and the proof of its drop would be most of this crate's.
+fn serve_disk<
+    D: Disk + Drop + Send,
+    V: Verifier + Copy + Drop + Send + Sync,
+    H: Wait + Drop + Send,
+    R: Threads + Wait + Sync,
+>(
+    threads: &R,
+    handle: H,
+    console: &Console<'_>,
+    disk: D,
+    keys: V,
+    listener: &TcpListener,
+    gate: &Pauses<'_>,
+    plan: &ServePlan,
+) -> Status {
+    let count = plan.workers.saturating_add(plan.indexers);
+    match home_over(handle, console.rt().alloc(), disk, keys, count) {
         Ok((home, passes)) => {
-            let status = serve_home(threads, console, &home, passes, listener, &gate, plan);
+            let status = serve_home(threads, console, &home, passes, listener, gate, plan);
             forget(home);
             status
         }

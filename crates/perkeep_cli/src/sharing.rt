@@ -1,7 +1,7 @@
 //! The server of shares over a folder.
 use crate::console::Console;
 use crate::ending::Ending;
-use crate::keys::read_keyring;
+use crate::keys::{read_keyring, tell_of_no_keyring};
 use edge_os::Readiness;
 use edge_tcp::{Door, TcpListenerOn};
 use folder_disk::{Access, FolderDisk};
@@ -24,6 +24,7 @@ pub(crate) fn serve_folder_shares<R: Wait>(
         Ok(keys) => keys,
         Err(ending) => return ending,
     };
+    tell_of_no_keyring(rt, screen, folder, "share");
     let address = SocketAddr::from((Ipv4Addr::LOCALHOST, plan.port));
     let Ok(listener) = TcpListener::bind(rt, address) else {
         return Ending::of(Status::ListenerFault);

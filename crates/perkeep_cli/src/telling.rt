@@ -2,7 +2,7 @@
 use crate::console::Console;
 use crate::ending::Ending;
 use crate::hints::file_to_blame;
-use crate::keys::has_keyring;
+use crate::keys::{has_keyring, is_there};
 use blobref::Text;
 use perkeep_hints::{Seen, blamed, excerpt_of, fixed_hint, keyring_text};
 use std::io;
@@ -22,10 +22,9 @@ pub(crate) fn tell(
     if let Some(hint) = found_hint(console, ending, words, folder) {
         return rt.eprintln(format_args!("perkeep: {word} ({hint})"));
     }
-    match (ending.peer(), fixed_hint(ending.status())) {
-        (Some(peer), Some(hint)) => rt.eprintln(format_args!("perkeep: {word} ({peer}: {hint})")),
-        (None, Some(hint)) => rt.eprintln(format_args!("perkeep: {word} ({hint})")),
-        (_, None) => rt.eprintln(format_args!("perkeep: {word}")),
+    match fixed_hint(ending.status(), words) {
+        Some(hint) => rt.eprintln(format_args!("perkeep: {word} ({hint})")),
+        None => rt.eprintln(format_args!("perkeep: {word}")),
     }?;
     match excerpt_of(rt.alloc(), ending.status(), words) {
         Some(excerpt) => rt.eprintln(format_args!(
@@ -53,7 +52,9 @@ fn found_hint(
     let seen = Seen {
         folder,
         cause: console.trouble().cause(),
+        is_there: is_there(rt, folder),
         has_keyring: has_keyring(rt, folder),
+        peer: ending.peer(),
     };
     blamed(rt.alloc(), ending.status(), words, seen)
 }

@@ -3,6 +3,8 @@
 /// Why a keyring can't be used.
 #[derive(Clone, Copy)]
 pub enum BadKeyring {
+    /// It can't be read.
+    Unreadable,
     /// It is longer than it may be.
     TooLong,
     /// This line isn't that of a key.

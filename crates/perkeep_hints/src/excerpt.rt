@@ -38,14 +38,14 @@ fn has_loose_text(words: &[Text]) -> bool {
 pub fn excerpt_of(alloc: Global, status: &Status, words: &[Text]) -> Option<Excerpt> {
     match status {
         Status::BadInput(InputFault::Words(WordsFault::Bad { at })) => {
-            Excerpt::of(alloc, search_words(words)?, *at).ok()
+            Excerpt::of(alloc, searched_text(words)?, *at).ok()
         }
         _ => None,
     }
 }
 
-// The search words of the line that the words are.
-fn search_words(words: &[Text]) -> Option<&str> {
+/// The search words of the line that the words are.
+pub(crate) fn searched_text(words: &[Text]) -> Option<&str> {
     Line::read(words)?.search_words()
 }
 

@@ -1,12 +1,15 @@
-//! What a person can do after a status, where that is the same text always.
-use search_words::WordsFault;
+//! What a person can do after a status, where that is one of a few texts.
+use crate::search_text::hint_of_words;
+use blobref::Text;
 use top_frame::{InputFault, ReplyFault, Status};
 
-/// What a person can do after a status, where one text says it, whatever the words and the folder.
-pub fn fixed_hint(status: &Status) -> Option<&'static str> {
+/// What a person can do after a status, where one of a few texts says it, whatever the folder.
+pub fn fixed_hint(status: &Status, words: &[Text]) -> Option<&'static str> {
     match status {
+        Status::BadInput(InputFault::Words(fault)) => Some(hint_of_words(fault, words)),
         Status::BadInput(fault) => hint_of_input(fault),
         Status::Disk => Some("the folder, or a file in it, can't be read or written"),
+        Status::ReadFault => Some("standard input is closed, or can't be read"),
         Status::WriteFault => Some(
             "standard output can't be written: its reader has gone, or there is no room for it",
         ),
@@ -28,7 +31,9 @@ fn hint_of_input(fault: &InputFault) -> Option<&'static str> {
         InputFault::BadDate => Some(
             "a text that should be a date, as 2026-12-01T09:00:00Z, is none",
         ),
-        InputFault::BadNumber => { Some("a text that should be a number is none, or out of range") }
+        InputFault::BadNumber => {
+            Some("COUNT is a number from 1 to 100,000, START one from 0 to 2^64 - 1")
+        }
         InputFault::TooBig { .. } => Some("standard input is longer than it may be"),
         InputFault::NotAFile { .. } => {
             Some("a blob that should be a file, or a part of one, is none")
@@ -38,8 +43,8 @@ fn hint_of_input(fault: &InputFault) -> Option<&'static str> {
         }
         InputFault::TooLong { .. } => Some("a text, a file or a query is longer than it may be"),
         InputFault::BadChanges => Some("standard input is no list of changes"),
-        InputFault::Words(fault) => Some(hint_of_words(fault)),
-        InputFault::BadName | InputFault::NoKey | InputFault::BadQuery(_) => None,
+        InputFault::BadName | InputFault::NoKey | InputFault::BadQuery(_) | InputFault::Words(_) =>
+            None,
     }
 }
 
@@ -52,16 +57,5 @@ fn hint_of_reply(fault: &ReplyFault) -> &'static str {
             "it refuses: its disk failed, its store is full, or another program listens there"
         }
         ReplyFault::Gone { .. } => "it lists a blob that it doesn't have",
-    }
-}
-
-fn hint_of_words(fault: &WordsFault) -> &'static str {
-    match fault {
-        WordsFault::TooLong { .. } => "TEXT is longer than 1,024 bytes",
-        WordsFault::TooDeep => "TEXT asks more than 32 constraints in one another",
-        WordsFault::Bad { .. } | WordsFault::NoMemory => {
-            "from the mark on TEXT is no line of search words; one is typed with both kinds of quotes, \
-            as 'tag:a title:\"on the way\"'"
-        }
     }
 }

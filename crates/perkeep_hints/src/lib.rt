@@ -6,11 +6,15 @@ mod bad_keyring;
 mod blame;
 mod excerpt;
 mod fixed;
+mod lines;
 mod misfits;
 mod options;
 mod peers;
+mod search_text;
+mod seeking;
 
 pub use bad_keyring::BadKeyring;
 pub use blame::{Seen, blamed, keyring_text};
 pub use excerpt::{Excerpt, excerpt_of};
 pub use fixed::fixed_hint;
+pub use seeking::seeks_notes;

@@ -1,6 +1,7 @@
 //! Which of the words isn't one of its command's, or is missing.
 use crate::excerpt::quoting_hint;
-use crate::options::{is_number, value_of};
+use crate::lines::{COMMANDS, line_of};
+use crate::options::{is_number, is_option, is_twice, value_of};
 use blobref::Text;
 use perkeep_words::CommandName;
 use std::alloc::Global;
@@ -28,7 +29,7 @@ pub(crate) fn words_text(alloc: Global, words: &[Text]) -> Option<String> {
     }
     let Some((first, behind)) = words.split_first() else {
         return format!(in alloc;
-            "a command is missing, or a word isn't UTF-8; man perkeep has them all"
+            "a command is missing, or a word isn't UTF-8; the commands are {COMMANDS}"
         ).ok();
     };
     match first.as_str() {
@@ -41,12 +42,10 @@ pub(crate) fn words_text(alloc: Global, words: &[Text]) -> Option<String> {
 
 fn command_text(alloc: Global, name: &str, behind: &[Text]) -> Option<String> {
     let Some(command) = CommandName::of(name) else {
-        return format!(in alloc; "{name:?} is no command; man perkeep has them all").ok();
+        return format!(in alloc; "{name:?} is no command; the commands are {COMMANDS}").ok();
     };
     if let Some(word) = first_unknown(command, behind) {
-        return format!(in alloc;
-            "{word:?} can't stand there; man perkeep has the words of {name}"
-        ).ok();
+        return unknown_text(alloc, command, name, word);
     }
     match first_missing(command, behind) {
         Some("key") => {
@@ -55,8 +54,52 @@ fn command_text(alloc: Global, name: &str, behind: &[Text]) -> Option<String> {
             ).ok()
         }
         Some(option) => missing_text(alloc, name, option),
-        None => misfit_text(alloc, name),
+        None => short_text(alloc, command, name, behind),
     }
+}
+
+// Why a line of a command doesn't go on with a word.
+fn unknown_text(alloc: Global, command: CommandName, name: &str, word: &str) -> Option<String> {
+    let line = line_of(name);
+    if let Some(option) = option_of(command, word) {
+        return needs_value_text(alloc, name, option);
+    }
+    match command {
+        CommandName::Query => {
+            format!(in alloc;
+                "standard input has the query, and its date as \"at\", not the words: {line}"
+            ).ok()
+        }
+        CommandName::Put => {
+            format!(in alloc;
+                "{word:?} can't stand there; standard input has the blob: {line}"
+            ).ok()
+        }
+        CommandName::Search | CommandName::SearchPack | CommandName::Claim | CommandName::PutFile =>
+            {
+                format!(in alloc;
+                    "{word:?} can't stand there; a text of several words takes quotes: {line}"
+                ).ok()
+            }
+        _ => format!(in alloc; "{word:?} can't stand there: {line}").ok(),
+    }
+}
+
+// The option of a command that a word names, without a value.
+fn option_of(command: CommandName, word: &str) -> Option<&'static str> {
+    for option in command.form().options {
+        if is_option(word, option.name) {
+            return Some(option.name);
+        }
+    }
+    None
+}
+
+fn needs_value_text(alloc: Global, command: &str, option: &str) -> Option<String> {
+    let line = line_of(command);
+    format!(in alloc;
+        "--{option} needs a value, after = where that begins with a dash: {line}"
+    ).ok()
 }
 
 // Which number of a server's words is out of its range, or that the port is missing.
@@ -67,12 +110,14 @@ fn server_text(
     behind: &[Text],
 ) -> Option<String> {
     for (option, most) in numbers {
-        if let Some(value) = value_of(behind, option) {
-            if !is_number(value, *most) {
+        match value_of(behind, option) {
+            Some(value) if !is_number(value, *most) => {
                 return format!(in alloc;
                     "--{option} takes a number from 1 to {most}, not {value:?}"
                 ).ok();
             }
+            None if is_last(behind, option) => return needs_value_text(alloc, name, option),
+            _ => {}
         }
     }
     match value_of(behind, "port") {
@@ -81,14 +126,34 @@ fn server_text(
     }
 }
 
+// Whether the last word names an option.
+fn is_last(words: &[Text], option: &str) -> bool {
+    match words.last() {
+        Some(word) => is_option(word.as_str(), option),
+        None => false,
+    }
+}
+
 fn missing_text(alloc: Global, command: &str, option: &str) -> Option<String> {
-    format!(in alloc; "--{option} is missing; man perkeep has the words of {command}").ok()
+    let line = line_of(command);
+    format!(in alloc; "--{option} is missing: {line}").ok()
 }
 
 fn misfit_text(alloc: Global, command: &str) -> Option<String> {
-    format!(in alloc;
-        "a word is missing, too many or wrong; man perkeep has those of {command}"
-    ).ok()
+    let line = line_of(command);
+    format!(in alloc; "a word is missing, too many or wrong: {line}").ok()
+}
+
+// What words lack that a line may go on with: an option is there twice, or else positions are missing.
+fn short_text(alloc: Global, command: CommandName, name: &str, behind: &[Text]) -> Option<String> {
+    let line = line_of(name);
+    for option in command.form().options {
+        let option = option.name;
+        if is_twice(behind, option) {
+            return format!(in alloc; "--{option} is there more than once: {line}").ok();
+        }
+    }
+    format!(in alloc; "a word is missing: {line}").ok()
 }
 
 // The first word with which no line of the command goes on: it isn't known with the next word either, which may be the

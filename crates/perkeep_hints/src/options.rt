@@ -24,6 +24,30 @@ fn after_name<'a>(word: &'a str, name: &str) -> Option<&'a str> {
     word.strip_prefix("--")?.strip_prefix(name)
 }
 
+/// Whether a word is an option's name, with no value in it.
+pub(crate) fn is_option(word: &str, name: &str) -> bool {
+    match after_name(word, name) {
+        Some(rest) => rest.is_empty(),
+        None => false,
+    }
+}
+
+/// Whether words have an option more than once.
+pub(crate) fn is_twice(words: &[Text], option: &str) -> bool {
+    let mut has_it = false;
+    for word in words {
+        let is_it = match after_name(word.as_str(), option) {
+            Some(rest) => rest.is_empty() || rest.starts_with('='),
+            None => false,
+        };
+        if is_it && has_it {
+            return true;
+        }
+        has_it = has_it || is_it;
+    }
+    false
+}
+
 /// Whether a text is a number from 1 to the greatest that may stand there.
 pub(crate) fn is_number(text: &str, most: u64) -> bool {
     if !text.bytes().all(|b| b.is_ascii_digit()) {

@@ -6,9 +6,8 @@ use perkeep_words::places;
 use std::alloc::Global;
 use top_frame::ReplyFault;
 
-/// Why the way to the server that the words name failed. None where they name several.
-pub(crate) fn way_text(alloc: Global, words: &[Text]) -> Option<String> {
-    let address = address_in(words)?;
+/// Why the way to the server at an address failed.
+pub(crate) fn way_text(alloc: Global, address: &str) -> Option<String> {
     if is_address(address) {
         format!(in alloc;
             "nobody answers at {address}, or the way there broke: is perkeep serve running there?"
@@ -18,9 +17,8 @@ pub(crate) fn way_text(alloc: Global, words: &[Text]) -> Option<String> {
     }
 }
 
-/// Why a reply of the server that the words name can't be used. None where they name several.
-pub(crate) fn reply_text(alloc: Global, words: &[Text], fault: &ReplyFault) -> Option<String> {
-    let address = address_in(words)?;
+/// Why a reply of the server at an address can't be used.
+pub(crate) fn reply_text(alloc: Global, address: &str, fault: &ReplyFault) -> Option<String> {
     match fault {
         ReplyFault::Grammar => {
             format!(in alloc;
@@ -46,8 +44,8 @@ pub(crate) fn reply_text(alloc: Global, words: &[Text], fault: &ReplyFault) -> O
     }
 }
 
-// The address in words that name a single one.
-fn address_in(words: &[Text]) -> Option<&str> {
+/// The address in words that name a single one.
+pub(crate) fn address_in(words: &[Text]) -> Option<&str> {
     if words.first()?.as_str() == "mirror" {
         return None;
     }
@@ -57,7 +55,12 @@ fn address_in(words: &[Text]) -> Option<&str> {
 
 fn is_address(text: &str) -> bool {
     match text.rsplit_once(':') {
-        Some((host, port)) => !host.is_empty() && is_number(port, PORT_MAX),
+        Some((host, port)) => is_host(host) && is_number(port, PORT_MAX),
         None => false,
     }
+}
+
+// Whether a text may name a host: the beginning of a URL doesn't.
+fn is_host(text: &str) -> bool {
+    !text.is_empty() && text.bytes().all(|b| b != b'/')
 }

@@ -1,4 +1,4 @@
-//! The index that keeps its facts alone.
+//! An index that keeps only its facts.
 ghost use Rattle.std.specs.Prelude.{◌≡◌, IfOk, option_copied};
 ghost use Rattle.std.specs.FinMap as finite;
 ghost use Rattle.claim_model.specs.Facts.{AreDistinct, AreValid};
@@ -19,9 +19,8 @@ use std::sync::ledger::Ledger;
 /// Refs with facts, in any order.
 pub type FactList = ListOf<(Ref, Fact)>;
 
-/// An index that keeps its facts in the order of their refs, and nothing beside them: each answer is that of
-/// `plain_answers`, at its costs, with the index itself as the table. A contract sees the map of the facts, and the
-/// keys.
+/// An index that keeps its facts in the order of their refs, and nothing else: each answer is that of `plain_answers`,
+/// at its cost, with the index itself as the table. A contract sees the map of the facts, and the keys.
 #[derive(Drop)]
 pub struct PlainIndex<V: Verifier> {
     alloc: Global,
@@ -47,9 +46,9 @@ impl<V: Verifier> Model for PlainIndex<V> {
 
 impl<V: Verifier> PlainIndex<V> {
     /// The index over the facts, whatever their order. It keeps the allocator, and takes all its memory from it.
-    /// `NoMemory` comes only where no memory is left.
+    /// `NoMemory` comes only if no memory is left.
     ///
-    /// It sorts the n facts, in n log n steps, and doesn't ask the keys.
+    /// It sorts the n facts, in n log n steps, and verifies nothing.
     pub fn build(alloc: Global, facts: FactList, keys: V) -> Result<PlainIndex<V>, NoMemory>
     where
         V: Drop,
@@ -85,7 +84,7 @@ impl<V: Verifier> FactTable for PlainIndex<V> {
     }
 }
 
-// Where the facts behind a ref begin.
+// The bound at which the facts after a ref begin.
 fn start_after(after: Option<&Ref>) -> Bound<Ref>
     ensures { result ≡ start_after (option_copied after.entry) }
 {

@@ -1,4 +1,4 @@
-//! An index that keeps its facts alone, and answers each question straight from the definitions.
+//! An index that keeps only its facts, and computes each answer directly by the definitions.
 #![tactic(auto)]
 
 mod index;

@@ -1,6 +1,6 @@
 -- The walk over the changes of a permanode, and what it leaves.
 use Rattle.std.proofs.Common.{◌≡◌, ◌+◌, ℕ, Bool, true, false, not, ◌&&◌, cond, List, [], ◌∷◌, map, filter, fold, Option}
-use Rattle.std.proofs.Common.{Some, None, refl, sym, ap, ◌∙◌, ℤ, option_map, option_and_then, is_some, int_lt}
+use Rattle.std.proofs.Common.{Some, None, refl, sym, ap, ◌∙◌, ℤ, option_map, option_and_then, int_lt}
 use Rattle.std.proofs.Common.{Ordering, IfSome}
 use Rattle.std.proofs.lemmas.Bool.{cond-true, cond-false, false≢true, and_parts, not-false}
 use Rattle.std.proofs.lemmas.Cmp.{int_cmp_total, alike_right}
@@ -9,7 +9,7 @@ use Rattle.std.specs.Ordering.{is_lt, is_gt, int_cmp, nat_cmp, ordering_then}
 use Rattle.std.specs.declared.cmp.Ordering.TheVariants.{Less, Equal, Greater}
 use Rattle.std.specs.List.{filter_map, cons_option, last_or, sum_by, AllByRecursion}
 use Rattle.std.specs.Str.{bytes_eq}
-use Rattle.std.specs.FinMap.{get, entries, contains_key}
+use Rattle.std.specs.FinMap.{get, entries}
 use Rattle.blobref.specs.Blobref.{ref_cmp, is_after}
 use Rattle.schema_date.specs.declared.date.When.{When}
 use Rattle.schema_date.specs.declared.date.When.TheVariants.{Always, At}
@@ -22,14 +22,12 @@ use Rattle.claim_model.specs.Deleted.{counts_at}
 use Rattle.index_look.specs.Claims.{values_with}
 use Rattle.index_look.specs.Walk.{entries_after}
 use Rattle.index_look.proofs.Entries.{entries_had}
-use Rattle.index_look.proofs.Keys.{entries_held}
-use Rattle.index_rows.specs.Changes.{Changes, ChangeKey, changes_after, is_later}
+use Rattle.index_rows.specs.Changes.{Changes, ChangeKey, changes_after}
 use Rattle.index_rows.specs.Deletes.{Deletes, row_deleted}
 use Rattle.index_rows.specs.States.{States}
 use Rattle.index_rows.specs.Values.{change_at, moment_counts, IsChange}
 use Rattle.index_rows.proofs.DeletionEnds.{all_filter}
 use Rattle.index_rows.proofs.Groups.{filter_passing}
-use Rattle.index_rows.proofs.Orders.{change_total, change_same}
 use Rattle.row_answers.specs.Moments.{moments_after, moment_values, last_with, claim_date}
 
 -- ---- over facts
@@ -48,18 +46,6 @@ walk_had facts o r fact rest h =
 
 abbrev Row : Type 0
 Row = ChangeKey × Unit {0}
-
--- what a walk comes to stands in the map
-pub head_stands : (changes : Changes) (p : List ℕ) (after : Option Moment) (k : Moment) (es : List Row)
-    → changes_after changes p after ≡ ((p, k), tt) ∷ es → contains_key changes (p, k) ≡ true
-head_stands changes p after k es h =
-    let all =
-    all_filter (λ (e : Row). get changes e.0 ≡ Some e.1) (λ (e : Row). bytes_eq p e.0.0 && is_later after e.0.1)
-    (entries changes) (entries_held change_total change_same changes) in
-    let here : AllByRecursion
-    (λ (e : Row). (get changes e.0 ≡ Some e.1) × ((bytes_eq p e.0.0 && is_later after e.0.1) ≡ true))
-    (((p, k), tt) ∷ es) = rw h at all in
-    ap is_some here.0.0
 
 -- ---- the moments that are dated at or before a time
 

@@ -12,11 +12,11 @@ use Rattle.index_rows.specs.Changes.{Changes, changes_after}
 use Rattle.index_rows.specs.Deletes.{Deletes, row_deleted, tree_rows}
 use Rattle.index_rows.specs.Values.{change_at}
 
--- the moments of p behind one, or all, that are dated at or before that time
+-- the moments of p after one, or all, that are dated at or before that time
 abbrev pub moments_after : Changes → When → List ℕ → Option Moment → List Moment
 moments_after changes when p after = filter (λ k. counts_at when k.0) (map (λ e. e.0.1) (changes_after changes p after))
 
--- what the change of a moment leaves of the values, unless its claim is deleted at that time
+-- the values after the change of a moment, unless its claim is deleted at that time
 abbrev pub moment_values : Facts → Deletes → When → List ℕ → List (List ℕ) → Moment → List (List ℕ)
 moment_values facts deletes when name found k =
     if row_deleted facts deletes when k.1 then found else values_with name found (change_at facts k)
@@ -25,8 +25,8 @@ moment_values facts deletes when name found k =
 abbrev pub last_with : Facts → Deletes → When → Option Moment → Moment → Option Moment
 last_with facts deletes when found k = if row_deleted facts deletes when k.1 then found else Some k
 
--- at most as many steps as a moment takes: one to come to it, one to look its change up, and those of seeing whether
--- its claim is deleted
+-- at most as many steps as a moment takes: one to reach it, one to look up its change, and those to find whether its
+-- claim is deleted
 abbrev pub moment_steps : Facts → Deletes → Moment → ℕ
 moment_steps facts deletes k = 6 + 6 * tree_rows facts deletes k.1
 

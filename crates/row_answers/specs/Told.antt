@@ -1,4 +1,4 @@
--- What the tables of an index say, one answer at a time.
+-- The answers that the tables of an index give, one definition for each.
 use Rattle.std.specs.Prelude.{ℕ, ◌+◌, ◌*◌, ◌&&◌, Bool, not, List, [], Option, None, ℤ, filter, if◌then◌else◌}
 use Rattle.std.specs.List.{find, list_any}
 use Rattle.std.specs.Str.{bytes_eq}
@@ -28,21 +28,21 @@ says_sound state y = passes (λ row. row.sound) (get state y)
 abbrev pub told_fact : Facts → States → List ℕ → Option Fact
 told_fact facts state r = if says_ready state r then get facts r else None
 
--- the first permanode behind another, or of all, that its row calls genuine
+-- the first permanode after another, or of all, that its row calls genuine
 abbrev pub told_after : Facts → States → Option (List ℕ) → Option (List ℕ)
 told_after facts state after = find (is_after after) (filter (says_permanode facts state) (keys facts))
 
--- two look-ups for all dates, and for another those of a walk
+-- two look-ups for all dates, and for another time those of a walk
 abbrev pub deletion_steps : Facts → Deletes → When → List ℕ → ℕ
 deletion_steps facts deletes Always r = 2
 deletion_steps facts deletes (At now) r = 4 + 6 * tree_rows facts deletes r
 
--- the values of an attribute, and none where p is no permanode that its row calls genuine
+-- the values of an attribute; none if p isn't a permanode that its row calls genuine
 abbrev pub told_values : Facts → States → Deletes → Changes → When → List ℕ → List ℕ → List (List ℕ)
 told_values facts state deletes changes when p name =
     if says_permanode facts state p then row_values facts deletes changes when p name else []
 
--- the date of the last change, likewise
+-- the date of the last change; none in the same case
 abbrev pub told_change : Facts → States → Deletes → Changes → When → List ℕ → Option ℤ
 told_change facts state deletes changes when p =
     if says_permanode facts state p then row_last_change facts deletes changes when p else None
@@ -58,7 +58,7 @@ told_holds facts state deletes changes when name value p =
     (says_permanode facts state p && not (row_deleted facts deletes when p))
     && list_any (bytes_eq value) (row_values facts deletes changes when p name)
 
--- the permanodes that have the child among their members: by claims of every date they have rows
+-- the permanodes that have the child among their members; for all dates they are those that have rows
 abbrev pub told_parents : Facts → States → Deletes → Changes → Holders → When → List ℕ → List (List ℕ)
 told_parents facts state deletes changes holders Always child = rows_holding holders member_attribute child
 told_parents facts state deletes changes holders (At now) child =

@@ -1,4 +1,4 @@
-//! What the tables of an index answer, one question at a time.
+//! The answers that the tables of an index give, one function for each.
 ghost use Rattle.std.specs.Prelude.{◌≡◌, ◌++◌, ◌∷◌, [], true, Some, IfOk, OnOk, filter, option_copied, ◌≤◌, ◌+◌};
 ghost use Rattle.std.specs.Prelude.{length, None};
 ghost use Rattle.std.specs.FinMap.{get, keys};
@@ -12,13 +12,13 @@ ghost use Rattle.row_answers.specs.Told.{deletion_steps, told_after, told_change
 ghost use Rattle.row_answers.specs.Told.{told_size, told_values};
 
 use crate::folding::{fold_at, last_change_at};
-use crate::said::{has_deleters, says_genuine, says_ready, says_sound};
+use crate::said::{says_genuine, says_ready, says_sound};
 use blobref::{NoMemory, Ref, RefList, TextList};
 use edge_base::Steps;
 use index_look::claim::{can_be_deleted_at, is_permanode, is_permanode_at};
 use index_look::tree::{is_file, own_size};
 use index_look::values::is_among;
-use index_rows::{Rows, deleted_at};
+use index_rows::{Rows, deleted_at, has_deleters};
 use schema_date::{Date, When};
 use schema_fact::Fact;
 use std::alloc::Global;
@@ -42,7 +42,7 @@ pub fn is_genuine_permanode<L: Ledger>(rows: &Rows, r: &Ref, steps: &mut Steps<L
     is_permanode_at(&rows.facts.ordered, r, steps) && says_genuine(&rows.state, r, steps)
 }
 
-// The same of a ref whose fact is at hand. A look-up, where it is a permanode.
+// The same for a ref whose fact is known. One look-up if it is a permanode.
 fn is_genuine_here<L: Ledger>(rows: &Rows, r: &Ref, fact: &Fact, steps: &mut Steps<L>) -> bool
     requires { get rows.now.facts.ordered r.now ≡ Some fact.now }
     ensures { result ≡ says_permanode rows.now.facts.ordered rows.now.state r.now }
@@ -50,7 +50,7 @@ fn is_genuine_here<L: Ledger>(rows: &Rows, r: &Ref, fact: &Fact, steps: &mut Ste
     is_permanode(&fact.kind) && says_genuine(&rows.state, r, steps)
 }
 
-/// The first such permanode after another, or of all. It walks over the facts up to that one.
+/// The first such permanode after another, or the first of all. It walks over the facts up to that one.
 pub fn permanode_after<L: Ledger>(
     rows: &Rows,
     after: Option<&Ref>,
@@ -68,8 +68,8 @@ pub fn permanode_after<L: Ledger>(
     None
 }
 
-/// Whether it is deleted at that time, where the counts of delete claims are right. Two look-ups for all dates, and for
-/// another as many as `deleted_at` takes.
+/// Whether it is deleted at that time. The counts of delete claims must be right. Two look-ups for all dates, and for
+/// another time as many as `deleted_at` takes.
 pub fn deleted<L: Ledger>(rows: &Rows, r: &Ref, when: &When, steps: &mut Steps<L>) -> bool
     requires { IsCounted rows.now.facts.ordered rows.now.deletes rows.now.state }
     ensures deleted { result ≡ row_deleted rows.now.facts.ordered rows.now.deletes when.now r.now }
@@ -90,9 +90,9 @@ fn is_gone<L: Ledger>(rows: &Rows, y: &Ref, steps: &mut Steps<L>) -> bool
     can_be_deleted_at(&rows.facts.ordered, y, steps) && has_deleters(&rows.state, y, steps)
 }
 
-/// The values of an attribute at that time, and none where it is no permanode that its row calls genuine. Each row of
+/// The values of an attribute at that time; none if p isn't a permanode that its row calls genuine. Each row of
 /// `deletes` must be that of a ready delete claim, and each row of `changes` that of a change of a genuine claim.
-/// `NoMemory` comes only where no memory is left. A walk over the changes of the permanode up to that time.
+/// `NoMemory` comes only if no memory is left. It walks over the changes of the permanode up to that time.
 pub fn values<L: Ledger>(
     alloc: Global,
     rows: &Rows,
@@ -112,7 +112,7 @@ pub fn values<L: Ledger>(
     fold_at(alloc, rows, p, attr, when, steps)
 }
 
-/// The date of the last change that counts at that time, likewise. The same walk.
+/// The date of the last change that counts at that time, under the same conditions. The same walk.
 pub fn last_change<L: Ledger>(
     rows: &Rows,
     p: &Ref,
@@ -144,8 +144,8 @@ pub fn file_size<L: Ledger>(rows: &Rows, r: &Ref, steps: &mut Steps<L>) -> Optio
 }
 
 /// The permanodes that have the child among their members at that time, ascending. The tables must be as for `values`,
-/// and `NoMemory` comes only where no memory is left. For all dates it is a walk over the rows of these permanodes, and
-/// for another over all facts and the changes of each permanode.
+/// and `NoMemory` comes only if no memory is left. For all dates it walks over the rows of these permanodes, and for
+/// another time over all facts and the changes of each permanode.
 pub fn parents<L: Ledger>(
     alloc: Global,
     rows: &Rows,
@@ -168,7 +168,7 @@ pub fn parents<L: Ledger>(
     }
 }
 
-// The bytes as a text.
+// The bytes as a string.
 fn as_text(bytes: &[u8]) -> &str
     requires { IsUtf8 bytes.now }
     ensures { result.now ≡ bytes.now }
@@ -203,7 +203,7 @@ fn holding<L: Ledger>(
     Ok(found)
 }
 
-// Keeps a permanode that holds the value.
+// Appends a permanode that holds the value.
 fn keep_holder<L: Ledger>(
     alloc: Global,
     rows: &Rows,

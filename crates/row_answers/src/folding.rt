@@ -16,11 +16,11 @@ use schema_fact::Kind;
 use std::alloc::Global;
 use std::sync::ledger::Ledger;
 
-/// The values of an attribute of a permanode at that time, as the rows of its changes tell them, whether it is deleted
-/// or not. Each row of `deletes` must be that of a ready delete claim, and each row of `changes` that of a change of a
-/// genuine claim. `NoMemory` comes only where no memory is left. It walks over the changes up to that time, and looks
-/// for each whether its claim is deleted: at most 1 step, and for each change 6, and 6 for each row of a delete claim
-/// on its claim, on these, and so on.
+/// The values of an attribute of a permanode at that time, by the rows of its changes, whether it is deleted or not.
+/// Each row of `deletes` must be that of a ready delete claim, and each row of `changes` that of a change of a genuine
+/// claim. `NoMemory` comes only if no memory is left. It walks over the changes up to that time, and checks for each
+/// whether its claim is deleted: at most 1 step, and for each change 6, and 6 for each row of a delete claim on its
+/// claim, on these, and so on.
 pub fn fold_at<L: Ledger>(
     alloc: Global,
     rows: &Rows,
@@ -45,7 +45,7 @@ pub fn fold_at<L: Ledger>(
     copied(alloc, &found)
 }
 
-// What the change of a moment makes of the values of the attribute of p, unless its claim is deleted at that time.
+// Applies the change of a moment to the values of the attribute of p, unless its claim is deleted at that time.
 fn apply_moment<'a, L: Ledger>(
     rows: &'a Rows,
     found: &mut Vec<&'a Text>,
@@ -69,9 +69,9 @@ fn apply_moment<'a, L: Ledger>(
     apply_place(&rows.facts.ordered, found, &moment.1, place, attr, steps)
 }
 
-/// The date of the last change of a permanode that counts at that time, as the rows of its changes tell it; `None`
-/// exactly where none counts. The rows of `deletes` and `changes` must be as for `fold_at`. It takes as many steps as
-/// that, and one more, and no memory.
+/// The date of the last change of a permanode that counts at that time, by the rows of its changes; `None` exactly
+/// if none counts. The rows of `deletes` and `changes` must be as for `fold_at`. It takes one step more than that, and
+/// no memory.
 pub fn last_change_at<L: Ledger>(
     rows: &Rows,
     p: &Ref,

@@ -1,4 +1,4 @@
-//! What the tables of an index answer while nothing is left to do.
+//! The answers that the tables of an index give while nothing is left to do.
 #![tactic(auto)]
 
 mod answers;

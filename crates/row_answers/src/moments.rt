@@ -10,7 +10,7 @@ use index_rows::{ChangeRows, Moment};
 use schema_date::When;
 use std::sync::ledger::Ledger;
 
-// The first moment of p behind `after`, or of all, that is dated at or before that time.
+// The first moment of p after `after`, or the first of all, that is dated at or before that time.
 pub(crate) fn next_moment<L: Ledger>(
     changes: &ChangeRows,
     p: &Ref,

@@ -1,6 +1,5 @@
-//! What rows of `state` say. One look-up each.
+//! The columns of the rows of `state`. One look-up each.
 ghost use Rattle.std.specs.Prelude.{◌≡◌, ◌+◌};
-ghost use Rattle.index_rows.specs.Counted.{has_deleters};
 ghost use Rattle.index_rows.specs.States.{says_genuine};
 ghost use Rattle.row_answers.specs.Told.{says_ready, says_sound};
 
@@ -42,21 +41,6 @@ pub fn says_sound<L: Ledger>(state: &RefRows<StateRow>, r: &Ref, steps: &mut Ste
 {
     match state.row(r, steps) {
         Some(row) => row.sound,
-        None => false,
-    }
-}
-
-// Whether it counts some delete claim.
-pub(crate) fn has_deleters<L: Ledger>(
-    state: &RefRows<StateRow>,
-    r: &Ref,
-    steps: &mut Steps<L>,
-) -> bool
-    ensures some { result ≡ has_deleters state.now r.now }
-    ensures ticks { steps.new ≡ steps.old + 1 }
-{
-    match state.row(r, steps) {
-        Some(row) => 0 < row.deleters,
         None => false,
     }
 }

@@ -8,8 +8,8 @@ use Rattle.pack_disk.specs.declared.disk.Disk.{Ghosts}
 use Rattle.histories.specs.declared.events.IndexEvent.{IndexEvent}
 use Rattle.home_places.specs.Seats.{StoreSight}
 use Rattle.live_home.specs.declared.home.LivePass.{LivePass}
-use Rattle.turn_home.specs.declared.store.TurnStore.{TurnStore}
-use Rattle.turn_home.specs.declared.store.StoreSeat.{StoreSeat}
+use Rattle.turn_store.specs.declared.store.TurnStore.{TurnStore}
+use Rattle.turn_store.specs.declared.store.StoreSeat.{StoreSeat}
 use Rattle.snap_index.specs.declared.held.About.{About}
 use Rattle.snap_index.specs.declared.seat.SharedIndex.{SharedIndex}
 use Rattle.snap_index.specs.declared.seat.SharedSeat.{SharedSeat}

@@ -4,9 +4,9 @@ use Rattle.std.specs.List.{Contains}
 use Rattle.pack_disk.specs.declared.disk.Disk.{Ghosts}
 use Rattle.home_places.specs.Seats.{StoreSight}
 use Rattle.live_home.specs.declared.home.LivePass.{LivePass}
-use Rattle.turn_home.specs.declared.store.TurnStore.{TurnStore}
-use Rattle.turn_home.specs.declared.store.StoreSeat.{StoreSeat}
-use Rattle.turn_home.specs.StoreSeats.{IsOfStore, store_sight}
+use Rattle.turn_store.specs.declared.store.TurnStore.{TurnStore}
+use Rattle.turn_store.specs.declared.store.StoreSeat.{StoreSeat}
+use Rattle.turn_store.specs.StoreSeats.{IsOfStore, store_sight}
 
 -- the seat is one of this store's, has seen this of it, and drew no turn
 pub record IsNewSeat {D : Type 0} {b : _} (g : Ghosts D) (s : TurnStore D) (v : StoreSight) (seat : StoreSeat D b) : Type 0 where
@@ -19,7 +19,7 @@ module _ {D B : Type 0} {b : _} (g : Ghosts D) (s : TurnStore D) (v : StoreSight
     pub store : IsNewSeat g s v p.store
     pub index : Contains seats p.index
 
-  -- a list of passes with one of such a seat and of this seat of an index behind the others
+  -- a list of passes to which one of such a seat and of this seat of an index was appended
   pub record HasOneMore (seat : B) (old new : List (LivePass (StoreSeat D b) B)) : Type 0 where
     pub pass : LivePass (StoreSeat D b) B
     pub added : new ≡ old ++ pass ∷ []

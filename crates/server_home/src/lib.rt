@@ -1,4 +1,4 @@
-//! The home of a server: a store of packs on a disk, and an index, both behind locks, with a pass for each thread.
+//! The home of a server: a store of packs on a disk, and an index, each in a lock, with a pass for each thread.
 #![tactic(auto)]
 
 mod opening;

@@ -1,4 +1,4 @@
-//! The home over a disk.
+//! Opens the home over a disk.
 ghost use Rattle.std.specs.Prelude.{◌≤◌, ◌^◌, IfOk, IfErr};
 ghost use Rattle.pack_disk.specs.Disk.{last_number};
 ghost use Rattle.top_frame.specs.Limits.{limits};
@@ -14,12 +14,12 @@ use snap_index::{SnapIndex, SnapSeat};
 use std::alloc::Global;
 use std::sync::Wait;
 use top_frame::LIMITS;
-use turn_home::{StoreSeat, TurnStore};
+use turn_store::{StoreSeat, TurnStore};
 
 /// A store of packs and an index that threads share, with a handle that may wait.
 pub type ServerHome<D, V, H> = LiveHome<TurnStore<D>, SnapIndex<V, H>>;
 
-/// What one thread holds of it.
+/// One thread's access to it.
 pub type ServerPass<D, V, H> = LivePass<StoreSeat<D>, SnapSeat<V, H>>;
 
 /// Why there is no home.
@@ -31,7 +31,7 @@ pub enum HomeFault<D> {
     NoMemory,
 }
 
-/// The home over a disk within the limits of the program: what `home_within` makes with these.
+/// The home over a disk within the limits of the program: `home_within` with these.
 pub fn home_over<D: Disk + Drop, V: Verifier + Copy + Drop, H: Wait + Drop>(
     rt: H,
     alloc: Global,
@@ -46,10 +46,10 @@ pub fn home_over<D: Disk + Drop, V: Verifier + Copy + Drop, H: Wait + Drop>(
 }
 
 /// Opens the store that a disk holds (`docs/store.md`), and makes so many passes of a home over it and over an index of
-/// the keys. Each pass has seen the blobs of the store arrive, in turn 0, and an index of nothing; it drew no turn. The
-/// index stays empty until a pass settles. `Disk` comes only where the disk's count of faults rose.
+/// the keys. Each pass has seen the blobs of the store arrive, in turn 0, and an empty index; it drew no turn. The
+/// index stays empty until a pass settles. `Disk` comes only if the disk's count of faults rose.
 ///
-/// It reads the packs whole. The handle is used to wait for searches to leave a copy of the index.
+/// It reads all packs. The handle is used to wait for searches to leave a copy of the index.
 pub fn home_within<D: Disk + Drop, V: Verifier + Copy + Drop, H: Wait + Drop>(
     rt: H,
     alloc: Global,

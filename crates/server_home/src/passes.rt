@@ -1,15 +1,15 @@
-//! The passes of a store's seats with those of an index.
+//! The passes, of seats of a store and of an index.
 ghost use Rattle.std.specs.Prelude.{◌≡◌, IfOk, OnOk};
-ghost use Rattle.turn_home.specs.StoreSeats.{IsOfStore, store_sight};
+ghost use Rattle.turn_store.specs.StoreSeats.{IsOfStore, store_sight};
 ghost use Rattle.server_home.specs.Passes.{AreOf, HasOneMore};
 
 use blobref::NoMemory;
 use live_home::LivePass;
 use pack_disk::Disk;
 use std::alloc::Global;
-use turn_home::{StoreSeat, TurnStore};
+use turn_store::{StoreSeat, TurnStore};
 
-/// A pass for each of the seats of an index, with a new seat of the store, which has seen what this one has seen.
+/// A pass for each of the seats of an index, with a new seat of the store, which has seen the same as this one.
 pub(crate) fn passes_of<D: Disk, B: Drop>(
     alloc: Global,
     store: &TurnStore<D>,
@@ -27,7 +27,7 @@ pub(crate) fn passes_of<D: Disk, B: Drop>(
     Ok(passes)
 }
 
-// Puts one more pass behind the others.
+// Appends one more pass.
 fn push_pass<D: Disk, B: Drop>(
     passes: &mut Vec<LivePass<StoreSeat<D>, B>>,
     store: &TurnStore<D>,

@@ -10,13 +10,13 @@ use Rattle.histories.specs.declared.events.IndexEvent.{IndexEvent}
 use Rattle.home_places.specs.Seats.{StoreSight}
 use Rattle.live_home.specs.declared.home.LiveHome.{LiveHome}
 use Rattle.live_home.specs.declared.home.LivePass.{LivePass}
-use Rattle.turn_home.specs.declared.store.TurnStore.{TurnStore}
-use Rattle.turn_home.specs.declared.store.StoreSeat.{StoreSeat}
+use Rattle.turn_store.specs.declared.store.TurnStore.{TurnStore}
+use Rattle.turn_store.specs.declared.store.StoreSeat.{StoreSeat}
 use Rattle.snap_index.specs.declared.held.About.{About}
 use Rattle.snap_index.specs.declared.seat.SharedIndex.{SharedIndex}
 use Rattle.snap_index.specs.declared.seat.SharedSeat.{SharedSeat}
 use Rattle.snap_index.specs.SnapSeats.{IsOfSnap}
-use Rattle.turn_home.specs.StoreSeats.{IsOfStore}
+use Rattle.turn_store.specs.StoreSeats.{IsOfStore}
 use Rattle.server_home.specs.Opening.{IsNew, IsOpenHome, arrived}
 
 -- the seats of a desk's pass are of these places

@@ -1,4 +1,4 @@
--- What a gate is built of, what that leaves of the shelf, and why no gate is built.
+-- From what a gate is built, what building leaves of the shelf, and why no gate is built.
 use Rattle.std.specs.Prelude.{◌≡◌, ◌≢◌, ℕ, ◌≤◌, true, List, [], Option, None}
 use Rattle.std.specs.List.{list_any}
 use Rattle.std.specs.Str.{bytes_eq}
@@ -10,7 +10,7 @@ use Rattle.edge_base.specs.declared.answers.GetFault.TheVariants as getting
 use Rattle.edge_base.specs.declared.shelf.Shelf.{Ghosts}
 use Rattle.claim_model.specs.Facts.{Content}
 
--- these are the refs of the store, whatever their order and however often each comes
+-- these are the refs of the store, in any order, and with any number of repeats
 abbrev pub HasRefs : List (List ℕ) → Content → Type 0
 HasRefs refs held = (r : List ℕ) → list_any (bytes_eq r) refs ≡ contains_key held r
 

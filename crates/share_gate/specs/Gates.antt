@@ -1,4 +1,4 @@
--- Verdicts by the tables of a gate, and when these are of a store.
+-- Verdicts by the tables of a gate, and when the tables are those of a store.
 use Rattle.std.specs.Prelude.{◌≡◌, ℕ, ◌+◌, ◌-◌, ◌&&◌, Bool, not, List, [], ◌∷◌, ◌++◌, drop, get_or, if◌then◌else◌}
 use Rattle.std.specs.Prelude.{Option, Some, None, option_map}
 use Rattle.std.specs.List.{list_any}
@@ -18,7 +18,7 @@ use Rattle.share_model.specs.Verdicts.{is_empty, is_deleted_in, verdict}
 use Rattle.share_gate.specs.declared.gate.ShareGate.{ShareGate}
 use Rattle.share_gate.specs.declared.gate.ShareRow.{ShareRow}
 
--- what is kept of a share
+-- the row of a share
 abbrev pub row_of : Facts → Accepts → Share → ShareRow
 row_of facts accepts share =
     record { target = share.target; transitive = share.transitive; genuine = is_genuine_share facts accepts share }
@@ -36,7 +36,7 @@ module _ (gate : ShareGate) where
   gate_at_end r (Some i) = Denied (NoLink i)
   gate_at_end r None = if list_any (bytes_eq r) gate.refs then Served else Absent
 
-  -- of a path that goes on with these refs after a share that counts
+  -- the verdict on a path that continues with these refs after a share that counts
   abbrev pub gate_after_share : ShareRow → List ℕ → List (List ℕ) → Verdict
   gate_after_share row r [] = Served
   gate_after_share row r (t ∷ more) =
@@ -44,7 +44,7 @@ module _ (gate : ShareGate) where
       else if not (is_empty more) && not row.transitive then Denied NotTransitive
       else gate_at_end r (gate_missing_link 2 t more)
 
-  -- of a path that begins with s, of which this is kept as a share
+  -- the verdict on a path that begins with s, which has this row as a share, or none
   abbrev pub gate_from_share : List ℕ → List ℕ → List (List ℕ) → Option ShareRow → Verdict
   gate_from_share r s rest None = Denied NoShare
   gate_from_share r s rest (Some row) =
@@ -56,15 +56,16 @@ module _ (gate : ShareGate) where
   gate_path r [] = Served
   gate_path r (s ∷ rest) = gate_from_share r s rest (get gate.shares s)
 
-  -- the answer to the path of the refs of `via`, and then r
+  -- the verdict on the path of the refs of `via` followed by r
   abbrev pub gate_verdict : List ℕ → List (List ℕ) → Verdict
   gate_verdict r via = gate_path r (via ++ r ∷ [])
 
-  -- the links of that path from place i on
+  -- the missing link of that path from place i on
   abbrev pub gate_missing_from : List ℕ → List (List ℕ) → ℕ → Option ℕ
   gate_missing_from r via i = gate_missing_link i (get_or via (i - 1) []) (drop i via ++ r ∷ [])
 
-  -- the tables are of this store: they say of each ref what the store does, and of each share whether it was deleted
+  -- the tables are those of this store: they have its refs, links and shares, and say of each share whether it was
+  -- deleted
   pub record IsGateOf (held : Content) (accepts : Accepts) : Type 0 where
     pub refs : (r : List ℕ) → list_any (bytes_eq r) gate.refs ≡ contains_key held r
     pub links : (p r : List ℕ) → gate_has_link p r ≡ has_link held p r
@@ -73,7 +74,7 @@ module _ (gate : ShareGate) where
     pub deleted : (s : List ℕ) (share : Share) → share_at held s ≡ Some share
         → list_any (bytes_eq s) gate.deleted ≡ is_deleted_in held accepts s
 
-  -- the verdict over whatever store the tables are of
+  -- the verdict over each store that has these tables
   abbrev pub IsVerdict : List ℕ → List (List ℕ) → Verdict → Type 0
   IsVerdict r via answer =
       (held : Content) (accepts : Accepts) → IsGateOf held accepts → answer ≡ verdict held accepts r via

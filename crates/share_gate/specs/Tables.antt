@@ -31,7 +31,7 @@ ShareRows = FinMap ref_cmp ShareRow
 
 -- ---- links
 
--- the links of the blob of a ref; none where it isn't held
+-- the links of the blob of a ref; none if it isn't held
 abbrev pub links_at : Content → List ℕ → List (List ℕ)
 links_at held r = unwrap_or (option_map links_in (get held r)) []
 
@@ -47,7 +47,7 @@ PutsLinks old new r links =
 
 -- ---- shares
 
--- a claim of no kind that facts know, as each share is
+-- a claim of a kind that facts don't know; each share is one
 abbrev pub is_unread_claim : Kind → Bool
 is_unread_claim Plain = false
 is_unread_claim (Key name) = false
@@ -59,7 +59,7 @@ is_unread_claim (Permanode signed) = false
 is_unread_claim (Claim signed date what) = false
 is_unread_claim (Unread type) = bytes_eq type (codes "claim")
 
--- what is kept of the share at a ref
+-- the row of the share at a ref
 abbrev pub row_at : Content → Accepts → List ℕ → Option ShareRow
 row_at held accepts s = option_map (row_of (facts_of fact_of held) accepts) (share_at held s)
 
@@ -82,7 +82,7 @@ what_target (Del on attr value) = None
 what_target (Delete target) = Some target
 what_target (Multi changes) = None
 
--- what a delete claim deletes
+-- the target of a delete claim
 abbrev pub delete_target : Kind → Option (List ℕ)
 delete_target Plain = None
 delete_target (Key name) = None
@@ -94,14 +94,14 @@ delete_target (Permanode signed) = None
 delete_target (Claim signed date what) = what_target what
 delete_target (Unread type) = None
 
--- what the blob of a ref deletes: the target of a genuine delete claim that isn't deleted itself
+-- the ref that the blob of a ref deletes: the target of a genuine delete claim that isn't deleted itself
 abbrev pub target_deleted_by : Facts → Accepts → List ℕ → Option (List ℕ)
 target_deleted_by facts accepts p =
     option_and_then (λ fact.
     if is_genuine facts accepts p && not (is_deleted facts accepts Always p) then delete_target fact.kind else None)
     (get facts p)
 
--- these are what the blobs of these refs delete
+-- these are the refs that the blobs of these refs delete
 abbrev pub AreDeleted : Facts → Accepts → List (List ℕ) → List (List ℕ) → Type 0
 AreDeleted facts accepts refs targets =
     (s : List ℕ)

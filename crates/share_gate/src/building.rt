@@ -1,4 +1,4 @@
-//! The gate of a store.
+//! Builds the gate of a store.
 ghost use Rattle.std.specs.Prelude.{◌≡◌, IfOk, IfErr};
 ghost use Rattle.std.specs.Option.{ForSome};
 ghost use Rattle.schema_json.specs.Facts.{fact_of};
@@ -19,11 +19,11 @@ use std::sync::ledger::Ledger;
 
 impl ShareGate {
     /// The gate of the store that has exactly these refs, each listed at least once. The index has the facts of its
-    /// blobs, and its keys accept what `keys` do. Only blobs that aren't ready, and claims of no kind that facts know,
-    /// are fetched, and none is kept.
+    /// blobs, and its keys accept what `keys` do. It fetches only blobs that aren't ready, and claims of a kind that
+    /// facts don't know. It keeps none of them.
     ///
-    /// `Disk` comes only where the shelf's count of faults rose, and `Damaged`, of one of these refs, never where the
-    /// shelf tells what it holds. Nothing is put, whatever is answered.
+    /// `Disk` comes only if the shelf's count of faults rose. `Damaged` is of one of these refs, and never comes if the
+    /// shelf tells what it holds. Nothing is put, even after an error.
     pub fn build<B: Shelf, K: Look, V: Verifier, L: Ledger>(
         alloc: Global,
         shelf: &mut B,

@@ -1,4 +1,4 @@
-//! The table of what was deleted.
+//! The table of deleted refs.
 ghost use Rattle.std.specs.Prelude.{◌≡◌, ◌++◌, ◌&&◌, not, IfOk, OnOk, option_to_list};
 ghost use Rattle.std.specs.FinMap.{get};
 ghost use Rattle.schema_date.specs.declared.date.When.TheVariants.{Always};
@@ -18,8 +18,8 @@ use schema_fact::{Kind, Signed, What};
 use std::alloc::Global;
 use std::sync::ledger::Ledger;
 
-/// What the blobs of these refs delete: the targets of genuine delete claims that aren't deleted themselves. The only
-/// error is want of memory.
+/// The refs that the blobs of these refs delete: the targets of genuine delete claims that aren't deleted themselves.
+/// The only error is `NoMemory`.
 pub(crate) fn deleted_targets<K: Look, V: Verifier, L: Ledger>(
     alloc: Global,
     refs: &[Ref],
@@ -65,7 +65,7 @@ fn target_deleted_by<K: Look, V: Verifier, L: Ledger>(
     }
 }
 
-// Whether the delete claim at a ref, which is signed so, is signed as its key accepts, and isn't deleted itself.
+// Whether the delete claim at a ref, with this signature, is signed as its key accepts, and isn't deleted itself.
 fn is_counted<K: Look, V: Verifier, L: Ledger>(
     look: &K,
     keys: &V,

@@ -1,4 +1,4 @@
-//! Verdicts, by tables.
+//! Verdicts by tables.
 ghost use Rattle.std.specs.Prelude.{◌≡◌, ◌++◌, ◌∷◌, [], ◌≤◌, length, drop, get_or, None};
 ghost use Rattle.share_gate.specs.Gates.{gate_has_link, gate_missing_from, gate_after_share, gate_at_end, gate_verdict};
 ghost use Rattle.share_gate.specs.Gates.{IsVerdict};
@@ -15,8 +15,8 @@ pub struct ShareRow {
     pub genuine: bool,
 }
 
-/// What verdicts look up of a store: its refs, the links of the blobs that have some, its shares, and what was deleted.
-/// It takes 29 bytes for each ref and each link, and some 120 for each blob that has links.
+/// The tables of a store from which verdicts are computed: its refs, the links of the blobs that have some, its shares,
+/// and the deleted refs. It takes 29 bytes for each ref and each link, and about 120 for each blob that has links.
 #[derive(Drop)]
 pub struct ShareGate {
     pub(crate) refs: RefSet,
@@ -26,8 +26,8 @@ pub struct ShareGate {
 }
 
 impl ShareGate {
-    /// The answer to the path of the refs of `via`, and then `r`, over each store that the tables are of. It takes no
-    /// memory, and for each ref a look-up and a search among the links of the one before.
+    /// The verdict on the path of the refs of `via` followed by `r`, over each store that has these tables. It takes no
+    /// memory. For each ref it takes a look-up and a search among the links of the one before.
     pub fn verdict(&self, r: &Ref, via: &RefList) -> Verdict
         ensures own { result ≡ gate_verdict self.now r.now via.now }
         ensures is { IsVerdict self.now r.now via.now result }
@@ -52,7 +52,7 @@ impl ShareGate {
         self.after_share(row, r, via)
     }
 
-    // The answer where the path begins with a share that counts.
+    // The verdict if the path begins with a share that counts.
     fn after_share(&self, row: &ShareRow, r: &Ref, via: &[Ref]) -> Verdict
         ensures { result ≡ gate_after_share self.now row.now r.now (drop 1 (via.now ++ r.now ∷ [])) }
     {
@@ -84,7 +84,7 @@ impl ShareGate {
         }
     }
 
-    // The first place of the path, after the target's, to whose ref the one before has no link.
+    // The first place of the path after the target's whose ref isn't linked from the one before.
     fn missing_link(&self, r: &Ref, via: &[Ref]) -> Option<u64>
         requires { 2 ≤ length via.now }
         ensures { result ≡ gate_missing_from self.now r.now via.now 2 }
@@ -112,7 +112,7 @@ impl ShareGate {
     }
 }
 
-// The ref at a place of `via`, and r after its end.
+// The ref at a place of `via`; r after its end.
 fn ref_at(r: &Ref, via: &[Ref], i: usize) -> Ref
     ensures { result ≡ get_or via.now i r.now }
 {

@@ -11,8 +11,8 @@ use index_look::claim::key_accepts;
 use schema_fact::Signed;
 use std::sync::ledger::Ledger;
 
-/// Whether the signer's blob is a key's, and that key accepts the signature. A key's blob depends on nothing, so it
-/// needn't be asked whether it is ready.
+/// Whether the signer's blob is a key's, and that key accepts the signature. A key's blob depends on nothing and is
+/// therefore ready, which isn't checked.
 pub(crate) fn is_accepted<K: Look, V: Verifier, L: Ledger>(
     look: &K,
     keys: &V,

@@ -1,4 +1,4 @@
-//! The gate of shares: what verdicts look up is gathered from a store once, and then no blob is read for a verdict
+//! The gate of shares: tables are gathered from a store once, and then no blob is read for a verdict
 //! (`docs/shares.md`).
 #![tactic(auto)]
 

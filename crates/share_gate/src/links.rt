@@ -17,8 +17,8 @@ use share_model::links_of;
 use std::alloc::Global;
 use std::sync::ledger::Ledger;
 
-/// The links of the blobs of these refs, a row for each blob that has some. A blob that isn't ready is fetched; of all
-/// others the index says what they link to.
+/// The links of the blobs of these refs, a row for each blob that has some. A blob that isn't ready is fetched. The
+/// links of all others come from the index.
 pub(crate) fn link_rows<B: Shelf, K: Look, L: Ledger>(
     alloc: Global,
     shelf: &mut B,

@@ -35,14 +35,14 @@ impl<R: Drop> RefMap<R> {
         }
     }
 
-    /// The value of a ref, and `None` exactly where there is none.
+    /// The value of a ref; `None` exactly if there is none.
     pub(crate) fn get(&self, r: &Ref) -> Option<&R>
         ensures { option_copied result ≡ finite.get self.now r.now }
     {
         self.rows.get(r)
     }
 
-    /// Puts a value under a ref, in place of the one that was there. Where there is no memory nothing changes.
+    /// Puts a value under a ref, replacing the one there. If there is no memory, nothing changes.
     pub(crate) fn insert(&mut self, r: &Ref, row: R) -> Result<(), NoMemory>
         ensures ok { OnOk result (self.new ≡ finite.insert self.old r.now row) }
         ensures err { OnErr result (self.new ≡ self.old) }

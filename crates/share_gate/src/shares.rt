@@ -22,7 +22,7 @@ use share_model::share_in;
 use std::alloc::Global;
 use std::sync::ledger::Ledger;
 
-/// The shares at these refs. Only claims of no kind that facts know are fetched.
+/// The shares at these refs. Only claims of a kind that facts don't know are fetched.
 pub(crate) fn share_rows<B: Shelf, K: Look, V: Verifier, L: Ledger>(
     alloc: Global,
     shelf: &mut B,
@@ -77,7 +77,8 @@ fn row_at<B: Shelf, K: Look, V: Verifier, L: Ledger>(
     }
 }
 
-// Whether it is a claim of no kind that facts know, as each share is. Such a claim depends on nothing, so it is ready.
+// Whether it is a claim of a kind that facts don't know. Each share is one. Such a claim depends on nothing and is
+// ready.
 fn may_be_share<K: Look, L: Ledger>(look: &K, r: &Ref, steps: &mut Steps<L>) -> bool
     ensures { result ≡ passes (λ fact. is_unread_claim fact.kind) (ready_fact (K.facts look.now) r.now) }
 {
@@ -96,7 +97,7 @@ fn is_unread_claim(kind: &Kind) -> bool
     }
 }
 
-// What is kept of the share that the blob of these bytes is.
+// The row of the share with these bytes; `None` if they are no share.
 fn row_in<K: Look, V: Verifier, L: Ledger>(
     alloc: Global,
     bytes: &[u8],

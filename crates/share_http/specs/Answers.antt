@@ -1,4 +1,4 @@
--- The replies to what is asked, and what they ask of the shelf.
+-- The replies to questions, and the refs that are fetched for them.
 use Rattle.std.specs.Prelude.{◌≡◌, ◌≢◌, ℕ, List, [], ◌∷◌, codes, Bool, Option, Some, None, IfSome, Result, Ok, Err}
 use Rattle.std.specs.Option.{ForSome}
 use Rattle.std.specs.FinMap.{get}
@@ -28,7 +28,7 @@ Judge = List ℕ → List (List ℕ) → Verdict
 
 -- ---- texts
 
--- the methods to tell beside a refusal
+-- the methods that a refusal lists as allowed
 abbrev pub allow_of : Refusal → List ℕ
 allow_of refusal.BadHead = []
 allow_of refusal.BadLength = []
@@ -53,24 +53,24 @@ share_refusal closes why = refused_reply closes (allow_of why) why
 abbrev pub denied_reply : Bool → Rule → List ℕ
 denied_reply closes rule = reply_text 403 Json closes [] (denied_text rule)
 
--- of a blob that was looked for
+-- the reply to a request for a blob that was looked for
 abbrev pub found_reply : Bool → List ℕ → Option (List ℕ) → List ℕ
 found_reply closes r (Some bytes) = bytes_reply closes bytes
 found_reply closes r None = share_refusal closes (refusal.Absent r)
 
--- ---- what is asked of the shelf
+-- ---- the refs that are looked for on the shelf
 
 abbrev pub looks_by : Verdict → List ℕ → List (List ℕ)
 looks_by Served r = r ∷ []
 looks_by Absent r = []
 looks_by (Denied rule) r = []
 
--- only what is served is looked for
+-- only a blob that is served is looked for
 abbrev pub looks_for : Judge → Question → List (List ℕ)
 looks_for judge (question.Refused why) = []
 looks_for judge (question.Path r via) = looks_by (judge r via) r
 
--- ---- what is answered
+-- ---- answers
 
 -- this text, or that there is no memory for it
 abbrev pub IsReplied : List ℕ → ShareTold → List ℕ → Type 0
@@ -79,8 +79,9 @@ IsReplied this Memory text = text ≡ memory_reply
 IsReplied this Disk text = ⊥
 IsReplied this (Damaged want is) text = ⊥
 
--- The blob of a ref that is served: its bytes as the shelf tells them, else bytes that have this ref, or that it is
--- absent. The shelf may fail, and where it doesn't tell its blobs one may be damaged.
+-- The reply with the blob of a ref that is served. If the shelf tells its blobs, the reply is by the bytes that it
+-- tells. If not, it has bytes with this ref, or says that the blob is absent. The shelf may fail, and if it doesn't
+-- tell its blobs, one may be damaged.
 abbrev pub IsFetchReply : Option Blobs → Bool → List ℕ → ShareTold → List ℕ → Type 0
 IsFetchReply told closes r Defined text =
     (found : Option (List ℕ)) × (ForSome told (λ held. found ≡ get held r)) × (IfSome found (IsOwnRef r))
@@ -114,14 +115,14 @@ abbrev pub IsTold : ShareTold → List ℕ → ReplyText → Type 0
 IsTold entry text (made.Told was reply) = (was ≡ entry) × (reply_bytes reply ≡ text)
 IsTold entry text made.Memory = Unit {0}
 
--- the reply where a blob can't be read
+-- the reply if a blob can't be read
 abbrev pub FaultMade : Bool → GetFault → ReplyText → Type 0
 FaultMade closes getting.Disk m = IsTold Disk (share_refusal closes refusal.Disk) m
 FaultMade closes (getting.Damaged want is) m =
     IsTold (Damaged want is) (share_refusal closes (refusal.Damaged want is)) m
 FaultMade closes getting.NoMemory m = m ≡ made.Memory
 
--- the reply to what a fetch gave
+-- the reply to the result of a fetch
 abbrev pub FetchMade : Bool → List ℕ → Result (Option (List ℕ)) GetFault → ReplyText → Type 0
 FetchMade closes r (Ok found) m = IsTold Defined (found_reply closes r found) m
 FetchMade closes r (Err fault) m = FaultMade closes fault m

@@ -1,4 +1,4 @@
--- What a request asks, by its head and its body.
+-- The question of a request, by its head and its body.
 use Rattle.std.specs.Prelude.{◌≡◌, ℕ, ◌==◌, Bool, List, [], ◌∷◌, take, drop, codes, if◌then◌else◌}
 use Rattle.std.specs.Prelude.{Option, Some, None, option_and_then, option_map, Result, Ok, Err}
 use Rattle.std.specs.List.{slice_split}
@@ -43,7 +43,7 @@ first_by says (Err why) = Err why
 abbrev pub first_of : List ℕ → Head → Result (List ℕ) Refusal
 first_of head says = first_by says (routed_of head says)
 
--- ---- the way there
+-- ---- the refs of `via`
 
 abbrev pub is_comma : ℕ → Bool
 is_comma c = c == 44
@@ -53,7 +53,7 @@ abbrev pub refs_of : List (List ℕ) → Option (List (List ℕ))
 refs_of [] = Some []
 refs_of (x ∷ xs) = option_and_then (λ r. option_map (λ rs. r ∷ rs) (refs_of xs)) (blobref_in x)
 
--- the refs of a text between commas; an empty text has none
+-- the refs of a string between commas; an empty string has none
 abbrev pub via_of : List ℕ → Option (List (List ℕ))
 via_of [] = Some []
 via_of (c ∷ cs) = refs_of (slice_split is_comma (c ∷ cs))
@@ -70,13 +70,13 @@ abbrev pub question_by : List ℕ → Option (List (List ℕ)) → Question
 question_by r None = Refused refusal.BadRef
 question_by r (Some via) = Path r via
 
--- ---- as it was read to its end
+-- ---- after the body was read to its end
 
 -- a request that is refused before its body is read has no body to read
 abbrev pub IsAskedBy : Result (List ℕ) Refusal → Framing → List ℕ → Question → Type 0
 IsAskedBy (Ok r) framing query q = q ≡ question_by r (via_in query)
 IsAskedBy (Err why) framing query q = (q ≡ Refused why) × (body_of framing ≡ Done)
 
--- what a request of this head asks
+-- the question of a request with this head
 abbrev pub IsAsked : List ℕ → Head → Question → Type 0
 IsAsked head says q = IsAskedBy (first_of head says) says.framing (piece head says.query) q

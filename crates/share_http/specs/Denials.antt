@@ -1,10 +1,10 @@
--- The texts of denials.
+-- The text of a denial.
 use Rattle.std.specs.Prelude.{ℕ, List, [], ◌++◌, codes, decimal}
 use Rattle.share_model.specs.declared.verdict.Rule.{Rule}
 use Rattle.share_model.specs.declared.verdict.Rule.TheVariants.{NoShare, NotGenuine, Deleted}
 use Rattle.share_model.specs.declared.verdict.Rule.TheVariants.{WrongTarget, NotTransitive, NoLink}
 
--- what the text calls the rule
+-- the name of the rule in the text
 abbrev pub rule_name : Rule → List ℕ
 rule_name NoShare = codes "no share"
 rule_name NotGenuine = codes "not genuine"

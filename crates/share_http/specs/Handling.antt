@@ -1,4 +1,4 @@
--- What one request comes to.
+-- The outcome of one request.
 use Rattle.std.specs.Prelude.{◌≡◌, ◌≤◌, ℕ, List, Bool, true, false, Option, Result, Ok, Err, IfOk, IfErr}
 use Rattle.blobref.specs.declared.memory.NoMemory.{NoMemory}
 use Rattle.edge_base.specs.declared.shelf.Shelf.{Ghosts}
@@ -25,7 +25,7 @@ abbrev pub is_memory : ReplyText → Bool
 is_memory (made.Told entry reply) = false
 is_memory made.Memory = true
 
--- the answer where a body wasn't read to its end
+-- the reply if a body wasn't read to its end
 abbrev pub StopReplies : BodyFault → ReplyText → Type 0
 StopReplies body_fault.Long m = IsTold Defined (share_refusal true (refusal.TooLong most_body)) m
 StopReplies body_fault.Broken m = IsTold Defined (share_refusal true refusal.BadLength) m
@@ -40,12 +40,12 @@ module _ {B : Type 0} (g : Ghosts B) where
     pub fetched : Fetched g shelf (looks_for judge q) left
     pub counted : with_fault (g.faults shelf) (entry_of m) ≤ g.faults left
 
-  -- the answer to what was asked, where that was found out
+  -- the answer to the question, if there was memory to read it
   abbrev pub AlongSpec : Judge → (shelf left : B) → Bool → Result Question NoMemory → ReplyText → Type 0
   AlongSpec judge shelf left closes (Ok q) m = Answers judge shelf left closes q m
   AlongSpec judge shelf left closes (Err e) m = (m ≡ made.Memory) × (left ≡ shelf)
 
-  -- something was answered: what it was, and that the entry and the reply are those to it
+  -- a request was answered: which one it was, and that the entry and the reply are those for it
   pub record Replies (before now : Option (List ℕ)) (old : Flow) (new : WireView) (judge : Judge) (shelf left : B)
       (m : ReplyText) (closes : Bool) : Type 0 where
     pub asked : Asked
@@ -57,7 +57,7 @@ module _ {B : Type 0} (g : Ghosts B) where
     pub closing : closes ≡ closes_of asked
     pub ready : closes ≡ false → new.body ≡ body.Done
 
-  -- what a request comes to: its reply; or the connection ends, and why it has none
+  -- the outcome of a request: its reply, or why the connection ends without one
   pub record ComesTo (before now : Option (List ℕ)) (old : Flow) (new : WireView) (judge : Judge) (shelf left : B)
       (result : Result Response Ended) : Type 0 where
     pub replies : IfOk result
@@ -65,7 +65,7 @@ module _ {B : Type 0} (g : Ghosts B) where
     pub none : IfErr result (NoneComes (stream old.bytes before) now old.taken)
     pub same : IfErr result (λ end. left ≡ shelf)
 
-  -- the same of a request whose head was read, and nothing of its body
+  -- the same for a request whose head was read, and none of its body
   abbrev pub ComesOf : (before now : Option (List ℕ)) (old new : WireView) → Head → Judge → (shelf left : B)
       → Result Response Ended → Type 0
   ComesOf before now old new head judge shelf left result = (x : Option (List ℕ)) (flow : Flow)

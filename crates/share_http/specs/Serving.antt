@@ -1,4 +1,4 @@
--- What a connection leaves: the requests, their entries, the replies, and what was asked of the shelf.
+-- The result of a connection: the requests, their entries, the replies, and the refs that were fetched.
 use Rattle.std.specs.Prelude.{◌≡◌, ◌≤◌, ◌<◌, ◌+◌, ◌⊎◌, ℕ, List, [], ◌∷◌, map, fold, length, All}
 use Rattle.std.specs.Prelude.{true, Option, IfSome, Result, Ok, Err}
 use Rattle.std.specs.List.{flat_map}
@@ -27,19 +27,19 @@ use Rattle.share_http.specs.Answers.{Judge, share_refusal, looks_for, IsReplied,
 
 -- ---- replies
 
--- what the body of a request is refused for as it is read: it is too long, or it breaks before that. Beyond its limit
--- no further piece of it is read.
+-- why a request is refused while its body is read: the body is too long, or it is malformed before that. Beyond its
+-- limit no further piece of it is read.
 abbrev pub IsBodyRefusal : Begun → Option (List ℕ) → Refusal → Type 0
 IsBodyRefusal b after why =
     ((why ≡ refusal.TooLong most_body) × (most_body < length b.given) × (length b.given ≤ most_body + most_piece))
     ⊎ ((why ≡ refusal.BadLength) × (length b.given ≤ most_body) × IfSome after (IsMalformed b.at))
 
--- why a request is refused by its body as that is read, or before anything of it is read, where there is a body to read
+-- why a request with a body is refused: by its body as that is read, or before any of it is read
 abbrev pub IsFrontRefusal : Begun → Option (List ℕ) → Result (List ℕ) Refusal → Refusal → Type 0
 IsFrontRefusal b after (Err first) why = (why ≡ first) × (b.framed ≡ []) × (body_of b.says.framing ≡ Done → ⊥)
 IsFrontRefusal b after (Ok r) why = IsBodyRefusal b after why
 
--- what was looked for before there was no memory left: nothing, or what the request asks
+-- the refs that were looked for before no memory was left: none, or those of the question
 abbrev pub LookedFor : Judge → Begun → List (List ℕ) → Type 0
 LookedFor judge b asks =
     (asks ≡ []) ⊎ ((q : Question) × IsAsked b.head b.says q × (asks ≡ looks_for judge q))
@@ -56,9 +56,9 @@ IsShareReply told judge (Front b after) asks entry text =
 IsShareReply told judge (Head end) asks entry text =
     (why : Refusal) × (head_says end ≡ Ok why) × (asks ≡ []) × IsReplied (share_refusal true why) entry text
 
--- ---- all of them
+-- ---- all requests
 
--- what was answered, which refs were looked for, the entry, and the reply
+-- the request that was answered, the refs that were looked for, the entry, and the reply
 pub record Answer : Type 0 where
   pub asked : Asked
   pub asks : List (List ℕ)
@@ -82,8 +82,9 @@ module _ {B : Type 0} (g : Ghosts B) where
   Fetched old (r ∷ more) new =
       (found : Result (Option (List ℕ)) GetFault) × (mid : B) × g.fetches old r found mid × Fetched mid more new
 
-  -- What was served: the entries, in order, what was asked, and what was written are as is said; each reply is the one
-  -- that is defined; only what they looked for was asked of the shelf; and each `Disk` is a failure that it counted.
+  -- What was served. `notes`, `hears` and `wrote` hold for the entries in order, the requests, and the bytes written.
+  -- Each reply is the one that is defined, only the refs looked for were fetched, and each `Disk` is a failure that the
+  -- shelf counted.
   pub record SharesServed (judge : Judge) (old now : B) (notes : List ShareTold → Type 0)
       (hears : List Asked → Type 0) (wrote : List ℕ → Type 0) : Type 0 where
     pub answers : List Answer
@@ -96,7 +97,7 @@ module _ {B : Type 0} (g : Ghosts B) where
 
 -- ---- the stream
 
--- no refusal was due by what came of a request: its head has none, and its body was within its limit
+-- the part of a request that came called for no refusal: its head has none, and its body was within its limit
 abbrev pub HadNoRefusal : Begun → Result (List ℕ) Refusal → Type 0
 HadNoRefusal b (Err why) = ⊥
 HadNoRefusal b (Ok r) = length b.given ≤ most_body
@@ -110,6 +111,6 @@ Heard = hearing.Heard IsFair
 abbrev pub NoneComes : Option (List ℕ) → Option (List ℕ) → ℕ → Ended → Type 0
 NoneComes = hearing.NoneComes IsFair
 
--- of one step of a connection: none, where it goes on
+-- of one step of a connection; none if it continues
 abbrev pub HeardBy : Option (List ℕ) → Option (List ℕ) → Flow → Flow → Option Ended → List Asked → Type 0
 HeardBy = hearing.HeardBy IsFair

@@ -1,4 +1,4 @@
-//! What a request asks, by its head.
+//! The question of a request, by its head.
 ghost use Rattle.std.specs.Prelude.{◌≡◌, IfOk, map};
 ghost use Rattle.std.specs.List.{slice_split};
 ghost use Rattle.http_exchange.specs.HeadPlaces.{HasPieces};
@@ -11,12 +11,12 @@ use http_exchange::first_value;
 use http_wire::{Head, Wire};
 use std::alloc::{AllocError, Global};
 
-/// What is asked, or how it is refused.
+/// The question of a request, or why it is refused.
 #[derive(Drop)]
 pub enum Question {
-    /// Nothing that can be answered.
+    /// The request is refused.
     Refused { refusal: Refusal },
-    /// The blob of the ref at the end of a path: the refs of `via`, and then it.
+    /// The blob of the ref at the end of a path, which has the refs of `via` before it.
     Path { r: Ref, via: RefList },
 }
 
@@ -47,7 +47,7 @@ fn routed_ref(method: &[u8], r: Option<Ref>) -> Result<Ref, Refusal>
     Ok(r)
 }
 
-/// What is asked for a ref by the query of its path.
+/// The question about a ref with the query of its path.
 pub(crate) fn question_of(alloc: Global, r: &Ref, query: &[u8]) -> Result<Question, NoMemory>
     ensures { IfOk result (λ question. question ≡ question_by r.now (via_in query.now)) }
 {
@@ -59,7 +59,7 @@ pub(crate) fn question_of(alloc: Global, r: &Ref, query: &[u8]) -> Result<Questi
     }
 }
 
-// The refs of the first `via`, and `None` where a piece of it is no ref.
+// The refs of the first `via`; `None` if a piece of it isn't a ref.
 fn via_in(alloc: Global, query: &[u8]) -> Result<Option<RefList>, NoMemory>
     ensures { IfOk result (λ via. via ≡ via_in query.now) }
 {
@@ -78,14 +78,14 @@ fn via_of(alloc: Global, text: &[u8]) -> Result<Option<RefList>, NoMemory>
     refs_of(alloc, pieces(alloc, text)?.as_slice())
 }
 
-// The pieces of a text between commas.
+// The pieces of a string between commas.
 fn pieces(alloc: Global, text: &[u8]) -> Result<Vec<&[u8]>, AllocError>
     ensures { IfOk result (λ found. map (λ x. x.now) found.items ≡ slice_split is_comma text.now) }
 {
     text.split(|byte| *byte == b',').collect(alloc)
 }
 
-// The refs that these texts are, and `None` where one is no ref.
+// The refs that these strings spell; `None` if one isn't a ref.
 fn refs_of(alloc: Global, pieces: &[&[u8]]) -> Result<Option<RefList>, NoMemory>
     ensures { IfOk result (λ refs. refs ≡ refs_of (map (λ x. x.now) pieces.now)) }
 {

@@ -1,4 +1,4 @@
-//! The texts of denials.
+//! The text of a denial.
 ghost use Rattle.std.specs.Prelude.{◌≡◌, ◌++◌, IfOk, OnOk};
 ghost use Rattle.share_http.specs.Denials.{rule_name, rule_place, denied_text};
 
@@ -7,7 +7,7 @@ use itoa::Buffer;
 use share_gate::Rule;
 use std::alloc::Global;
 
-// What the text of a denial calls the rule.
+// The name of the rule in the text of a denial.
 fn rule_name(rule: &Rule) -> &'static str
     ensures { result.now ≡ rule_name rule.now }
 {
@@ -21,7 +21,7 @@ fn rule_name(rule: &Rule) -> &'static str
     }
 }
 
-/// The text of a denial: the rule, and the place of the link that is missing. It fails for want of memory alone.
+/// The text of a denial: the rule, and the place of the link that is missing. It fails only if no memory is left.
 pub(crate) fn denied_text(alloc: Global, rule: &Rule) -> Result<Octets, NoMemory>
     ensures { IfOk result (λ text. text ≡ denied_text rule.now) }
 {

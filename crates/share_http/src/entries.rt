@@ -1,10 +1,10 @@
-//! What is told of each request that is answered.
+//! The log entry of each request that is answered.
 use blobref::Ref;
 
 /// How a request was answered.
 #[derive(Clone, Copy)]
 pub enum ShareTold {
-    /// As it is defined, which may be a refusal.
+    /// With the reply that is defined for it, which may be a refusal.
     Defined,
     /// No memory was left.
     Memory,

@@ -1,4 +1,4 @@
-//! The texts of replies.
+//! Makes replies.
 ghost use Rattle.std.specs.Prelude.{◌≡◌, [], IsSome, OnOk};
 ghost use Rattle.http.specs.StatusCode.{IsStatusCode, reason_phrase};
 ghost use Rattle.edge_base.specs.Edge.{SinkTook, SinkTookFront, HasCause};
@@ -15,7 +15,7 @@ use http_exchange::{Kind, Reply, make_refusal, make_reply, write_memory_reply, w
 use share_gate::Rule;
 use std::alloc::Global;
 
-/// A reply that was made, or none where there was no memory for it.
+/// A reply that was made, or none if there was no memory for it.
 #[derive(Drop)]
 pub enum ReplyText {
     Told { entry: ShareTold, reply: Reply },
@@ -32,7 +32,7 @@ pub(crate) fn entry_of(made: &ReplyText) -> ShareTold
     }
 }
 
-// The methods to tell beside a refusal.
+// The methods that a refusal lists as allowed.
 fn allow_of(refusal: &Refusal) -> &'static str
     ensures { result.now ≡ allow_of refusal.now }
 {
@@ -42,7 +42,7 @@ fn allow_of(refusal: &Refusal) -> &'static str
     }
 }
 
-/// The reply to what is refused.
+/// The reply to a request that is refused.
 pub(crate) fn refused(alloc: Global, entry: ShareTold, closes: bool, refusal: &Refusal) -> ReplyText
     ensures { IsTold entry (share_refusal closes refusal.now) result }
 {
@@ -77,7 +77,7 @@ fn reply_with(alloc: Global, code: u16, kind: Kind, closes: bool, body: Octets) 
     }
 }
 
-/// The reply to what a fetch gave.
+/// The reply to the result of a fetch.
 pub(crate) fn fetched_reply(
     alloc: Global,
     closes: bool,
@@ -93,7 +93,7 @@ pub(crate) fn fetched_reply(
     }
 }
 
-// The reply where a blob can't be read.
+// The reply if a blob can't be read.
 fn fault_reply(alloc: Global, closes: bool, fault: GetFault) -> ReplyText
     ensures { FaultMade closes fault result }
 {
@@ -109,7 +109,7 @@ fn fault_reply(alloc: Global, closes: bool, fault: GetFault) -> ReplyText
     }
 }
 
-/// The reply where the blob of a ref isn't there.
+/// The reply if the blob of a ref isn't there.
 pub(crate) fn absent(alloc: Global, closes: bool, r: &Ref) -> ReplyText
     ensures { IsTold ShareTold.Defined (share_refusal closes (Refusal.Absent r.now)) result }
 {

@@ -23,14 +23,14 @@ use http_wire::{Head, Wire};
 use share_gate::{ShareGate, Verdict};
 use std::alloc::Global;
 
-/// What a request comes to: its reply, and whether the connection closes after that.
+/// The outcome of a request: its reply, and whether the connection closes after it.
 #[derive(Drop)]
 pub(crate) struct Response {
     pub(crate) made: ReplyText,
     pub(crate) closes: bool,
 }
 
-/// Takes the next request and answers it, or says why there is none.
+/// Reads the next request and answers it, or returns why there is none.
 pub(crate) fn reply_next<B: Shelf, S: Source>(
     alloc: Global,
     gate: &ShareGate,
@@ -95,7 +95,7 @@ fn first_of(wire: &Wire, head: &Head) -> Result<Ref, Refusal>
     Ok(r)
 }
 
-// The reply where a body isn't read to its end.
+// The reply if a body isn't read to its end.
 fn reply_to_stop(alloc: Global, fault: BodyFault) -> Result<Response, Ended>
     ensures replies { IfOk result (λ response. StopReplies fault response.made × (response.closes ≡ true)) }
     ensures ends { IfErr result (StopEnds fault) }
@@ -110,7 +110,7 @@ fn reply_to_stop(alloc: Global, fault: BodyFault) -> Result<Response, Ended>
     Ok(refuse(alloc, &refusal, true))
 }
 
-// The reply to what is refused. For want of memory the connection closes after it.
+// The reply to a request that is refused. If there is no memory for it, the connection closes after it.
 fn refuse(alloc: Global, refusal: &Refusal, closes: bool) -> Response
     ensures made { IsTold ShareTold.Defined (share_refusal closes refusal.now) result.made }
     ensures closes { result.closes ≡ (closes || is_memory result.made) }
@@ -133,7 +133,7 @@ fn is_memory(made: &ReplyText) -> bool
     matches!(made, ReplyText::Memory)
 }
 
-// The reply to what is asked, where there was memory to find that out.
+// The reply to the question of a request, if there was memory to read the question.
 fn reply_along<B: Shelf>(
     alloc: Global,
     gate: &ShareGate,
@@ -169,7 +169,7 @@ fn answer<B: Shelf>(
     }
 }
 
-// The reply to a path. Only a blob that is served is asked of the shelf.
+// The reply to a path. Only a blob that is served is fetched from the shelf.
 fn answer_path<B: Shelf>(
     alloc: Global,
     gate: &ShareGate,

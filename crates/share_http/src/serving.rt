@@ -1,4 +1,4 @@
-//! A connection that shares are served on.
+//! Serves shares on a connection.
 ghost use Rattle.std.specs.Prelude.{◌≡◌, ◌≤◌, ℕ, List, Option, None};
 ghost use Rattle.std.specs.Option.{ForSome};
 ghost use Rattle.edge_base.specs.Edge.{SinkTook};
@@ -22,17 +22,17 @@ use std::alloc::Global;
 use std::sync::Wait;
 
 /// Serves the requests of a connection until there are no more (`docs/shares.md`, "Over HTTP"). The bytes written are
-/// the replies to the requests, in their order, each by the verdict of the gate; where the gate is of the blobs that
-/// the shelf tells, that is the verdict over these. The log takes the entry before the reply is written. What is served
-/// is fetched from the shelf, and nothing else is done with it: a request that is denied can't touch it.
+/// the replies to the requests, in their order, each by the verdict of the gate. If the gate is that of the blobs that
+/// the shelf tells, it is the verdict over these. The log takes the entry before the reply is written. Blobs that are
+/// served are fetched from the shelf, and nothing else is done with it: a request that is denied can't touch it.
 ///
-/// At `Closed`, `Cut` and `ReadFault` each whole reply was written; at `WriteFault` a front of them, where the last
-/// entries may lack their replies. `Cut` and `ReadFault` come only where no refusal was due by what had come. At
-/// `Closed` after a reply, at `WriteFault` and at `NoMemory` no more than 32,768 bytes were read beyond what was
-/// answered; `NoMemory` comes before anything of a request is taken.
+/// At `Closed`, `Cut` and `ReadFault` each whole reply was written. At `WriteFault` a prefix of the replies was
+/// written; the last entries may lack their replies. `Cut` and `ReadFault` come only if the bytes received called for
+/// no refusal. At `Closed` after a reply, at `WriteFault` and at `NoMemory` no more than 32,768 bytes were read beyond
+/// the answered requests. At `NoMemory` no byte of a further request was used.
 ///
-/// It takes memory for its buffers at once (some 219 KiB), and then for a body of at most 1 MiB, for the refs of a
-/// path, for a blob, and for what the log takes. Between two requests it holds its buffers alone.
+/// It takes memory for its buffers at once (about 219 KiB), and then for a body of at most 1 MiB, for the refs of a
+/// path, for a blob, and for the log. Between two requests it holds only its buffers.
 pub fn share_session<B: Shelf, S: Source, K: Sink, L: AnswerLog<ShareTold>, R: Wait>(
     rt: &R,
     alloc: Global,
@@ -56,7 +56,7 @@ pub fn share_session<B: Shelf, S: Source, K: Sink, L: AnswerLog<ShareTold>, R: W
     serve_requests(rt, alloc, gate, shelf, source, sink, log)
 }
 
-// The same, by the verdicts of the gate alone.
+// The same, with the contract by the verdicts of the gate alone.
 fn serve_requests<B: Shelf, S: Source, K: Sink, L: AnswerLog<ShareTold>, R: Wait>(
     rt: &R,
     alloc: Global,
@@ -84,7 +84,7 @@ fn serve_requests<B: Shelf, S: Source, K: Sink, L: AnswerLog<ShareTold>, R: Wait
     unreachable!()
 }
 
-// Serves one request, or says why there is none. Whatever was served before, it goes on from there.
+// Serves one request, or returns why there is none. It continues after any requests that were served before.
 fn serve_one<B: Shelf, S: Source, K: Sink, L: AnswerLog<ShareTold>>(
     alloc: Global,
     gate: &ShareGate,

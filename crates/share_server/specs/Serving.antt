@@ -1,4 +1,4 @@
--- How serving shares ends, and what the gate is made of.
+-- How serving shares ends, and from what the gate is made.
 use Rattle.std.specs.Prelude.{◌≡◌, ◌≢◌, ◌⊎◌, ℕ, ◌+◌, ◌-◌, ◌^◌, List, map, Option, None}
 use Rattle.std.specs.FinMap.{from_entries}
 use Rattle.edge_base.specs.Edge.{FaultsRose}
@@ -15,7 +15,7 @@ use Rattle.top_frame.specs.declared.status.Status.TheVariants as status
 abbrev pub refs_of : List Entry → List (List ℕ)
 refs_of = map (λ (e : Entry). e.0)
 
--- these are the facts of these blobs, each under its ref
+-- these are the facts of these blobs, each with its ref
 pub record IsListing (listed : List Entry) (held : Blobs) : Type 0 where
   pub refs : HasRefs (refs_of listed) held
   pub facts : from_entries listed ≡ facts_of fact_of held
@@ -26,7 +26,7 @@ GateFault told before now getting.Disk = FaultsRose before now
 GateFault told before now (getting.Damaged want is) = (is ≢ want) × (told ≡ None)
 GateFault told before now getting.NoMemory = Unit {0}
 
--- so many connections were accepted, unless the count stands at its last value
+-- so many connections were accepted, unless the count is at its maximum
 abbrev pub IsAccepted : ℕ → (before now : ℕ) → Type 0
 IsAccepted connections before now = (now ≡ before + connections) ⊎ (now ≡ 2 ^ 64 - 1)
 

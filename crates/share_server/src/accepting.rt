@@ -1,4 +1,4 @@
-//! Connections, one after the other.
+//! Serves connections one by one.
 ghost use Rattle.std.specs.Prelude.{◌≡◌, ◌≤◌, ◌<◌, ◌+◌, true, false};
 ghost use Rattle.edge_base.specs.Edge.{FaultsRose, one_more};
 ghost use Rattle.share_gate.specs.Building.{IsOnlyRead};
@@ -12,7 +12,7 @@ use std::alloc::Global;
 use std::sync::Wait;
 
 /// Accepts so many connections, one after the other, and serves each until it ends. It stops at an accept that fails,
-/// and says whether none did.
+/// and returns whether none did.
 pub(crate) fn accept_all<B: Shelf, L: Listener, R: Wait>(
     rt: &R,
     alloc: Global,
@@ -37,7 +37,7 @@ pub(crate) fn accept_all<B: Shelf, L: Listener, R: Wait>(
     true
 }
 
-// Accepts a connection and serves it. It says whether there was one.
+// Accepts a connection and serves it. Returns whether there was one.
 fn serve_next<B: Shelf, L: Listener, R: Wait>(
     rt: &R,
     alloc: Global,

@@ -15,10 +15,10 @@ use share_gate::ShareGate;
 use std::alloc::Global;
 use std::sync::ledger::{Blank, Ledger};
 
-/// The gate of the store that these are the facts of. An index of them is made for that, and dropped with them. The
-/// steps are counted in the blank ledger.
+/// The gate of the store with these facts. An index of them is made for this, and dropped with them. The steps are
+/// counted in the blank ledger.
 ///
-/// `Disk` comes only where the shelf's count of faults rose, and `Damaged` never where the shelf tells what it holds.
+/// `Disk` comes only if the shelf's count of faults rose, and `Damaged` never if the shelf tells what it holds.
 pub(crate) fn gate_of<B: Shelf, V: Verifier, L: Ledger>(
     alloc: Global,
     shelf: &mut B,

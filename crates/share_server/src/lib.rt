@@ -1,4 +1,4 @@
-//! Serves what a store shares to the connections of a listener, one after the other (`docs/shares.md`).
+//! Serves the shares of a store to the connections of a listener, one after the other (`docs/shares.md`).
 #![tactic(auto)]
 
 mod accepting;

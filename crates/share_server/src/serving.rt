@@ -22,17 +22,18 @@ use std::sync::Wait;
 use std::sync::ledger::{Blank, Ledger};
 use top_frame::{LIMITS, Status};
 
-/// Serves what the store of a disk shares, as it is at the start (`docs/shares.md`): so many connections, one after the
-/// other, each by `share_session`. The store is opened, its gate is made, and what that takes beside the gate is
-/// dropped before the first connection is accepted. The disk comes back with how it ended; nothing was changed there.
+/// Serves the shares of the store of a disk, as they are at the start (`docs/shares.md`): so many connections, one
+/// after the other, each by `share_session`. The store is opened and its gate is made. All memory for this, except the
+/// gate, is freed before the first connection is accepted. Returns the disk, on which nothing was changed, and the
+/// status.
 ///
-/// At `Done` the listener gave so many connections, unless its count stands at the last value of its type. At
-/// `ListenerFault` an accept failed; the connections before it were served. At `Disk`, `Damaged` and `NoMemory` no
-/// connection was accepted: the disk failed, the bytes of a blob have another ref, or there was no memory to open the
-/// store and to make its gate. It ends with no other status: what ends a connection ends nothing else.
+/// At `Done` the listener gave so many connections, unless its count is at the maximum of its type. At `ListenerFault`
+/// an accept failed; the connections before it were served. At `Disk`, `Damaged` and `NoMemory` no connection was
+/// accepted: the disk failed, the bytes of a blob have another ref, or there was no memory to open the store and to
+/// make its gate. It ends with no other status: the end of a connection, for whatever reason, ends nothing else.
 ///
-/// It may wait for as long as the listener and the connections do. What the gate takes in memory is as of `ShareGate`,
-/// and for a moment an index of the whole store is there too.
+/// It may wait for as long as the listener and the connections do. The memory of the gate is that of `ShareGate`; while
+/// it is made, an index of the whole store is there too.
 pub fn serve_shares<D: Disk, V: Verifier, L: Listener, R: Wait>(
     rt: &R,
     alloc: Global,
@@ -59,7 +60,7 @@ pub fn serve_shares<D: Disk, V: Verifier, L: Listener, R: Wait>(
     }
 }
 
-// The same over a store that was opened, and that these are the facts of.
+// The same over an opened store with these facts.
 fn serve_opened<D: Disk, V: Verifier, L: Listener, R: Wait>(
     rt: &R,
     alloc: Global,

@@ -1,5 +1,4 @@
 pub mod Adding
-pub mod Facts
 pub mod Readings
 pub mod Linking
 pub mod Filling

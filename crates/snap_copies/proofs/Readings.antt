@@ -20,7 +20,7 @@ use Rattle.snap_copies.specs.declared.copies.Addition.{Addition}
 use Rattle.snap_copies.specs.declared.rule.Shown.{Shown}
 use Rattle.snap_copies.specs.Copies.{common_of, absorbed, facts_with, numbers_with}
 use Rattle.snap_copies.specs.Shows.{Knows, Shows, SeesNow, Fits, row_of}
-use Rattle.snap_copies.proofs.Facts.{indexed_more}
+use Rattle.work_numbers.proofs.Facts.{indexed_more}
 
 -- ---- a publication
 

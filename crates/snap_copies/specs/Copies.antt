@@ -1,4 +1,4 @@
--- What the two copies have in common, and what an Insert makes of it.
+-- The common content of the two copies, and the effect of an Insert on it.
 use Rattle.std.specs.Prelude.{Bool, ◌||◌, if◌then◌else◌}
 use Rattle.std.specs.FinMap.{contains_key, insert}
 use Rattle.claim_model.specs.Facts.{Facts}
@@ -8,7 +8,7 @@ use Rattle.snap_copies.specs.declared.copies.IndexCopy.{IndexCopy}
 use Rattle.snap_copies.specs.declared.copies.Common.{Common}
 use Rattle.snap_copies.specs.declared.copies.Addition.{Addition}
 
--- the number or the ref stands
+-- whether the number or the ref is there
 abbrev pub has_either : Facts → NumberSet → LooseRow → Bool
 has_either facts numbers row = contains_key facts row.1 || contains_key numbers row.0
 

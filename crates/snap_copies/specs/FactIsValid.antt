@@ -1,4 +1,4 @@
--- That a fact is valid is a proposition.
+-- The validity of a fact is a proposition: any two proofs of it are equal.
 use Rattle.std.specs.Prelude.{ℕ, List, length}
 use Rattle.std.proofs.Props.{props}
 use Rattle.std.specs.Coded.{Unit-prop}

@@ -1,4 +1,4 @@
--- Readers that know what is published.
+-- Readers that know the published copy.
 use Rattle.std.specs.Prelude.{◌≡◌, ℕ, List, [], ◌∷◌, ◌++◌, All, length, Some}
 use Rattle.snap_copies.specs.declared.copies.IndexCopy.{IndexCopy}
 use Rattle.snap_copies.specs.declared.watch.Watch.{Watch}
@@ -15,6 +15,6 @@ module _ {V : Type 0} where
     pub added : new ≡ old ++ watch ∷ []
     pub linked : IsLinked x watch
 
-  -- so many of them
+  -- so many of these readers
   abbrev pub AreLinked : IndexCopy V → ℕ → List (Watch V) → Type 0
   AreLinked x count watches = (length watches ≡ count) × All (IsLinked x) watches

@@ -1,4 +1,4 @@
--- What is published, and what readers know of it.
+-- The published copy, and what readers know of it.
 use Rattle.std.specs.Prelude.{◌≡◌, ℕ, true, false, List, [], ◌∷◌, ◌++◌, Some, None, MatchOption}
 use Rattle.std.specs.FinMap.{contains_key}
 use mathlib.Core.Option.{some}
@@ -12,7 +12,7 @@ use Rattle.snap_copies.specs.declared.copies.Addition.{Addition}
 use Rattle.snap_copies.specs.declared.rule.Shown.{Shown}
 use Rattle.snap_copies.specs.declared.book.Front.{Front}
 
--- what an index keeps of an Insert
+-- the row that an index keeps for an Insert
 abbrev pub row_of : Insertion → LooseRow
 row_of i = (i.number, i.r, i.fact)
 
@@ -20,7 +20,7 @@ module _ {V : Type 0} where
   abbrev pub newcomer : Shown V
   newcomer = record { token = None; keys = None }
 
-  -- it has seen a beginning of the copy's Inserts, and knows its keys
+  -- it has seen a prefix of the copy's Inserts, and knows its keys
   abbrev pub Knows : IndexCopy V → Shown V → Type 0
   Knows x v = MatchOption v.token (Unit {0}) (λ t. (x.front.seen.book ≡ t.book) × IsPrefix t.log x.front.seen.log)
       × MatchOption v.keys (Unit {0}) (λ k. x.index.keys ≡ k)
@@ -30,11 +30,11 @@ module _ {V : Type 0} where
     pub numbers : (n : ℕ) → contains_key x.index.numbers n ≡ true → has_number n x.front.seen.log ≡ true
     pub each : (i : ℕ) (v : Shown V) → get_elem? views i ≡ some v → Knows x v
 
-  -- what one knows who has just seen a copy
+  -- what a reader knows after it has seen a copy
   abbrev pub known_of : IndexCopy V → Shown V
   known_of x = record { token = Some x.front.seen; keys = Some x.index.keys }
 
-  -- the copy y is seen, which has all that was known
+  -- the copy y is seen, which has all Inserts that were known
   abbrev pub SeesNow : Shown V → IndexCopy V → IndexCopy V → Shown V → Type 0
   SeesNow v x y w = (w ≡ record { token = Some y.front.seen; keys = Some y.index.keys })
       × (y.index.facts ≡ indexed y.front.seen.log) × Knows y v

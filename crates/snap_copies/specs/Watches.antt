@@ -1,4 +1,4 @@
--- What a reader with its Inserts is seen as.
+-- What a contract sees of a reader with its Inserts.
 use Rattle.std.specs.Prelude.{◌≡◌, List, Option, Some}
 use mathlib.Core.List.{IsPrefix}
 use Rattle.histories.specs.declared.events.Insertion.{Insertion}
@@ -9,11 +9,11 @@ module _ {V : Type 0} where
   abbrev pub shown_of : Watch V → List Insertion
   shown_of w = w.mine.seen.log
 
-  -- the keys of the copies, where it knows them
+  -- the keys of the copies, if it knows them
   abbrev pub keys_of : Watch V → Option V
   keys_of w = w.reader.place.me.0.client.keys
 
-  -- it goes on from one to another: it has seen no less, of the same list, and knows the keys
+  -- a step from one state to another: it has seen at least as much of the same list, and knows the same keys
   pub record Sees (v w : Watch V) : Type 0 where
     pub book : w.mine.seen.book ≡ v.mine.seen.book
     pub more : IsPrefix (shown_of v) (shown_of w)

@@ -1,4 +1,4 @@
-//! The one list of Inserts, which only grows, and tokens that know a beginning of it.
+//! The list of Inserts, which only grows, and tokens that know a prefix of it.
 ghost use Rattle.std.specs.Prelude.{◌≡◌, ◌+◌, ◌<◌, ◌^◌, ◌++◌, ◌∷◌, [], length, true, MatchBool, IfSome};
 ghost use mathlib.Core.List.{IsPrefix};
 ghost use Rattle.snap_copies.specs.Books.{head_of, is_fine, insertion};
@@ -8,7 +8,7 @@ use histories::Insertion;
 use logbook::{Gain, Offer, Plain, Play, Rule, Seen, Start, Word};
 use schema_fact::Fact;
 
-/// An Insert that is to be added. Nothing keeps a list of them.
+/// An Insert that is to be added.
 #[derive(Clone, Copy)]
 pub struct Adding<'a> {
     pub turn: u64,
@@ -38,7 +38,7 @@ impl Rule<Insertion, u64> for Law {
     ghost moves = { λ ask before after answer. Unit {0} };
 }
 
-// What is gained beside the list: nothing.
+// Nothing is gained besides the list.
 struct Nothing;
 
 impl Gain<Insertion, u64> for Nothing {
@@ -65,10 +65,10 @@ impl<'a> Plain<Adding<'a>, Insertion, u64> for Add {
     ghost state = { λ e. None };
 }
 
-/// What knows a beginning of the list. It has no bytes.
+/// A token that knows a prefix of the list. It has no bytes.
 pub type Token = Seen<Insertion, u64, Law>;
 
-/// A beginning of the list. It can be copied and shared.
+/// A prefix of the list. It can be copied and shared.
 #[derive(Drop)]
 pub struct Front {
     /// How many Inserts it has.
@@ -90,7 +90,7 @@ impl Front {
         }
     }
 
-    /// Whether the other begins this one. If not, this one begins the other.
+    /// Whether the other is a prefix of this one. If not, this one is a prefix of the other.
     pub fn has_all_of(&self, other: &Front) -> bool
         requires { other.now.seen.book ≡ self.now.seen.book }
         ensures { MatchBool result (IsPrefix other.now.seen.log self.now.seen.log)
@@ -102,10 +102,10 @@ impl Front {
     }
 }
 
-/// What adds to the list.
+/// The part that adds to the list.
 #[derive(Drop)]
 pub struct Pusher {
-    /// Its one word.
+    /// Its one word in memory.
     pub head: Word<Insertion, u64, Law>,
     /// All Inserts that were seen.
     pub front: Front,
@@ -124,7 +124,7 @@ impl Pusher {
         }
     }
 
-    /// All that was seen with an Insert added. It is added unless the list is longer.
+    /// All Inserts that were seen, and one more. It is added unless the list is longer.
     pub(crate) fn pushed(&self, entry: &Adding<'_>) -> Option<Front>
         requires room { length self.now.front.seen.log < 2 ^ 62 }
         requires fine { is_fine (self.now.front.seen.log

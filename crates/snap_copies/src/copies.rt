@@ -1,4 +1,4 @@
-//! One of the two copies of the index, and what is added to both.
+//! One of the two copies of the index, and additions to both.
 ghost use Rattle.std.specs.Prelude.{◌≡◌, ◌+◌, ◌<◌, ◌^◌, true};
 ghost use Rattle.std.specs.FinMap as finite;
 ghost use Rattle.schema_fact.specs.Validity.{IsValid};
@@ -17,13 +17,23 @@ use std::sync::ledger::{Blank, Ledger};
 use work_numbers::NumberRows;
 
 /// An index with a token of the list of Inserts that it stands for.
-#[derive(Drop)]
 pub struct IndexCopy<V: Verifier> {
     pub index: Index<V>,
     pub front: Front,
 }
 
-/// What the two copies have in common. One may be stale and the other not. No value of it is made.
+// By hand, and so that of an addition: crates that hold the two copies would prove a derived drop again, with those of
+// all tables of the index.
+impl<V: Verifier + Drop> Drop for IndexCopy<V> {
+    fn drop(self) {
+        let Self {
+            index: _index,
+            front: _front,
+        } = self;
+    }
+}
+
+/// The common content of the two copies. One may be stale and the other not. No value of this type is made.
 pub struct Common<V> {
     pub facts: OrderedFacts,
     pub numbers: NumberRows<()>,
@@ -31,12 +41,35 @@ pub struct Common<V> {
     pub front: Front,
 }
 
-/// An Insert that is added to both copies and brings their memory, with the token of the list that ends with it.
-#[derive(Drop)]
+/// An Insert that is added to both copies, whose memory was taken before, with the token of the list that ends with it.
 pub struct Addition {
     pub alloc: Global,
     pub prepared: Prepared,
     pub front: Front,
+}
+
+impl Addition {
+    fn into_parts(self) -> (Prepared, Front)
+        ensures prepared { result.0 ≡ self.prepared }
+        ensures front { result.1 ≡ self.front }
+    {
+        let Self {
+            alloc: _,
+            prepared,
+            front,
+        } = self;
+        (prepared, front)
+    }
+}
+
+impl Drop for Addition {
+    fn drop(self) {
+        let Self {
+            alloc: _,
+            prepared: _prepared,
+            front: _front,
+        } = self;
+    }
 }
 
 impl<V: Verifier> Absorb<Addition> for IndexCopy<V> {
@@ -48,8 +81,8 @@ impl<V: Verifier> Absorb<Addition> for IndexCopy<V> {
 
     ghost applied = { absorbed };
 
-    /// The addition is lent, and its spare memory is taken out of it. It fails where the index has 2^62 numbers, and
-    /// where that memory was taken before and there is no other: neither ever happens.
+    /// The addition is borrowed, and its spare memory is taken out of it. It fails if the index has 2^62 numbers, or if
+    /// that memory was taken before and there is no other. Neither ever happens.
     fn absorb_first(
         &mut self,
         operation: &Addition,
@@ -66,7 +99,7 @@ impl<V: Verifier> Absorb<Addition> for IndexCopy<V> {
         Ok(())
     }
 
-    /// It fails only where the index has 2^62 numbers.
+    /// It fails only if the index has 2^62 numbers.
     fn absorb_second(
         &mut self,
         operation: Addition,
@@ -75,25 +108,21 @@ impl<V: Verifier> Absorb<Addition> for IndexCopy<V> {
         if !has_room(&self.index) {
             return Err(operation);
         }
-        let Addition {
-            alloc: _,
-            prepared,
-            front,
-        } = operation;
+        let (prepared, front) = operation.into_parts();
         place(&mut self.index, prepared.into_made());
         self.front = front;
         Ok(())
     }
 }
 
-// Whether one number more can be placed. There are never so many: jobs add fewer (`held/jobs.rt`).
+// Whether one more number can be placed. There are never so many: jobs add fewer (`held/jobs.rt`).
 fn has_room<V: Verifier>(index: &Index<V>) -> bool
     ensures { result ≡ true → finite.len index.now.numbers + 1 < 2 ^ 63 }
 {
     index.len() < 1 << 62
 }
 
-// Places a fact, unless its number or its ref stands.
+// Places a fact, unless its number or its ref is there.
 fn place<V: Verifier>(index: &mut Index<V>, made: Made)
     requires valid { IsValid made.2 }
     requires room { finite.len index.old.numbers + 1 < 2 ^ 63 }

@@ -4,8 +4,8 @@ use left_right::Absorb;
 use left_right::writer::Writer;
 use std::sync::Wait;
 
-/// A writer with a handle that may wait. It can be dropped, which waits until the readers have left one copy; a writer
-/// alone can't.
+/// A writer with a handle that may wait. Unlike a writer alone it can be dropped, which waits until the readers have
+/// left one copy.
 pub struct Ended<T: Absorb<O> + Drop, O: Drop, S, P: Protocol<T, S>, R: Wait + Drop> {
     /// What may wait.
     pub rt: R,

@@ -1,6 +1,6 @@
-//! Two copies of an index behind the kit's `left_right`, of which readers see the one that was published last
-//! (`docs/turns.md`). Each copy has a token of the one list of Inserts; the rule of the published copy says that its
-//! facts are those of its token. No lock stands here: whoever has the writer adds one Insert after the other.
+//! Two copies of an index in the kit's `left_right`, of which readers see the one that was published last
+//! (`docs/turns.md`). Each copy has a token of the list of Inserts; the rule of the published copy says that its facts
+//! are those of its token. There is no lock here: the holder of the writer adds the Inserts one by one.
 #![tactic(auto)]
 
 mod book;

@@ -1,4 +1,4 @@
-//! A fact with the memory that it takes in both copies of the index.
+//! A fact with the memory that it needs in both copies of the index.
 ghost use Rattle.std.specs.Prelude.{◌≡◌, IfOk, IfSome, MatchBool};
 ghost use Rattle.schema_fact.specs.Validity.{IsValid};
 ghost use Rattle.snap_copies.specs.FactIsValid.{fact_prop};
@@ -9,19 +9,19 @@ use schema_fact::Fact;
 use std::alloc::Global;
 use std::cell::Cell;
 
-/// A valid fact that brings its memory for both copies, with an equal one that can be read.
+/// A valid fact whose memory for both copies is allocated, with an equal one that can be read.
 #[derive(Drop)]
 pub struct Prepared {
-    /// What brings the memory for one copy.
+    /// The fact in its node, with the memory for one copy.
     pub made: Made,
     pub fact: Fact,
-    // What brings the memory for the other copy, until it is taken. No clause says what a cell holds, so it is tested.
+    // The same for the other copy, until it is taken. No clause says what a cell holds, so it is compared when taken.
     spare: Cell<Option<Spare>>,
     pub ghost same: { fact ≡ made.2 },
     pub ghost valid: { IsValid made.2 } by { fact_prop made.2 },
 }
 
-// A fact that brings its memory, with an equal one that can be read.
+// A fact whose memory is allocated, with an equal one that can be read.
 #[derive(Drop)]
 struct Spare {
     made: Made,
@@ -30,7 +30,7 @@ struct Spare {
 }
 
 impl Prepared {
-    /// Takes the memory for both copies. `NoMemory` comes only where no memory is left, and the fact is then dropped.
+    /// Takes the memory for both copies. `NoMemory` comes only if no memory is left, and the fact is then dropped.
     pub fn of(alloc: Global, number: u64, r: &Ref, fact: Fact) -> Result<Prepared, NoMemory>
         requires { IsValid fact }
         ensures { IfOk result (λ prepared. prepared.made ≡ (number, r.now, fact)) }
@@ -40,8 +40,8 @@ impl Prepared {
         Ok(prepared_of(made, fact, spare))
     }
 
-    /// What brings the memory for the copy that takes the fact in first: the spare one. Only where that was taken
-    /// before, which never happens, does it take memory.
+    /// The fact in its node, for the copy that takes it in first: the spare one. It takes memory only if that was taken
+    /// before, which never happens.
     pub(crate) fn first_made(&self, alloc: Global) -> Result<Made, NoMemory>
         ensures { IfOk result (λ made. made ≡ self.now.made) }
     {
@@ -51,7 +51,7 @@ impl Prepared {
         }
     }
 
-    // The spare one, where it is there and is equal.
+    // The spare one, if it is there and is equal.
     fn take_spare(&self) -> Option<Made>
         ensures { IfSome result (λ made. made ≡ self.now.made) }
     {
@@ -73,14 +73,14 @@ impl Prepared {
         spare.fact == self.fact
     }
 
-    // The same with memory of its own.
+    // An equal one, with new memory.
     fn made_again(&self, alloc: Global) -> Result<Made, NoMemory>
         ensures { IfOk result (λ made. made ≡ self.now.made) }
     {
         made_of(alloc, self.made.number(), &self.made.r(), &self.fact)
     }
 
-    /// What brings the memory for the copy that takes the fact in second.
+    /// The fact in its node, for the copy that takes it in second.
     pub(crate) fn into_made(self) -> Made
         ensures made { result ≡ self.made }
         ensures valid { IsValid result.2 }

@@ -1,4 +1,4 @@
-//! One more Insert in the list and in the published copy.
+//! Adds one more Insert to the list and to the published copy.
 ghost use Rattle.std.specs.Prelude.{◌≡◌, ◌++◌, ◌∷◌, [], true, false, length, ◌<◌, ◌^◌, drop};
 ghost use Rattle.histories.specs.Indexes.{has_number};
 ghost use Rattle.snap_copies.specs.Books.{insertion, is_fine};
@@ -12,8 +12,8 @@ use std::alloc::Global;
 use std::sync::Wait;
 use std::thread;
 
-/// Adds an Insert of this turn to the list, and shows readers a copy that has it. Nothing is refused: where memory is
-/// short it waits. All that is listed must be published, and the number must be new.
+/// Adds an Insert of this turn to the list, and shows readers a copy that has it. It never fails: if memory is short,
+/// it waits. All Inserts of the list must be published, and the number must be new.
 pub fn show<V: Verifier + Drop, R: Wait>(
     rt: &R,
     alloc: Global,
@@ -45,7 +45,7 @@ pub fn show<V: Verifier + Drop, R: Wait>(
     publish(rt, append(rt, writer, addition))
 }
 
-// All Inserts with one more, which is added.
+// Adds an Insert to the list, and returns the prefix that ends with it.
 fn listed<R: Wait>(rt: &R, pusher: &Pusher, turn: u64, prepared: &Prepared) -> Front
     requires room { length pusher.now.front.seen.log < 2 ^ 62 }
     requires fine { is_fine (pusher.now.front.seen.log
@@ -64,7 +64,7 @@ fn listed<R: Wait>(rt: &R, pusher: &Pusher, turn: u64, prepared: &Prepared) -> F
     pushed(rt, pusher, &adding)
 }
 
-// That the list is longer never happens, since only the one who has the turn adds to it: it would wait for ever.
+// The list is never longer, since only the holder of the turn adds to it. If it were, this would wait forever.
 fn pushed<R: Wait>(rt: &R, pusher: &Pusher, adding: &Adding<'_>) -> Front
     requires room { length pusher.now.front.seen.log < 2 ^ 62 }
     requires fine { is_fine (pusher.now.front.seen.log

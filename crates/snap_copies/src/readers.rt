@@ -1,4 +1,4 @@
-//! The writer of the two copies with its readers, as they are made.
+//! Makes the writer of the two copies, and its readers.
 ghost use Rattle.std.specs.Prelude.{◌≡◌, [], IfOk, OnOk, drop};
 ghost use Rattle.std.specs.FinMap as finite;
 ghost use Rattle.left_right.specs.Sides.{view};
@@ -17,7 +17,7 @@ use left_right::writer::Writer;
 use std::alloc::Global;
 use std::sync::Wait;
 
-// One copy, of no facts.
+// One copy, with no facts.
 fn copy_of_none<V: Verifier + Drop>(alloc: Global, keys: V, pusher: &Pusher) -> IndexCopy<V>
     ensures facts { result.index.facts ≡ finite.empty }
     ensures numbers { result.index.numbers ≡ finite.empty }
@@ -30,8 +30,8 @@ fn copy_of_none<V: Verifier + Drop>(alloc: Global, keys: V, pusher: &Pusher) -> 
     }
 }
 
-/// The writer over two copies of no facts, which knows their list and their keys, with room for so many readers, at
-/// least one. `NoMemory` comes only where no memory is left, or there would be 2^32 readers. All memory is taken from
+/// The writer over two copies with no facts. It knows their list and their keys, and has room for so many readers, at
+/// least one. `NoMemory` comes only if no memory is left, or there would be 2^32 readers. All memory is taken from
 /// the allocator.
 pub fn new_writer<V: Verifier + Copy + Drop, R: Wait>(
     rt: &R,
@@ -118,7 +118,7 @@ fn add_watch<V: Verifier + Drop>(
     Ok(())
 }
 
-/// A writer that knows what it has published, with so many readers that know it too. `NoMemory` comes only where no
+/// A writer that knows what it has published, with so many readers that know it too. `NoMemory` comes only if no
 /// memory is left, or there are more readers than the writer has room for; the writer is then ended, which waits until
 /// the readers have left one copy.
 pub fn linked<V: Verifier + Drop, R: Wait>(

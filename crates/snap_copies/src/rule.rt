@@ -5,7 +5,7 @@ use atomic_table::{Join, Split};
 use claim_verify::Verifier;
 use crossbeam_utils::rule::{Outcome, Protocol};
 
-/// What a reader knows of the published copies. No value of it is made.
+/// What a reader knows of the published copies. No value of this type is made.
 pub struct Shown<V> {
     /// The Inserts that it has seen.
     pub token: Option<Token>,
@@ -13,7 +13,8 @@ pub struct Shown<V> {
     pub keys: Option<V>,
 }
 
-/// The rule: the facts of the published copy are those of its Inserts, which begin with those that readers have seen.
+/// The rule: the facts of the published copy are those of its Inserts. Those that readers have seen are a prefix of
+/// these.
 pub struct Published;
 
 impl<V: Verifier> Protocol<IndexCopy<V>, Shown<V>> for Published {
@@ -33,7 +34,7 @@ impl<V: Verifier> Outcome<IndexCopy<V>, Shown<V>> for Sees {
     ghost then = { SeesNow };
 }
 
-/// The writer tells what it knows.
+/// The writer shares what it knows.
 pub struct Tells;
 
 impl<V> Split<Shown<V>> for Tells {
@@ -42,7 +43,7 @@ impl<V> Split<Shown<V>> for Tells {
     ghost right = { λ v. v };
 }
 
-/// A new reader learns what it is told.
+/// A new reader learns what the writer shares.
 pub struct Learns;
 
 impl<V> Join<Shown<V>> for Learns {

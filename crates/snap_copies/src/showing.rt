@@ -26,14 +26,14 @@ use std::thread;
 /// A reader of the published copy.
 pub type SnapReader<V> = Reader<IndexCopy<V>, Shown<V>, Published>;
 
-/// What changes the copies and publishes.
+/// The writer, which changes the copies and publishes them.
 pub type SnapWriter<V> = Writer<IndexCopy<V>, Addition, Shown<V>, Published>;
 
 /// The same, which ends by itself.
 pub type SnapEnded<V, H> = Ended<IndexCopy<V>, Addition, Shown<V>, Published, H>;
 
-/// The Inserts that are then shown. They begin with those that were shown before. It waits for nobody, and fails where
-/// the writer is gone.
+/// The Inserts that are then shown. Those that were shown before are a prefix of them. It never waits, and fails if the
+/// writer is gone.
 pub(crate) fn look<V: Verifier + Drop>(
     reader: SnapReader<V>,
 ) -> Result<(SnapReader<V>, Front), SnapReader<V>>
@@ -67,7 +67,7 @@ pub(crate) fn search<V: Verifier + Drop, L: Ledger>(
     Ok((reading.leave(), front, stale, answer))
 }
 
-// Tries to show readers the Insert that pends. `Err` changes nothing.
+// Tries to show readers the pending Insert. After `Err` nothing has changed.
 fn publish_once<V: Verifier + Drop, R: Wait>(
     rt: &R,
     writer: SnapWriter<V>,
@@ -87,8 +87,8 @@ fn publish_once<V: Verifier + Drop, R: Wait>(
     }
 }
 
-/// Shows readers the Insert that pends, however often it has to be tried. In fact it is tried once, since the Insert
-/// brings its memory.
+/// Shows readers the pending Insert, and tries again until that succeeds. In fact the first try succeeds, since the
+/// memory of the Insert was taken before.
 pub(crate) fn publish<V: Verifier + Drop, R: Wait>(rt: &R, first: SnapWriter<V>) -> SnapWriter<V>
     requires { (op : Addition) × (drop first.behind first.log.items ≡ op ∷ []) × Fits first.desk.shown.value op }
     ensures published { (op : Addition) → drop first.behind first.log.items ≡ op ∷ []
@@ -107,8 +107,8 @@ pub(crate) fn publish<V: Verifier + Drop, R: Wait>(rt: &R, first: SnapWriter<V>)
     unreachable!()
 }
 
-/// Puts an Insert behind the others, which pends then, however often it has to be tried. Only the first one may be
-/// tried again, until there is room for four: there are never more than two.
+/// Appends an Insert, which is then pending, and tries again until that succeeds. Only the first Insert may need more
+/// than one try, until there is room for four: there are never more than two.
 pub(crate) fn append<V: Verifier + Drop, R: Wait>(
     rt: &R,
     first: SnapWriter<V>,

@@ -14,7 +14,7 @@ pub struct Watch<V: Verifier + Drop> {
     pub reader: SnapReader<V>,
     /// The Inserts that it has seen.
     pub mine: Front,
-    /// Whether the copy that it searched last was stale. It is false before the first search.
+    /// Whether the copy that it searched last was stale. False before the first search.
     pub stale: bool,
     pub ghost token: { reader.place.me.0.client.token ≡ Some mine.seen },
 }

@@ -1,4 +1,4 @@
--- What a seat has seen and been shown is legal.
+-- The history that a seat has seen, and the Inserts that were shown to it, are legal.
 use Rattle.std.proofs.Common.{◌≡◌, true, List, length, take, Option, Some, None}
 use Rattle.std.specs.Prelude.{option_map}
 use Rattle.std.proofs.lemmas.Bool.{and_parts}

@@ -1,4 +1,4 @@
--- Seats as they are made.
+-- New seats.
 use Rattle.std.specs.Prelude.{◌≡◌, ℕ, List, [], ◌∷◌, ◌++◌, All, length, Option, Some, option_map}
 use Rattle.snap_copies.specs.declared.watch.Watch.{Watch}
 use Rattle.claim_verify.specs.Verifier.{Accepts}

@@ -1,4 +1,4 @@
--- What a seat is seen as, and of which place it is.
+-- What a contract sees of a seat, and whether it belongs to a place.
 use Rattle.std.specs.Prelude.{List, [], Bool, false, Option, Some, None}
 use Rattle.claim_verify.specs.Verifier.{Accepts}
 use Rattle.histories.specs.declared.events.Insertion.{Insertion}
@@ -11,7 +11,7 @@ use Rattle.snap_index.specs.declared.seat.SharedSeat.{SharedSeat}
 use Rattle.snap_copies.specs.declared.watch.Watch.{Watch}
 use Rattle.snap_copies.specs.Watches.{shown_of}
 
--- what the keys accept that a seat knows; each seat of a lock knows them
+-- what the keys accept that a seat knows; each seat of a lock knows its keys
 abbrev pub accepts_of : {V : Type 0} → (V → Accepts) → Option (About V) → Accepts
 accepts_of accepts None = λ name payload sig. false
 accepts_of accepts (Some a) = accepts a.keys

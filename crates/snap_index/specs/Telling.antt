@@ -1,4 +1,4 @@
--- Which histories the writer with its numbers stands for, and what a turn says.
+-- Which histories the writer with its numbers stands for, and the meaning of a turn.
 use Rattle.std.specs.Prelude.{◌≡◌, ℕ, List, ◌++◌, [], Option, Some, None, Result, Ok, Err}
 use mathlib.Core.List.{IsPrefix}
 use Rattle.blobref.specs.declared.memory.NoMemory.{NoMemory}
@@ -18,7 +18,8 @@ use Rattle.snap_copies.specs.declared.copies.IndexCopy.{IndexCopy}
 use Rattle.snap_copies.specs.declared.copies.Addition.{Addition}
 use Rattle.snap_index.specs.declared.held.Held.{Held}
 
--- The numbers stand for it, its Inserts are those of the list, and just these are published, over these keys.
+-- The numbers stand for the history, its Inserts are those of the list, and exactly these are published, with these
+-- keys.
 pub record HeldTells {V W C : Type 0} (held : Held V C) (inner : C → Option W) (shown : W → IndexCopy V) (pends : W → List Addition)
     (h : List (Stamped IndexEvent)) : Type 0 where
   pub numbers : NumbersTell held.numbers h
@@ -29,7 +30,7 @@ pub record HeldTells {V W C : Type 0} (held : Held V C) (inner : C → Option W)
   pub keys : (shown writer).index.keys ≡ held.keys
   pub none_pends : pends writer ≡ []
 
--- the entry of an insert, by its answer
+-- the entry of an insert, by its result
 abbrev pub insert_entry : ℕ → List ℕ → Fact → Result Inserted NoMemory → Option IndexEvent
 insert_entry n r fact (Ok inserted.New) = Some (Insert n r fact)
 insert_entry n r fact (Ok inserted.Already) = None
@@ -40,7 +41,7 @@ abbrev pub guarded_entry : {O : Type 0} → (O → Option IndexEvent) → Option
 guarded_entry adds None = None
 guarded_entry adds (Some answer) = adds answer
 
--- A job that was done: all that was shown stands among the Inserts before it, and the front has those after it.
+-- A job that was done: the Inserts that were shown are a prefix of those before it, and the front has those after it.
 pub record Done (of : Book) (mine : List Insertion) (before : List (Stamped IndexEvent)) (turn : ℕ) (e : Option IndexEvent)
     (meant : Type 0) (kept : Option Front) : Type 0 where
   pub said : meant

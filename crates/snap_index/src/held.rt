@@ -1,4 +1,4 @@
-//! The writer with the numbers in hand, as they lie behind the lock.
+//! The writer and the numbers, the content of the lock.
 use claim_verify::Verifier;
 use histories::{IndexEvent, Insertion};
 use logbook::Word;
@@ -11,14 +11,15 @@ use work_numbers::WorkNumbers;
 pub(crate) mod jobs;
 pub(crate) mod turns;
 
-/// What no turn changes: the keys, and the word whose book is that of the Inserts. No value of it is made.
+/// What no turn changes: the keys, and the word of memory whose book is that of the Inserts. No value of this type is
+/// made.
 pub struct About<V> {
     pub keys: V,
     pub head: Word<Insertion, u64, Law>,
 }
 
-/// What lies behind the lock: the end of the writer, what adds to the list of Inserts, all of which are published, and
-/// the numbers.
+/// The content of the lock: the writer's end, the part that adds to the list of Inserts, all of which are published,
+/// and the numbers.
 #[derive(Drop)]
 pub struct Held<V, C> {
     pub(crate) alloc: Global,

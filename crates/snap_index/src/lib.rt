@@ -1,6 +1,6 @@
-//! An index that several seats share, whose searches wait for no lock (`docs/core.md`, `docs/turns.md`). It stands in
-//! two copies (`snap_copies`). What changes the index takes turns, changes the copy that no reader is in, and publishes
-//! it; a search reads the copy that was published last.
+//! An index that several seats share, whose searches wait for no lock (`docs/core.md`, `docs/turns.md`). It has two
+//! copies (`snap_copies`). A call that changes the index takes a turn, changes the copy that no reader is in, and
+//! publishes it; a search reads the copy that was published last.
 #![tactic(auto)]
 
 mod held;

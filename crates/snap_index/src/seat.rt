@@ -15,8 +15,7 @@ mod making;
 mod searching;
 mod turning;
 
-/// An index that several seats share, with the type of the writer's end as a parameter. `SnapIndex` says of what it is.
-#[derive(Drop)]
+/// An index that several seats share, with the type of the writer's end as a parameter, as in `SnapIndex`.
 pub struct SharedIndex<V, C>
 where
     Held<V, C>: Told,
@@ -25,11 +24,24 @@ where
     turn: Turn<Held<V, C>>,
 }
 
-/// An index that several seats share (`docs/core.md`). What changes it takes turns; a search waits for nobody. Of the
-/// handle nothing is used but that it may wait: for the readers to leave a copy, where the index is dropped.
+// Written by hand, as that of a seat: a derived drop is proved again in each crate that holds such a value.
+impl<V: Drop, C: Drop> Drop for SharedIndex<V, C>
+where
+    Held<V, C>: Told,
+{
+    fn drop(self) {
+        let Self {
+            alloc: _,
+            turn: _turn,
+        } = self;
+    }
+}
+
+/// An index that several seats share (`docs/core.md`). Calls that change it take turns; a search never waits. The
+/// handle is used only to wait: for the readers to leave a copy, when the index is dropped.
 pub type SnapIndex<V, H> = SharedIndex<V, SnapEnded<V, H>>;
 
-/// What one actor holds of such an index: the history of the index that it has seen, the turns that it drew, and a
+/// One actor's access to such an index: the history of the index that it has seen, the turns that it drew, and a
 /// reader with the Inserts that were shown to it.
 pub struct SharedSeat<V: Verifier + Drop, C> {
     seat: TurnSeat<Held<V, C>, IndexEvent, About<V>>,
@@ -42,7 +54,7 @@ pub struct SharedSeat<V: Verifier + Drop, C> {
         ≡ Some (inserts (seen seat)) },
 }
 
-/// What one actor holds of a `SnapIndex`.
+/// One actor's access to a `SnapIndex`.
 pub type SnapSeat<V, H> = SharedSeat<V, SnapEnded<V, H>>;
 
 impl<V: Verifier + Drop, C> SharedSeat<V, C> {
@@ -55,7 +67,7 @@ impl<V: Verifier + Drop, C> SharedSeat<V, C> {
     }
 }
 
-// By hand, so that a seat can be dropped whatever lies behind the lock.
+// Written by hand, so that a seat can be dropped whatever the content of the lock is.
 impl<V: Verifier + Drop, C> Drop for SharedSeat<V, C> {
     fn drop(self) {
         let Self {

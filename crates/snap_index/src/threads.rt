@@ -1,10 +1,10 @@
-//! Threads share the place, and the seats go from one thread to another.
+//! Threads share the place, and the seats can be sent from one thread to another.
 use crate::seat::{SnapIndex, SnapSeat};
 use claim_verify::Verifier;
 use std::sync::Wait;
 
-/// A place of an index is shared by threads, and its seats are sent to them, where the keys may be sent and shared, and
-/// the handle sent.
+/// Threads can share a place of an index, and its seats can be sent to them, if the keys may be sent and shared, and
+/// the handle may be sent.
 pub fn threads_share_an_index<V: Verifier + Drop + Send + Sync, H: Wait + Drop + Send>() {
     is_shared::<SnapIndex<V, H>>();
     is_sent::<SnapSeat<V, H>>();

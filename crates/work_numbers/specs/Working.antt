@@ -32,7 +32,7 @@ working_code =
 abbrev pub is_held : TakenNumbers → ℕ → Bool
 is_held taken n = passes (λ (held : Bool). held) (get taken n)
 
--- it was taken and given back
+-- the number was taken and given back
 abbrev pub is_back : TakenNumbers → ℕ → Bool
 is_back taken n = passes not (get taken n)
 
@@ -52,34 +52,34 @@ is_waiting w n = not (has_inserted w n) && not (has_in_hand w n)
 abbrev pub with_taken : Working → ℕ → Working
 with_taken w n = record { numbers = w.numbers; count = w.count; taken = insert w.taken n true }
 
--- the number was inserted, and is taken no more
+-- the number was inserted, and is no longer taken
 abbrev pub with_noted : Working → ℕ → Working
 with_noted w n = record { numbers = insert w.numbers n tt; count = w.count + 1; taken = remove w.taken n }
 
--- the least number below a bound that passes, and None where none does
+-- the least number below a bound that passes; None if none does
 abbrev pub FindsBelow : ℕ → (ℕ → Bool) → Option ℕ → Type 0
 FindsBelow below test None = NonePasses below test
 FindsBelow below test (Some n) = IsLeast below test n
 
--- the least number of all that passes, and None where none does
+-- the least number that passes; None if none does
 abbrev pub FindsLeast : (ℕ → Bool) → Option ℕ → Type 0
 FindsLeast test None = (n : ℕ) → test n ≡ false
 FindsLeast test (Some n) = (test n ≡ true) × ((m : ℕ) → m < n → test m ≡ false)
 
--- Each number from one on and below this one passes, and this one doesn't where it is below the bound.
+-- Each number from `from` to below `next` passes, and `next` doesn't if it is below the bound.
 pub record Reaches (from below : ℕ) (test : ℕ → Bool) (next : ℕ) : Type 0 where
   pub on : from ≤ next
   pub passed : (n : ℕ) → from ≤ n → n < next → test n ≡ true
   pub stopped : next < below → test next ≡ false
 
--- what a take does, by its answer
+-- what a take does, by its result
 abbrev pub Takes : Working → Working → ℕ → Result (Option ℕ) NoMemory → Type 0
 Takes old new below (Ok None) = NonePasses below (is_waiting old) × (new ≡ old)
 Takes old new below (Ok (Some n)) = IsLeast below (is_waiting old) n × (new ≡ with_taken old n)
 Takes old new below (Err f) = new ≡ old
 
--- What holds of all numbers. Each below the front was inserted, or was taken and stands there yet. What was taken is
--- below the front, and isn't inserted.
+-- What holds for all numbers. Each below the front was inserted, or is taken. Those that are taken are below the front,
+-- and aren't inserted.
 pub record IsFront (numbers : InsertedNumbers) (taken : TakenNumbers) (front : ℕ) : Type 0 where
   pub low : (n : ℕ) → n < front → (contains_key numbers n || contains_key taken n) ≡ true
   pub below : (n : ℕ) → contains_key taken n ≡ true → n < front

@@ -14,8 +14,8 @@ use blobref::NoMemory;
 use std::alloc::Global;
 use std::marker::Model;
 
-/// Which numbers were inserted, and which are in hand. A contract says for each history that they may stand for
-/// (`NumbersTell`) what the call answers over it, and that they stand for it and the call's entry afterwards.
+/// Which numbers were inserted, and which are in hand. For each history that they may stand for (`NumbersTell`), a
+/// contract says what the call returns over it, and that afterwards they stand for it with the call's entry.
 ///
 /// It keeps a row for each number that was inserted or taken.
 #[derive(Drop)]
@@ -26,7 +26,7 @@ pub struct WorkNumbers {
     count: u64,
     // Numbers that were taken and aren't inserted, each with whether it is in hand.
     taken: NumberRows<bool>,
-    // Each number below was inserted, or stands in `taken`.
+    // Each number below this was inserted, or is in `taken`.
     front: u64,
 }
 
@@ -55,13 +55,13 @@ impl WorkNumbers {
         }
     }
 
-    /// Takes the least number below a count that is neither inserted nor in hand; `None` exactly where there is none.
+    /// Takes the least number below a count that is neither inserted nor in hand; `None` exactly if there is none.
     ///
-    /// `NoMemory` comes only where no memory is left, and then nothing changes. What giving the number back needs is
-    /// taken here. A number that was given back is taken again without memory.
+    /// `NoMemory` comes only if no memory is left, and then nothing changes. The memory that giving the number back
+    /// needs is taken here. A number that was given back is taken again without memory.
     ///
-    /// It walks over the numbers in hand, up to the first that was given back; where none was, also over the inserted
-    /// numbers that no walk came over before.
+    /// It walks over the numbers in hand, up to the first that was given back. If none was, it also walks over the
+    /// inserted numbers that no walk has passed before.
     pub fn take(&mut self, arrivals: u64) -> Result<Option<u64>, NoMemory>
         ensures kept { (h : List (Stamped IndexEvent)) (turn : ℕ) → NumbersTell self.old h
             → NumbersTell self.new (h ++ stamped turn (take_entry result)) }
@@ -81,7 +81,7 @@ impl WorkNumbers {
         self.numbers.has(number)
     }
 
-    /// Notes that a number is inserted, and so no longer in hand. `NoMemory` comes only where no memory is left, or
+    /// Notes that a number is inserted and no longer in hand. `NoMemory` comes only if no memory is left, or
     /// 2^64 - 1 numbers were inserted, and then nothing changes.
     pub fn note(&mut self, number: u64) -> Result<(), NoMemory>
         ensures ok { OnOk result (self.new ≡ with_noted self.old number) }
@@ -96,7 +96,7 @@ impl WorkNumbers {
         Ok(())
     }
 
-    /// Gives a number back, and says whether it was in hand; where it wasn't nothing changes. It takes no memory, and
+    /// Gives a number back, and returns whether it was in hand. If it wasn't, nothing changes. It takes no memory, and
     /// the time of a look-up.
     pub fn give_back(&mut self, number: u64) -> bool
         ensures kept { (h : List (Stamped IndexEvent)) (turn : ℕ) → NumbersTell self.old h
@@ -111,8 +111,8 @@ impl WorkNumbers {
         self.taken.put(number, false).is_ok()
     }
 
-    /// The least number below a bound that isn't inserted, in hand or not; `None` exactly where each is. It takes the
-    /// time of a look-up, and where no number is taken it walks over the inserted numbers that no walk came over before.
+    /// The least number below a bound that isn't inserted, in hand or not; `None` exactly if each is. It takes the
+    /// time of a look-up; if no number is taken, it walks over the inserted numbers that no walk has passed before.
     pub fn lacking(&mut self, below: u64) -> Option<u64>
         ensures says { (h : List (Stamped IndexEvent)) → NumbersTell self.old h
             → LackingSpec below (events h) result None }
@@ -133,7 +133,7 @@ impl WorkNumbers {
         self.count
     }
 
-    // Takes the least number that was given back, where it is below the bound.
+    // Takes the least number that was given back, if it is below the bound.
     fn take_back(&mut self, number: u64, below: u64) -> Result<Option<u64>, NoMemory>
         requires { FindsLeast (is_back self.old.taken) (Some number) }
         ensures { Takes self.old self.new below result }
@@ -146,7 +146,7 @@ impl WorkNumbers {
         Ok(Some(number))
     }
 
-    // Takes a number that wasn't taken before, where none was given back.
+    // Takes a number that wasn't taken before, when none was given back.
     fn take_new(&mut self, below: u64) -> Result<Option<u64>, NoMemory>
         requires { FindsLeast (is_back self.old.taken) None }
         ensures { Takes self.old self.new below result }
@@ -161,7 +161,7 @@ impl WorkNumbers {
         Ok(Some(next))
     }
 
-    // The least number below a bound that isn't inserted, where none is taken.
+    // The least number below a bound that isn't inserted, when none is taken.
     fn next_lacking(&mut self, below: u64) -> Option<u64>
         requires { FindsLeast (contains_key self.old.taken) None }
         ensures least { FindsBelow below (λ n. not (contains_key self.old.numbers n)) result }
@@ -173,7 +173,8 @@ impl WorkNumbers {
     }
 }
 
-// The least number from one on that isn't inserted, or one not below the bound: all from there to it are inserted.
+// The least number at or above `from` that isn't inserted, or one not below the bound: all from `from` up to it are
+// inserted.
 fn lacking_from(numbers: &NumberRows<()>, from: u64, below: u64) -> u64
     ensures { Reaches from below (contains_key numbers.now) result }
 {

@@ -9,8 +9,8 @@ use file_tree::read_file;
 use pack_disk::Disk;
 use pack_store::content_stands;
 use peer_base::Peer;
-use read_ahead::ReadAhead;
 use std::alloc::Global;
+use store_ahead::StoreAhead;
 use top_frame::{Environment, Status, opened};
 
 /// Writes the bytes of a file, part by part. Where it can't be read to its end, exactly the bytes before that are
@@ -30,7 +30,7 @@ pub(crate) fn get_file<D: Disk, P: Peer, S: Source, K: Sink, C: Clock, R: Dice, 
         Err(end) => return end,
     };
     content_stands::<D>();
-    let mut shelf = ReadAhead::over(alloc, store);
+    let mut shelf = StoreAhead::over(alloc, store);
     match read_file(alloc, r, &mut shelf, environment.sink) {
         Ok(_) => (shelf.back().give_back(), Status::Done),
         Err(fault) => (shelf.back().give_back(), Status::from(fault)),

@@ -1,4 +1,4 @@
-//! What a reader with its Inserts does.
+//! The calls of a reader with its Inserts.
 ghost use Rattle.std.specs.Prelude.{◌≡◌, false, Some, IfOk};
 ghost use mathlib.Core.List.{IsPrefix};
 ghost use Rattle.histories.specs.Indexes.{indexed};
@@ -19,7 +19,7 @@ use std::sync::ledger::Ledger;
 use std::thread;
 
 impl<V: Verifier + Drop> Watch<V> {
-    // Looks once. It sees no less than before.
+    // Looks once. Afterwards it has seen at least the Inserts that it had seen before.
     fn look(self) -> Watch<V>
         ensures { Sees self result }
     {
@@ -42,7 +42,7 @@ impl<V: Verifier + Drop> Watch<V> {
         }
     }
 
-    /// Looks until it has seen all Inserts of the front, which must be of the same list. It waits where these aren't
+    /// Looks until it has seen all Inserts of the front, which must be of the same list. It waits if these aren't
     /// published yet.
     pub fn catch_up<R: Wait>(self, rt: &R, front: &Front) -> Watch<V>
         requires { self.mine.seen.book ≡ front.now.seen.book }
@@ -61,11 +61,11 @@ impl<V: Verifier + Drop> Watch<V> {
     }
 
     /// The answer to a query over the Inserts that are then shown, in one look, in the time of a search
-    /// (`search_eval::answer`). It waits for nobody. `NoMemory` comes only where no memory is left, or the writer is gone.
+    /// (`search_eval::answer`). It never waits. `NoMemory` comes only if no memory is left, or the writer is gone.
     /// `steps` counts the steps of the index.
     ///
-    /// A query for one value and nothing else takes at most 8 (1 + n) steps where the copy wasn't stale and n permanodes
-    /// hold the value, whatever it answers.
+    /// A query for one value and nothing else takes at most 8 (1 + n) steps, whatever it returns, if the copy wasn't
+    /// stale and n permanodes hold the value.
     pub fn search<L: Ledger>(
         self,
         alloc: Global,

@@ -1,4 +1,4 @@
-//! What is done in one turn.
+//! The jobs of one turn.
 ghost use Rattle.std.specs.Prelude.{◌≡◌, ◌++◌, false, List, drop, MatchBool};
 ghost use Rattle.std.specs.FinMap.{contains_key};
 ghost use Rattle.schema_fact.specs.Validity.{IsValid};
@@ -21,10 +21,10 @@ use std::mem::replace;
 use std::sync::Wait;
 use work_numbers::WorkNumbers;
 
-// So many Inserts are never reached.
+// The number of Inserts never reaches this.
 const MOST: u64 = 1 << 60;
 
-/// The least number that waits is taken in hand.
+/// Takes the least waiting number in hand.
 #[derive(Drop)]
 pub struct Take {
     pub arrivals: u64,
@@ -50,7 +50,7 @@ impl<V: Verifier + Drop, H: Wait + Drop> SnapJob<V, H> for Take {
     }
 }
 
-/// A number is given back. It answers whether that was in hand.
+/// Gives a number back. Returns whether it was in hand.
 #[derive(Drop)]
 pub struct GiveBack {
     pub number: u64,
@@ -71,7 +71,7 @@ impl<V: Verifier + Drop, H: Wait + Drop> SnapJob<V, H> for GiveBack {
     }
 }
 
-/// The least number that isn't inserted is asked for.
+/// Finds the least number that isn't inserted.
 #[derive(Drop)]
 pub struct Lacking {
     pub below: u64,
@@ -92,7 +92,7 @@ impl<V: Verifier + Drop, H: Wait + Drop> SnapJob<V, H> for Lacking {
     }
 }
 
-/// Nothing is done.
+/// Does nothing.
 #[derive(Drop)]
 pub struct Rest;
 
@@ -108,7 +108,7 @@ impl<V: Verifier + Drop, H: Wait + Drop> SnapJob<V, H> for Rest {
     fn go<R: Wait>(self, _rt: &R, _turn: u64, _held: &mut SnapHeld<V, H>) {}
 }
 
-/// A number is inserted, with a fact under a ref.
+/// Inserts a number, with a fact under a ref.
 #[derive(Drop)]
 pub struct Insert<'a> {
     pub number: u64,
@@ -143,8 +143,8 @@ impl<'a, V: Verifier + Drop, H: Wait + Drop> SnapJob<V, H> for Insert<'a> {
     }
 }
 
-// Inserts a number that isn't inserted. Its memory is taken before it is added to the list, but for the room of the
-// writer's queue, which is taken behind the first Insert alone (`append`).
+// Inserts a number that isn't inserted. Its memory is taken before it is added to the list, except for the room of the
+// writer's queue, which is taken after the first Insert only (`append`).
 fn add<V: Verifier + Drop, H: Wait + Drop, R: Wait>(
     rt: &R,
     turn: u64,

@@ -8,7 +8,7 @@ use std::snapshot::Snapshot;
 use std::sync::Wait;
 use turn_cell::Job;
 
-/// What is done in one turn.
+/// A job of one turn.
 pub trait SnapJob<V: Verifier + Drop, H: Wait + Drop> {
     ghost use Rattle.std.specs.Prelude.{◌≡◌, ◌++◌, ℕ, List, Option, drop};
     ghost use Rattle.histories.specs.declared.stamped.Stamped.{Stamped};
@@ -16,13 +16,13 @@ pub trait SnapJob<V: Verifier + Drop, H: Wait + Drop> {
     ghost use Rattle.histories.specs.History.{stamped, events, Before};
     ghost use Rattle.snap_index.specs.Telling.{HeldTells};
 
-    /// What it answers.
+    /// Its result.
     type Out;
 
-    /// What it means: of the job, the entries before the turn, the answer, and the entry that the turn adds.
+    /// Its meaning, of the job, the entries before the turn, the result, and the entry that the turn adds.
     ghost says: { Self → List IndexEvent → Self.Out → Option IndexEvent → Type 0 };
 
-    /// The entry that the turn adds, if any: of the job and the answer.
+    /// The entry that the turn adds, if any, of the job and the result.
     ghost adds: { Self → Self.Out → Option IndexEvent };
 
     /// Does the job.
@@ -37,7 +37,7 @@ pub trait SnapJob<V: Verifier + Drop, H: Wait + Drop> {
             → says self (events h) result (adds self result) };
 }
 
-/// A job that is done where the list of Inserts has all that was shown to a seat.
+/// A job that is done only if the list of Inserts has all that were shown to a seat.
 #[derive(Drop)]
 pub struct Guarded<'a, J, R> {
     pub rt: &'a R,

@@ -12,7 +12,7 @@ use std::marker::Brand;
 use std::sync::Wait;
 use std::sync::ledger::Blank;
 
-/// `take`, `insert`, `give_back`, `lacking` and `join` take one turn each. A search takes none and waits for nobody; it
+/// `take`, `insert`, `give_back`, `lacking` and `join` take one turn each. A search takes none and never waits. It
 /// answers over the Inserts that were published when it began.
 impl<V: Verifier + Drop, H: Wait + Drop> IndexPlace for SnapIndex<V, H> {
     ghost use Rattle.snap_index.specs.SnapSeats.{IsOfSnap, snap_sight};
@@ -35,7 +35,7 @@ impl<V: Verifier + Drop, H: Wait + Drop> IndexPlace for SnapIndex<V, H> {
         self.take_turn(rt, seat, Take { arrivals })
     }
 
-    /// It returns once readers see the Insert. After it stands in the history it isn't refused: where memory is short it
+    /// It returns after readers see the Insert. Once the Insert is in the history it can't fail: if memory is short, it
     /// waits.
     fn insert<R: Wait>(
         &self,

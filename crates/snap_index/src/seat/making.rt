@@ -1,4 +1,4 @@
-//! How the place is made with its seats.
+//! Makes the place and its seats.
 ghost use Rattle.std.specs.Prelude.{◌≡◌, [], IfOk, OnOk, length, All};
 ghost use Rattle.turn_cell.specs.Seats.{IsSeatOf, about, seen, turns};
 ghost use Rattle.snap_index.specs.Making.{IsFor, HasOneMoreSeat, AreNew, IsFresh};
@@ -62,7 +62,7 @@ fn seats_of<V: Verifier + Drop, H: Wait + Drop>(
 
 impl<V: Verifier + Copy + Drop, H: Wait + Drop> SnapIndex<V, H> {
     /// An index of no facts over these keys, and so many seats of it, each of which has seen nothing and drew no turn.
-    /// `NoMemory` comes only where no memory is left, or there would be 2^32 seats. The handle is kept, and the
+    /// `NoMemory` comes only if no memory is left, or there would be 2^32 seats. The handle is kept, and the
     /// allocator; all memory is taken from it.
     pub fn make(
         rt: H,

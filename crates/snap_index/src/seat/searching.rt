@@ -16,7 +16,7 @@ impl<V: Verifier + Drop, H: Wait + Drop> SnapIndex<V, H> {
     /// The answer of `search`, in the same time. `steps` counts the steps of the index.
     ///
     /// A query for one value and nothing else, at no date and in the order `Sort::Ref`, takes at most 8 (1 + n) steps
-    /// where the copy that is searched isn't stale (`stale`) and n permanodes hold the value, whatever it answers.
+    /// if the copy that is searched isn't stale (`stale`) and n permanodes hold the value, whatever it returns.
     pub fn search_counted<L: Ledger>(
         &self,
         seat: &mut SnapSeat<V, H>,
@@ -37,8 +37,8 @@ impl<V: Verifier + Drop, H: Wait + Drop> SnapIndex<V, H> {
         answer
     }
 
-    /// Whether the copy that was searched last through this seat was stale, which it becomes only where no memory is
-    /// left for its tables. That search answered as any other, but walked over all facts. It is false before the first
+    /// Whether the copy that was searched last through this seat was stale. It becomes stale only if no memory is left
+    /// for its tables. That search gave the same answer as any other, but walked over all facts. False before the first
     /// search.
     pub fn stale(&self, seat: &SnapSeat<V, H>) -> bool
         ensures { result ≡ is_stale seat.now }

@@ -35,7 +35,8 @@ impl<V: Verifier + Drop, H: Wait + Drop> SnapIndex<V, H> {
         answer
     }
 
-    // Joins a seat to another one, and takes a turn in which nothing is done, so that all that was shown to either is seen.
+    // Joins a seat to another one, and takes a turn in which nothing is done, so that all that was shown to either is
+    // seen.
     pub(super) fn join_seats<R: Wait>(
         &self,
         rt: &R,
@@ -62,7 +63,7 @@ impl<V: Verifier + Drop, H: Wait + Drop> SnapIndex<V, H> {
     }
 }
 
-// The one that has all of the other.
+// The longer of two prefixes of the list.
 fn longer_of(one: &Front, other: &Front) -> Front
     requires { other.now.seen.book ≡ one.now.seen.book }
     ensures book { result.seen.book ≡ one.now.seen.book }
@@ -75,7 +76,8 @@ fn longer_of(one: &Front, other: &Front) -> Front
     other.again()
 }
 
-// What was done. That a job is left undone never happens, since all that is shown is published: it would wait for ever.
+// The result of a job that was done. A job is never left undone, since all Inserts that are shown are published. If it
+// were, this would wait forever.
 fn done<R: Wait, O: Drop>(rt: &R, answer: Option<O>, front: Option<Front>) -> (O, Front)
     ensures answer { answer ≡ Some result.0 }
     ensures front { front ≡ Some result.1 }

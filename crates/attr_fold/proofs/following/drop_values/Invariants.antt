@@ -12,8 +12,10 @@ invariant-walk g l = record {
   waiters : l.rows.waiters ≡ l.fn.rows.waiters;
   deletes : l.rows.deletes ≡ l.fn.rows.deletes;
   changes : l.rows.changes ≡ l.fn.rows.changes;
+  removals : l.rows.removals ≡ l.fn.rows.removals;
   fewer : AreFewer l.key.0 l.key.2 l.fn.rows.holders l.rows.holders;
-  left : IsLeft l.fn.rows.facts.ordered l.fn.rows.deletes l.fn.rows.changes l.key.0 l.key.2 l.moment l.at l.rows.holders;
+  left : IsLeft l.fn.rows.facts.ordered l.fn.rows.deletes l.fn.rows.changes l.key.0 l.key.2 l.moment l.at
+      l.rows.holders;
   ticks : l.steps + 4 * length (changes_before l.fn.rows.changes l.key.2 l.at)
       ≤ l.fn.steps + 4 * length (changes_before l.fn.rows.changes l.key.2 l.moment);
 }

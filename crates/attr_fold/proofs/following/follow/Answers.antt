@@ -17,7 +17,8 @@ pub returns-then-not-holds_values-clause-followed :
 returns-then-not-holds_values-clause-followed g c = λ done but before one was.
     let old = c.args.rows.now in
     subst (λ (cs : Changes). IsHeldBut but old.facts.ordered old.state old.deletes cs old.holders) (sym one.more)
-    (nothing_held before c.args.p.now c.args.moment.now one.fresh old.facts.ordered old.state old.deletes but old.holders was
+    (nothing_held before c.args.p.now c.args.moment.now one.fresh old.facts.ordered old.state old.deletes but
+    old.holders was
     (sym c.if-not-holds_values.ensures.holds))
 
 pub returns-then-has_deleters-clause-followed : goal.returns-then-has_deleters-clause-followed
@@ -27,7 +28,8 @@ returns-then-has_deleters-clause-followed g c = λ done but before one was.
     let k = c.args.moment.now in
     subst (λ (cs : Changes). IsHeldBut but old.facts.ordered old.state old.deletes cs old.holders) (sym one.more)
     (not_counted before p k one.fresh old.facts.ordered old.state old.deletes but old.holders was
-    (dies old.facts.ordered old.state old.deletes c.requires.counted p k (c.requires.listed p k c.requires.there) c.if-has_deleters.ensures.some))
+    (dies old.facts.ordered old.state old.deletes c.requires.counted p k (c.requires.listed p k c.requires.there)
+    c.if-has_deleters.ensures.some))
 
 pub returns-then-is_last-clause-followed : goal.returns-then-is_last-clause-followed
 returns-then-is_last-clause-followed g c =
@@ -37,12 +39,16 @@ returns-then-is_last-clause-followed g c =
     let change = c.requires.listed p k c.requires.there in
     IfOk-weaker c.follow_last.result _ _
     (λ answer told done but before one was.
-    let last : changes_after (_) p (Some k) ≡ [] = ap (λ (cs : Changes). changes_after cs p (Some k)) (sym one.more) ∙ c.if-is_last.ensures.last refl in
-    let live = lives old.facts.ordered old.state old.deletes c.requires.counted p k change c.if-has_deleters.ensures.some in
-    subst (λ (cs : Changes). IsHeldBut but old.facts.ordered old.state old.deletes cs c.follow_last.new.rows.holders) (sym one.more)
+    let last : changes_after (_) p (Some k) ≡ [] = ap (λ (cs : Changes). changes_after cs p (Some k)) (sym one.more)
+    ∙ c.if-is_last.ensures.last refl in
+    let live = lives old.facts.ordered old.state old.deletes c.requires.counted p k change
+    c.if-has_deleters.ensures.some in
+    subst (λ (cs : Changes). IsHeldBut but old.facts.ordered old.state old.deletes cs c.follow_last.new.rows.holders)
+    (sym one.more)
     (followed_before before p k one.fresh old.facts.ordered old.state old.deletes but old.holders was last
     change live (sym c.if-not-holds_values.ensures.holds) c.follow_last.new.rows.holders
-    (subst (λ (cs : Changes). IsFollowed p change.change (counted_before old.facts.ordered old.deletes cs p k) old.holders c.follow_last.new.rows.holders) one.more
+    (subst (λ (cs : Changes). IsFollowed p change.change (counted_before old.facts.ordered old.deletes cs p k)
+    old.holders c.follow_last.new.rows.holders) one.more
     (told done change.change (change_is old.facts.ordered old.state p k change)))))
     c.follow_last.ensures.followed
 
@@ -54,11 +60,14 @@ returns-clause-followed g c =
     let change = c.requires.listed p k c.requires.there in
     IfOk-weaker c.follow_late.result _ _
     (λ answer told done but before one was.
-    let live = lives old.facts.ordered old.state old.deletes c.requires.counted p k change c.if-has_deleters.ensures.some in
-    subst (λ (cs : Changes). IsHeldBut but old.facts.ordered old.state old.deletes cs c.follow_late.new.rows.holders) (sym one.more)
+    let live = lives old.facts.ordered old.state old.deletes c.requires.counted p k change
+    c.if-has_deleters.ensures.some in
+    subst (λ (cs : Changes). IsHeldBut but old.facts.ordered old.state old.deletes cs c.follow_late.new.rows.holders)
+    (sym one.more)
     (settled_late before p k one.fresh old.facts.ordered old.state old.deletes but old.holders was
     change live (sym c.if-not-holds_values.ensures.holds) c.follow_late.new.rows.holders
-    (subst (λ (cs : Changes). IsSettled p change.change (counted_before old.facts.ordered old.deletes cs p k) (counted_after old.facts.ordered old.deletes cs p k) old.holders c.follow_late.new.rows.holders) one.more
+    (subst (λ (cs : Changes). IsSettled p change.change (counted_before old.facts.ordered old.deletes cs p k)
+    (counted_after old.facts.ordered old.deletes cs p k) old.holders c.follow_late.new.rows.holders) one.more
     (told done change.change (change_is old.facts.ordered old.state p k change)))))
     c.follow_late.ensures.settled
 
@@ -78,4 +87,27 @@ returns-clause-ticks g c =
     let b = c.has_deleters.ensures.ticks in
     let d = c.is_last.ensures.ticks in
     let e = c.follow_late.ensures.ticks in
-    omega (arith, a, b, d, e, f)
+    let h = c.if-is_last.ensures.more refl in
+    omega (arith, a, b, d, e, f, h)
+
+pub returns-then-is_last-clause-added : goal.returns-then-is_last-clause-added
+returns-then-is_last-clause-added g c = λ d found add.
+    let a = c.holds_values.ensures.ticks in
+    let b = c.has_deleters.ensures.ticks in
+    let f = c.is_last.ensures.ticks in
+    let e = c.follow_last.ensures.added d found add in
+    omega (arith, a, b, f, e)
+
+pub returns-clause-added : goal.returns-clause-added
+returns-clause-added g c = λ d found add.
+    let a = c.holds_values.ensures.ticks in
+    let b = c.has_deleters.ensures.ticks in
+    let f = c.is_last.ensures.ticks in
+    let e = c.follow_late.ensures.added d found add in
+    omega (arith, a, b, f, e)
+
+pub returns-then-is_last-clause-done : goal.returns-then-is_last-clause-done
+returns-then-is_last-clause-done g c = λ d found add. c.follow_last.ensures.done d found
+
+pub returns-clause-done : goal.returns-clause-done
+returns-clause-done g c = c.follow_late.ensures.done

@@ -34,7 +34,10 @@ pub refold-requires-clause-listed : goal.refold-requires-clause-listed
 refold-requires-clause-listed g c = c.loop-p.invariant.refolded.finished.listed
 
 pub refold-requires-clause-held : goal.refold-requires-clause-held
-refold-requires-clause-held g c = (drop c.loop-p.p-index c.as_slice-p-items.result.now, c.loop-p.invariant.refolded.finished.held)
+refold-requires-clause-held g c = (
+  drop c.loop-p.p-index c.as_slice-p-items.result.now,
+  c.loop-p.invariant.refolded.finished.held,
+)
 
 pub loop-p-preserved : goal.loop-p-preserved
 loop-p-preserved g c =
@@ -45,15 +48,18 @@ loop-p-preserved g c =
       waiters = told.waiters;
       deletes = told.deletes;
       changes = told.changes;
+      removals = told.removals;
     } in
     let left = drop c.loop-p.p-index c.as_slice-p-items.result.now in
     let rest = drop (c.loop-p.p-index + 1) c.as_slice-p-items.result.now in
-    let first = drop_first c.as_slice-p-items.result.now c.loop-p.p-index c.p-item.result c.loop-p-test.true c.p-item.is in
+    let first = drop_first c.as_slice-p-items.result.now c.loop-p.p-index c.p-item.result c.loop-p-test.true
+    c.p-item.is in
     let held = c.in_ok-refold.ensures.held rest
     (subst (λ (refs : List (List ℕ)). AreHeldBut refs c.loop-p.rows) first c.loop-p.invariant.refolded.finished.held) in
     let all = c.loop-p.invariant.refolded.same in
     let steps = same_steps c.args.rows.now c.loop-p.rows all.facts all.state all.changes c.p-item.result in
-    let next = sum_next (refold_steps c.args.rows.now.facts.ordered c.args.rows.now.state c.args.rows.now.changes) c.as_slice-p-items.result.now c.loop-p.p-index c.p-item.result c.loop-p-test.true c.p-item.is in
+    let next = sum_next (refold_steps c.args.rows.now.facts.ordered c.args.rows.now.state c.args.rows.now.changes)
+    c.as_slice-p-items.result.now c.loop-p.p-index c.p-item.result c.loop-p-test.true c.p-item.is in
     record {
       refolded = record {
         same = same-trans c.args.rows.now c.loop-p.rows c.refold.new.rows c.loop-p.invariant.refolded.same same;
@@ -69,7 +75,8 @@ returns-clause-taken g c = λ y. ap (λ state. contains_key state y) c.loop-p.in
 pub returns-clause-halfway : goal.returns-clause-halfway
 returns-clause-halfway g c =
     let none = drop_of_length-le c.as_slice-p-items.result.now c.loop-p-test.false in
-    let held = subst (λ (refs : List (List ℕ)). AreHeldBut refs c.loop-p.rows) none c.loop-p.invariant.refolded.finished.held in
+    let held = subst (λ (refs : List (List ℕ)). AreHeldBut refs c.loop-p.rows) none
+    c.loop-p.invariant.refolded.finished.held in
     λ accepts half.
     still_halfway c.args.rows.now c.loop-p.rows c.loop-p.invariant.refolded.same accepts c.args.concerned held half
 
@@ -78,7 +85,8 @@ returns-in_err-refold-clause-ticks g c = λ accepts heads ps half taken is.
     let items = c.as_slice-p-items.result.now in
     let all = c.loop-p.invariant.refolded.same in
     let steps = same_steps c.args.rows.now c.loop-p.rows all.facts all.state all.changes c.p-item.result in
-    let upto = sum_upto (refold_steps c.args.rows.now.facts.ordered c.args.rows.now.state c.args.rows.now.changes) items c.loop-p.p-index c.p-item.result c.loop-p-test.true c.p-item.is in
+    let upto = sum_upto (refold_steps c.args.rows.now.facts.ordered c.args.rows.now.state c.args.rows.now.changes)
+    items c.loop-p.p-index c.p-item.result c.loop-p-test.true c.p-item.is in
     let whole = refolds_whole c.args.rows.now accepts items c.args.concerned heads ps c.as_slice-p-items.ensures.order
     (λ q. ap (list_any (bytes_eq q)) c.as_slice-p-items.ensures.refs ∙ c.in_ok-refs.ensures q) half.changed taken is in
     omega (arith, c.loop-p.invariant.ticks, c.refold.ensures.ticks, steps, upto, whole)
@@ -86,7 +94,8 @@ returns-in_err-refold-clause-ticks g c = λ accepts heads ps half taken is.
 pub returns-clause-ticks : goal.returns-clause-ticks
 returns-clause-ticks g c = λ accepts heads ps half taken is.
     let items = c.as_slice-p-items.result.now in
-    let part = sum_by-take-le (refold_steps c.args.rows.now.facts.ordered c.args.rows.now.state c.args.rows.now.changes) items c.loop-p.p-index in
+    let part = sum_by-take-le (refold_steps c.args.rows.now.facts.ordered c.args.rows.now.state
+    c.args.rows.now.changes) items c.loop-p.p-index in
     let whole = refolds_whole c.args.rows.now accepts items c.args.concerned heads ps c.as_slice-p-items.ensures.order
     (λ q. ap (list_any (bytes_eq q)) c.as_slice-p-items.ensures.refs ∙ c.in_ok-refs.ensures q) half.changed taken is in
     omega (arith, c.loop-p.invariant.ticks, part, whole)

@@ -15,11 +15,14 @@ take_all-requires-clause-halfway g c =
       waiters = c.empty-2.result;
       deletes = c.empty-3.result;
       changes = c.empty-4.result;
-      holders = c.empty-5.result;
+      removals = c.empty-5.result;
+      holders = c.empty-6.result;
     } in
-    subst (λ (ds : List (List ℕ)). IsHalfway a [] ds c.none-work.result.concerned rows) (sym c.none-work.ensures.deletes)
+    subst (λ (ds : List (List ℕ)). IsHalfway a [] ds c.none-work.result.concerned rows)
+    (sym c.none-work.ensures.deletes)
     (subst (λ (cs : List (List ℕ)). IsHalfway a [] [] cs rows) (sym c.none-work.ensures.concerned)
-    (no_rows a rows c.empty.ensures c.empty-2.ensures c.empty-3.ensures c.empty-4.ensures c.empty-5.ensures))
+    (no_rows a rows c.empty.ensures c.empty-2.ensures c.empty-3.ensures c.empty-4.ensures c.empty-5.ensures
+    c.empty-6.ensures))
 
 pub take_all-requires-clause-none : goal.take_all-requires-clause-none
 take_all-requires-clause-none g c = none_taken
@@ -29,15 +32,18 @@ take_all-requires-clause-none g c = none_taken
       waiters = c.empty-2.result;
       deletes = c.empty-3.result;
       changes = c.empty-4.result;
-      holders = c.empty-5.result;
+      removals = c.empty-5.result;
+      holders = c.empty-6.result;
     })
     c.empty.ensures
 
 pub finish-requires : goal.finish-requires
-finish-requires g c = can_be_finished (g.V.Verifier.accepts c.args.keys.now) c.take_all.new.work.deletes c.take_all.new.work.concerned c.take_all.new.rows c.in_ok-take_all.ensures.halfway
+finish-requires g c = can_be_finished (g.V.Verifier.accepts c.args.keys.now) c.take_all.new.work.deletes
+    c.take_all.new.work.concerned c.take_all.new.rows c.in_ok-take_all.ensures.halfway
 
 pub returns-clause-rest : goal.returns-clause-rest
 returns-clause-rest g c =
     let a = g.V.Verifier.accepts c.args.keys.now in
-    rests_once c.finish.result a c.take_all.new.rows c.finish.new.rows c.finish.ensures.facts c.in_ok-take_all.ensures.all c.finish.ensures.taken
+    rests_once c.finish.result a c.take_all.new.rows c.finish.new.rows c.finish.ensures.facts
+    c.in_ok-take_all.ensures.all c.finish.ensures.taken
     (ok_then c.finish.result (λ f. f a c.in_ok-take_all.ensures.halfway) c.finish.ensures.halfway)

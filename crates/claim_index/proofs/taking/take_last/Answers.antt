@@ -13,27 +13,37 @@ use Rattle.index_rows.proofs.LooseFacts.{in_order}
 pub judge_all-requires-clause-halfway : goal.judge_all-requires-clause-halfway
 judge_all-requires-clause-halfway g c =
     let e = c.in_ok-order.ensures in
-    half_arrived (g.V.Verifier.accepts c.args.keys.now) c.args.rows.now c.arrive.new.rows e.facts e.deletes e.changes e.holders c.args.r.now _ c.as_slice-refs.result.now
-    c.args.work.now.deletes c.args.work.now.concerned c.as_slice-refs.ensures c.requires.halfway c.requires.fresh.absent e.arrived
+    half_arrived (g.V.Verifier.accepts c.args.keys.now) c.args.rows.now c.arrive.new.rows e.facts e.deletes e.changes
+    e.removals e.holders c.args.r.now _ c.as_slice-refs.result.now
+    c.args.work.now.deletes c.args.work.now.concerned c.as_slice-refs.ensures c.requires.halfway
+    c.requires.fresh.absent e.arrived
 
 pub judge_all-requires-clause-reached : goal.judge_all-requires-clause-reached
 judge_all-requires-clause-reached g c =
     let e = c.in_ok-order.ensures in
-    able_arrived (g.V.Verifier.accepts c.args.keys.now) c.args.rows.now c.arrive.new.rows e.facts e.deletes e.changes e.holders c.args.r.now _ c.as_slice-refs.result.now
-    c.args.work.now.deletes c.args.work.now.concerned c.as_slice-refs.ensures c.requires.halfway c.requires.fresh.absent e.arrived
+    able_arrived (g.V.Verifier.accepts c.args.keys.now) c.args.rows.now c.arrive.new.rows e.facts e.deletes e.changes
+    e.removals e.holders c.args.r.now _ c.as_slice-refs.result.now
+    c.args.work.now.deletes c.args.work.now.concerned c.as_slice-refs.ensures c.requires.halfway
+    c.requires.fresh.absent e.arrived
 
 pub returns-clause-adds : goal.returns-clause-adds
 returns-clause-adds g c =
     let e = c.in_ok-order.ensures in
     on_ok_weaker c.judge_all.result
-    (freed_adds c.args.rows.now.facts.ordered c.args.rows.now.state c.arrive.new.rows.state c.arrive.new.rows.waiters c.args.r.now _ e.arrived (g.V.Verifier.accepts c.args.keys.now) c.args.rows.now.facts.ordered c.arrive.new.rows.facts.ordered c.as_slice-refs.result.now
-    c.args.work.now.deletes c.judge_all.new.work.deletes c.args.work.now.concerned c.judge_all.new.work.concerned c.as_slice-refs.ensures (in_order e.facts)) c.judge_all.ensures.adds
+    (freed_adds c.args.rows.now.facts.ordered c.args.rows.now.state c.arrive.new.rows.state c.arrive.new.rows.waiters
+    c.args.r.now _ e.arrived (g.V.Verifier.accepts c.args.keys.now) c.args.rows.now.facts.ordered
+    c.arrive.new.rows.facts.ordered c.as_slice-refs.result.now
+    c.args.work.now.deletes c.judge_all.new.work.deletes c.args.work.now.concerned c.judge_all.new.work.concerned
+    c.as_slice-refs.ensures (in_order e.facts)) c.judge_all.ensures.adds
 
 pub returns-clause-ticks : goal.returns-clause-ticks
 returns-clause-ticks g c = λ n few.
     let e = c.in_ok-order.ensures in
-    let s = taking_sum c.args.rows.now.facts.ordered c.args.rows.now.state c.arrive.new.rows.state c.arrive.new.rows.waiters c.args.r.now _ e.arrived (g.V.Verifier.accepts c.args.keys.now) c.arrive.new.rows.facts.ordered c.as_slice-refs.result.now
-    c.as_slice-refs.ensures (in_order e.facts) c.args.steps.now c.arrive.new.steps c.judge_all.new.steps c.arrive.ensures.ticks c.judge_all.ensures.ticks in
+    let s = taking_sum c.args.rows.now.facts.ordered c.args.rows.now.state c.arrive.new.rows.state
+    c.arrive.new.rows.waiters c.args.r.now _ e.arrived (g.V.Verifier.accepts c.args.keys.now)
+    c.arrive.new.rows.facts.ordered c.as_slice-refs.result.now
+    c.as_slice-refs.ensures (in_order e.facts) c.args.steps.now c.arrive.new.steps c.judge_all.new.steps
+    c.arrive.ensures.ticks c.judge_all.ensures.ticks in
     omega (arith, s)
 
 pub judge_one-requires : goal.judge_one-requires
@@ -42,10 +52,14 @@ judge_one-requires g c = λ t.
     let x = c.index-refs-0.result in
     let whole = one_of c.as_slice-refs.result.now x c.if-refs-eq1.true c.index-refs-0.is in (
       [],
-      one_half (g.V.Verifier.accepts c.args.keys.now) c.args.rows.now c.arrive.new.rows e.facts e.deletes e.changes e.holders c.args.r.now _ c.as_slice-refs.result.now
-          c.args.work.now.deletes c.args.work.now.concerned c.as_slice-refs.ensures c.requires.halfway c.requires.fresh.absent e.arrived x whole,
-      one_able (g.V.Verifier.accepts c.args.keys.now) c.args.rows.now c.arrive.new.rows e.facts e.deletes e.changes e.holders c.args.r.now _ c.as_slice-refs.result.now
-          c.args.work.now.deletes c.args.work.now.concerned c.as_slice-refs.ensures c.requires.halfway c.requires.fresh.absent e.arrived x whole,
+      one_half (g.V.Verifier.accepts c.args.keys.now) c.args.rows.now c.arrive.new.rows e.facts e.deletes e.changes
+          e.removals e.holders c.args.r.now _ c.as_slice-refs.result.now
+          c.args.work.now.deletes c.args.work.now.concerned c.as_slice-refs.ensures c.requires.halfway
+          c.requires.fresh.absent e.arrived x whole,
+      one_able (g.V.Verifier.accepts c.args.keys.now) c.args.rows.now c.arrive.new.rows e.facts e.deletes e.changes
+          e.removals e.holders c.args.r.now _ c.as_slice-refs.result.now
+          c.args.work.now.deletes c.args.work.now.concerned c.as_slice-refs.ensures c.requires.halfway
+          c.requires.fresh.absent e.arrived x whole,
     )
 
 pub returns-then-refs-eq1-clause-halfway : goal.returns-then-refs-eq1-clause-halfway
@@ -54,10 +68,14 @@ returns-then-refs-eq1-clause-halfway g c =
     let x = c.index-refs-0.result in
     let whole = one_of c.as_slice-refs.result.now x c.if-refs-eq1.true c.index-refs-0.is in
     ok_then c.judge_one.result (λ f. f []
-    (one_half (g.V.Verifier.accepts c.args.keys.now) c.args.rows.now c.arrive.new.rows e.facts e.deletes e.changes e.holders c.args.r.now _ c.as_slice-refs.result.now
-    c.args.work.now.deletes c.args.work.now.concerned c.as_slice-refs.ensures c.requires.halfway c.requires.fresh.absent e.arrived x whole)
-    (one_able (g.V.Verifier.accepts c.args.keys.now) c.args.rows.now c.arrive.new.rows e.facts e.deletes e.changes e.holders c.args.r.now _ c.as_slice-refs.result.now
-    c.args.work.now.deletes c.args.work.now.concerned c.as_slice-refs.ensures c.requires.halfway c.requires.fresh.absent e.arrived x whole)) c.judge_one.ensures.halfway
+    (one_half (g.V.Verifier.accepts c.args.keys.now) c.args.rows.now c.arrive.new.rows e.facts e.deletes e.changes
+    e.removals e.holders c.args.r.now _ c.as_slice-refs.result.now
+    c.args.work.now.deletes c.args.work.now.concerned c.as_slice-refs.ensures c.requires.halfway
+    c.requires.fresh.absent e.arrived x whole)
+    (one_able (g.V.Verifier.accepts c.args.keys.now) c.args.rows.now c.arrive.new.rows e.facts e.deletes e.changes
+    e.removals e.holders c.args.r.now _ c.as_slice-refs.result.now
+    c.args.work.now.deletes c.args.work.now.concerned c.as_slice-refs.ensures c.requires.halfway
+    c.requires.fresh.absent e.arrived x whole)) c.judge_one.ensures.halfway
 
 pub returns-then-refs-eq1-clause-adds : goal.returns-then-refs-eq1-clause-adds
 returns-then-refs-eq1-clause-adds g c =
@@ -65,8 +83,11 @@ returns-then-refs-eq1-clause-adds g c =
     let x = c.index-refs-0.result in
     let whole = one_of c.as_slice-refs.result.now x c.if-refs-eq1.true c.index-refs-0.is in
     on_ok_weaker c.judge_one.result
-    (freed_adds c.args.rows.now.facts.ordered c.args.rows.now.state c.arrive.new.rows.state c.arrive.new.rows.waiters c.args.r.now _ e.arrived (g.V.Verifier.accepts c.args.keys.now) c.args.rows.now.facts.ordered c.arrive.new.rows.facts.ordered (x ∷ [])
-    c.args.work.now.deletes c.judge_one.new.work.deletes c.args.work.now.concerned c.judge_one.new.work.concerned (sym whole ∙ c.as_slice-refs.ensures) (in_order e.facts)) c.judge_one.ensures.adds
+    (freed_adds c.args.rows.now.facts.ordered c.args.rows.now.state c.arrive.new.rows.state c.arrive.new.rows.waiters
+    c.args.r.now _ e.arrived (g.V.Verifier.accepts c.args.keys.now) c.args.rows.now.facts.ordered
+    c.arrive.new.rows.facts.ordered (x ∷ [])
+    c.args.work.now.deletes c.judge_one.new.work.deletes c.args.work.now.concerned c.judge_one.new.work.concerned
+    (sym whole ∙ c.as_slice-refs.ensures) (in_order e.facts)) c.judge_one.ensures.adds
 
 pub returns-then-refs-eq1-clause-ticks : goal.returns-then-refs-eq1-clause-ticks
 returns-then-refs-eq1-clause-ticks g c = λ n few.
@@ -74,13 +95,23 @@ returns-then-refs-eq1-clause-ticks g c = λ n few.
     let e = c.in_ok-order.ensures in
     let x = c.index-refs-0.result in
     let whole = one_of c.as_slice-refs.result.now x c.if-refs-eq1.true c.index-refs-0.is in
-    let all : AreTaken c.arrive.new.rows = λ y. e.arrived.same y ∙ sym (c.requires.others y) ∙ ap (λ (f : Facts). contains_key f y) (sym (in_order e.facts)) in
-    let here = few x (alone_among c.args.rows.now.facts.ordered c.args.rows.now.state c.arrive.new.rows.state c.arrive.new.rows.waiters c.args.r.now _ e.arrived x (sym whole ∙ c.as_slice-refs.ensures)) in
+    let all : AreTaken c.arrive.new.rows = λ y. e.arrived.same y ∙ sym (c.requires.others y)
+    ∙ ap (λ (f : Facts). contains_key f y) (sym (in_order e.facts)) in
+    let here = few x (alone_among c.args.rows.now.facts.ordered c.args.rows.now.state c.arrive.new.rows.state
+    c.arrive.new.rows.waiters c.args.r.now _ e.arrived x (sym whole ∙ c.as_slice-refs.ensures)) in
     let t = c.judge_one.ensures.more_ticks
-    (one_half (g.V.Verifier.accepts c.args.keys.now) c.args.rows.now c.arrive.new.rows e.facts e.deletes e.changes e.holders c.args.r.now _ c.as_slice-refs.result.now
-    c.args.work.now.deletes c.args.work.now.concerned c.as_slice-refs.ensures c.requires.halfway c.requires.fresh.absent e.arrived x whole)
-    (one_able (g.V.Verifier.accepts c.args.keys.now) c.args.rows.now c.arrive.new.rows e.facts e.deletes e.changes e.holders c.args.r.now _ c.as_slice-refs.result.now
-    c.args.work.now.deletes c.args.work.now.concerned c.as_slice-refs.ensures c.requires.halfway c.requires.fresh.absent e.arrived x whole) all n (few_still a c.args.rows.now.facts.ordered c.arrive.new.rows.facts.ordered (in_order e.facts) x n here) in
-    let s = alone_sum c.args.rows.now.facts.ordered c.args.rows.now.state c.arrive.new.rows.state c.arrive.new.rows.waiters c.args.r.now _ e.arrived a c.arrive.new.rows.facts.ordered x (sym whole ∙ c.as_slice-refs.ensures) (in_order e.facts)
-    c.args.steps.now c.arrive.new.steps c.judge_one.new.steps (8 + 4 * n) c.arrive.ensures.ticks (let u = t in omega (arith, u)) in
+    (one_half (g.V.Verifier.accepts c.args.keys.now) c.args.rows.now c.arrive.new.rows e.facts e.deletes e.changes
+    e.removals e.holders c.args.r.now _ c.as_slice-refs.result.now
+    c.args.work.now.deletes c.args.work.now.concerned c.as_slice-refs.ensures c.requires.halfway
+    c.requires.fresh.absent e.arrived x whole)
+    (one_able (g.V.Verifier.accepts c.args.keys.now) c.args.rows.now c.arrive.new.rows e.facts e.deletes e.changes
+    e.removals e.holders c.args.r.now _ c.as_slice-refs.result.now
+    c.args.work.now.deletes c.args.work.now.concerned c.as_slice-refs.ensures c.requires.halfway
+    c.requires.fresh.absent e.arrived x whole) all n (few_still a c.args.rows.now.facts.ordered
+    c.arrive.new.rows.facts.ordered (in_order e.facts) x n here) in
+    let s = alone_sum c.args.rows.now.facts.ordered c.args.rows.now.state c.arrive.new.rows.state
+    c.arrive.new.rows.waiters c.args.r.now _ e.arrived a c.arrive.new.rows.facts.ordered x
+    (sym whole ∙ c.as_slice-refs.ensures) (in_order e.facts)
+    c.args.steps.now c.arrive.new.steps c.judge_one.new.steps (8 + 4 * n) c.arrive.ensures.ticks
+    (let u = t in omega (arith, u)) in
     omega (arith, s)

@@ -1,5 +1,6 @@
 use Rattle.std.proofs.Common.{option_copied}
-use Rattle.row_answers.proofs.Walking.{head_stands, moment_next, moment_ends, moment_none}
+use Rattle.index_rows.proofs.Stands.{change_stands}
+use Rattle.row_answers.proofs.Walking.{moment_next, moment_ends, moment_none}
 use Rattle.row_answers.proofs.moments.next_moment.Goals as goal
 
 pub returns-then-counts_at-clause-next : goal.returns-then-counts_at-clause-next
@@ -9,7 +10,7 @@ returns-then-counts_at-clause-next g c =
 
 pub returns-then-counts_at-clause-row : goal.returns-then-counts_at-clause-row
 returns-then-counts_at-clause-row g c =
-    head_stands c.args.changes.now c.args.p.now (option_copied c.args.after) c.in-Some.moment _ c.in-Some.ensures.next
+    change_stands c.args.changes.now c.args.p.now (option_copied c.args.after) c.in-Some.moment _ c.in-Some.ensures.next
 
 pub returns-else-counts_at-clause-last : goal.returns-else-counts_at-clause-last
 returns-else-counts_at-clause-last g c =

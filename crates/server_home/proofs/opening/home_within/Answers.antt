@@ -1,7 +1,7 @@
 use Rattle.std.proofs.Common.{sym, subst, ◌∙◌, ap}
 use Rattle.std.specs.Option.{is_some}
-use Rattle.told_store.specs.Beginning.{blobs_told}
-use Rattle.turn_home.specs.StoreSeats.{store_sight, place_limits, place_tells}
+use Rattle.store_history.specs.Beginning.{blobs_told}
+use Rattle.turn_store.specs.StoreSeats.{store_sight, place_limits, place_tells}
 use Rattle.server_home.specs.Opening.{ArePasses, arrived}
 use Rattle.server_home.proofs.Passing.{new_passes}
 use Rattle.server_home.proofs.opening.home_within.Goals as goal

@@ -2,7 +2,7 @@ use Rattle.std.proofs.Common.{◌∙◌, refl, sym, ap, subst, arith, All, lengt
 use Rattle.std.specs.List.{Contains}
 use Rattle.std.proofs.lemmas.List.{length-append}
 use Rattle.std.proofs.lemmas.List.Elements.{All-nil, All-pop, All-contains_itself}
-use Rattle.turn_home.specs.StoreSeats.{store_sight}
+use Rattle.turn_store.specs.StoreSeats.{store_sight}
 use Rattle.server_home.specs.Passes.{HasOneMore, IsOneOf}
 use Rattle.server_home.proofs.Passing.{one_more, one_longer}
 use Rattle.server_home.proofs.passes.passes_of.Goals as goal

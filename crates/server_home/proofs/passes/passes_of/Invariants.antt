@@ -1,6 +1,6 @@
 use Rattle.std.proofs.Common.{◌≡◌, ◌+◌, All, length}
 use Rattle.std.specs.List.{Contains}
-use Rattle.turn_home.specs.StoreSeats.{IsOfStore, store_sight}
+use Rattle.turn_store.specs.StoreSeats.{IsOfStore, store_sight}
 use Rattle.server_home.specs.Passes.{IsOneOf}
 use Rattle.server_home.proofs.passes.passes_of.Given as goal
 

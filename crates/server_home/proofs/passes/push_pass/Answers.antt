@@ -1,5 +1,5 @@
 use Rattle.std.proofs.Common.{sym, subst, ◌∙◌, ap}
-use Rattle.turn_home.specs.StoreSeats.{IsOfStore, store_sight}
+use Rattle.turn_store.specs.StoreSeats.{IsOfStore, store_sight}
 use Rattle.server_home.proofs.passes.push_pass.Goals as goal
 
 pub returns-clause-added : goal.returns-clause-added

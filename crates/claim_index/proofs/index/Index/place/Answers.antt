@@ -1,5 +1,5 @@
 -- The fact is loose until it is moved, and counts all the while.
-use Rattle.std.proofs.Common.{◌≡◌, ◌≤◌, ◌+◌, ◌*◌, ◌∷◌, ℕ, suc, List, [], length, true, false, Result, Ok, Err, OnOk, sym, ap, subst, ◌∙◌, arith}
+use Rattle.std.proofs.Common.{◌≡◌, ◌≤◌, ◌+◌, ◌*◌, ◌∷◌, ℕ, suc, List, [], length, false, Result, Ok, Err, OnOk, sym, ap, subst, ◌∙◌, arith}
 use Rattle.std.specs.Result.{is_err}
 use Rattle.std.proofs.lemmas.Bool.{true≢false}
 use Rattle.std.proofs.lemmas.List.{length-map}

@@ -9,7 +9,7 @@ pub returns-else-self : goal.returns-else-self
 returns-else-self g c =
     let a = c.self.inside in
     let settled = c.self.invariant.1 c.if-self.false in
-    let rest = settled.rest in
+    let rest = settled.rest.tables in
     let facts = sym (all_ordered a.rows.facts settled.none) ∙ ap (λ (v : Indexed g.row.V.Denot). v.facts)
     c.self.view_is in
     c.deleted-else-self.ensures.deleted

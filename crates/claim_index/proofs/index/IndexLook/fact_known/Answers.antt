@@ -14,4 +14,4 @@ returns-else-self-clause-value g c =
     c.fact_of.ensures
     ∙ fact_told a.rows.facts.ordered
     (g.V.Verifier.accepts a.keys) a.rows.state a.rows.waiters a.rows.deletes a.rows.changes a.rows.holders
-    settled.rest c.args.r.now ∙ (λ i. ready_fact (facts i) c.args.r.now)
+    settled.rest.tables c.args.r.now ∙ (λ i. ready_fact (facts i) c.args.r.now)

@@ -9,8 +9,10 @@ pub returns-else-self : goal.returns-else-self
 returns-else-self g c =
     let a = c.self.inside in
     let settled = c.self.invariant.1 c.if-self.false in
-    let facts = sym (all_ordered a.rows.facts settled.none) ∙ ap (λ (v : Indexed g.row.V.Denot). v.facts) c.self.view_is in
+    let facts = sym (all_ordered a.rows.facts settled.none) ∙ ap (λ (v : Indexed g.row.V.Denot). v.facts)
+    c.self.view_is in
     c.file_size-else-self.ensures
     ∙ size_told a.rows.facts.ordered
-    (g.V.Verifier.accepts a.keys) a.rows.state a.rows.waiters a.rows.deletes a.rows.changes a.rows.holders settled.rest c.args.r.now
+    (g.V.Verifier.accepts a.keys) a.rows.state a.rows.waiters a.rows.deletes a.rows.changes a.rows.holders
+    settled.rest.tables c.args.r.now
     ∙ (λ i. file_size (facts i) c.args.r.now)

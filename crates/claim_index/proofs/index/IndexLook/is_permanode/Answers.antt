@@ -9,8 +9,10 @@ pub returns-else-self : goal.returns-else-self
 returns-else-self g c =
     let a = c.self.inside in
     let settled = c.self.invariant.1 c.if-self.false in
-    let facts = sym (all_ordered a.rows.facts settled.none) ∙ ap (λ (v : Indexed g.row.V.Denot). v.facts) c.self.view_is in
+    let facts = sym (all_ordered a.rows.facts settled.none) ∙ ap (λ (v : Indexed g.row.V.Denot). v.facts)
+    c.self.view_is in
     c.is_genuine_permanode.ensures
     ∙ permanode_told a.rows.facts.ordered
-    (g.V.Verifier.accepts a.keys) a.rows.state a.rows.waiters a.rows.deletes a.rows.changes a.rows.holders settled.rest c.args.r.now
+    (g.V.Verifier.accepts a.keys) a.rows.state a.rows.waiters a.rows.deletes a.rows.changes a.rows.holders
+    settled.rest.tables c.args.r.now
     ∙ (λ i. is_genuine_permanode (facts i) (g.V.Verifier.accepts (c.self.view_is i).keys) c.args.r.now)

@@ -9,7 +9,7 @@ pub last_change-requires-else-self-clause-listed : goal.last_change-requires-els
 last_change-requires-else-self-clause-listed g c =
     let a = c.self.inside in
     let settled = c.self.invariant.1 c.if-self.false in
-    let rest = settled.rest in
+    let rest = settled.rest.tables in
     all_listed a.rows.facts.ordered
     (g.V.Verifier.accepts a.keys) a.rows.state a.rows.waiters a.rows.deletes a.rows.changes a.rows.holders rest
 
@@ -17,8 +17,11 @@ pub returns-else-self : goal.returns-else-self
 returns-else-self g c =
     let a = c.self.inside in
     let settled = c.self.invariant.1 c.if-self.false in
-    let rest = settled.rest in
-    let facts = sym (all_ordered a.rows.facts settled.none) ∙ ap (λ (v : Indexed g.row.V.Denot). v.facts) c.self.view_is in
+    let rest = settled.rest.tables in
+    let facts = sym (all_ordered a.rows.facts settled.none) ∙ ap (λ (v : Indexed g.row.V.Denot). v.facts)
+    c.self.view_is in
     c.last_change-else-self.ensures
     ∙ change_told a.rows.facts.ordered
-    (g.V.Verifier.accepts a.keys) a.rows.state a.rows.waiters a.rows.deletes a.rows.changes a.rows.holders rest c.args.when.now c.args.p.now ∙ (λ i. last_change (facts i) (g.V.Verifier.accepts (c.self.view_is i).keys) c.args.when.now c.args.p.now)
+    (g.V.Verifier.accepts a.keys) a.rows.state a.rows.waiters a.rows.deletes a.rows.changes a.rows.holders rest
+    c.args.when.now c.args.p.now ∙ (λ i. last_change (facts i) (g.V.Verifier.accepts (c.self.view_is i).keys)
+    c.args.when.now c.args.p.now)

@@ -9,8 +9,9 @@ pub returns-else-self : goal.returns-else-self
 returns-else-self g c =
     let a = c.self.inside in
     let settled = c.self.invariant.1 c.if-self.false in
-    let rest = settled.rest in
-    let facts = sym (all_ordered a.rows.facts settled.none) ∙ ap (λ (v : Indexed g.row.V.Denot). v.facts) c.self.view_is in
+    let rest = settled.rest.tables in
+    let facts = sym (all_ordered a.rows.facts settled.none) ∙ ap (λ (v : Indexed g.row.V.Denot). v.facts)
+    c.self.view_is in
     c.permanode_after-else-self.ensures
     ∙ after_told a.rows.facts.ordered
     (g.V.Verifier.accepts a.keys) a.rows.state a.rows.waiters a.rows.deletes a.rows.changes a.rows.holders rest

@@ -14,5 +14,5 @@ returns-else-self-clause-value g c =
     c.file_size.ensures
     ∙ size_told a.rows.facts.ordered
     (g.V.Verifier.accepts a.keys) a.rows.state a.rows.waiters a.rows.deletes a.rows.changes a.rows.holders
-    settled.rest c.args.r.now
+    settled.rest.tables c.args.r.now
     ∙ (λ i. file_size (facts i) c.args.r.now)

@@ -1,4 +1,0 @@
-use Rattle.told_index.proofs.work_index.WorkIndex.len.Goals as goal
-
-pub returns : goal.returns
-returns g c = λ h t. c.len.ensures h t.numbers

@@ -1,7 +1,0 @@
-use Rattle.told_store.proofs.Puts.{put_adds}
-use Rattle.told_store.proofs.putting.put.Goals as goal
-
-pub returns-clause-tells : goal.returns-clause-tells
-returns-clause-tells g c made =
-    put_adds g.D.Disk made c.args.store.now c.put_own.new.self c.args.r.now c.args.bytes.now c.put_own.result c.requires.own c.put_own.ensures.answer c.put_own.ensures.leaves
-    c.put_own.ensures.failed c.put_own.ensures.later

@@ -1,6 +1,0 @@
-use Rattle.histories.specs.IndexCalls.{ReturnSpec}
-use Rattle.turn_home.proofs.Turning.{turned}
-use Rattle.turn_home.proofs.index.TurnIndex.give_back.Goals as goal
-
-pub returns-clause-turn : goal.returns-clause-turn
-returns-clause-turn g c = turned _ _ _ _ _ _ (λ before entry. ReturnSpec c.args.number before entry) c.take_turn.ensures.ran

@@ -1,5 +1,0 @@
-use Rattle.told_store.proofs.Growing.{tells_end}
-use Rattle.turn_home.proofs.store.jobs.CountStoreJob.go.Goals as goal
-
-pub returns-clause-tells : goal.returns-clause-tells
-returns-clause-tells g c made h turn tells before = (tells_end g.D.Disk made c.args.store.now h tells, c.count.ensures.tells made h tells)

@@ -1,5 +1,0 @@
-pub mod StoreAbout
-pub mod StoreSeats
-pub mod IndexSeats
-pub mod Legal
-pub mod Ahead

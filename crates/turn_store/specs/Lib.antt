@@ -1,0 +1,4 @@
+pub mod StoreAbout
+pub mod StoreSeats
+pub mod Legal
+pub mod Ahead
