@@ -1,8 +1,8 @@
-"""Runs `lab orders` over packs of a few blobs: for every order in which these can come, and each part of them, an index
-that takes them one by one, one in which each is placed, and one that takes them all at once, have to tell what the
-reference tells of the blobs that came, and not to be stale.
+"""Runs `lab orders` over packs of a few blobs. For every order in which these, and each part of them, can come, there
+are three indexes: one that takes them one by one, one in which each is placed, and one that takes them all at once.
+Each has to return what the reference returns for the blobs that came, and not to be stale.
 
-What a permanode has once all blobs came is written down beside them, and the reference has to tell that too.
+The tags of a permanode after all blobs came are written down beside them, and the reference has to return these too.
 """
 
 import itertools
@@ -19,15 +19,15 @@ KEYRING = keyring_line() + keyring_line("other", OTHER_SECRET)
 ALWAYS = "always"
 NOON = "T12:00:00Z"
 MOMENTS = ("2019-12-31T00:00:00Z", *(day(number, NOON) for number in range(1, 5)), ALWAYS)
-# All the tags that a permanode has at any time. A tag is one letter.
+# All tags that a permanode has at any time. A tag is one letter.
 TAGS = "akuvxy"
 LETTERS = "abcdef"
 WAYS = ("one by one", "placed", "all at once")
 
 
 class Row(NamedTuple):
-    """Blobs that come in every order, a permanode among them, the tags that it then has at some moments, and by what the
-    blobs are named."""
+    """Blobs that come in every order, a permanode among them, the tags that it then has at some moments, and the names
+    of the blobs."""
 
     what: str
     node: bytes
@@ -59,7 +59,7 @@ ADD_X, ADD_X_TOO, ADD_Y = on_node("add", "x", 2), on_node("add", "x", 3), on_nod
 DROP_X, DROP_ALL = on_node("del", "x", 4), on_node("del", "", 4)
 # Its signature has another first digit.
 FORGED = changed(CLAIM, b'"camliSig":"1', b'"camliSig":"2')
-# A key in place of random digits.
+# A key instead of random digits.
 KEYED = signed(changed(permanode_payload(), f'"random":"{writing.RANDOM}"', '"key":"some words"'))
 SECOND_NODE = permanode("0" * 32)
 OTHER_KEY = key_blob("other")
@@ -105,7 +105,7 @@ def permanodes():
 
 
 def tags(*changes, on=NODE):
-    """Changes of the tags of a permanode, each of a kind and a value."""
+    """Changes of the tags of a permanode, each given by its kind and its value."""
     return [(kind, ref_of(on), "tag", value) for kind, value in changes]
 
 
@@ -137,7 +137,7 @@ def several():
     ]
 
 
-# What is claimed under older names. OTHER_NODE names the permanode by its other name, and OTHER_SIGNER its key.
+# Targets of claims under older names. OTHER_NODE names the permanode by its other name, and OTHER_SIGNER its key.
 OLDER_KEY = older_ref_of(KEY)
 OLDER_NODE = permanode(signer=OLDER_KEY)
 OLDER_CLAIM = claim("set", older_ref_of(OLDER_NODE), "tag", "a", day(1), OLDER_KEY)
@@ -166,7 +166,7 @@ def older_names():
     ]
 
 
-# What has to be told
+# Expected answers
 
 def archive_of(blobs, name_of):
     return reference.Archive({name_of(blob): blob for blob in blobs}, reference.read_keyring(KEYRING))
@@ -177,8 +177,8 @@ def moment_of(text):
 
 
 def told(row, came, moment, tag):
-    """What an index tells once some of the blobs came: its first permanode; for each one, in the order of the pack, the
-    tags at a moment; and who holds a tag by claims of every date."""
+    """The answers of an index after some of the blobs came: its first permanode; for each one, in the order of the
+    pack, the tags at a moment; and the holders of a tag by claims of every date."""
     archive = archive_of(came, row.name_of)
     refs = [ref for ref in map(row.name_of, row.blobs) if archive.is_permanode(ref)]
     words = [("first", ref) for ref in sorted(refs)[:1]]
@@ -189,7 +189,7 @@ def told(row, came, moment, tag):
 
 
 def is_written(row):
-    """The reference tells what is written down in a row."""
+    """The reference returns what is written down in a row."""
     archive, ref = archive_of(row.blobs, row.name_of), row.name_of(row.node)
     for when, tags in row.tags.items():
         values = archive.values(ref, "tag", moment_of(when))
@@ -200,7 +200,7 @@ def is_written(row):
 
 
 def parts(program):
-    """By the reference a permanode is there once it and its key came, and its tag once its claim came too."""
+    """By the reference a permanode is there after it and its key came, and its tag after its claim came too."""
     blobs = {KEY, NODE, CLAIM}
     return [lambda came=set(came): is_there(came, {KEY, NODE} <= came, blobs <= came) for came in parts_of(blobs)]
 

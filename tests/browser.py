@@ -1,8 +1,9 @@
-"""A browser before a server (docs/server.md, "Who gets in"): a page of another origin stores nothing, asks nothing and reads nothing; addresses
-that are typed in, and scripts of the server's own origin, are answered.
+"""A browser before a server (docs/server.md, "Who gets in"): a page of another origin stores nothing and reads nothing.
+Addresses that are typed in, and scripts of the server's own origin, are answered.
 
-Headless Chromium opens the page twice: before a recorder, which has to be reached by each of its tries, else nothing was tried; and before a
-server, through a forwarder that sees what is answered. What the browser itself says of a try counts for nothing.
+Headless Chromium opens the page twice: first before a recorder, which each of its tries has to reach, since otherwise
+nothing was tried; and then before a server, through a forwarder that sees the replies. What the browser itself reports
+about a try doesn't count.
 
 A page of another origin that has a link to a share is another matter (docs/shares.md): whoever follows it is answered.
 """
@@ -33,8 +34,8 @@ QUIET = ["--headless=new", "--no-sandbox", "--disable-gpu", "--no-first-run", "-
 SECONDS_OF_PAGE = 60
 STORED = b"by a page"
 
-# What a page tries, by the path that it asks. OWN is the server's origin, NAMED the same under a name that is bound to 127.0.0.1, and EVERY the
-# same as 0.0.0.0.
+# The tries of a page, by the path of each request. OWN is the server's origin, NAMED the same under a name that is
+# bound to 127.0.0.1, and EVERY the same as 0.0.0.0.
 TRIES = {
     "image": "add('img', OWN + path)",
     "script": "add('script', OWN + path)",
@@ -94,7 +95,7 @@ def browsers(program):
 
 @contextlib.contextmanager
 def browsing(path, *words, front=(), **streams):
-    """A browser with a profile of its own, started by another program where there are words in front."""
+    """A browser with a profile of its own, started by another program if there are words in front."""
     with tempfile.TemporaryDirectory(ignore_cleanup_errors=True) as profile:
         line = [*front, path, *QUIET, f"--user-data-dir={profile}", f"--host-resolver-rules={NAMES}", *words]
         with subprocess.Popen(line, stderr=subprocess.DEVNULL, **streams) as process:
@@ -107,7 +108,7 @@ def browsing(path, *words, front=(), **streams):
 # Pages
 
 def tries_before(path, port):
-    """Opens the page of another origin, before what listens at a port, and waits until it has tried all."""
+    """Opens the page of another origin, before a listener at a port, and waits until it has made all its tries."""
     tries = ", ".join(f"'{name}': (path) => {script}" for name, script in TRIES.items())
     page = PAGE % {"port": port, "ref": ref_of(STORED), "blob": STORED.decode(), "tries": tries}
     done = threading.Event()
@@ -117,7 +118,7 @@ def tries_before(path, port):
 
 @contextlib.contextmanager
 def pages_of(page, posted=lambda: None):
-    """The address of a page of another origin. Something is done where that is posted to."""
+    """The address of a page of another origin. A POST to it has an effect."""
     class Pages(http.server.BaseHTTPRequestHandler):
         def log_message(self, *_):
             pass
@@ -198,7 +199,7 @@ def linked(program, path):
 
 
 def followed(path, port, target):
-    """What is answered where a link on a page of another origin is followed."""
+    """The reply after a link on a page of another origin was followed."""
     forwarder = Forwarder(port)
     page = f"<!doctype html><body><a id=link href='http://127.0.0.1:{forwarder.port}{target}'>a link</a>"
     with pages_of(page) as address, Steered(path) as steered:
@@ -215,7 +216,7 @@ def followed(path, port, target):
 
 
 class Steered:
-    """A page of a browser that is steered by its developers' tools, over a pipe."""
+    """A page of a browser that is controlled by its developers' tools, over a pipe."""
 
     def __init__(self, path):
         self.path, self.come, self.number, self.session = path, b"", 0, None

@@ -1,9 +1,9 @@
-"""Holds the repository to the gate's budget (docs/gate.md, "The budget").
+"""Checks the repository against the gate's budget (docs/gate.md, "The budget").
 
     budget.py [TABLE]
 
-Looks at crates.txt and crates/, and at the table of minutes in the file TABLE, docs/gate.md where none is given: a table of bench/gate.sh.
-Each thing that passes the budget is a line.
+Reads crates.txt and crates/, and the table of minutes in the file TABLE, by default docs/gate.md: a table of
+bench/gate.sh. Everything that exceeds the budget is a line.
 """
 
 import functools
@@ -13,12 +13,12 @@ import sys
 
 TOP = pathlib.Path(__file__).resolve().parent.parent
 
-# The limits. All minutes are processor minutes of a machine that has other work beside the gate.
+# The limits. All minutes are processor minutes of a machine that has other work besides the gate.
 EDITS, EDITS_A_CRATE, DEAREST_PROOF_WITH_EDITS = 16, 3, 4.0
 PATHS, HEIGHT = 150_000, 12
 WHOLE, WHOLE_FOR_1_000_LINES, TESTS, EDITS_IN_ALL, CHAIN = 280, 5.2, 45, 30, 45
 PROOF, PROOF_AT_LEAST, PROOF_FOR_1_000_LINES, PROOF_WITH_TESTS, TEST_CRATE = 4.0, 0.5, 3.0, 0.5, 8.0
-# What figures are rounded to.
+# Figures are rounded to this.
 ROUNDING = 0.05
 # The proofs that were above their limits when these were set. They may not grow.
 OLDER_PROOFS = {
@@ -27,12 +27,13 @@ OLDER_PROOFS = {
     "fact_lines": 2.6, "query_text": 2.4, "server_home": 2.4, "file_tree": 1.9, "answer_text": 1.8, "json_laws": 1.1,
     # Small ones that tie others together.
     "top_sync": 1.2, "top_notes": 1.9,
-    # Newer ones, whose values with a drop are those of an index and of a lock. Half of it is dropping these, so a further cut saves little.
+    # Newer ones, whose values with a drop are those of an index and of a lock. Half of the cost is their drops, so that
+    # a further split would save little.
     "snap_copies": 6.5, "snap_index": 5.0,
 }
-# No other contract than this dear crate's says what a search is over.
+# No other contract than that of this expensive crate says over which facts a search answers.
 DEAR_WITH_EDITS = ("snap_index",)
-# The crates of the wire and the server know a home alone, whatever it searches by.
+# The crates of the wire and the server depend on a home alone, whatever its searches use.
 INDEX = "claim_index"
 ON_NO_INDEX = ("edge_listen", "http_wire", "http_exchange", "multipart_read", "blob_routes", "blob_upload", "blob_http", "blob_server")
 ON_NO_INDEX += ("peer_requests", "peer_http")
@@ -42,7 +43,7 @@ TEST = re.compile(r"#\s*\[[^]]*\btest\b")
 
 
 def lines_of_crates():
-    """The names on each line of crates.txt behind the colon, by the name before it."""
+    """The names on each line of crates.txt after the colon, by the name before it."""
     used = {}
     for line in (TOP / "crates.txt").read_text().splitlines():
         name, colon, below = line.partition("#")[0].partition(":")
@@ -52,7 +53,7 @@ def lines_of_crates():
 
 
 class Crates:
-    """What the folders say of the crates."""
+    """The crates, by their folders."""
 
     def __init__(self):
         self.used = lines_of_crates()
@@ -67,13 +68,13 @@ class Crates:
                 yield file.read_text()
 
     def unnamed(self, name):
-        """What a crate's line has and no file of the crate names."""
+        """The names on a crate's line that no file of the crate uses."""
         files = [*self.texts(name, ".rt", "src"), *self.texts(name, ".antt", "specs", "proofs")]
         words = {word for text in files for word in re.findall(r"\w+", text)}
         return [below for below in self.used[name] if below not in words]
 
     def sums_along_paths(self, own, join):
-        """For each crate its own number, and those of the crates below it as `join` makes one of them."""
+        """For each crate its own number, combined by `join` with those of the crates below it."""
         @functools.cache
         def whole(name):
             return own(name) + join(map(whole, self.own[name]))
@@ -81,7 +82,8 @@ class Crates:
         return {name: whole(name) for name in self.used}
 
     def chains(self, base=None):
-        """For each crate the longest chain of crates, each on the next one, from it down to `base`, or to any crate where that is None."""
+        """For each crate the longest chain of crates, each depending on the next one, from it down to `base`, or to any
+        crate if that is None."""
         @functools.cache
         def chain(name):
             longest = max(map(chain, self.own[name]), key=len, default=())
@@ -91,7 +93,7 @@ class Crates:
 
 
 def faults_of_chains(crates):
-    """What of the rules on crates that stand one above the other doesn't hold."""
+    """Violations of the rules on chains of crates."""
     highest = max(crates.chains().values(), key=len)
     if len(highest) > HEIGHT:
         yield f"{len(highest)} crates stand one above the other, at most {HEIGHT}: {' '.join(highest)}"
@@ -101,7 +103,7 @@ def faults_of_chains(crates):
 
 
 def faults_of_crates(crates):
-    """What of the rules on crates doesn't hold."""
+    """Violations of the rules on crates."""
     if sum(crates.edits.values()) > EDITS:
         yield f"{sum(crates.edits.values())} must-fail edits, at most {EDITS}"
     for name in crates.used:
@@ -126,7 +128,7 @@ def costs(file, crates):
 
 
 def faults_of_sums(crates, costs):
-    """What of the rules on the whole gate doesn't hold."""
+    """Violations of the rules on the whole gate."""
     proofs = {name: costs.get(name, {}).get("proof", 0.0) for name in crates.used}
     chains = crates.sums_along_paths(proofs.get, lambda below: max(below, default=0))
     whole = sum(sum(minutes.values()) for minutes in costs.values())
@@ -142,7 +144,7 @@ def faults_of_sums(crates, costs):
 
 
 def faults_of_costs(crates, costs):
-    """What of the rules on the minutes of single crates doesn't hold."""
+    """Violations of the rules on the minutes of single crates."""
     for name, minutes in costs.items():
         proof, whole = minutes["proof"], sum(minutes.values())
         most = OLDER_PROOFS.get(name) or min(PROOF, PROOF_AT_LEAST + PROOF_FOR_1_000_LINES * crates.lines[name] / 1_000)

@@ -1,7 +1,7 @@
-"""A row for each command: its words, what it reads, the store before it, and all that it writes and puts.
+"""A row for each command: its arguments, its input, the store before it, and all that it writes and puts.
 
-Under the clock and with the random bytes of `KNOWN` the moment and the permanode of a row are known before it runs. A
-`Trial` runs a row in which something may go wrong, and looks at all that it leaves.
+Under the clock and with the random bytes of `KNOWN`, the moment and the permanode of a row are known before it runs. A
+`Trial` runs a row in which something may go wrong, and checks all that it leaves.
 """
 
 import shutil
@@ -19,7 +19,7 @@ from reference import ref_of
 from stores import ABC, EMPTY, Store, look
 from writing import BYTES_OF_A_CHUNK, chunks_of, file_blobs, keyring_line, pack
 
-# What the environment says of the clock and the dice (libraries.py), and the date of that time.
+# The environment's clock and dice (libraries.py), and the date of that time.
 KNOWN = {"TEST_CLOCK": "1577923200.0", "TEST_DICE": writing.RANDOM}
 TODAY = inputs.day(2)
 KEYRING = inputs.KEYRING + keyring_line(writing.LOAD, writing.LOAD_SECRET)
@@ -31,12 +31,12 @@ DONE, MEMORY, READ, WRITE, DISK, PEER, HAND = 0, 1, 5, 6, 7, 8, 12
 
 
 class Row(NamedTuple):
-    """A run that ends well.
+    """A run that succeeds.
 
-    Its words, in which FOLDER, ADDRESS and SECOND stand for those of the store and of the peers. What it writes, but of a
-    copy. The packs before it, or None where there is no folder. What it reads. What it puts in order, where that isn't
-    there. What a peer and a second one hold, where it has them. Whether it writes as it goes, and so may have written
-    where it ends early."""
+    Its arguments, in which FOLDER, ADDRESS and SECOND stand for those of the store and of the peers. Its output, except
+    that of a copy. The packs before it, or None if there is no folder. Its input. The blobs that it puts in order, if
+    they aren't there. The blobs of a peer and of a second one, if it has them. Whether it writes as it goes, and may
+    therefore have written something if it ends early."""
 
     what: str
     words: tuple
@@ -55,7 +55,7 @@ class Row(NamedTuple):
         return self.words[0] in ("push", "pull")
 
     def gives(self):
-        """Whether it gives its peers what they lack."""
+        """Whether it gives its peers the blobs that they lack."""
         return self.words[0] in ("push", "mirror")
 
     def peers(self):
@@ -65,13 +65,13 @@ class Row(NamedTuple):
         return FOLDER in self.words
 
     def lacked(self, packs):
-        """What of its blobs packs lack, in the order in which it puts them."""
+        """Its blobs that packs lack, in the order in which it puts them."""
         known = reference.arrivals(packs)
         return [blob for blob in dict.fromkeys(self.puts) if ref_of(blob) not in known]
 
 
 def with_blobs(packs, blobs):
-    """Packs into which blobs were put."""
+    """Packs with blobs added."""
     for blob in blobs:
         packs = reference.put(packs, blob)
     return packs
@@ -101,11 +101,12 @@ class Trial:
         return [texts.get(word, word) for word in self.row.words]
 
     def held(self):
-        """What each peer holds."""
+        """The blobs of each peer."""
         return [dict(peer.blobs) for peer in self.peers]
 
     def due(self):
-        """What the row writes as store and peer are: of a copy how many blobs are copied, and how many aren't."""
+        """The row's output for the present store and peer: for a copy, how many blobs are copied, and how many
+        aren't."""
         if not self.row.is_copy():
             return self.row.out
         here, there = set(self.store.blobs()), set(self.peers[0].blobs)
@@ -113,8 +114,8 @@ class Trial:
         return b"copied %d already %d\n" % (len(source - target), len(source & target))
 
     def runs(self, what, run):
-        """Runs the row, and looks at what it leaves; answers its status. `run` gives how the line ended, and with which
-        statuses it may have, the likely one first."""
+        """Runs the row, and checks what it leaves; returns its status. `run` returns how the line ended, and the
+        statuses that it may have, the likely one first."""
         due, held = self.due(), self.held()
         (status, out, err), statuses = run(self.line(), self.row.source)
         ending = status if status in statuses else statuses[0]
@@ -129,7 +130,7 @@ class Trial:
         return status
 
     def left(self, what, status):
-        """The store holds what it held, and of what the row puts a front, or all."""
+        """The store has what it had, and a prefix of what the row puts, or all."""
         if not self.row.puts:
             compare(what, "the folder", self.seen, look(self.store.path))
             return
@@ -144,8 +145,8 @@ class Trial:
         self.store.packs = now
 
     def copied(self, what, status, held):
-        """The peers hold what they held and, where the row gives them something, a front of what the first lacked, and
-        then the second, or all; nothing before the store has all that it is to have."""
+        """The peers have what they had and, if the row gives them something, a prefix of what the first lacked, and
+        then of the second's, or all. They get nothing before the store is complete."""
         here = self.store.blobs().keys() if self.row.gives() else set()
         lacked = [(place, ref) for place, had in enumerate(held) for ref in sorted(here - had.keys())]
         now = enumerate(zip(held, self.held()))
@@ -215,7 +216,7 @@ def files():
 
 
 def copies(count):
-    """Of so many blobs every other one is at both ends."""
+    """Every other one of so many blobs is at both ends."""
     blobs = sorted((b"blob %d" % number for number in range(count)), key=ref_of)
     yield Row("push", ("push", FOLDER, ADDRESS), b"", {0: pack(*blobs)}, peer=tuple(blobs[1::2]))
     packs, lacking = {0: pack(*blobs[1::2])}, tuple(blobs[::2])
@@ -234,6 +235,6 @@ def mirrors():
 
 
 def others():
-    """Commands without a folder, in one that has the keyring."""
+    """Commands without a folder, in a working folder that has the keyring."""
     yield Row("search-pack", ("search-pack", "tag", "a"), FOUND, source=inputs.EXAMPLE)
     yield Row("load", ("load", "5", "7"), reference.load_text(writing.load_blobs(5, 7), KEYRING))

@@ -1,11 +1,11 @@
-"""The replies of a whole connection, worked out a second time.
+"""The replies of a whole connection, computed a second time.
 
-Everything here is written from docs/http.md and docs/formats/multipart.md, to be read beside them, and what each route
-does stands at its function. Facts, searches and queries are those of reference.py and queries.py. It is slow and plain
-on purpose: it has all bytes of the connection at hand, and looks at how they came nowhere.
+Everything here is written from docs/http.md and docs/formats/multipart.md, to be read beside them, and each route is at
+its function. Facts, searches and queries are those of reference.py and queries.py. It is slow and plain on purpose: it
+has all bytes of the connection, and doesn't consider how they came.
 
 A stream is the bytes of a connection up to the end of its source. A body that doesn't end, because it breaks or the
-source ends in it, has a content all the same: what came of it. What such a content is refused for comes first.
+source ends in it, still has a content: the part that came. Refusals by such a content come first.
 """
 
 import json
@@ -52,7 +52,7 @@ class Reply(NamedTuple):
 
 
 class Refused(Exception):
-    """Why a request is refused: the code, the fields of the text, and the methods of the route where these are told."""
+    """Why a request is refused: the code, the fields of the text, and the methods of the route if these are listed."""
 
     def __init__(self, code, fields, allow=None):
         super().__init__(code, fields)
@@ -102,7 +102,7 @@ BLANKS = b" \t"
 
 
 class Head(NamedTuple):
-    """What is read off a head; a body in chunks has no length."""
+    """What is read from a head; a body in chunks has no length."""
 
     method: bytes
     path: bytes
@@ -113,7 +113,7 @@ class Head(NamedTuple):
 
 
 def read_head(stream, at):
-    """The head that begins at a place of the stream, and the place behind it."""
+    """The head that begins at an offset of the stream, and the offset after it."""
     behind = behind_empty_line(stream, at, LONGEST_HEAD, begun=False)
     if behind is None:
         raise too_long(LONGEST_HEAD)
@@ -135,7 +135,7 @@ def read_head(stream, at):
 
 
 def behind_empty_line(stream, at, limit, begun):
-    """The place behind the first empty line, or behind the first one after a line that isn't empty; None where that
+    """The offset after the first empty line, or after the first one that follows a line that isn't empty; None if that
     isn't within the limit."""
     line = at
     while True:
@@ -170,7 +170,7 @@ def body_length(lengths, codings):
 
 
 def says_close(value):
-    """Whether a value of a `Connection` header does (docs/http.md, "When a connection closes")."""
+    """Whether a value of a `Connection` header closes (docs/http.md, "When a connection closes")."""
     return any(part.strip(BLANKS).lower() == b"close" for part in value.split(b","))
 
 
@@ -187,7 +187,7 @@ class Break(Exception):
 
 
 class Body(NamedTuple):
-    """What came of a body, the place behind it, and why it doesn't end, as `Break` or `Cut`, where it doesn't."""
+    """The part of a body that came, the offset after it, and `Break` or `Cut` if it doesn't end."""
 
     content: bytes
     behind: Optional[int]
@@ -221,7 +221,7 @@ def read_chunks(stream, at):
 
 
 def chunk_line(stream, at):
-    """The size of a chunk, and the place behind its line."""
+    """The size of a chunk, and the offset after its line."""
     behind = stream.find(b"\n", at, at + LONGEST_CHUNK_LINE) + 1
     if behind == 0:
         raise Cut if len(stream) - at < LONGEST_CHUNK_LINE else Break
@@ -232,7 +232,7 @@ def chunk_line(stream, at):
 
 
 def behind_line_end(stream, at):
-    """The place behind the end of a chunk."""
+    """The offset after the end of a chunk."""
     for place, octet in enumerate(b"\r\n", at):
         if place >= len(stream):
             raise Cut
@@ -269,7 +269,7 @@ LINE_BEGINNING = re.compile(rb"%b(:[\t\x20-\x7e\x80-\xff]*\r?)?" % TOKEN)
 
 
 class Unfinished(Exception):
-    """A multipart body isn't at its end: where it is bad if no more of it comes."""
+    """A multipart body isn't at its end; `bad` if no more of it comes."""
 
     def __init__(self, at):
         super().__init__(at)
@@ -277,7 +277,7 @@ class Unfinished(Exception):
 
 
 def parameter(value, word, name):
-    """The first parameter of a name in a value that begins with a word; None where there is none."""
+    """The first parameter of a name in a value that begins with a word; None if there is none."""
     parameters = value[len(word) :]
     if value[: len(word)].lower() != word or not PARAMETERS.fullmatch(parameters):
         return None
@@ -286,7 +286,7 @@ def parameter(value, word, name):
 
 
 def boundary_of(content_type):
-    """The boundary that a content type gives; None where it gives none."""
+    """The boundary of a content type; None if it has none."""
     boundary = parameter(content_type or b"", b"multipart/form-data", b"boundary")
     return boundary if boundary is not None and BOUNDARY.fullmatch(boundary) else None
 
@@ -295,15 +295,16 @@ class Multipart:
     """A body, or the beginning of one, and its boundary."""
 
     def __init__(self, body, boundary):
-        # A body is read as if a line end stood before it: places are counted from that.
+        # A body is read as if a line end were before it: offsets are counted from that.
         self.text = b"\r\n" + body
         self.opening = b"\r\n--" + boundary
         self.mark = re.compile(rb"%b(?:--|[ \t]{0,%d}\r\n)" % (re.escape(self.opening), MOST_BLANKS))
 
     def events(self):
-        """The names, as texts, and the contents of the parts, each told as `(name, None)` and then `(name, content)`.
+        """The names, as strings, and the contents of the parts, each given as `(name, None)` and then `(name,
+        content)`.
 
-        They end where the body closes; else a `Refused` follows that is certain, or what has come is `Unfinished`.
+        They end where the body closes. Otherwise a `Refused` follows that is certain, or what has come is `Unfinished`.
         """
         mark = self.next_mark(0, 2, LONGEST_PREAMBLE, bad("multipart", at=0), 0)
         parts = 0
@@ -318,7 +319,7 @@ class Multipart:
             yield name, self.text[start : mark.start()]
 
     def next_mark(self, search, start, longest, above, at):
-        """The first mark from a place on, before which at most so many bytes may stand that begin at another."""
+        """The first mark from an offset on, before which at most so many bytes may be that begin at another offset."""
         mark = self.mark.search(self.text, search)
         end = mark.start() if mark else self.behind_certain(search)
         if end - start > longest:
@@ -328,7 +329,7 @@ class Multipart:
         return mark
 
     def behind_certain(self, search):
-        """The place from which on the bytes may begin a mark."""
+        """The offset from which the bytes may begin a mark."""
         longest_mark = len(self.opening) + MOST_BLANKS + 2
         for place in range(max(search, len(self.text) - longest_mark), len(self.text)):
             if self.may_begin(self.text[place:]):
@@ -342,7 +343,7 @@ class Multipart:
         return rest.startswith(self.opening) and re.fullmatch(rb"-|[ \t]{0,%d}\r?" % MOST_BLANKS, behind) is not None
 
     def head(self, start):
-        """The name of a part, by the head that begins at a place, and the place behind that head."""
+        """The name of a part, by the head that begins at an offset, and the offset after that head."""
         fault = bad("multipart", at=start - 2)
         headers, line = [], start
         while True:
@@ -368,7 +369,7 @@ class Multipart:
 
 
 def may_go_on(line, before):
-    """Whether the beginning of a line may become one of a part's head, behind so many bytes of it."""
+    """Whether the beginning of a line may become a line of a part's head, after so many bytes of it."""
     may_become = EMPTY_BEGINNING.fullmatch(line) or LINE_BEGINNING.fullmatch(line)
     return before + len(line) < LONGEST_PART_HEAD and may_become is not None
 
@@ -379,7 +380,7 @@ ESCAPE = re.compile(rb"%([0-9A-Fa-f]{2})")
 
 
 def pairs_of(text):
-    """The first value of each name in a text of the type application/x-www-form-urlencoded (the URL Standard of the
+    """The first value of each name in a string of the type application/x-www-form-urlencoded (the URL Standard of the
     WHATWG, "application/x-www-form-urlencoded parsing")."""
     values = {}
     for piece in text.split(b"&"):
@@ -407,7 +408,7 @@ PAGE_LIMIT = re.compile(r"[0-9]{1,9}")
 
 
 def blob_of_path(path):
-    """The ref of a path that names a blob; None where it names none."""
+    """The ref of a path that names a blob; None if it names none."""
     ref = path.removeprefix(BLOB).decode("latin-1")
     return ref if path.startswith(BLOB) and is_ref(ref) else None
 
@@ -431,7 +432,7 @@ class Connection:
         self.archive = None
 
     def replies(self):
-        """The replies, up to the one behind which the connection closes."""
+        """The replies, up to the one after which the connection closes."""
         replies = []
         try:
             while self.at < len(self.stream) and not (replies and replies[-1].closes):
@@ -453,7 +454,7 @@ class Connection:
                 body = self.whole_body(head)
                 reply, is_read = self.answer(head, body), True
         except Refused as refused:
-            # It came before the body was read, but for an empty one.
+            # It came before the body was read, unless the body is empty.
             reply, is_read = refused.reply(), head.length == 0
         return reply._replace(closes=head.closes or not is_read)
 
@@ -461,7 +462,7 @@ class Connection:
         check_route(head)
 
     def whole_body(self, head):
-        """The body of a route that takes it whole, or passes it over."""
+        """The body of a route that reads it whole, or skips it."""
         if head.length is not None and head.length > LONGEST_BODY:
             raise too_long(LONGEST_BODY)
         body = read_body(self.stream, self.at, head.length)
@@ -472,7 +473,7 @@ class Connection:
         return body.content
 
     def answer(self, head, body):
-        """The reply of a route once the body was read."""
+        """The reply of a route after the body was read."""
         routes = {STAT: self.stat, LISTING: self.listing, QUERY: self.search}
         try:
             return routes.get(head.path, self.blob)(head, body)
@@ -487,8 +488,8 @@ class Connection:
         return Reply(200, self.blobs[ref], OCTETS)
 
     def stat(self, head, body):
-        """The sizes of blobs `blob1`, `blob2` and so on up to the first that is missing, of those that stand, each
-        once."""
+        """The sizes of the blobs `blob1`, `blob2` and so on, up to the first name that is missing: those that are
+        there, each once."""
         given = pairs_of(head.query if head.method == b"GET" else body)
         if given.get("camliversion") != "1":
             raise bad("version")
@@ -503,7 +504,7 @@ class Connection:
         return Reply(200, json_text({"stat": standing}))
 
     def listing(self, head, body):
-        """A page of the blobs behind `after`, at most `limit` of them, and where to go on where there are more."""
+        """A page of the blobs after `after`, at most `limit` of them, and where to continue if there are more."""
         given = pairs_of(head.query)
         after, limit = given.get("after", ""), given.get("limit", str(MOST_OF_A_PAGE))
         if after != "" and not is_ref(after):
@@ -518,7 +519,7 @@ class Connection:
         return Reply(200, json_text(fields))
 
     def search(self, head, body):
-        """The answer to a query over all blobs that stand by now."""
+        """The answer to a query over all blobs that are there by now."""
         try:
             query = queries.read_query(body)
         except queries.Fault as fault:
@@ -528,8 +529,8 @@ class Connection:
         return Reply(200, queries.search_text(self.archive, query))
 
     def upload(self, head):
-        """The blobs that were put out of the parts of a multipart body, and the first fault of the body, its chunks or
-        a part, if there is one; and whether the body was read without one."""
+        """The blobs that were put from the parts of a multipart body, and the first fault of the body, its chunks or a
+        part, if there is one; and whether the body was read without one."""
         boundary = boundary_of(head.content_type)
         if boundary is None:
             raise bad("multipart", at=0)
@@ -544,7 +545,7 @@ class Connection:
         return Reply(200, json_text({"received": received})), True
 
     def receive(self, body, boundary, received):
-        """Puts the parts of a body, and tells each that was put; refused for the first fault."""
+        """Puts the parts of a body, and records each that was put; refused for the first fault."""
         try:
             for name, content in Multipart(body.content[:LONGEST_UPLOAD], boundary).events():
                 if not is_ref(name):
@@ -570,5 +571,5 @@ class Connection:
 
 
 def replies(stream, blobs, keys):
-    """The replies to a stream, as `Reply`s; their texts stand one after the other on the connection."""
+    """The replies to a stream, as `Reply`s; their texts follow one another on the connection."""
     return Connection(stream, blobs, keys).replies()

@@ -1,4 +1,4 @@
-"""Which public functions of the libraries say nothing of what they answer: those without a clause `ensures`."""
+"""The public functions of the libraries whose results no contract describes: those without a clause `ensures`."""
 
 import pathlib
 import re
@@ -9,7 +9,7 @@ TOP = pathlib.Path(__file__).resolve().parent.parent
 # Programs, which have no public functions for others.
 PROGRAMS = {"fault_rows", "lab", "perkeep_cli"}
 
-# What may hold braces that open and close nothing.
+# Texts whose braces open and close nothing.
 PASSED_OVER = re.compile(r'//[^\n]*|"(?:[^"\\]|\\[\s\S])*"|\'(?:[^\'\\\n]|\\.)\'')
 PUBLIC = re.compile(r"^( *)pub (?:const |unsafe )*fn (\w+)", re.M)
 TRAIT = re.compile(r"^pub (?:unsafe )?trait (\w+).*?^\}", re.M | re.S)
@@ -20,7 +20,7 @@ OPENS, CLOSES = "([{", ")]}"
 
 
 def without_contract():
-    """The functions, as `crate::name`, or `crate::Type::name` where they are of a type or a trait."""
+    """The functions, as `crate::name`, or `crate::Type::name` if they are of a type or a trait."""
     names = [name for name in lines_of_crates() if name not in PROGRAMS and not name.endswith("_tests")]
     return sorted(f"{crate}::{function}" for crate in names for function in of_crate(crate))
 
@@ -32,7 +32,7 @@ def of_crate(crate):
 
 
 def functions_of(text):
-    """The public functions of a file, each with the place behind its name."""
+    """The public functions of a file, each with the offset after its name."""
     for found in PUBLIC.finditer(text):
         owner = owner_at(text, found.start()) if found[1] else None
         yield f"{owner}::{found[2]}" if owner else found[2], found.end()
@@ -42,7 +42,7 @@ def functions_of(text):
 
 
 def owner_at(text, place):
-    """The type in whose block a place stands."""
+    """The type in whose block an offset is."""
     head = [found["head"] for found in OWNER.finditer(text, 0, place)][-1]
     own = without_generics(head).split(" for ")[-1]
     return re.search(r"\w+", own)[0]
@@ -57,7 +57,7 @@ def without_generics(head):
 
 
 def says_something(text, at):
-    """Whether one of the clauses of a function, behind its parameters, says what it answers."""
+    """Whether one of the clauses of a function, after its parameters, describes its result."""
     start = at
     while True:
         at = next_at_top(text, at)
@@ -70,14 +70,14 @@ def says_something(text, at):
 
 
 def next_at_top(text, at):
-    """The next place of a brace, or of a semicolon, that is within no other brackets."""
+    """The next offset of a brace, or of a semicolon, that is within no other brackets."""
     while text[at] not in "{;":
         at = behind_closing(text, at) if text[at] in OPENS else at + 1
     return at
 
 
 def behind_closing(text, at):
-    """The place behind what closes the bracket at a place."""
+    """The offset after the closing bracket for the bracket at an offset."""
     depth = 0
     while True:
         depth += (text[at] in OPENS) - (text[at] in CLOSES)

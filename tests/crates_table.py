@@ -1,10 +1,11 @@
-"""The table of crates in crates/README.md. Three cells of each row are written there by hand: what a crate is for, what it
-promises, and what the crates above use of it. The script writes the others.
+"""The table of crates in crates/README.md. Three cells of each row are written there by hand: what a crate is for, what
+it promises, and what the crates above use of it. The script writes the others.
 
     crates_table.py --check     says whether the page has this table; status 1 if it hasn't
     crates_table.py --write     writes it into the page, and keeps the cells that are written by hand. Those of a new crate are empty
 
-The layers, the crates and their dependencies are those of crates.txt, and the minutes those of the table in docs/gate.md.
+The layers, the crates and their dependencies are those of crates.txt, and the minutes those of the table in
+docs/gate.md.
 """
 
 import argparse
@@ -19,16 +20,16 @@ import budget
 TOP = pathlib.Path(__file__).resolve().parent.parent
 PAGE = TOP / "crates" / "README.md"
 PROGRAM = "perkeep_cli"
-# The columns, and which of them are of numbers. The second to the fourth are written by hand.
+# The columns, and which of them have numbers. The second to the fourth are written by hand.
 COLUMNS = ("crate", "what it is for", "what it promises", "what those above use", "depends on", "crates above it", "minutes that a change costs")
 RULES = ("---", "---", "---", "---", "---", "---:", "---:")
 BY_HAND = 3
-# What a change has done again, of the kinds of docs/gate.md.
+# The work that a change causes again, by the kinds of docs/gate.md.
 DONE_AGAIN = ("proof", "tests", "edits")
 ROW = re.compile(r"\| `(\w+)`(?: \*)? \|" + r"(?: ([^|]*))? \|" * BY_HAND)
 
 
-# What crates.txt and docs/gate.md say
+# The content of crates.txt and docs/gate.md
 
 def layers():
     """The names of the layers, each with its crates in their order."""
@@ -42,7 +43,7 @@ def layers():
 
 
 def all_below(own):
-    """For each crate the crates that it stands on, by however many steps."""
+    """For each crate all crates below it."""
     @functools.cache
     def below(name):
         return frozenset(own[name]).union(*map(below, own[name]))
@@ -51,7 +52,7 @@ def all_below(own):
 
 
 class Map:
-    """The crates, and how they stand on one another."""
+    """The crates, and their dependencies."""
 
     def __init__(self):
         self.crates = budget.Crates()
@@ -62,14 +63,16 @@ class Map:
         return [other for other, below in self.below.items() if name in below]
 
     def foundation(self, name):
-        """The names of its line: those crates on which no other of the line stands, the line's others, and the kit's crates."""
+        """The crates on its line: those that no other crate of the line uses, the line's others, and the kit's
+        crates."""
         used, own = self.crates.used[name], self.crates.own[name]
         nearest = [one for one in own if not any(one in self.below[other] for other in own)]
         further = [one for one in own if one not in nearest]
         return nearest, further, [one for one in used if one not in own]
 
     def minutes(self, name):
-        """The processor minutes of what a change of the crate has done again. A crate that docs/gate.md doesn't have adds none."""
+        """The processor minutes of the work that a change of the crate causes again. A crate that docs/gate.md doesn't
+        have adds none."""
         costs = [self.costs.get(one, {}) for one in (name, *self.above(name))]
         return sum(cost.get(kind, 0.0) for cost in costs for kind in DONE_AGAIN)
 
@@ -108,7 +111,7 @@ def due_table(text):
 
 
 def with_table(text, table):
-    """The page with another table in the place of its own."""
+    """The page with another table instead of its own."""
     lines = text.splitlines()
     first = next(number for number, line in enumerate(lines) if line.startswith("|"))
     rest = [line for line in lines[first:] if not line.startswith("|")]

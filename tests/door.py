@@ -1,7 +1,7 @@
-"""Who gets in by a server's door, worked out a second time.
+"""Who gets in at a server's door, computed a second time.
 
-Everything here is written from docs/server.md, "Who gets in", to be read beside it. Heads are those of connections.py. It has all bytes of
-a connection at hand, and looks at how they came nowhere.
+Everything here is written from docs/server.md, "Who gets in", to be read beside it. Heads are those of connections.py.
+It has all bytes of a connection, and doesn't consider how they came.
 """
 
 import re
@@ -16,7 +16,7 @@ ONLY_OF_BROWSERS = {b"sec-fetch-site", b"origin", b"referer"}
 
 
 def heard(stream):
-    """What the server hears of a stream."""
+    """The part of a stream that the server hears."""
     first = first_head(stream)
     if first is None:
         return stream
@@ -29,7 +29,7 @@ def heard(stream):
 
 
 def heard_of_anyone(stream):
-    """What a server of shares hears of a stream, which keeps nobody out (docs/shares.md, "Over HTTP")."""
+    """The part of a stream that a server of shares hears, which keeps nobody out (docs/shares.md, "Over HTTP")."""
     first = first_head(stream)
     if first is None or not any(map(says_browser, first[0])):
         return stream
@@ -37,7 +37,7 @@ def heard_of_anyone(stream):
 
 
 def first_head(stream):
-    """The headers of the first head, with their names in lower case, and the place behind it; None where there is none."""
+    """The headers of the first head, with their names in lower case, and the offset after it; None if there is none."""
     try:
         behind = behind_empty_line(stream, 0, LONGEST_HEAD, begun=False)
     except Cut:
@@ -68,7 +68,7 @@ def origins_of(headers):
 
 
 def is_at(address, origin):
-    """Whether an address is an origin, with nothing or a path behind it."""
+    """Whether an address is an origin, followed by nothing or a path."""
     return address == origin or address.startswith(origin + b"/")
 
 

@@ -1,11 +1,11 @@
-"""What faults and stops leave of a world in memory, as the program of crates/fault_rows tells it.
+"""The state of a world in memory after faults and stops, as the program of crates/fault_rows prints it.
 
 Lines of command_rows.py, and connections, are run over a disk, peers, a source, a sink, a clock and dice in memory. In
 each run one call of one of these fails, from the first one on until a run doesn't make it; or the disk stops at a call
-and crashes then, by each choice. A run ends by the status of what failed (docs/commands.md, "Exit statuses"); what it
-writes and puts is a front of what is due; what was there before stands, and what was acknowledged; and the same run
-ends well then, over what the first one left. Of the workers of a server one ends where its listener fails, and the others
-serve on. An index is refused memory, and answers all the same.
+and then crashes, by each choice. A run ends with the status of the failure (docs/commands.md, "Exit statuses"). What it
+writes and puts is a prefix of the full result. What was there before, and what was acknowledged, is kept; and the same
+run then succeeds over the state that the first one left. Of the workers of a server one ends if its listener fails, and
+the others serve on. An index is refused memory, and still answers.
 """
 
 import itertools
@@ -30,21 +30,21 @@ from reference import pack_name, ref_of
 from refusing import Page, refusing
 from writing import bytes_blob, claim, file_blob, key_blob, pack, part as part_text, permanode
 
-# How a run ends where a call of an object fails.
+# How a run ends if a call of an object fails.
 STATUSES = {"disk": DISK, "peer": PEER, "second": PEER, "source": READ, "sink": WRITE, "clock": HAND, "dice": HAND}
-# What is asked of each command beside the disk and the peer (docs/commands.md). All write.
+# The other objects of each command, besides the disk and the peer (docs/commands.md). All write.
 READING = ("put", "put-file", "multi", "query", "search-pack")
 TIMED, RANDOM = ("claim", "delete", "multi"), ("permanode",)
-# The numbers of the calls that are looked at, where not all are.
+# The numbers of the calls that are tried, if not all are.
 ALL = [(0, 1 << 32)]
 CHOICES = range(16)
 SECONDS = 600
 
 
-# What is told
+# The program's output
 
 class Ending(NamedTuple):
-    """How a run ended, what it wrote, and the ref of what there was then."""
+    """How a run ended, its output, and the ref of the state then."""
 
     end: str
     out: bytes
@@ -52,7 +52,7 @@ class Ending(NamedTuple):
 
 
 class Line(NamedTuple):
-    """A run with a fault, by the number of the call, or None where there is none; and the run after it."""
+    """A run with a fault, by the number of the call, or None if there is none; and the run after it."""
 
     call: int | None
     first: Ending
@@ -69,7 +69,7 @@ def line_of(call, *fields):
 
 
 def told(program, words, files, line, source):
-    """What the program tells of a line over a world of these files."""
+    """The program's output for a line over a world of these files."""
     world = program.new_path()
     world.mkdir()
     for name, content in files.items():
@@ -95,11 +95,11 @@ def words_of(row):
     return [names.get(word, word) for word in row.words]
 
 
-# What is due
+# Expected results
 
 class World:
-    """What there is before a row is run, at the disk and at each peer, and what it puts there, in order, as far as that
-    isn't there: each blob behind the number of its place, 0 that of the disk."""
+    """The world before a row is run, at the disk and at each peer, and the blobs that the row puts there, in order, if
+    they aren't there: each blob after the number of its place, 0 being that of the disk."""
 
     def __init__(self, row):
         self.row, self.refs = row, {}
@@ -116,25 +116,25 @@ class World:
         return sum(where == place for where, _ in self.new)
 
     def out(self, count):
-        """What the row writes where so many of the new blobs are there."""
+        """The output of the row if so many of the new blobs are there."""
         if not self.row.is_copy():
             return self.row.out
         both = len(self.places[0].keys() & self.places[1].keys()) + count
         return b"copied %d already %d\n" % (len(self.new) - count, both)
 
     def held(self, count):
-        """The ref of what there is where so many of the new blobs are there too."""
+        """The ref of the state if so many of the new blobs are there too."""
         if count not in self.refs:
             self.refs[count] = ref_of(b"".join(self.lists(count)))
         return self.refs[count]
 
     def lists(self, count):
-        """What there is then at each place."""
+        """The blobs then at each place."""
         more = [{ref_of(blob): blob for place, blob in self.new[:count] if place == where} for where in range(3)]
         return [listing(had | new) for had, new in zip(self.places, more)]
 
     def count(self, line):
-        """How many of the new blobs there are after the first run of a line, or None where it is something else."""
+        """How many of the new blobs there are after the first run of a line, or None if the state is something else."""
         counts = range(len(self.new) + 1)
         if self.row.is_copy():
             # The run after it says how many.
@@ -147,7 +147,7 @@ def listing(blobs):
 
 
 def asked(row):
-    """What a row asks."""
+    """The objects of a row."""
     name = row.words[0]
     asks = {"sink", *("peer", "second")[: len(row.peers())]} | ({"disk"} if row.touches_a_folder() else set())
     asks |= {"source"} if name in READING else set()
@@ -155,8 +155,8 @@ def asked(row):
 
 
 def least_calls(row, object, world):
-    """So many calls of an object a row makes at least: an append and a sync for each blob that is put; and of a peer for
-    each that it is given, or that a pull fetches."""
+    """So many calls of an object a row makes at least: an append and a sync for each blob that is put; and of a peer
+    for each that it is given, or that a pull fetches."""
     if object not in asked(row):
         return 0
     given = {"disk": 2 * world.put(0), "peer": world.put(1) or world.put(0) * row.is_copy(), "second": world.put(2)}
@@ -186,7 +186,7 @@ def fails_in_turn(program, row, object, windows=ALL):
 
 
 def window_fails(program, world, object, start, end):
-    """Those of the calls fail that have these numbers; answers the number behind the last one that was made."""
+    """The calls with these numbers fail; returns the number after the last one that was made."""
     row = world.row
     good, *lines = told_of(program, row, "fails", object, str(start), str(end))
     is_done(f"{row.what}, no fault", world, good.first, 0)
@@ -200,14 +200,14 @@ def window_fails(program, world, object, start, end):
 
 
 def is_done(what, world, ending, count):
-    """A run is done over what has so many of the new blobs."""
+    """A run succeeds over a state that has so many of the new blobs."""
     compare(what, "the status", str(DONE), ending.end)
     compare(what, "what it writes", world.out(count), ending.out)
     compare(what, "what there is", world.held(len(world.new)), ending.held)
 
 
 def made_again(row, object):
-    """How many calls of an object are made again where they fail: the reads of a file's chunks ahead (docs/files.md)."""
+    """How many calls of an object are made again if they fail: the reads of a file's chunks ahead (docs/files.md)."""
     return len(FILE) - 1 if object == "disk" and row.words[0] == "get-file" else 0
 
 
@@ -226,7 +226,7 @@ def is_left(what, world, object, line):
 
 
 def counts(row, object, count):
-    """How many of so many blobs may be put where an object fails."""
+    """How many of so many blobs may be put if an object fails."""
     if object == "sink":
         return (count,)
     return range(count + 1) if object in ("disk", "peer", "second") or row.words[0] == "put-file" else (0,)
@@ -238,7 +238,7 @@ PAGED = 2_500
 
 
 def pages(program):
-    """Copies of several pages, with calls that fail about the beginnings of the pages."""
+    """Copies of several pages, with calls that fail near the beginnings of the pages."""
     around = [(0, 3), (998, 1_004), (1_998, 2_005), (2_499, 2_520)]
     return [lambda row=row: fails_in_turn(program, row, "peer", around) for row in paged()]
 
@@ -281,7 +281,7 @@ def connection_fails(program, what, stream, object):
 
 
 class Due:
-    """The replies to a stream over a home with these blobs, and how many blobs there are once each was made."""
+    """The replies to a stream over a home with these blobs, and how many blobs there are after each was made."""
 
     def __init__(self, stream, blobs):
         served, self.texts, self.counts = Connection(stream, blobs, {}), [], [len(blobs)]
@@ -311,8 +311,8 @@ def is_served(what, due, ending):
 
 
 def connection_is_left(what, stream, object, line):
-    """Whole replies were written, or where a write failed a front of them; and all that they acknowledge is there, and of
-    the upload that comes next some parts."""
+    """Whole replies were written, or a prefix of them if a write failed; and all that they acknowledge is there, and
+    some parts of the upload that comes next."""
     due, first = Due(stream, {}), line.first
     compare(what, "the end", "read" if object == "source" else "write", first.end)
     whole = due.whole(first.out)
@@ -332,7 +332,8 @@ WORKERS, LISTENER = 4, 14
 
 
 def listeners(program):
-    """Each call of a worker's listener fails: it ends then, and another one serves all that comes to it."""
+    """Each call of a worker's listener fails: the worker then ends, and another one serves all connections that
+    come."""
     return [lambda: listener_fails(program)]
 
 
@@ -347,7 +348,8 @@ def listener_fails(program):
 
 
 def served(*uploads):
-    """How workers end, each of which has served these uploads: none has a connection left, so an accept of each failed."""
+    """How workers end, each of which has served these uploads: none has a connection left, so that an accept of each
+    failed."""
     blobs = [{ref_of(blob): blob for blob in some} for some in uploads] + [{}] * (WORKERS - len(uploads))
     replies = b"".join(Connection(get(LISTING), one, {}).next_reply().text() for one in blobs)
     return Ending(str(LISTENER), bytes([1] * WORKERS), ref_of(replies))
@@ -379,8 +381,8 @@ class Placed:
         self.process = subprocess.Popen([program.path, "stale", self.world], env=variables, **pipes)
 
     def places(self, number=None):
-        """Has the next blob placed, where a request of a number is refused, if one is; answers whether the index is stale
-        then."""
+        """Has the next blob placed, while a request of a number is refused, if one is; returns whether the index is
+        stale then."""
         compare("an index", "what it says", b"placed\n", self.process.stdout.readline())
         if number is not None:
             self.page.refuse(number)
@@ -407,8 +409,8 @@ def placed(program, library, shelf):
 
 
 def answers_stale(program, library, shelf):
-    """Where the first request for memory is refused the index is stale, and answers as ever. A later one may be the
-    program's own, which reads on once it has placed the blob."""
+    """If the first request for memory is refused, the index is stale, and still answers. A later one may be the
+    program's own, which continues once it has placed the blob."""
     what, index = f"store {shelf.number}, a request refused", placed(program, library, shelf)
     index.places()
     compare(what, "whether the index is stale, and was refused", (True, True), index.places(1))
@@ -420,8 +422,8 @@ def answers_stale(program, library, shelf):
         compare(f"{what}: {query}", "the plain answer", text, plain_answer)
 
 
-# So many layers of trees, each of which has parts of those below, so that there are twice as many paths with each layer;
-# and the seconds that the answers to a query may take, by an index that is stale and by one that keeps nothing.
+# So many layers of trees, each of which has parts of those below, so that the number of paths doubles with each layer;
+# and the seconds that the answers to a query may take, for a stale index and for one that keeps nothing.
 LAYERS, SOON = 30, 10
 FIRST = permanode("1" * 32)
 ASKED_OF_FILES = [
@@ -440,15 +442,15 @@ def layers(program):
 
 
 def layered(width):
-    """Blobs: a byte, and layers of so many trees, each of which has two parts, of 2^n bytes together in the n-th; a file of
-    the last layer; a permanode with that content, one that names it as its signer, and two claims of a long value, of which
-    a table has a copy."""
+    """Blobs: a byte, and layers of so many trees, each of which has two parts, of 2^n bytes together in the n-th layer;
+    a file of the last layer; a permanode with that content, one that names it as its signer, and two claims of a long
+    value, of which a table has a copy."""
     below, blobs = [(ref_of(b"x"), "blobRef")], [b"x"]
     for layer in range(LAYERS + 1):
         size, trees = 1 << max(layer - 1, 0), []
         for first in range(width):
             parts = [part_text(size, *below[(first + place) % len(below)]) for place in range(2 if layer else 1)]
-            # Where a layer's trees would be the same a part of no bytes tells them apart.
+            # If a layer's trees would be equal, a part of no bytes distinguishes them.
             trees.append(bytes_blob(parts + [part_text(0)] * first))
         blobs += trees
         below = [(ref_of(tree), "bytesRef") for tree in trees]
@@ -484,7 +486,7 @@ def is_made_anew(program, library):
 # Stops
 
 def stops(program):
-    """The disk stops at each call of a row over no store, and what it held then crashes by each choice."""
+    """The disk stops at each call of a row over no store, and then crashes by each choice."""
     return [lambda row=row, choice=choice: stops_in_turn(program, row, choice) for row in stopped() for choice in CHOICES]
 
 
@@ -496,11 +498,12 @@ def stopped():
 
 
 def stops_in_turn(program, row, choice, second=None):
-    """Where a second choice is given, what is left then crashes by it too: at once, and once the store was opened."""
+    """If a second choice is given, the state that is left then crashes by it too: immediately, and after the store was
+    opened."""
     lines = told_of(program, row, "stops", str(choice), "none" if second is None else str(second))
     world = World(row)
     writing = 2 + 2 * world.put(0)
-    # What it gives to peers then is read from the disk.
+    # The blobs that it then gives to peers are read from the disk.
     calls = max(line.call for line in lines) if row.gives() else writing
     check(f"{row.what}: {calls} calls", calls >= writing + len(world.new) - world.put(0))
     runs = [(False, number) for number in range(calls + 1)]
@@ -513,7 +516,7 @@ def stops_in_turn(program, row, choice, second=None):
         left = min(whole_after(number, choice, None if is_opened else second), world.put(0))
         compare(what, "the status", str(DONE if number == calls else DISK), line.first.end)
         compare(what, "what it writes", world.out(0) if number == calls else b"", line.first.out)
-        # Once the disk has all, some were given to peers too.
+        # When the disk has all, some were given to peers too.
         lefts = range(left, len(world.new) + 1) if number >= writing else [left]
         left = next((left for left in lefts if world.held(left) == line.first.held), None)
         check(f"{what}: what there is", left is not None and (number < calls or left == len(world.new)))
@@ -521,9 +524,9 @@ def stops_in_turn(program, row, choice, second=None):
 
 
 def whole_after(stop, choice, second):
-    """How many records are whole that were written into a new folder, where the disk stops at a call: the calls before
-    it look for packs, make one, and add and sync each record in turn. Of a record that wasn't synced all is left where
-    the choice modulo 8 is 0, and else less, or other bytes (`MemDisk::crash` of `pack_disk`)."""
+    """How many records are whole that were written into a new folder, if the disk stops at a call: the calls before it
+    look for packs, make one, and add and sync each record in turn. A record that wasn't synced is left whole if the
+    choice modulo 8 is 0; otherwise less of it is left, or other bytes (`MemDisk::crash` of `pack_disk`)."""
     keeps_all = choice % 8 == 0 and (second is None or second % 8 == 0)
     return max(0, stop - 1 if keeps_all else stop - 2) // 2
 

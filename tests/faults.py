@@ -1,9 +1,9 @@
 """Calls to the kernel that fail, and the order of writes, syncs and prints (docs/store.md, "Crashes";
 docs/commands.md, "Exit statuses").
 
-First the calls of a put that succeeds are looked at; then the same put is run once for each of these calls, which
-fails. Whatever fails, the blobs of before stand, a ref that was printed is found and was durable when it was printed,
-and the next puts succeed.
+First the calls of a put that succeeds are recorded; then the same put is run once for each of these calls, which fails.
+Whatever fails, the earlier blobs are kept, a ref that was printed is found and was durable when it was printed, and the
+next puts succeed.
 """
 
 import os
@@ -32,7 +32,8 @@ STORES = {
 # The order of syncs
 
 def syncs(program):
-    """In which order the program writes, syncs and prints. A killed program can't show it: the kernel still writes."""
+    """The order in which the program writes, syncs and prints. A killed program can't show it: the kernel still
+    writes."""
     need_strace(program)
     orders = [lambda what=what: put_is_synced(program, what) for what in STORES]
     others = (readers_sync, each_byte_is_read_once, salvage_syncs_nothing)
@@ -50,8 +51,8 @@ def put_is_synced(program, what):
 
 
 def is_durable_when_printed(what, calls, folder, number, packs, is_new):
-    """The record is synced by the file that it was written to, behind its last write and before the ref is printed;
-    so are the names of a new pack and of a new folder."""
+    """The record is synced by the file to which it was written, after its last write and before the ref is printed; so
+    are the names of a new pack and of a new folder."""
     path = folder / pack_name(number)
     printed = places(calls, WRITES, file=1)[0]
     written = [place for place in places(calls, WRITES, path) if place < printed]
@@ -70,12 +71,12 @@ def is_durable_when_printed(what, calls, folder, number, packs, is_new):
 
 
 def spelled(calls, folder):
-    """The places of the syncs of a folder whose path strace tells with a slash behind it."""
+    """The places of the syncs of a folder whose path strace prints with a slash after it."""
     return places(calls, SYNCS, f"{folder}/")
 
 
 def readers_sync(program):
-    """Opening syncs every pack, also torn ones, before it is read, and writes to none."""
+    """Opening syncs every pack, even torn ones, before it is read, and writes to none."""
     store = Store(program, {0: pack(b"abc"), 3: TORN, 4: b""})
     for command in ("put", "get", "stat", "list", "search", "words"):
         calls = traced(program, command, lines_of(store.path)[command], b"abc")
@@ -86,7 +87,7 @@ def readers_sync(program):
 
 
 def each_byte_is_read_once(program):
-    """A listing and the searches read each pack whole, once, in pieces: nothing of a blob is read a second time."""
+    """A listing and the searches read each pack whole, once, in pieces: no part of a blob is read a second time."""
     blobs = [bytes([number]) * (number * 40_000) for number in range(5)]
     packs = {0: pack(*blobs), 3: inputs.EXAMPLE + record(inputs.DELETE), 4: pack(b"abc")[:-1]}
     store = Store(program, packs, {"keyring": inputs.KEYRING})
@@ -117,8 +118,8 @@ FAILING = CHANGING + READS + LOCKS + LISTS + LOOKS
 
 
 def failing(program):
-    """Each call of a put in turn fails, once; the writes and syncs also from there on, and so that what they left
-    can't be cut back."""
+    """Each call of a put in turn fails, once; the writes and syncs also from there on, so that their result can't be
+    cut back."""
     need_strace(program)
     return [check for what in STORES for check in failing_calls(program, what)]
 
@@ -138,7 +139,7 @@ def failing_calls(program, what):
 
 
 def faults_of(call):
-    """The faults, by strace's words, that a call is tried with."""
+    """The faults, in strace's notation, to try on a call."""
     if call.name not in FAILING:
         return []
     faults = [(f"{call.name}:error=EIO:when={call.number}",)]
@@ -151,13 +152,13 @@ def faults_of(call):
 
 
 def own_calls(calls, folder):
-    """The calls behind those of the loader, from the first one on that has to do with the store or standard input."""
+    """The calls after those of the loader, from the first one on that concerns the store or standard input."""
     first = next(place for place, call in enumerate(calls) if call.path.startswith(str(folder)) or call.file == 0)
     return calls[first:]
 
 
 def put_fails(program, what, call, fault, where):
-    """A put with a call that fails: how it ends, what stands then, and that the next puts find it well."""
+    """A put with a call that fails: how it ends, the state then, and that the next puts succeed."""
     store = Store(program, STORES[what])
     told = f"{what}, {' and '.join(fault)} ({where or 'no path'})"
     before = dict(store.packs)
@@ -172,12 +173,12 @@ def put_fails(program, what, call, fault, where):
 
 
 def ends_with_fault(what, store, words, source, call, fault):
-    """Runs the program with a call that fails; answers its status, output and calls. What stood before stands."""
+    """Runs the program with a call that fails; returns its status, output and calls. The earlier blobs are kept."""
     before = dict(store.packs)
     status, out, err, calls = trace(store.program, words, source, fault)
     check(f"{what}: no call failed", any(one.is_injected() for one in calls))
     expected = status if status in statuses_for(call) else statuses_for(call)[0]
-    # Where all writes fail the program can't tell its status.
+    # If all writes fail, the program can't report its status.
     told = err or harness.told_of(expected) if fault[0].startswith("write") else err
     compare_ending(what, expected, status, told)
     store.packs = reference.packs_of(store.files())
@@ -186,14 +187,14 @@ def ends_with_fault(what, store, words, source, call, fault):
 
 
 def statuses_for(call):
-    """The statuses with which a put may end where a call fails: the likely one, and 0 where the call isn't needed."""
+    """The statuses with which a put may end if a call fails: the likely one, and 0 if the call isn't needed."""
     if call.file == 0 or call.path.endswith("/keyring"):
         return (5, 0)
     return (6, 0) if call.file == 1 else (7, 0)
 
 
 def stands(what, before, packs):
-    """The packs of before stand with their bytes, and at most one has more than it had, or is new."""
+    """The earlier packs are there with their bytes, and at most one has more than it had, or is new."""
     for number, content in before.items():
         compare(what, f"what stood in pack {number}", content, packs.get(number, b"")[: len(content)])
     lengths = {number: len(content) for number, content in before.items()}
@@ -202,7 +203,7 @@ def stands(what, before, packs):
 
 
 def goes_on(what, store, before):
-    """The same blob and another one can be put then, and all are found."""
+    """The same blob and another one can then be put, and all are found."""
     known = {**reference.arrivals(before)}
     for blob in (BLOB, b"another blob"):
         store.program.check(f"{what}, the put after it", store.words("put"), ref_of(blob).encode() + b"\n", source=blob)

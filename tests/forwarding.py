@@ -1,4 +1,4 @@
-"""A plain forwarder of TCP, which stands between clients and a server and keeps what both sides said."""
+"""A plain forwarder of TCP between clients and a server, which records what both sides sent."""
 
 import contextlib
 import socket
@@ -10,7 +10,7 @@ REPLY = b"HTTP/1.1 200 OK\r\nContent-Length: 2\r\nContent-Type: text/html\r\nCon
 
 
 class Forwarder:
-    """Hands connections on to a port, or answers them itself where there is none, and keeps what both sides said."""
+    """Forwards connections to a port, or answers them itself if there is none, and records what both sides sent."""
 
     def __init__(self, port=None):
         self.to, self.kept = port, []
@@ -43,7 +43,7 @@ class Forwarder:
 
 
 def copy(source, sink, said, which):
-    """Hands on what one side says, to its end."""
+    """Forwards what one side sends, to its end."""
     with contextlib.suppress(OSError):
         while piece := source.recv(PIECE):
             said[which] += piece

@@ -1,4 +1,4 @@
-"""Tries inputs again that were found by bench/fuzz.sh, and queries that may take long.
+"""Tries again inputs that were found by bench/fuzz.sh, and queries that may take long.
 
 A file of tests/found/ has the bytes of an input, and its name begins with that of its target.
 """
@@ -35,7 +35,7 @@ def queries_of_many(program):
 
 
 def checks_of(program, group):
-    # What run_measured runs is in a folder with the keyring.
+    # run_measured runs its program in a folder with the keyring.
     os.chdir(program.working_folder(KEYRING))
     return group(program)
 

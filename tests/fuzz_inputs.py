@@ -25,7 +25,7 @@ from writing import claim, pack, permanode, signed
 
 KEYS = reference.read_keyring(KEYRING)
 ABC = ref_of(b"abc").encode()
-# Of so many permanodes it is asked what might take long.
+# Queries that might take long are made over so many permanodes.
 MANY = 1_000
 # Queries of many constraints have at most so many bytes.
 WIDE, WIDEST = 1 << 14, 1 << 16
@@ -63,8 +63,8 @@ class Packs(Target):
         return [inputs.EXAMPLE, pack(b"abc", b"") + writing.deleted_record(9), *some[::7]]
 
     def worst(self):
-        """What is hashed for a header is the blob that it says, so each has one of the greatest size that fits at
-        most."""
+        """The bytes hashed for a header are those of the blob that it announces; therefore each has the greatest size
+        that just fits."""
         header = b"[" + ABC + b" "
         yield "opening brackets", b"[" * MIB
         yield "headers of a blob of three", (header + b"3]") * (MIB // len(header + b"3]"))
@@ -91,7 +91,7 @@ class Packs(Target):
 
 
 class Facts(Target):
-    """A blob, and the same text signed as a payload: what constraints tell of both, and what is found."""
+    """A blob, and the same text signed as a payload: the results of constraints on both, and of searches."""
 
     tokens = [*JSON_TOKENS, b'"camliType":"file"', b'"camliType":"claim"', b'"camliVersion":1', writing.MARKER]
     tokens += [b'"size":']
@@ -141,7 +141,7 @@ class Facts(Target):
 
 
 class Keyrings(Target):
-    """The text of a keyring, under which a claim is looked for."""
+    """The text of a keyring, with which a claim is searched for."""
 
     tokens = [b"\n", b" ", b"jefe", b"4a656665", b"a", b"-", b"f", b"F", b"\r", b"\t", b"\0", b"\xff", b"0" * 256]
     tokens += [b"k" * 64]
@@ -177,7 +177,7 @@ class Keyrings(Target):
 
 
 class Changes(Target):
-    """A list of changes, as `multi` reads it."""
+    """A list of changes, in the form that `multi` reads."""
 
     tokens = [*JSON_TOKENS, b'"changeType":"del-attribute"', b'"value":""', b'"permaNode":', ABC]
     tokens += [b"set-attribute", b"add-attribute", inputs.CHANGE.encode(), b"," + inputs.CHANGE.encode()]
@@ -237,7 +237,7 @@ class Queries(Target):
         yield from worst_texts()
 
     def of_all(self, widest):
-        """Queries that all permanodes of the store of many meet."""
+        """Queries that all permanodes of the large store meet."""
         yield "many constraints", wide_query(b'{"anything":true}', widest)
         yield "many tests of a value", wide_query(b'{"permanode":{"attr":"tag","value":"a"}}', widest)
         yield "relations in one another", deep_query(b'{"permanode":{"relation":{"relation":"child","any":', b"}}}")
@@ -267,8 +267,8 @@ class Queries(Target):
 
 
 class Words(Target):
-    """A line of search words, as the TEXT of `words`. A word of a command has no zero byte, and the system takes none
-    that is much longer than these."""
+    """A line of search words, as the TEXT of `words`. An argument has no zero byte, and the system accepts none that is
+    much longer than these."""
 
     tokens = [b"tag:", b"title:", b"attr:", b"has:", b"ref:", b"childrenof:", b" or ", b" ", b"-", b"(", b")", b'"']
     tokens += [b"\\", b"\\\"", b":", b"-(", b'""', b"or", b"\xc3\xa4", b"\xff", b"sha224-", b"sha1-", b"0" * 40, b"a" * 56, ABC]
@@ -334,6 +334,6 @@ def wide_query(leaf, widest):
 
 
 def deep_query(front, end):
-    """A query whose constraints are in one another as deep as they may be."""
+    """A query whose constraints are nested as deeply as they may be."""
     depth = queries.DEEPEST - 1
     return b'{"constraint":' + front * depth + b'{"anything":true}' + end * depth + b"}"

@@ -1,5 +1,5 @@
 """Inputs that come over connections, for bench/fuzz.sh and found.sh: requests to a server and to one of shares, the
-bodies of uploads, and what a peer replies to `push` and `pull`."""
+bodies of uploads, and the replies of a peer to `push` and `pull`."""
 
 import os
 import re
@@ -37,7 +37,7 @@ class Streams(Target):
     tokens += [b"--b--"]
     tokens += [b"Expect: 100-continue\r\n", FORM.encode() + b"\r\n", PROBE, b"/camli/", b"camliversion=1", b"blob1="]
     tokens += [ABC]
-    # A server is asked so often: for each search the reference reads all that it holds.
+    # A server gets so many requests: for each search the reference reads all that it holds.
     MOST_ASKED = 400
 
     def __init__(self, program, packs=None):
@@ -108,14 +108,14 @@ def in_pieces(random, stream):
 
 
 def worked(server):
-    """For how many seconds of a processor a server has worked."""
+    """The processor seconds that a server has worked."""
     with open(f"/proc/{server.process.pid}/stat") as file:
         ticks = file.read().rpartition(")")[2].split()[11:13]
     return sum(map(int, ticks)) / os.sysconf("SC_CLK_TCK")
 
 
 def peak(server):
-    """The MiB that a server has had at most."""
+    """The greatest memory of a server, in MiB."""
     with open(f"/proc/{server.process.pid}/status") as file:
         return int(re.search(r"VmHWM:\s+(\d+)", file.read())[1]) // 1_024
 
@@ -183,7 +183,7 @@ class Shares(Streams):
 
 
 class Replies(Target):
-    """What a peer replies to one request of a push or a pull: the first byte says to which, and the rest is the
+    """The reply of a peer to one request of a push or a pull: the first byte says to which request, and the rest is the
     reply."""
 
     tokens = [*Streams.tokens, *JSON_TOKENS, b"HTTP/1.1 200 OK\r\n", b"HTTP/1.0 ", b"404", b"507", b'"blobRef":']
@@ -232,7 +232,7 @@ class Replies(Target):
 
 
 def is_sound(what, exchange, peer):
-    """Both ends hold what they held, and nothing but what the other one has, under its own ref."""
+    """Both ends have what they had, and besides only blobs of the other one, each under its own ref."""
     packs = reference.packs_of(exchange.here.files())
     broken = [place for _, place in map(reference.salvage, packs.values()) if place is not None]
     compare(what, "broken places", [], broken)

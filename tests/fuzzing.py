@@ -1,28 +1,29 @@
-"""Inputs that are changed at random, and what the program has to make of each.
+"""Inputs that are changed at random, and the expected result of each.
 
-A `Target` takes inputs of one kind, which are bytes: it asks the program, compares what that answers with the
-reference, and looks that no input of at most 1 MiB takes more than 300 MiB, nor more than ten seconds of a processor.
-The kinds are in fuzz_inputs.py and fuzz_wires.py. bench/fuzz.sh makes inputs; found.sh tries those that were found. """
+A `Target` takes inputs of one kind, which are bytes: it runs the program, compares its answer with the reference, and
+checks that no input of at most 1 MiB takes more than 300 MiB, or more than ten seconds of a processor. The kinds are in
+fuzz_inputs.py and fuzz_wires.py. bench/fuzz.sh makes inputs; found.sh tries those that were found.
+"""
 
 import os
 
 from harness import Taken, check, compare, compare_ending, run_measured
 
 MOST_MIB, MOST_SECONDS = 300, 10
-# What takes little of a processor may wait long for one.
+# A run that takes little of a processor may wait long for one.
 PATIENCE = 1_000
 MIB = 1 << 20
 
-# What means something in a text of JSON.
+# Pieces that mean something in JSON.
 JSON_TOKENS = [b"{", b"}", b"[", b"]", b",", b":", b'"', b"\\", b"null", b"true", b"0", b"\n", b" ", b"\\u0000"]
 JSON_TOKENS += [b"\\ud800"]
 JSON_TOKENS += [b"\xff", b"\xc3\xa4", b"\0", b'"":1,', b'"a":{}', b"[[[[", b"1e400", b"-0", b"\\", b'\\"']
 
 
 class Target:
-    """Inputs of one kind. `seeds` are good ones, `tokens` what is put into them, and `worst` gives what might take
-    long, with what it is. `tries` asks the program over a store that has these packs too; it gives the class of the
-    answer, or raises the difference. What was asked before may hold on until `close`, or `starts_anew` after a
+    """Inputs of one kind. `seeds` are good ones, `tokens` are pieces that are put into them, and `worst` gives inputs
+    that might take long, with a description. `tries` runs the program over a store that has these packs too; it returns
+    the class of the answer, or raises the difference. A process may be kept until `close`, or `starts_anew` after a
     difference. `most` is the most that any input took so far."""
 
     tokens = JSON_TOKENS
@@ -41,14 +42,14 @@ class Target:
         pass
 
     def ends(self, what, words, source, status, out, most_seconds=MOST_SECONDS, environment=os.environ):
-        """Runs the program, which has to end so, within its limits."""
+        """Runs the program, which has to end in this way, within its limits."""
         (is_status, is_out, err), taken = self.runs(words, source, most_seconds, environment)
         compare_ending(what, status, is_status, err)
         compare(what, "standard output", out, is_out)
         self.takes(what, taken, most_seconds)
 
     def runs(self, words, source=b"", most_seconds=MOST_SECONDS, environment=os.environ):
-        """How a run ended, and what it took."""
+        """How a run ended, and its cost."""
         return run_measured(self.program, words, source, PATIENCE, environment, work=int(most_seconds) + 1)
 
     def takes(self, what, taken, most_seconds=MOST_SECONDS):

@@ -1,7 +1,7 @@
-"""Runs `perkeep get-file` over files whose blobs are made here, and compares the bytes that come out and how it ends.
+"""Runs `perkeep get-file` over files whose blobs are made here, and compares its output and how it ends.
 
-What has to come out is written down here for most files, and the reference has to give it as well as the program. For
-random files it is the reference's alone. Each command must leave the folder as it was.
+The expected output is written down here for most files, and the reference has to return it as well as the program. For
+random files it is the reference's alone. Each command must leave the folder unchanged.
 """
 
 import hashlib
@@ -32,14 +32,14 @@ def lines_of(folder):
 # Files made here
 
 class Made:
-    """Blobs of a file, the ref of the file, the bytes that come out of it, and the exit status."""
+    """The blobs of a file, the ref of the file, the expected output, and the exit status."""
 
     def __init__(self, what, blobs, out, status=0, ref=None, name_of=ref_of):
         self.what, self.blobs, self.out, self.status = what, list(blobs), out, status
         self.ref, self.name_of = ref or name_of(self.blobs[-1]), name_of
 
     def check(self, program):
-        """The file's blobs stand one by one in three packs, the file's own in the first."""
+        """The file's blobs are one by one in three packs, the file's own in the first."""
         parts = self.blobs[::-1][::3], self.blobs[1::3], self.blobs
         first, second, last = (pack(*some, name_of=self.name_of) for some in parts)
         store = Store(program, {0: first, 1: second + b"[torn", 4: last})
@@ -78,7 +78,7 @@ def digits(size, offset=0):
     return part(size, DIGITS_REF, offset=offset)
 
 
-# What the parts are, the parts, and the bytes.
+# A description of the parts, the parts, and the bytes.
 PARTS = [
     ("no parts", [], b""),
     ("a whole blob", [digits(10)], DIGITS),
@@ -156,8 +156,8 @@ def trees():
 
 
 def nested(levels, inner, size=3, kind=bytes_blob):
-    """The blobs of a file of so many trees within one another, itself counted, whose inmost has the part; the first
-    part of the file is `<`."""
+    """The blobs of a file of so many trees within one another, including itself, whose innermost has the part; the
+    first part of the file is `<`."""
     blobs = [kind([inner])]
     for _ in range(levels - 2):
         blobs.append(kind([tree_part(blobs[-1], size)]))
@@ -166,7 +166,7 @@ def nested(levels, inner, size=3, kind=bytes_blob):
 
 @group
 def older():
-    """Files whose blobs have their older names, of which some parts name them by the other one."""
+    """Files whose blobs have their older names. Some parts name them by the other one."""
     abc, tree = part(3, OLDER_ABC), bytes_blob([part(2, older_ref_of(DIGITS), offset=4)])
     of_tree = part(2, older_ref_of(tree), "bytesRef")
     for what, its_parts, out, status in [
@@ -187,7 +187,7 @@ def older():
 
 @group
 def depth():
-    """Trees that nest as deep as they may, and one more."""
+    """Trees that nest as deeply as they may, and one more."""
     abc = part(3, ABC)
     for levels in (2, 63, 64, 65, 66, 200):
         out, status = (b"<abc", 0) if levels <= 64 else (b"<", 4)
@@ -208,7 +208,7 @@ def depth():
 
 @group
 def absent():
-    """A blob or a tree that isn't there: the bytes before it come out."""
+    """A blob or a tree that isn't there: the bytes before it are written."""
     lost, lost_tree = part(3, NOWHERE), part(3, NOWHERE, "bytesRef")
     for what, one in [("a blob", lost), ("a tree", lost_tree)]:
         for place, out in [(0, b""), (1, b"01"), (2, b"01\0\0")]:
@@ -223,7 +223,7 @@ def absent():
 
 @group
 def unasked():
-    """What no byte is asked of isn't looked at."""
+    """A part of which no byte is needed isn't read."""
     nothing = [part(0, NOWHERE), part(0, NOWHERE, "bytesRef"), part(0, ABC, offset=99), part(0, ABC, "bytesRef")]
     yield file_of("parts of no bytes, of what isn't there", [digits(1), *nothing, digits(1, 1)], b"01")
     yield within("parts of no bytes, of what isn't there", [digits(1), *nothing, digits(1, 1)], b"01")
@@ -242,7 +242,7 @@ def unasked():
 
 @group
 def short():
-    """Parts that reach past what they are of."""
+    """Parts that reach past their origins."""
     for size, offset in [(11, 0), (1, 10), (10, 1), (5, 6), (MOST, 0), (1, MOST)]:
         its_parts = [digits(2), digits(size, offset)]
         if 2 + size <= MOST:
@@ -251,7 +251,7 @@ def short():
         tree = bytes_blob([digits(5), digits(5, 5)])
         outer = file_blob("n", [digits(1), tree_part(tree, min(size, MOST - 1), offset)])
         yield Made(f"{size} bytes of a tree from {offset} on", [DIGITS, tree, outer], b"0", 4)
-    # A tree's own parts may still fail where it is long enough.
+    # A tree's own parts may still fail if it is long enough.
     tree = bytes_blob([digits(5), digits(11)])
     for what, one, out in [("all", tree_part(tree, 16), b"01234"), ("one byte", tree_part(tree, 1, 5), b"")]:
         yield Made(f"a part within, of which {what} is asked", [DIGITS, tree, file_blob("n", [one])], out, 4)
@@ -261,7 +261,7 @@ def short():
 
 @group
 def no_files():
-    """Blobs that are no file, under the ref that is asked and under a tree's."""
+    """Blobs that aren't files, under the given ref and under a tree's."""
     text = file_blob("n", [digits(1)]).decode()
     changes = [
         ("version 1.0", '"camliVersion":1', '"camliVersion":1.0'),
@@ -315,7 +315,7 @@ def random_files():
         yield Made(f"random file {number}", [*blobs.values()], out, status, names(top), names)
 
 
-# Whatever the names of a file's blobs are, one of each pair is of what isn't there.
+# Whatever the names of a file's blobs are, one of each pair is the name of a missing blob.
 BAD_PARTS = [part(3, NOWHERE), part(2, NOWHERE, "bytesRef"), digits(3, 8), part(1, ABC, "bytesRef")]
 BAD_PARTS += [part(3, older_ref_of(DIGITS), offset=8), part(1, OLDER_ABC, "bytesRef")]
 
@@ -389,8 +389,8 @@ def reads_long(store, what, top, pieces):
 
 
 def zeros_without_end(program):
-    """Zeros of 2^40 bytes, and of as many as there may be, read for a while: they come at once, and the end is a failed
-    write."""
+    """Zeros of 2^40 bytes, and of as many as there may be, read for a while: they come immediately, and the end is a
+    failed write."""
     for size in (1 << 40, MOST - 2):
         front = file_blob("n", [part(1, ref_of(b"<")), part(size), part(1, NOWHERE)])
         tree = bytes_blob([part(size)])
@@ -424,8 +424,8 @@ def reads_front(store, what, top, front):
 # Blobs that are read ahead
 
 class Asked(NamedTuple):
-    """A file whose blobs have one length, how many of them are read before the first byte is written, how often they are
-    read in all, and the exit status."""
+    """A file whose blobs have one length, how many of them are read before the first byte is written, how often they
+    are read in all, and the exit status."""
 
     what: str
     blobs: list
@@ -448,7 +448,7 @@ class Asked(NamedTuple):
 
 
 def reading_ahead(program):
-    """No blob is read more often than it is asked, and up to 64 of 8 MiB together before the first is written."""
+    """No blob is read more often than it is needed, and up to 64 of 8 MiB together before the first is written."""
     need_strace(program)
     random = chance("reading ahead")
     small, (large, *more), (huge, *others) = (
@@ -476,7 +476,7 @@ def reading_ahead(program):
 # Refusals
 
 def words(program):
-    """Lines that aren't lines: status 2, whatever the keyring is."""
+    """Lines that aren't valid: status 2, whatever the keyring is."""
     store = Store(program, {0: pack(DIGITS, file_blob("n", [digits(10)]))}, {"keyring": b"a bad keyring"})
     folder, ref = str(store.path), ref_of(file_blob("n", [digits(10)]))
     bad = [(), (folder,), (folder, "--"), (folder, ref, ref), (folder, ref, ""), (folder, "-x")]
@@ -493,7 +493,7 @@ def words(program):
 
 
 def texts(program):
-    """Refs that are none: status 4, whatever the disk holds."""
+    """Texts that aren't refs: status 4, whatever the disk has."""
     store = Store(program, {0: pack(b"abc")}, {"keyring": inputs.KEYRING})
     file = program.new_path()
     file.write_bytes(b"")
@@ -506,7 +506,7 @@ def keyrings(program):
 
 
 def folders(program):
-    """Folders that are none, and those that aren't there, which read as a store without blobs."""
+    """Paths that aren't folders, and folders that aren't there, which read as a store without blobs."""
     missing, empty = program.new_path(), Store(program, {})
     parentless = missing / "store"
     checks = bad_packs(program, lines_of, {}) + bad_folders(program, lines_of, 7)
@@ -527,7 +527,7 @@ def reads_on(program):
 
 
 def streams(program):
-    """Standard output that takes nothing, and what is told where several things are wrong."""
+    """Standard output that accepts nothing, and which error is reported if there are several."""
     return [lambda: failing_sinks(program), lambda: which_is_first(program), lambda: reads_no_source(program)]
 
 

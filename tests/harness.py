@@ -1,10 +1,10 @@
-"""What all scripts share: starts the program, compares, and runs groups of checks and counts them.
+"""Shared by all scripts: starts the program, compares, and runs groups of checks and counts them.
 
 The preamble of the scripts (preamble.bash) says by variables of the environment which program is run:
 
     PERKEEP  the program
-    AGAIN    what has to stand in front of a script's name to run it with the same program
-    SEED     the number that all random choices hang on
+    AGAIN    the text before a script's name that runs it with the same program
+    SEED     the number from which all random choices follow
     KEEP     if it isn't empty, the folder in which a script works is kept, and its path is printed
 """
 
@@ -54,7 +54,7 @@ def compare_ending(what, status, is_status, err):
 
 
 def told_of(status):
-    """What the program writes to standard error for a status."""
+    """The program's standard error for a status."""
     return b"" if status == 0 else b"perkeep: " + WORDS[status] + b"\n"
 
 
@@ -76,14 +76,14 @@ def chance(*what):
 # Running the program
 
 class Program:
-    """The program, and the folder in which all that it is given stands."""
+    """The program, and the folder of all its inputs."""
 
     def __init__(self, path, folder):
         self.path = path
         self.folder = pathlib.Path(folder).resolve()
         self.numbers = itertools.count()
         self.starts = collections.Counter()
-        # The usual working folder holds no keyring that can be read: a store has its own.
+        # The usual working folder has no keyring that can be read: a store has its own.
         self.working = self.working_folder(b"no keyring of a store")
 
     def new_path(self):
@@ -91,31 +91,31 @@ class Program:
         return self.folder / f"path-{next(self.numbers)}"
 
     def working_folder(self, keyring):
-        """A folder that holds the keyring, or none."""
+        """A working folder that has the keyring, or none."""
         name = "none" if keyring is None else hashlib.sha256(keyring).hexdigest()
         folder = self.folder / name
         folder.mkdir(exist_ok=True)
         if keyring is not None and not (folder / "keyring").exists():
-            # Other runs may look for the file at the same time, so it comes whole.
+            # Other runs may look for the file at the same time; therefore it appears whole.
             with tempfile.NamedTemporaryFile(dir=self.folder, delete=False) as file:
                 file.write(keyring)
             os.replace(file.name, folder / "keyring")
         return folder
 
     def start(self, words, folder=None, front=(), **streams):
-        """Starts the program, by another one that it takes the place of where there are words in front."""
+        """Starts the program; if there are words in front, by another program that it replaces."""
         self.starts[words[0] if words else ""] += 1
         line = [*front, self.path, *words]
         return subprocess.Popen(line, cwd=folder or self.working, stderr=subprocess.PIPE, **streams)
 
     def run(self, what, words, source=b"", folder=None, seconds=SECONDS, **streams):
-        """Runs the program to its end; answers its status, output and errors."""
+        """Runs the program to its end; returns its status, output and errors."""
         process = self.start(words, folder, stdin=subprocess.PIPE, stdout=subprocess.PIPE, **streams)
         out, err = finish(what, process, source, seconds)
         return process.returncode, out, err
 
     def check(self, what, words, out=b"", status=0, source=b"", folder=None, seconds=SECONDS):
-        """Runs the program to its end, which has to be so."""
+        """Runs the program to its end, which has to be as given."""
         is_status, is_out, err = self.run(what, words, source, folder, seconds)
         compare_ending(what, status, is_status, err)
         compare(what, "standard output", out, is_out)
@@ -162,14 +162,14 @@ def with_broken_source(program, what, line, front, **streams):
 
 
 def run_quickly(program, words, source, seconds=SECONDS, environment=os.environ):
-    """As `Program.run`, in the folder of this process, in an environment, and with files in memory as streams: this
+    """As `Program.run`, in the folder of this process, in an environment, and with files in memory as streams. This
     takes little time of the script's own."""
     return run_measured(program, words, source, seconds, environment)[0]
 
 
 def run_measured(program, words, source, seconds=SECONDS, environment=os.environ, work=None):
-    """As `run_quickly`, and what the run took as well. Where `work` is given, SIGXCPU ends what takes so many seconds of
-    a processor."""
+    """As `run_quickly`, and also the cost of the run. If `work` is given, SIGXCPU ends a run that takes so many seconds
+    of a processor."""
     program.starts[words[0]] += 1
     files = [os.memfd_create("stream") for _ in range(3)]
     try:
@@ -193,15 +193,15 @@ def run_measured(program, words, source, seconds=SECONDS, environment=os.environ
 
 
 class Taken(NamedTuple):
-    """What a run took: seconds of a processor, and at most so many MiB of memory. The system counts for these what this
-    process has, where that is more."""
+    """The cost of a run: seconds of a processor, and at most so many MiB of memory. If this process has more memory,
+    the system reports that."""
 
     seconds: float
     mib: float
 
 
 def ends_within(child, seconds):
-    """Waits until a process ends, and kills it where that takes too long; answers whether it ended."""
+    """Waits until a process ends, and kills it if that takes too long; returns whether it ended."""
     handle = os.pidfd_open(child)
     try:
         poll = select.poll()
@@ -214,8 +214,8 @@ def ends_within(child, seconds):
         os.close(handle)
 
 
-# What stands in front of a program's words, where it is to start under some condition. (No code of Python's runs
-# between a fork and the program: that may hang where there are threads.)
+# Words before a program's own, if it is to start under some condition. (No Python code runs between a fork and the
+# program: that may hang if there are threads.)
 
 def limited_to(mib):
     """So many MiB of memory."""
@@ -230,7 +230,7 @@ def without(stream):
 # Running groups
 
 class Run:
-    """One run of a script: counts its checks, and tells what fails and how that is run again."""
+    """One run of a script: counts its checks, and prints failures and how to run them again."""
 
     def __init__(self, script):
         self.script = script
@@ -250,7 +250,7 @@ class Run:
             self.passed += count
 
     def try_one(self, group, check):
-        """Runs a check; answers whether it passed."""
+        """Runs a check; returns whether it passed."""
         try:
             check()
         except Difference as difference:
@@ -263,7 +263,7 @@ class Run:
         return True
 
     def run_group(self, group, checks_of, at_once):
-        """Runs the checks of a group, so many at once, and says how many there were."""
+        """Runs the checks of a group, so many at once, and prints their number."""
         name = group.__name__
         try:
             checks = checks_of(group)
@@ -291,11 +291,11 @@ class LeftOut(Exception):
 
 
 def main(script, groups, one_at_a_time=(), checks_of=None, end=None, beside=()):
-    """Runs the groups whose names are the words of the command line, or all where there is none, and ends.
+    """Runs the groups named by the command line, or all if there are none, and ends.
 
-    A group is a function of the program that answers its checks, which are functions of nothing; or `checks_of` makes
-    them of the program and a group. Those of `one_at_a_time` run one after another, those of `groups` some at once, and
-    those of `beside` all at once, while the other groups run. `end` is told the program.
+    A group is a function of the program that returns its checks, which are functions without arguments; or `checks_of`
+    makes them from the program and a group. Those of `one_at_a_time` run one after another, those of `groups` some at
+    once, and those of `beside` all at once, while the other groups run. `end` gets the program.
     """
     names = sys.argv[1:]
     known = [group.__name__ for group in [*groups, *one_at_a_time, *beside]]

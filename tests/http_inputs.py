@@ -20,7 +20,7 @@ from writing import octets, pack
 
 ABC, EMPTY = ref_of(b"abc"), ref_of(b"")
 OLDER_ABC, OLDER_EMPTY = older_ref_of(b"abc"), older_ref_of(b"")
-# Every other one stands under its older name.
+# Every other one has its older name.
 MANY = [b"%d" % number for number in range(1_003)]
 MANY_REFS = sorted((older_ref_of if number % 2 else ref_of)(blob) for number, blob in enumerate(MANY))
 # Stores by their names, as packs under the keyring of query_inputs.py.
@@ -33,7 +33,8 @@ STORES = {
 
 
 class Case(NamedTuple):
-    """A stream, or what makes it; the store that answers it; and the replies where they are written down beside it."""
+    """A stream, or a function that makes it; the store that answers it; and the replies if they are written down beside
+    it."""
 
     what: str
     stream: bytes | Callable
@@ -60,7 +61,7 @@ def chunk(content, line=None):
 
 
 def post_chunks(target, chunks, *headers, end=b"0\r\n\r\n"):
-    """A request whose chunks, and what ends them, are written already."""
+    """A request whose chunks, and their ends, are already written."""
     return head(b"POST %b HTTP/1.1" % target, *headers, "Transfer-Encoding: chunked") + b"".join(chunks) + end
 
 
@@ -81,12 +82,12 @@ def stat(*refs, version="1"):
     return get(STAT + b"?" + stat_pairs(*refs, version=version))
 
 
-# Each hostile stream is tried with a good request behind it, and without.
+# Each hostile stream is tried followed by a good request, and without.
 PROBE = stat(ABC)
 
 
 def probed(group):
-    """The cases of a group as they are, and those with a request behind."""
+    """The cases of a group unchanged, and those followed by a request."""
 
     def both():
         for case in group():
@@ -103,7 +104,7 @@ FORM = "Content-Type: multipart/form-data; boundary=b"
 
 
 def part(name, content, *headers, blanks=b"", end=b"\r\n", boundary=b"b"):
-    """A delimiter, but for its first line end, the head and content of a part, and the first line end of the next
+    """A delimiter, except its first line end, the head and content of a part, and the first line end of the next
     mark."""
     lines = [f'Content-Disposition: form-data; name="{name}"', *headers, ""]
     return b"--" + boundary + blanks + b"\r\n" + b"".join(octets(line) + end for line in lines) + content + b"\r\n"
@@ -226,7 +227,7 @@ def heads():
 
 
 def long_heads():
-    """Heads whose lengths are about the limit."""
+    """Heads whose lengths are near the limit."""
     for length in range(LONGEST_HEAD - 2, LONGEST_HEAD + 3):
         room = length - len(get(LISTING, "A: "))
         yield Case(f"a head of {length} bytes by a value", get(LISTING, "A: " + "b" * room))
@@ -256,7 +257,7 @@ CLOSINGS += ["\xa0close", "close\x0b"]
 
 
 def lengths():
-    """Pairs of headers in front of a body that can be read by either."""
+    """Pairs of headers before a body that can be read by either."""
     body = chunk(b"abc") + b"0\r\n\r\n"
     of_length = [("Content-Length", value) for value in LENGTHS]
     of_coding = [("Transfer-Encoding", value) for value in CODINGS]
@@ -343,7 +344,7 @@ HALF = LONGEST_BODY // 2
 
 
 def long_bodies():
-    """Bodies about the limit of all routes but that of uploads."""
+    """Bodies near the limit of all routes except that of uploads."""
     targets = {"a query": QUERY, "a stat": STAT, "no upload": UPLOAD, "nothing": b"/"}
     for (what, target), more in itertools.product(targets.items(), (0, 1)):
         body = (GOOD_QUERY if target == QUERY else stat_pairs(ABC) + b"&").ljust(LONGEST_BODY + more)
@@ -423,7 +424,7 @@ def content_types():
 
 
 def multipart_bodies():
-    """What is told of a body with the boundary `b`, and the body."""
+    """A description of a body with the boundary `b`, and the body."""
     one, two = blob_part(b"one"), blob_part(b"two")
     yield "two parts", form(one, two)
     yield "no part", form()
@@ -538,7 +539,7 @@ def uploads():
         yield Case(what, post(UPLOAD, body, FORM))
         yield Case(f"{what}, and a request", post(UPLOAD, body, FORM) + PROBE)
         yield Case(f"{what}, in a chunk", post_pieces(UPLOAD, [body], FORM))
-        # A break tells what was known of the body before it.
+        # A break reports what was known of the body before it.
         yield Case(f"{what}, and a break", post_pieces(UPLOAD, [body], FORM, end=b"x\n"))
     yield Case("byte by byte", post_pieces(UPLOAD, [bytes([octet]) for octet in FEW_PARTS], FORM))
     for place in range(1, len(FEW_PARTS)):
@@ -547,7 +548,7 @@ def uploads():
 
 
 def cut_uploads():
-    """An upload that is cut at each byte, whose body ends there, and breaks there."""
+    """An upload that is cut at each byte: its body ends there, and breaks there."""
     whole = post(UPLOAD, FEW_PARTS, FORM)
     for place in range(len(whole)):
         yield Case(f"a stream of {place} bytes", whole[:place])
@@ -557,7 +558,7 @@ def cut_uploads():
 
 
 def large_parts():
-    """Contents about the greatest blob, too long to be handed over byte by byte. Each is made when it is its turn."""
+    """Contents near the greatest blob, too long to be sent byte by byte. Each is made when it is needed."""
     greatest = reference.LARGEST_BLOB
     for more, end in [(0, b""), (0, b"\r"), (0, b"\r\n--b"), (0, b"\r\nx"), (1, b""), (1, b"\r\n--b--")]:
         for rest in (b"0\r\n\r\n", b"x\n"):
@@ -586,7 +587,7 @@ STAT_TEXTS += [b"camliversion=1;blob1=x", b"camliversion%3d1", b"camliversion==1
 STAT_TEXTS += [b"camliversion=1&blob1", b"camliversion=1&blob1=", b"camliversion=1&=x&blob2=x"]
 STAT_TEXTS += [b"camliversion=1&blob1=x", b"camliversion=2&blob1=x", b"camliversion=1&blob1=%zz&%=%&%4"]
 STAT_TEXTS += [b"camliversion=1&blob0=x"]
-# `A` stands for the ref of a blob, `O` for its older one, and `X` for that of none.
+# `A` stands for the ref of a blob, `O` for its older one, and `X` for that of no blob.
 BLOB_TEXTS = [b"blob1=A", b"blob1=A&blob2=X", b"blob1=X&blob2=A", b"blob2=A&blob1=X", b"blob2=A", b"blob01=A"]
 BLOB_TEXTS += [b"blob0=A", b"blob1=A&blob1=x", b"blob1=A&blob2=A&blob3=x", b"blob1=A&blob3=x", b"bl%6Fb1=A"]
 BLOB_TEXTS += [b"blob1=A%00", b"blob1=+A", b"blob1=%2BA", b"blob1=A&blob2=A&blob3=X&blob4=A", b"blob1=A%26&blob2=A"]
@@ -595,7 +596,7 @@ BLOB_TEXTS += [b"blob1=A&blob2=AA", b"blob1%00=A"]
 BLOB_TEXTS += [b"blob1=O", b"blob1=O&blob2=A&blob3=O", b"blob1=A&blob2=O", b"blob1=O0", b"blob1=%73ha1-" + b"0" * 40]
 BLOB_TEXTS += [b"blob1=sha1-&blob2=A", b"blob1=sha224-" + b"0" * 40, b"blob1=sha1-" + b"0" * 56]
 STAT_TEXTS += [b"camliversion=1&" + text for text in BLOB_TEXTS] + [b"blob1=A&camliversion=1"]
-# In texts of pages `A`, `Z` and `M` are the least, the greatest and a middle ref of the many, and `X` stands for none;
+# In texts of pages `A`, `Z` and `M` are the least, the greatest and a middle ref of the many, and `X` is that of none;
 # `G` and `H` are the ends of the older refs, and `0` and `F` those of the others.
 PAGES = [b"", b"limit=1", b"limit=2&after=", b"limit=1000", b"limit=1001", b"limit=999", b"limit=999999999", b"limit=0"]
 PAGES += [b"limit=1000000000", b"limit=", b"limit", b"limit=-1", b"limit=+1", b"limit=%2B1", b"limit=1.0", b"limit=0x1"]
@@ -723,7 +724,7 @@ OK, BAD, LONG = "200 OK", "400 Bad Request", "413 Payload Too Large"
 
 
 def told(code, body, *lines):
-    """The reply of a code with its phrase."""
+    """The reply with a code and its phrase."""
     body = octets(body)
     lines = ["HTTP/1.1 " + code, "Content-Type: application/json", f"Content-Length: {len(body)}", *lines]
     return octets("\r\n".join([*lines, "", ""])) + body
@@ -733,7 +734,7 @@ NO_ROUTE = told("404 Not Found", '{"error":"no route"}')
 NOTHING = b"GET / HTTP/1.1\r\n\r\n"
 A_STANDS = told(OK, '{"stat":[{"blobRef":"' + A + '","size":3}]}')
 A_ENTRY = '{"blobRef":"' + A + '","size":3}'
-# Its content begins at the place 111.
+# Its content begins at the offset 111.
 A_PART = b'--x\r\nContent-Disposition: form-data; name="' + octets(A) + b'"\r\n\r\nabc\r\n'
 
 
@@ -809,13 +810,13 @@ def post_query(text):
 
 
 def told_fault(kind, place):
-    """The reply to a text that is no query; the place as it is written."""
+    """The reply to a text that isn't a query; the path as it is written."""
     return told(BAD, f'{{"error":"bad query","kind":"{kind}","at":"{place}"}}')
 
 
 # All that JSON escapes, DEL and letters that it doesn't, and the marker of signatures, as they are written.
 ESCAPED = r"a \"quoted\" \\ text\b\f\n\r\t\u001f" + "\x7f \u00e9\u672c " + r",\"camliSig\":\""
-# Texts that are no queries, and the kind and the place of the first fault of each.
+# Texts that aren't queries, and the kind and the path of the first fault of each.
 FIRST_FAULTS = [
     ('{"constraint":', "NotJson", ""),
     ('{"limit":5}', "BadValue", ""),

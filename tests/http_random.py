@@ -19,7 +19,7 @@ MARKS = b"\r\n\r\n :;-=&%+?,/0129aAbBfFxX\"\t\0\x7f\x80\xff"
 
 
 class RandomConnection:
-    """Makes streams of requests to a random store, of whose blobs some are in its pack."""
+    """Makes streams of requests to a random store, some of whose blobs are in its pack."""
 
     # How often requests of each kind come, how often one closes the connection, and how many blobs an upload has.
     KINDS, CLOSES, UPLOADED = (10, 15, 12, 25, 33, 5), 0.04, (0, 1, 2, 4, 8, 20)
@@ -35,7 +35,7 @@ class RandomConnection:
         return pack(*blobs, name_of=self.store.name_of)
 
     def stream(self, random):
-        """Good requests one behind the other; of two such streams one is cut or changed."""
+        """Good requests one after the other; of two such streams one is cut or changed."""
         stream = b"".join(self.request(random) for _ in range(random.randrange(1, 8)))
         kind = random.randrange(10)
         if kind < 2:
@@ -64,7 +64,7 @@ class RandomConnection:
         return self.store.any_ref(random) if random.random() < 0.9 else self.store.odd_ref(random)
 
     def name(self, random, blob):
-        """The ref of a blob, now and then its other one."""
+        """The ref of a blob, occasionally its other one."""
         return (self.store.name_of.other if random.random() < OTHER_NAMES else self.store.name_of)(blob)
 
     def blob(self, random):
@@ -131,7 +131,7 @@ class FewBlobs:
         self.claims = [claim("add", self.name_of(self.nodes[0]), "tag", TAGS[0], DAYS[0], self.key)]
         for _ in range(random.randrange(1, 6)):
             self.claims.append(random.choice((self.change, self.change, self.deletion))(random))
-        # Nothing is found without a key and a permanode, so these come more often.
+        # Nothing is found without a key and a permanode, so that these come more often.
         self.blobs = [KEY, *self.nodes] * 3 + self.claims
 
     def change(self, random):
@@ -155,8 +155,8 @@ class FewBlobs:
 
 
 class RandomSession(RandomConnection):
-    """Makes long streams of uploads and searches over few blobs, of which none or some are in the store's pack. What is
-    uploaded comes in any order and more than once, and most of it changes what is found."""
+    """Makes long streams of uploads and searches over few blobs, none or some of which are in the store's pack.
+    Uploaded blobs come in any order and more than once, and most of them change search results."""
 
     KINDS, CLOSES, UPLOADED = (5, 5, 5, 45, 40, 0), 0.01, (1, 1, 1, 2, 2, 4)
 
@@ -166,7 +166,7 @@ class RandomSession(RandomConnection):
         self.pack = self.pack_of(random.choices(self.store.blobs, k=random.choice((0, 0, 2, 4, 8))))
 
     def stream(self, random):
-        """Good requests one behind the other."""
+        """Good requests one after the other."""
         return b"".join(self.request(random) for _ in range(random.randrange(5, 40)))
 
     def search(self, random):

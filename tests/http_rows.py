@@ -1,6 +1,7 @@
-"""Requests of a few lines with the replies that they have to get: how heads and bodies are read, and what is asked.
+"""Requests of a few lines with the replies that they have to get: how heads and bodies are read, and what requests
+mean.
 
-The replies are written down here, by docs/http.md. A further request behind a stream shows whether the connection stays
+The replies are written down here, by docs/http.md. A further request after a stream shows whether the connection stays
 open.
 """
 
@@ -95,7 +96,7 @@ def chunks_read():
     yield post_chunks(STAT, map(chunk, pieces)) + NOTHING, A_STANDS + NO_ROUTE
     body = b'5;x="y"\r\n{"abc\r\n006 \r\nde":1}\r\n0\r\nT: u\n\r\n'
     yield query_head("transfer-encoding: Chunked") + body + b"GET", bad_query("BadKey", "abcde")
-    # What came before a break is content.
+    # The part before a break is content.
     kind, content = "Content-Type: multipart/form-data; boundary=x", A_PART + b"--x--"
     broken = post_chunks(UPLOAD, [octets(f"{len(content):x}\r\n"), content, b"d"], kind)
     yield broken + NOTHING, told(BAD, '{"received":[' + A_ENTRY + '],"error":"bad length"}', CLOSE)
@@ -106,7 +107,7 @@ def chunks_read():
         yield query_head(CHUNKED) + body, b""
 
 
-# What is asked
+# The meaning of requests
 
 def routes_asked():
     empty = b"HTTP/1.1 200 OK\r\nContent-Type: application/octet-stream\r\nContent-Length: 0\r\n\r\n"
@@ -131,7 +132,7 @@ def refs_asked():
     rows += [("camliversion=1&blob1=", bad_ref), (f"camliversion=1&blob1=x&blob1={E}", bad_ref)]
     for pairs, reply in rows:
         yield get(f"/camli/stat?{pairs}"), reply
-    # By `POST` the query isn't looked at.
+    # With `POST` the query is ignored.
     rows = [("camliversion=1", stat_reply()), (f"camliversion=1&blob1={E}", e_stands), ("camliversion=+1", bad_version)]
     for pairs, reply in rows:
         yield post(octets(f"/camli/stat?camliversion=1&blob1={E}"), octets(pairs)), reply

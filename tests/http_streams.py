@@ -1,7 +1,8 @@
 """Runs `lab http` over streams of requests, whole and in pieces, and compares every byte of the replies.
 
-What a stream has to get is the reference's (connections.py), which Python's own client has to read. For some streams it
-is written down beside them (http_inputs.py, http_rows.py), and the reference has to give that as well as the program.
+The expected replies to a stream are the reference's (connections.py), and Python's own client has to read them. For
+some streams they are written down beside them (http_inputs.py, http_rows.py), and the reference has to return these as
+well as the program.
 """
 
 import functools
@@ -27,9 +28,9 @@ from query_inputs import KEYRING
 
 DOCS = pathlib.Path(__file__).resolve().parent.parent / "docs"
 KEYS = reference.read_keyring(KEYRING)
-# Longer streams aren't handed over byte by byte.
+# Longer streams aren't sent byte by byte.
 LONGEST_BYTE_BY_BYTE = 4_000_000
-# So many bytes are shown before the first that differs.
+# So many bytes before the first that differs are shown.
 SHOWN_BEFORE = 60
 
 
@@ -46,7 +47,7 @@ class Shelf:
         self.keyring.write_bytes(KEYRING)
 
     def answers(self, case):
-        """Hands a stream over whole and in pieces; the replies have to be the reference's each time."""
+        """Sends a stream whole and in pieces; the replies have to be the reference's each time."""
         if callable(case.stream):
             case = case._replace(stream=case.stream())
         replies = connections.replies(case.stream, self.blobs, KEYS)
@@ -84,7 +85,7 @@ def pieces_of(case):
 
 
 def compare_texts(what, expected, got):
-    """Compares from the first byte on that differs."""
+    """Compares from the first byte that differs."""
     place = max(0, len(os.path.commonprefix((expected, got))) - SHOWN_BEFORE)
     compare(what, f"the replies from byte {place} on", expected[place:], got[place:])
 
@@ -152,7 +153,7 @@ def pages(program):
 
 
 def seen(stream):
-    """What is read of the first request of a stream."""
+    """What is read from the first request of a stream."""
     try:
         head, behind = connections.read_head(stream, 0)
     except Cut:
@@ -184,7 +185,7 @@ def multipart_example():
 
 
 def beginnings(case):
-    """What is answered stays answered, whatever comes behind it."""
+    """Earlier replies stay the same, whatever follows."""
     blobs = reference.content(reference.salvage(http_inputs.STORES[case.store])[0])
     whole = connections.replies(case.stream, blobs, KEYS)
     for place in range(0, len(case.stream), 1 + len(case.stream) // 500):
@@ -201,7 +202,7 @@ def pairs_alike(text):
 # Groups
 
 def random_streams():
-    """Streams to random stores. Each store is made when its first stream is asked for."""
+    """Streams to random stores. Each store is made when its first stream is needed."""
     return of_stores(http_random.RandomConnection, http_random.STORES, http_random.STREAMS)
 
 
@@ -219,7 +220,7 @@ FOUND = b'{"blobs":[{"blob":'
 
 
 def sessions_find():
-    """Of the searches of random sessions many have to find something."""
+    """Many of the searches of random sessions have to find something."""
     found = 0
     for kind, number, place in random_sessions()[::3]:
         made = kind(number)

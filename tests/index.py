@@ -1,5 +1,5 @@
-"""Runs `lab insert` and its fellows over packs whose blobs hang together in ways that could cost much. Each run has to
-end soon, and to find as many holders of a value as there are.
+"""Runs `lab insert` and similar commands over packs whose blobs depend on one another in ways that could cost much.
+Each run has to end soon, and to find as many holders of a value as there are.
 """
 
 import harness
@@ -7,8 +7,8 @@ import writing
 from reference import ref_of
 from writing import keyring_line, pack
 
-# How many there are of each shape, and the seconds in which a run over it has to end. A chain of deletions that comes in
-# order takes time in the square of its length (docs/index.md, "What an insert costs"), so that one is shorter.
+# The number of blobs of each shape, and the seconds in which a run over it has to end. A chain of deletions that comes
+# in order takes time in the square of its length (docs/index.md, "What an insert costs"), so that this one is shorter.
 MEMBERS, DELETIONS, DELETIONS_IN_ORDER, LATE, TREES, SOON = 20_000, 10_000, 2_000, 100_000, 60, 100
 DATE = "2020-01-01T00:00:00Z"
 KEY = writing.key_blob()
@@ -46,7 +46,7 @@ def deletions():
 
 
 def chain_checks(count, words):
-    """Each deletes the one before. Where their number is even the last one undoes the first."""
+    """Each deletes the one before. If their number is even, the last one undoes the first."""
     chain = [KEY, NODE, TAG]
     for _ in range(count):
         chain.append(writing.delete(ref_of(chain[-1]), DATE))
@@ -55,14 +55,14 @@ def chain_checks(count, words):
 
 
 def late_key():
-    """Blobs that all wait for one key, which comes last; or first, where the last one is the first to come."""
+    """Blobs that all wait for one key, which comes last; or first, if the last one is the first to come."""
     nodes = [writing.permanode(f"{number:032x}") for number in range(LATE)]
     return checks("a key that comes last", [*nodes, TAG, NODE, KEY], BOTH_ORDERS, "tag", "a", 1)
 
 
 def several_changes():
-    """Claims of 1,000 changes: each of one permanode, and one of each of 1,000, which wait for their key, which are
-    falsely signed, and one that is deleted."""
+    """Claims of 1,000 changes: each of one permanode, and one of each of 1,000; claims that wait for their key; falsely
+    signed ones; and one that is deleted."""
     nodes = [writing.permanode(f"{number:032x}") for number in range(CHANGES)]
     refs = list(map(ref_of, nodes))
     on_one = [("add", refs[0], "tag", f"v{place}") for place in range(CHANGES)]
@@ -98,7 +98,7 @@ def checks(what, blobs, words, attribute, value, holders):
     ]
 
 
-# They are timed, so nothing else runs beside them.
+# They are timed, so that nothing else runs at the same time.
 GROUPS = [members, in_order, deletions, late_key, several_changes, shared_trees]
 
 

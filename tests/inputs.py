@@ -1,7 +1,7 @@
-"""The inputs of search_pack.py, with what has to be found in each.
+"""The inputs of search_pack.py, with the expected results of each.
 
-Most are the example with something changed: a key, a permanode signed with it, and a claim that sets `tag` to `a` on the
-permanode. As the program shows nothing but permanodes with a value, what is to be seen hangs on whether the claim, or the
+Most are the example with something changed: a key, a permanode signed with it, and a claim that sets `tag` to `a` on
+the permanode. The program shows only permanodes with a value. The result therefore depends on whether the claim, or the
 permanode, is read.
 """
 
@@ -38,7 +38,7 @@ ABSENT, OLDER_ABSENT = ref_of(b"a blob that is nowhere"), older_ref_of(b"a blob 
 
 
 def with_claim(*blobs):
-    """The example with other blobs in the place of the claim."""
+    """The example with other blobs instead of the claim."""
     return BEFORE_CLAIM + pack(*blobs)
 
 
@@ -53,14 +53,14 @@ def with_claim_changed(old, new, payload=PAYLOAD):
 
 
 def with_member(member):
-    """The claim with one member more."""
+    """The claim with one more member."""
     return with_claim(signed(PAYLOAD.encode() + b"," + writing.octets(member)))
 
 
 # The examples of the pages
 
 def page_examples():
-    """What is looked at, what the reference gives, and what the pages of docs/formats say."""
+    """A description, the reference's result, and what the pages of docs/formats say."""
     empty = "sha224-d14a028c2a3a2bc9476102bb288234c415a2b01f828ea62ac5b3e42f"
     abc = "sha224-23097d223405d8228642a477bda255b32aadbce4bda0b3f7e36c9da7"
     yield "the ref of the empty blob", ref_of(b""), empty
@@ -103,7 +103,7 @@ MOMENTS = [
 
 
 def values_in_time():
-    """A tag that is set on one day, deleted on the next and back on the third, looked at between."""
+    """A tag that is set on one day, deleted on the next and back on the third, searched for in between."""
     undone = delete(ref_of(DELETE), day(3))
     archive = reference.archive_of(pack(*EXAMPLE_BLOBS, DELETE, undone), KEYRING)
     for when, values in [
@@ -119,7 +119,7 @@ def values_in_time():
 # Packs
 
 def damaged_packs():
-    """What is wrong with the pack, the pack, and whether the claim is found."""
+    """A description of the fault of the pack, the pack, and whether the claim is found."""
     yield from junk_packs()
     yield from deleted_record_packs()
     yield from header_packs()
@@ -144,7 +144,8 @@ def junk_packs():
 
 
 def deleted_record_packs():
-    """A deleted record whose bytes hold the claim: where it stands, the claim isn't found; where it is junk, it is."""
+    """A deleted record whose bytes have the claim: if it is read as one, the claim isn't found; if it is junk, it
+    is."""
     body = record(CLAIM)
     for letters in range(1, 17):
         yield f"a deleted record of {letters} letters", BEFORE_CLAIM + deleted_record(body, letters, 1), False
@@ -186,7 +187,7 @@ def deleted_record_packs():
 
 
 def header_packs():
-    """The claim behind a header that isn't its own."""
+    """The claim after a header that isn't its own."""
     ref, size = ref_of(CLAIM), len(CLAIM)
     digits = ref.removeprefix("sha224-")
     for bad in [
@@ -240,7 +241,7 @@ def older_packs():
 
 
 def older_header_packs(older):
-    """The claim behind an older header that isn't its own."""
+    """The claim after an older header that isn't its own."""
     ref, size = older_ref_of(CLAIM), len(CLAIM)
     digits = ref.removeprefix("sha1-")
     for bad in [
@@ -269,7 +270,7 @@ def older_header_packs(older):
 
 
 def nested_packs():
-    """A record that holds the claim's record: only the outer one is found, unless it is damaged."""
+    """A record that has the claim's record in it: only the outer one is found, unless it is damaged."""
     inner = record(CLAIM)
     outer = record(inner)
     yield "a record within a record", BEFORE_CLAIM + outer, False
@@ -284,7 +285,7 @@ def nested_packs():
 
 # JSON
 
-# Members of which one is added to the claim, and whether the claim still reads.
+# Members, one of which is added to the claim, and whether the claim is still read.
 MEMBERS = [
     # Numbers.
     ('"n":0', True),
@@ -391,7 +392,7 @@ MEMBERS = [
     ('"n":' + "[" * 100_000 + "]" * 100_000, False),
     ('"n":' + "[" * 100_000, False),
     ('"n":[' + "[]," * 1000 + "[]]", True),
-    # Keys that come twice: the last one stands.
+    # Keys that come twice: the last one counts.
     ('"value":"b"', False),
     ('"attribute":"other"', False),
     ('"camliVersion":2', False),
@@ -407,7 +408,7 @@ MEMBERS = [
     ('"unknown":1', True),
 ]
 
-# What stands behind the digits of the signature, and whether the claim still reads.
+# Text after the digits of the signature, and whether the claim is still read.
 ENDS = [
     (b'"}\n', True),
     (b'"} \t\r\n', True),
@@ -429,7 +430,7 @@ ENDS = [
     (b'"]', False),
 ]
 
-# A place of the claim's payload, what stands there instead, and whether it is still a claim on the permanode's tag.
+# A place of the claim's payload, its replacement, and whether it is still a claim on the permanode's tag.
 CHANGES = [
     ('"camliVersion":1', '"camliVersion":1.0', False),
     ('"camliVersion":1', '"camliVersion":1e0', False),
@@ -498,7 +499,7 @@ CHANGES = [
     ('{"camliVersion"', '\0{"camliVersion"', False),
 ]
 
-# Texts that stand for the value of the claim, and the words that find it.
+# Texts of the claim's value, and the words that find it.
 VALUES = [
     ("\\ud83d\\ude00", "\U0001f600"),
     ("\U0001f600", "\U0001f600"),
@@ -529,7 +530,7 @@ NO_VALUES = [
 
 
 def json_texts():
-    """What is changed, the pack, the value to look for, and whether it is found."""
+    """A description of the change, the pack, the value to search for, and whether it is found."""
     for member, reads in MEMBERS:
         yield f"the member {writing.octets(member)[:60]}", with_member(member), "a", reads
     payload = PAYLOAD.encode()
@@ -547,13 +548,13 @@ def json_texts():
 # Facts
 
 def fact_packs():
-    """What the blobs are, the pack, and whether the tag is found."""
+    """A description of the blobs, the pack, and whether the tag is found."""
     yield from signed_blobs()
     yield from permanodes()
     yield from long_blobs()
     for what, blob in file_blobs():
         yield what, pack(blob, *EXAMPLE_BLOBS), True
-        # Nothing is signed by such a blob, and a claim of its deletion means nothing.
+        # Such a blob signs nothing, and a claim that deletes it means nothing.
         ref = ref_of(blob)
         by_it = claim("set", ref_of(NODE), "tag", "a", DATE, signer=ref)
         yield f"{what}, as a signer", with_claim(blob, by_it), False
@@ -636,7 +637,7 @@ def permanodes():
 
 
 def tagged(node, is_found):
-    """A pack with another permanode and its tag, and what is found in it."""
+    """A pack with another permanode and its tag, and the search results."""
     return pack(KEY, node, claim("set", ref_of(node), "tag", "a", DATE)), [ref_of(node)] if is_found else []
 
 
@@ -652,7 +653,7 @@ def long_blobs():
 
 
 def file_blobs():
-    """Files, bytes, directories and sets, and their neighbours that are none. None of them changes an answer."""
+    """Files, bytes, directories and sets, and similar blobs that are none. None of them changes an answer."""
     most = reference.MOST_BYTES_OF_A_FILE
     key_ref, node_ref = ref_of(KEY), ref_of(NODE)
     part = writing.part
@@ -798,7 +799,7 @@ DATES = [
 # Keys
 
 def key_packs():
-    """What the key blob is, the pack, the keyring and what is found."""
+    """A description of the key blob, the pack, the keyring and the search results."""
     long_name = "k" * 64
     ring = KEYRING + keyring_line(long_name) + keyring_line("a-0") + keyring_line("-") + keyring_line("0")
     prefix = b"perkeep-hmac-sha256 "
@@ -843,7 +844,7 @@ def key_packs():
 
 
 def tagged_by(key, secret, is_found):
-    """A pack with a key, and a permanode and its tag that are signed with a secret, and what is found in it."""
+    """A pack with a key, and a permanode and its tag that are signed with a secret, and the search results."""
     signer = ref_of(key)
     node = permanode(signer=signer, secret=secret)
     found = [ref_of(node)] if is_found else []
@@ -853,7 +854,7 @@ def tagged_by(key, secret, is_found):
 # Claims
 
 def claim_packs():
-    """What the claims are, all blobs of the pack, and for each value whether the permanode has it in `tag`."""
+    """A description of the claims, all blobs of the pack, and for each value whether the permanode has it in `tag`."""
     for what, claims, expected in claim_lists():
         yield what, [*claims, NODE, KEY], expected
         yield f"{what}, the other way round", [KEY, NODE, *reversed(claims)], expected
@@ -928,8 +929,8 @@ def change_text(kind="set", on=ref_of(NODE), attribute="tag", value="b"):
 
 
 CHANGE = change_text()
-# A place of a change that sets `tag` to `b`, what stands there instead, and whether it still is a change; or else the
-# values that `tag` has then, where it had `a` before.
+# A place of a change that sets `tag` to `b`, its replacement, and whether it still is a change; or the values that
+# `tag` has then, if it had `a` before.
 CHANGED_CHANGES = [
     ('"set-attribute"', '"add-attribute"', "ab"),
     ('"set-attribute"', '"del-attribute"', "a"),
@@ -977,7 +978,7 @@ CHANGED_CHANGES = [
     ('{"changeType"', ' {\n\t"changeType"', True),
     ("}", "} \r\n", True),
 ]
-# What stands under `changes`, and whether it is a list of changes, or the values of `tag`.
+# The value of `changes`, and whether it is a list of changes, or the values of `tag`.
 LISTS = [
     ("null", False),
     ("{}", False),
@@ -1016,12 +1017,12 @@ LISTS += [(f'[{CHANGE},{change_text("add", value="c")},{bad}]', False) for bad i
 
 
 def values_of(reads):
-    """The values of `tag` that a list of changes leaves where it had `a`."""
+    """The values of `tag` that a list of changes leaves if it had `a`."""
     return reads if isinstance(reads, str) else "b" if reads else "a"
 
 
 def lists_of_changes():
-    """A claim that sets `tag` to `a`, and behind it one of a list."""
+    """A claim that sets `tag` to `a`, followed by one of a list."""
     before, head = on_tag("set", "a", day(1)), writing.claim_head(day(2)) + ',"claimType":"multi"'
     for text, reads in LISTS:
         later = signed(f'{head},"changes":{text}')
@@ -1040,7 +1041,7 @@ def lists_of_changes():
 
 
 def tags(*changes, on=NODE):
-    """Changes of the tags of a permanode, each of a kind and a value."""
+    """Changes of the tags of a permanode, each given by its kind and its value."""
     return [(kind, ref_of(on), "tag", value) for kind, value in changes]
 
 
@@ -1188,7 +1189,7 @@ def signers():
 
 
 def other_targets():
-    """Claims on what is no permanode that counts."""
+    """Claims on refs that aren't permanodes that count."""
     plain = b"plain"
     false_node = permanode("f" * 32, secret=OTHER_SECRET)
     for what, blob in [("a plain blob", plain), ("a key", KEY), ("a claim", CLAIM), ("a false permanode", false_node)]:
@@ -1218,8 +1219,8 @@ def several_permanodes():
 
 
 def older_signers():
-    """By which names a claim and its permanode say their key and their permanode, and under which of them these and the
-    claim stand; the pack, and what is found in it."""
+    """The names by which a claim and its permanode give their key and their permanode, and those of these blobs and the
+    claim; the pack, and the search results."""
     names = {ref_of: "new", older_ref_of: "older"}
     for said_key, said_node, key, node, tag in itertools.product(names, repeat=5):
         said, stand = [[names[one] for one in some] for some in ((said_key, said_node), (key, node, tag))]
@@ -1329,14 +1330,14 @@ EMPTY_ATTRIBUTES = [
 
 
 def pack_with_value(attribute, value):
-    """A pack whose permanode has the value, and what is found in it."""
+    """A pack whose permanode has the value, and the search results."""
     return with_claim(claim("set", ref_of(NODE), attribute, value, DATE)), FOUND
 
 
 # Keyrings
 
 def good_keyrings():
-    """What the keyring is, its text, a pack, and what is found in it."""
+    """A description of the keyring, its text, a pack, and the search results."""
     ours = keyring_line()
     yield "one line", ours, EXAMPLE, True
     yield "an empty keyring", b"", EXAMPLE, False
@@ -1416,7 +1417,7 @@ STORES, BLOBS_OF_A_STORE, DATES_OF_A_STORE = 24, 220, 17
 
 
 def random_stores():
-    """What each store is, its packs by their numbers, and the dates at which it is searched."""
+    """A description of each store, its packs by their numbers, and the dates at which it is searched."""
     for number in range(STORES):
         chance = harness.chance("random stores", number)
         what, order = STORE_ORDERS[number % len(STORE_ORDERS)]
@@ -1432,13 +1433,13 @@ def shuffled(chance, blobs):
 
 
 def keys_last(chance, blobs):
-    """In any order but for the keys, which come last."""
+    """In any order, except that the keys come last."""
     listed = shuffled(chance, blobs)
     return sorted(listed, key=lambda blob: reference.fact_of(blob).kind == "Key")
 
 
 def backwards(_, blobs):
-    """Each blob before those that it speaks of."""
+    """Each blob before those to which it refers."""
     return blobs[::-1]
 
 
@@ -1455,7 +1456,7 @@ STORE_ORDERS = [
 
 
 def dates_about(chance, blobs):
-    """The dates of some claims, and the moments beside them."""
+    """The dates of some claims, and the moments next to them."""
     dates = sorted({date for date in (reference.fact_of(blob).date for blob in blobs) if date is not None})
     return [chance.choice(dates) + chance.choice((-1, 0, 0, 0, 1)) for _ in range(DATES_OF_A_STORE)]
 
@@ -1470,12 +1471,12 @@ def records_of(chance, blobs, names):
     return records
 
 
-# How often a blob is named, or stands, by the name that isn't its usual one.
+# How often a blob is named by, or has, the name that isn't its usual one.
 OTHER_NAMES = 0.04
 
 
 def random_blobs(chance, count):
-    """Blobs that speak of one another, and their names; the key `lost` is in no keyring, and `late` is in no pack."""
+    """Blobs that refer to one another, and their names; the key `lost` is in no keyring, and `late` is in no pack."""
     held = {"jefe": SECRET, "other": OTHER_SECRET}
     keys = ["jefe"] * 20 + ["other"] * 6 + ["lost", "late"]
     blobs = [key_blob(key) for key in ("jefe", "other", "lost")]
@@ -1514,7 +1515,7 @@ CHANGES_OF_A_CLAIM = (1, 1, 1, 1, 1, 1, 2, 3, 5, 9)
 
 
 def random_change(chance, nodes, others):
-    """A change of a permanode, or rarely of another blob: its kind, what it is on, attribute and value."""
+    """A change of a permanode, or rarely of another blob: its kind, target, attribute and value."""
     on = chance.choice(nodes) if chance.random() < 0.97 else chance.choice(others)
     what = chance.choices(("set", "add", "del"), (3, 5, 2))[0]
     return what, on, chance.choice(RANDOM_ATTRIBUTES), chance.choice(RANDOM_VALUES)

@@ -1,7 +1,8 @@
-"""What is installed beside the program: the manual page and the completions of install/, and the units of examples/.
+"""The files that are installed with the program: the manual page and the completions of install/, and the units of
+examples/.
 
-They have to be what install/make.py makes of docs/commands.md, and what reads them has to take them. What bash's
-completion offers is compared with the page's lines of commands, written down here.
+They have to be what install/make.py makes from docs/commands.md, and their readers have to accept them. The offers of
+bash's completion are compared with the page's lines of commands, written down here.
 """
 
 import functools
@@ -20,8 +21,8 @@ INSTALL = TOP / "install"
 MADE = ["_perkeep", "perkeep.1", "perkeep.bash"]
 COMMANDS = "put get stat list search words query salvage search-pack permanode claim multi delete get-file put-file".split()
 COMMANDS += "push pull mirror load serve serve-shares".split()
-# What is written, each as bash divides it, and what is offered for the last word. There are the folders
-# `a folder` and `archive`, which has the keys `me` and `mine`, and a file `arrow`. PORT is one that is listened to.
+# Words on the command line, as bash divides them, and the offers for the last word. There are the folders `a folder`
+# and `archive`, which has the keys `me` and `mine`, and a file `arrow`. A program listens at PORT.
 OFFERS = [
     ([""], COMMANDS),
     (["se"], ["search", "search-pack", "serve", "serve-shares"]),
@@ -76,7 +77,7 @@ OFFERS = [
 
 
 def run(*words, **settings):
-    """Runs a tool; answers its status, output and errors."""
+    """Runs a tool; returns its status, output and errors."""
     ran = subprocess.run(words, capture_output=True, text=True, timeout=SECONDS, stdin=subprocess.DEVNULL, **settings)
     return ran.returncode, ran.stdout, ran.stderr
 
@@ -90,13 +91,13 @@ def one_of(*names):
 
 
 def silent(what, *words, **settings):
-    """Runs a tool that has nothing to complain about; answers its output."""
+    """Runs a tool that has nothing to complain about; returns its output."""
     status, out, err = run(*words, **settings)
     compare(what, "exit status and errors", (0, ""), (status, err))
     return out
 
 
-# What is made
+# Generated files
 
 def made(program):
     folder = program.new_path()
@@ -157,18 +158,18 @@ def is_read(*reader):
 
 
 def without_marks(text):
-    """Text without what a terminal takes for bold and the like."""
+    """Text without the marks that a terminal takes for bold and the like."""
     return re.sub(r"\x1b\[[0-9;]*m|.\x08", "", text)
 
 
 UNITS = ["perkeep.service", "perkeep-mirror.service", "perkeep-mirror.timer", "perkeep-tunnel.service"]
 UNITS += ["perkeep-shares.service", "perkeep-verify.service", "perkeep-verify.timer"]
-# What has to be there for a unit that starts it.
+# Files that a unit needs to start.
 STARTED = [".local/bin/perkeep", ".local/bin/perkeep-mirror", ".local/share/perkeep/verify_backup.sh"]
 
 
 def units(program):
-    """Each unit is read without a complaint, that of the server with its drop-in too."""
+    """Each unit is accepted without a complaint, that of the server also with its drop-in."""
     tool = one_of("systemd-analyze")
     if shutil.which("ssh", path="/usr/bin") is None:
         raise LeftOut("there is no /usr/bin/ssh here")

@@ -1,16 +1,16 @@
 """Kills the program while it puts blobs, and finds afterwards every blob whose ref was printed.
 
-A shell puts blobs of 1 byte to 300,000 bytes into a store, one after another, and its whole process group is killed
-by SIGKILL: after a random time, or as soon as a pack is seen to grow, and then some blobs are longer. The next shell
-goes on with the same store. A ref counts as printed once its whole line was read. After each kill the packs are
-compared with what must stand in them, and in the end each printed ref is asked for. As each start reads the whole
-store, the kills are shared out among a few stores.
+A shell puts blobs of 1 byte to 300,000 bytes into a store, one after another, and its whole process group is killed by
+SIGKILL: after a random time, or as soon as a pack is seen to grow; in that case some blobs are longer. The next shell
+continues with the same store. A ref counts as printed once its whole line was read. After each kill the packs are
+compared with their expected content, and in the end each printed ref is requested. As each start reads the whole store,
+the kills are distributed over a few stores.
 
-A kill can't show that a record was synced before its ref was printed: what a killed program has written, the kernel
-keeps. The group `syncs` of faults.sh looks at that.
+A kill can't show that a record was synced before its ref was printed: the kernel keeps what a killed program has
+written. The group `syncs` of faults.sh checks that.
 
-Then `put-file` is killed while it puts files of a few MiB, an eighth as many times. A front of the file's blobs has to
-stand after each kill, and all of them where its ref was printed.
+Then `put-file` is killed while it puts files of a few MiB, an eighth as many times. After each kill a prefix of the
+file's blobs has to be there, and all of them if its ref was printed.
 """
 
 import collections
@@ -56,11 +56,11 @@ class Round:
                     break
 
     def has_ended(self):
-        """Whether the shell has ended. It isn't waited for, so its process group is still there to be killed."""
+        """Whether the shell has ended. It isn't waited for, so that its process group can still be killed."""
         return os.waitid(os.P_PID, self.process.pid, os.WEXITED | os.WNOHANG | os.WNOWAIT) is not None
 
     def kill(self):
-        """Kills the shell and what it has started; answers the whole lines that were printed, and whether all puts
+        """Kills the shell and all that it has started; returns the whole lines that were printed, and whether all puts
         were done."""
         os.killpg(self.process.pid, signal.SIGKILL)
         out = self.process.stdout.read()
@@ -79,7 +79,7 @@ def size_of(file):
 
 
 class Killed:
-    """A store whose puts are killed, what stands in it, and what was printed."""
+    """A store whose puts are killed, its content, and what was printed."""
 
     def __init__(self, program, chance):
         self.program = program
@@ -111,14 +111,13 @@ class Killed:
         self.settle(blobs, lines, is_done)
 
     def random_blob(self, is_watched):
-        """Mostly a small blob. Where the write of it is watched, some are long, so that the kill comes within the
-        write."""
+        """Mostly a small blob. If its write is watched, some are long, so that the kill comes within the write."""
         if is_watched and self.chance.random() < 0.25:
             return self.chance.randbytes(self.chance.randrange(LARGEST, LARGEST_WATCHED))
         return self.chance.randbytes(int(math.exp(self.chance.uniform(0, math.log(LARGEST)))))
 
     def wait(self, one, is_watched):
-        """Lets the shell go on for a random time, or until it is seen to write."""
+        """Lets the shell continue for a random time, or until it is seen to write."""
         if is_watched:
             one.watch(self.store / pack_name(reference.pack_for_the_next_record(self.packs)), self.chance.randrange(1, 4))
             if self.chance.random() < 0.3:
@@ -127,7 +126,7 @@ class Killed:
             time.sleep(self.chance.uniform(0, 3) * self.seconds_of_a_put)
 
     def settle(self, blobs, lines, is_done):
-        """Compares what was printed, and what then stands, with the blobs."""
+        """Compares what was printed, and what is then stored, with the blobs."""
         what, refs = f"kill {self.endings.total()}", list(map(ref_of, blobs))
         compare(what, "refs printed", refs if is_done else refs[: len(lines)], lines)
         self.printed.update(zip(lines, blobs))
@@ -142,8 +141,7 @@ class Killed:
         self.endings["all puts done" if is_done else unfinished] += 1
 
     def look(self, what):
-        """The refs of the records that were added, and what was left unfinished, if anything. All else must be as it
-        was."""
+        """The refs of the records that were added, and the unfinished rest, if any. All else must be unchanged."""
         packs = self.packs_there()
         growing = self.growing_pack()
         added, ending = [], None
@@ -166,12 +164,12 @@ class Killed:
         return reference.packs_of({file.name: file.read_bytes() for file in files})
 
     def growing_pack(self):
-        """The pack that stands and may be appended to, if any."""
+        """The pack that may be appended to, if there is one."""
         number = reference.pack_for_the_next_record(self.packs)
         return number if number in self.packs else None
 
     def one_file(self, number):
-        """Puts a file for a random time, which is longer after a file that wasn't printed, and else shorter."""
+        """Puts a file for a random time, which is longer after a file that wasn't printed, and otherwise shorter."""
         what, content = f"file {number}", self.chance.randbytes(self.chance.randrange(2 << 20, 6 << 20))
         blobs = file_blobs("n", chunks_of(content))
         limit = ("timeout", "-sKILL", f"{self.chance.uniform(0.01, 2) * self.seconds_of_a_put:f}")
@@ -183,7 +181,7 @@ class Killed:
         self.printed.update(zip(refs, blobs) if out else ())
         self.seconds_of_a_put *= 0.7 if out else 1.5
 
-    # What is asked at the end
+    # Checks at the end
 
     def run(self, what, *words, source=b""):
         status, out, err = self.program.run(what, list(words), source)
@@ -191,7 +189,7 @@ class Killed:
         return out
 
     def ask(self):
-        """Every printed ref is there with its bytes, salvage and list tell what stands, and a put succeeds."""
+        """Every printed ref is there with its bytes, salvage and list print all that is stored, and a put succeeds."""
         store = str(self.store)
         with concurrent.futures.ThreadPoolExecutor(AT_ONCE) as pool:
             for ref, got in zip(self.printed, pool.map(lambda ref: self.run(f"get {ref}", "get", store, ref), self.printed)):
@@ -207,7 +205,7 @@ class Killed:
 
 
 def kills(program):
-    """Kills shared out among a few stores; each store is a check."""
+    """Kills distributed over a few stores; each store is a check."""
     return [lambda number=number: one_store(program, number) for number in range(STORES)]
 
 

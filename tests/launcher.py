@@ -1,7 +1,7 @@
-"""The launcher ./perkeep: when it builds, what it says, and what it runs.
+"""The launcher ./perkeep: when it builds, its messages, and what it runs.
 
-Each check has a small tree with the launcher and the crates.txt of the repository, and a toolchain that only says that
-it builds: its program tells from which text of a source it was made, and for which level. Nothing is proved here.
+Each check has a small tree with the launcher and the crates.txt of the repository, and a toolchain that only pretends
+to build: its program prints from which text of a source it was made, and for which level. Nothing is proved here.
 """
 
 import fcntl
@@ -17,15 +17,15 @@ import harness
 from harness import SECONDS, check, compare
 
 TOP = pathlib.Path(__file__).resolve().parent.parent
-# Crates that the program doesn't stand on.
+# Crates that aren't crates of the program.
 APART = ("lab", "store_tests", "index_tests")
-# The files that each crate of a tree has; what the gate reads of a program beside; and what a build leaves out, which
-# only some crates have.
+# The files of each crate of a tree; the other files of a program that the gate reads; and the files that a build leaves
+# out, which only some crates have.
 PARTS = ("src/lib.rt", "specs/Lib.antt", "proofs/store/put.antt")
 OF_A_PROGRAM = ("args", "stdin", "stdout", "status", "data/keyring")
 LEFT_OUT = ("must-fail/edit.edit", "out/rlib/kept", "README.md")
 WITH_MORE = ("blobref", "pack_store", "perkeep_cli")
-# The flags of /proc/cpuinfo of a processor of the level x86-64-v2, and those that x86-64-v3 has beside these.
+# The flags of /proc/cpuinfo of a processor of the level x86-64-v2, and those that x86-64-v3 has besides.
 OLDER = "fpu sse sse2 pni ssse3 cx16 sse4_1 sse4_2 popcnt lahf_lm"
 NEWER = "xsave avx f16c movbe abm bmi1 avx2 bmi2 fma"
 
@@ -80,7 +80,7 @@ case $1 in
 esac
 """
 
-# What the toolchain says of each crate of a room. What it has proved it keeps, by the bytes of the crate's files. It
+# The toolchain's output for each crate of a room. It keeps what it has proved, by the bytes of the crate's files. It
 # may stop at a crate, or find that one isn't proved.
 PROVE = r"""
 import hashlib
@@ -162,7 +162,7 @@ while [ "$1" != -o ]; do shift; done
 cp "$3" "$2"
 [ ! -e "$fake/makes_what_does_not_start" ] || echo 'exit 127' >"$2"
 """
-# The only file of which the launcher asks `grep` is /proc/cpuinfo, but for what a run of the sources says.
+# The launcher calls `grep` only over /proc/cpuinfo, except for the output of a run of the sources.
 GREP = r"""#!/usr/bin/env bash
 fake=$(dirname "$0")
 if [ "${!#}" != /proc/cpuinfo ]; then exec REAL "$@"; fi
@@ -171,7 +171,7 @@ if [ "${!#}" != /proc/cpuinfo ]; then exec REAL "$@"; fi
 
 
 def crates_below(name="perkeep_cli"):
-    """The crates that a crate stands on, each behind those that it uses, and itself, by crates.txt."""
+    """The crates below a crate, each after those that it uses, and the crate itself, by crates.txt."""
     uses = {}
     for line in (TOP / "crates.txt").read_text().splitlines():
         head, colon, below = line.partition("#")[0].partition(":")
@@ -235,7 +235,7 @@ class Tree:
         return subprocess.Popen([launcher or self.top / "perkeep", *words], **how, **streams)
 
     def run(self, what, *words, **settings):
-        """Starts the program, which has to run; answers what was said of a build."""
+        """Starts the program, which has to run; returns the messages about a build."""
         process = self.start(*words, **settings)
         out, err = process.communicate("input\n", timeout=SECONDS)
         compare(what, "exit status", 3, process.returncode)
@@ -248,18 +248,18 @@ class Tree:
         return (self.top / "crates/pack_store/src/lib.rt").read_text()
 
     def build(self, what, **settings):
-        """Has the program built, where it isn't current, which has to succeed; answers what was said."""
+        """Has the program built, if it isn't current, which has to succeed; returns the messages."""
         process = self.start(PERKEEP_BUILD="only", **settings)
         out, err = process.communicate("", timeout=SECONDS)
         compare(what, "exit status and standard output", (0, ""), (process.returncode, out))
         return err
 
     def level(self):
-        """The level that the built program is for."""
+        """The level for which the built program is."""
         return (self.top / PROGRAM).read_text().splitlines()[1].removeprefix("# ")
 
     def rooms(self):
-        """The folders that stand where builds make theirs."""
+        """The folders that are where builds make theirs."""
         return sorted(it.name for it in self.scratch.iterdir())
 
     def is_current(self, **settings):
@@ -323,7 +323,7 @@ def touched(program):
 
 
 def apart(program):
-    """What the program isn't built from may change."""
+    """Changes of files from which the program isn't built cause no build."""
     tree = built(program)
     for name in APART:
         tree.write(f"crates/{name}/src/lib.rt", "another text")
@@ -349,7 +349,7 @@ def changed_back(program):
 
 
 def moved(program):
-    """It may be started by a link and from anywhere."""
+    """It may be started by a link and from any folder."""
     tree = built(program)
     link = program.new_path()
     link.symlink_to(tree.top / "perkeep")
@@ -358,7 +358,7 @@ def moved(program):
 
 
 def quick(program):
-    """A start with nothing to build costs little. How much is told; only far too much is a failure."""
+    """A start with nothing to build costs little. The cost is printed; only one that is far too great is a failure."""
     tree = built(program)
     tree.run("a second start")
     start = time.monotonic()
@@ -370,14 +370,14 @@ def quick(program):
 
 
 def without_toolchain(program):
-    """Without a toolchain nothing can be built, and no program is run of which nobody knows whether it is current."""
+    """Without a toolchain nothing can be built, and no program is run whose currency nobody knows."""
     tree = Tree(program)
     (tree.fake / "rt").unlink()
     fails("no toolchain", tree, PATH="/usr/bin:/bin")
     compare("no toolchain", "rooms", [], tree.rooms())
 
 
-# What makes another build needed
+# Changes that make another build necessary
 
 FILES = ("src/lib.rt", "specs/Lib.antt", "proofs/store/put.antt")
 PROGRAM = "crates/perkeep_cli/out/perkeep_cli"
@@ -416,7 +416,7 @@ def stale(program):
 
 
 def each_source(program):
-    """A change of a source, a spec or a proof, by turns, of each crate below the program, one at a time."""
+    """A change of a source, a spec or a proof, in turn, of each crate below the program, one at a time."""
     tree = built(program)
     for name, file in zip(crates_below(), itertools.cycle(FILES)):
         path = f"crates/{name}/{file}"
@@ -454,7 +454,7 @@ def fails(what, tree, why=None, **settings):
 
 
 def failed_build(program):
-    """A build that fails ends the start, whatever was built before, until one is good."""
+    """A build that fails ends the start, whatever was built before, until one succeeds."""
     tree = built(program)
     for builds, status in [(4, 1), (7, 137)]:
         tree.write("crates/pack_store/src/lib.rt", f"text of status {status}")
@@ -468,7 +468,7 @@ def failed_build(program):
 
 
 def not_believed(program):
-    """A program is run only where the toolchain has made it and says that all is well."""
+    """A program is run only if the toolchain has made it and reports success."""
     ways = ("makes_nothing", "counts_a_failure", "ends_before_all_is_told", "fails_late", "makes_what_does_not_start")
     tree = built(program)
     tree.write("crates/pack_store/src/lib.rt", "text 2")
@@ -480,7 +480,7 @@ def not_believed(program):
 
 
 def changed_meanwhile(program):
-    """A source that changes while a build runs makes another build, and the program that runs is of the new text."""
+    """A source that changes while a build runs causes another build, and the program that runs is of the new text."""
     tree = Tree(program)
     tree.write("fake/meanwhile", f"printf 'text 2' >{tree.top}/crates/pack_store/src/lib.rt; rm $0")
     process = tree.start("get")
@@ -511,7 +511,8 @@ def two_failures(program):
 
 
 def beside_a_gate(program):
-    """A build waits for what is at work on the program's crate, as the toolchain's commands do: a gate empties `out`."""
+    """A build waits for other commands that work on the program's crate, as the toolchain's commands do: a gate empties
+    `out`."""
     tree = Tree(program)
     folder = os.open(tree.top / "crates/perkeep_cli", os.O_RDONLY)
     fcntl.flock(folder, fcntl.LOCK_EX)
@@ -546,7 +547,8 @@ def rooms(program):
 
 
 def what_is_copied(program):
-    """The program's crates alone, with what the gate reads of them, as a repository that isn't below this one."""
+    """Only the program's crates are copied, with the files of them that the gate reads, as a repository that isn't
+    below this one."""
     tree = Tree(program)
     tree.build("a build")
     room = pathlib.Path((tree.fake / "room").read_text().strip())
@@ -568,7 +570,7 @@ def what_is_copied(program):
 
 
 def lost_rooms(program):
-    """What a launcher left that was killed is removed, and what another one works in stays."""
+    """Rooms of a launcher that was killed are removed, and the room in which another one works is kept."""
     tree = Tree(program)
     ended = subprocess.Popen(["true"])
     ended.wait()
@@ -580,7 +582,7 @@ def lost_rooms(program):
 
 
 def full_disk(program):
-    """Where the disk is nearly full it is said that nothing of what is proved will be kept."""
+    """If the disk is nearly full, a message says that no proof will be kept."""
     tree = Tree(program)
     for free, is_told in [(4_999, True), (5_000, False), (0, True)]:
         (tree.top / PROGRAM).unlink(missing_ok=True)
@@ -598,7 +600,7 @@ def levels(program):
 
 
 def machines(program):
-    """The program is built for x86-64-v3 where the processor has every feature of it, else for x86-64-v2."""
+    """The program is built for x86-64-v3 if the processor has every feature of it, otherwise for x86-64-v2."""
     tree = Tree(program)
     tree.build("an older processor")
     compare("an older processor", "level", "x86-64-v2", tree.level())
@@ -625,7 +627,8 @@ def newer(program):
 
 
 def calls_for_a_level(program):
-    """For another level than the gate's all but the program's own crate is proved by the gate, and this one over it."""
+    """For another level than the gate's all crates except the program's own are proved by the gate, and this one over
+    them."""
     tree = newer(program)
     lengthen_line(tree, "perkeep_cli", "hex")
     said = tree.build("a build for x86-64-v3")
@@ -651,7 +654,7 @@ def calls_for_a_level(program):
 
 
 def by_hand(program):
-    """A level that is asked for holds until another one is, whatever else changes."""
+    """A level that is requested holds until another one is, whatever else changes."""
     tree = newer(program)
     compare("a level by hand", "current", False, tree.is_current(PERKEEP_CPU="x86-64-v2"))
     tree.run("a level by hand", PERKEEP_CPU="x86-64-v2")
@@ -677,7 +680,7 @@ def by_hand(program):
 
 
 def by_hand_as_it_is(program):
-    """Also a level that the program was built for already, without a word."""
+    """The same for a level for which the program was built already, without a message."""
     tree = built(program)
     compare("a level that it has", "what it says", "", tree.build("a level that it has", PERKEEP_CPU="x86-64-v2"))
     tree.write("fake/flags", f"{OLDER} {NEWER}")
@@ -686,7 +689,7 @@ def by_hand_as_it_is(program):
 
 
 def moved_folder(program):
-    """On an older machine the program is built again, though no file has changed."""
+    """On an older machine the program is built again, although no file has changed."""
     tree = newer(program)
     tree.run("a newer machine")
     compare("a newer machine", "what it then says", "", tree.run("a newer machine"))
@@ -703,7 +706,7 @@ LACKS = "perkeep: this processor lacks what x86-64-v3 has; PERKEEP_CPU=x86-64-v2
 
 
 def moved_by_hand(program):
-    """Where the level was asked for it is said what can be done, and nothing is removed."""
+    """If the level was requested, a message says what can be done, and nothing is removed."""
     tree = newer(program)
     tree.run("x86-64-v3 by hand", PERKEEP_CPU="x86-64-v3")
     tree.write("fake/flags", OLDER)
@@ -717,7 +720,7 @@ def moved_by_hand(program):
 
 
 def refuses(what, tree, why, **settings):
-    """Nothing is built or run, for a reason that is told."""
+    """Nothing is built or run, for a reason that is printed."""
     before = tree.calls()
     for build in ("", "only"):
         process = tree.start("get", "x", PERKEEP_BUILD=build, **settings)
@@ -727,7 +730,7 @@ def refuses(what, tree, why, **settings):
 
 
 def beyond(program):
-    """A level that this machine can't run isn't built, and isn't kept; nor is what is no level."""
+    """A level that this machine can't run isn't built, and isn't kept; nor is a text that isn't a level."""
     tree = built(program)
     refuses("x86-64-v3 here", tree, LACKS, PERKEEP_CPU="x86-64-v3")
     compare("a plain start then", "what it says", "", tree.run("a plain start then"))
@@ -738,8 +741,8 @@ def beyond(program):
 
 
 def lacking(program):
-    """A program that says at its start that the processor isn't one for it isn't believed; as any other status of it, its
-    127 is else handed on."""
+    """A program that says at its start that it isn't for this processor isn't accepted; otherwise its status 127 is
+    passed on, like any other."""
     tree = newer(program)
     process = tree.start("lacks", PERKEEP_CPU="x86-64-v3")
     process.communicate("", timeout=SECONDS)
@@ -752,7 +755,7 @@ def lacking(program):
         fails(f"a program for {level} that doesn't start", tree, told, PERKEEP_CPU=level)
 
 
-# What the prover may say of the program's crate, by edits of a good line, which no program is built from.
+# Possible output of the prover for the program's crate, as edits of a good line. No program is built after these.
 NO_VERDICTS = [
     ("not proved", "s/=proved.*/=not-proved/"),
     ("another level", "s/cpu=[^ ]*/cpu=x86-64-v2/"),
@@ -778,7 +781,7 @@ def no_verdicts(program):
     tree.run("a good verdict")
 
 
-# What it says while it builds
+# Messages during a build
 
 def progress(program):
     checks = [from_nothing, some_kept, lanes, not_proved, level_fails, killed_once, edited]
@@ -787,13 +790,13 @@ def progress(program):
 
 
 def beginning(level="x86-64-v2"):
-    """What is said first of a build."""
+    """The first message of a build."""
     told = f"perkeep: building the program for {level}: what of its {len(crates_below())} crates isn't proved on this machine"
     return f"{told} is proved now, all of it in an hour on four processors (PERKEEP_TRY=1 runs it unproved, in two minutes)"
 
 
 def compare_progress(what, proved, said, level="x86-64-v2"):
-    """What is said of a build; `proved` are the crates that it proves in their order, with how many then are."""
+    """The messages of a build; `proved` are the crates that it proves in their order, with how many are proved then."""
     count = len(crates_below())
     told = [f"perkeep: proved {name} ({done} of {count}, 0 min)" for name, done in proved]
     compare(what, "what is said", [beginning(level), *told], said.splitlines())
@@ -809,7 +812,7 @@ def from_nothing(program):
 
 
 def some_kept(program):
-    """Crates that are kept are counted, and nothing else is said of them."""
+    """Crates that are kept are counted, without a message."""
     names = crates_below()
     tree = built(program)
     changed = [names[3], names[17], names[-1]]
@@ -822,7 +825,7 @@ def some_kept(program):
 
 
 def lanes(program):
-    """PERKEEP_JOBS says how many crates are proved side by side, and else the toolchain chooses."""
+    """PERKEEP_JOBS says how many crates are proved side by side; otherwise the toolchain chooses."""
     tree = Tree(program)
     for jobs, wanted in [("", "none"), ("0", "none"), ("x", "none"), ("3", "3"), ("012", "12")]:
         (tree.top / PROGRAM).unlink(missing_ok=True)
@@ -831,7 +834,8 @@ def lanes(program):
 
 
 def not_proved(program):
-    """It is said at once which crate isn't proved, and at the end why; what was proved before it isn't proved again."""
+    """A message says immediately which crate isn't proved, and at the end why; crates that were proved before it aren't
+    proved again."""
     names = crates_below()
     tree = Tree(program)
     tree.write("fake/breaks", names[20])
@@ -859,7 +863,7 @@ def level_fails(program):
 
 
 def killed_once(program):
-    """A proof that is killed, most likely for memory, is tried once more with less."""
+    """A proof that is killed, most likely for lack of memory, is tried once more with less."""
     tree = newer(program)
     tree.write("fake/is_killed", "")
     tree.build("a proof that is killed")
@@ -867,7 +871,7 @@ def killed_once(program):
     compare("a proof that is killed", "its words then", ["--jobs", "1"], (tree.fake / "words").read_text().splitlines()[-2:])
 
 
-# Ways to end a build: the signal, whether all of the launcher's group gets it, and what the launcher then ends with.
+# Ways to end a build: the signal, whether all of the launcher's group gets it, and the launcher's status then.
 ENDINGS = [
     (signal.SIGINT, True, 130),
     (signal.SIGTERM, False, 143),
@@ -876,8 +880,8 @@ ENDINGS = [
 
 
 def interrupted(program, sign, is_for_group, status):
-    """A build that is interrupted ends at once and leaves nothing that runs and no room; the next one goes on where it
-    was."""
+    """A build that is interrupted ends immediately and leaves no process and no room; the next one continues where it
+    stopped."""
     names = crates_below()
     what = f"a build that gets {sign.name}"
     tree = newer(program)
@@ -922,7 +926,7 @@ def running_in(folder):
 
 
 def edited(program):
-    """After an edit the crates that changed are proved alone."""
+    """After an edit only the crates that changed are proved."""
     tree = built(program)
     tree.write("crates/pack_store/src/lib.rt", "text 2")
     done = crates_below().index("pack_store") + 1
@@ -931,16 +935,16 @@ def edited(program):
 
 # Running the sources
 
-# What is said first of all, and last where there is no answer.
+# The first message, and the last one if there is no answer.
 UNPROVED = "perkeep: not proved here: rt try runs the sources, which takes a minute or two\n"
 NO_ANSWER = "perkeep: the sources gave no answer, for the reason above (a command has 60 seconds, and 1 MiB of output)\n"
-# How the toolchain tells that the program ended with a status. In front of it stands what the program told.
+# The toolchain's line for a program that ended with a status. The program's output comes before it.
 ENDED = """interpreter: no-answer: a call of a function
 checked: ended status={0}
 races: not looked for
 run=ended status={0} runners=1 races=unchecked proved=no
 """
-# Words, and those that are handed on in the folder @.
+# Arguments, and those that are passed on in the folder @.
 HANDED = [
     (["put", "d"], ["put", "@/d"]),
     (["put", "a folder/d"], ["put", "@/a folder/d"]),
@@ -961,7 +965,7 @@ HANDED = [
     (["search-pack", "d", "d"], ["search-pack", "d", "d"]),
     (["search-pack", "--", "d", "d"], ["search-pack", "--", "d", "d"]),
     (["load", "1", "1"], ["load", "1", "1"]),
-    # These are no lines, and stay none.
+    # These aren't valid lines, and remain invalid.
     ([], []),
     ([""], [""]),
     (["list"], ["list"]),
@@ -987,7 +991,7 @@ class Tried(Tree):
         self.write("fake/said", told + ENDED.format(status) if said is None else said)
 
     def ends(self, what, words, status, out, err, source="", **settings):
-        """Starts the launcher, which has to end so."""
+        """Starts the launcher, which has to end in this way."""
         process = self.start(*words, PERKEEP_TRY="1", **settings)
         got_out, got_err = process.communicate(source, timeout=SECONDS)
         compare(what, "exit status", status, process.returncode)
@@ -1012,7 +1016,7 @@ def hands_on(program):
 
 
 def keyrings(program):
-    """The working folder's keyring is handed to the commands that read it there."""
+    """The working folder's keyring is passed to the commands that read it there."""
     folder = program.new_path()
     folder.mkdir()
     rows = [(["search-pack", "tag", "a"], True), (["load", "1", "1"], True), (["put", "d"], False), (["list", "."], False)]
@@ -1029,7 +1033,7 @@ def keyrings(program):
 
 
 def inputs(program):
-    """Standard input is taken whole, however slowly it comes."""
+    """Standard input is read to its end, however slowly it comes."""
     for words in (["put", "d"], ["put-file", "d", "name"], ["multi", "d", "--key", "me"], ["query", "d"], ["search-pack", "tag", "a"]):
         tree = Tried(program)
         process = tree.start(*words, PERKEEP_TRY="1")
@@ -1053,7 +1057,7 @@ def no_input(program):
 
 
 def statuses(program):
-    """The program's own statuses, which some of the toolchain's are like."""
+    """The program's own statuses, some of which equal the toolchain's."""
     for status in (0, 1, 2, 3, 4, 5, 6, 7, 9, 10, 12, 14):
         told = "" if status == 0 else "perkeep: word\n"
         tree = Tried(program, status, "some\0output\nwith no end", told)
@@ -1061,7 +1065,7 @@ def statuses(program):
 
 
 def no_answers(program):
-    """What the toolchain ends with where there is no answer, and what it says then."""
+    """The toolchain's statuses and messages when there is no answer."""
     rows = [
         (1, "error: this doesn't compile\nrun=none proved=no\n"),
         (2, "rt: it doesn't start\nrun=none proved=no\n"),
@@ -1085,7 +1089,7 @@ def no_answers(program):
 
 
 def refusals(program):
-    """What can't be done unproved is refused by one line, and the toolchain isn't asked."""
+    """What can't be done unproved is refused with one line, and the toolchain isn't called."""
     limit = 64 << 20
     tree = Tried(program)
     for words in (["serve"], ["serve", "d", "--port", "3179"], ["serve-shares", "d", "--port", "3190"]):
@@ -1099,14 +1103,14 @@ def refusals(program):
 
 
 def proved_program(program):
-    """Where the built program is current it is run, without a word."""
+    """If the built program is current, it is run, without a message."""
     tree = built(program)
     compare("a program that is current", "what it says", "", tree.run("a program that is current", "serve", PERKEEP_TRY="1"))
     check(f"a program that is current: {tree.calls()}", not tree.has_tried())
 
 
 def asked_for(program):
-    """Nothing that isn't proved is run unless that is asked for, in so many words."""
+    """Nothing unproved is run unless that is requested explicitly."""
     for value in ("", "0", "2", "yes", "11"):
         tree = Tried(program)
         tree.run(f"PERKEEP_TRY={value}", PERKEEP_TRY=value)
@@ -1124,6 +1128,6 @@ def asked_for(program):
 
 
 if __name__ == "__main__":
-    # Who was started in the background ignores interrupts, and what it starts would ignore them, too.
+    # A process that was started in the background ignores interrupts, and so would the processes that it starts.
     signal.signal(signal.SIGINT, signal.default_int_handler)
     harness.main("launcher.sh", [starts, stale, builds, rooms, levels, progress, tries])

@@ -24,7 +24,7 @@ int getentropy(void *bytes, size_t length) {
 }
 """
 
-# A clock that tells what the environment says: seconds and nanoseconds, or nothing where it says nothing.
+# A clock that returns the seconds and nanoseconds of the environment, or fails if it has none.
 CLOCK = """
 #include <errno.h>
 #include <stdio.h>
@@ -49,7 +49,7 @@ REFUSE = pathlib.Path(__file__).with_name("refuse.c").read_text(encoding="utf-8"
 
 
 def made_library(program, name, text):
-    """A library of C that the program can be started with in front of its own."""
+    """A library of C that can be loaded into the program before its own."""
     compiler = shutil.which("cc")
     if compiler is None:
         raise LeftOut(f"there is no cc, to make the library {name}")

@@ -1,10 +1,10 @@
-"""Looks at the documents: every file of the repository whose name ends in `.md`.
+"""Checks the documents: every file of the repository whose name ends in `.md`.
 
 Relative links lead to files that are there, and their anchors to headings, by GitHub's rule for anchors. Lines outside
-code and tables have at most 120 characters. What docs/top.md quotes stands in the file that is linked before it. The
-names in docs/proved.md stand in the crates that it names, which also have the lines that it tells of those that are
-trusted, and it names each public function without a contract. crates/README.md has the table that crates_table.py makes
-of crates.txt and docs/gate.md, and each script has a row on the page of its folder.
+code and tables have at most 120 characters. Quotes in docs/top.md are in the file that is linked before them. The names
+in docs/proved.md are in the crates that it names. The trusted crates have the numbers of lines that it gives, and it
+names each public function without a contract. crates/README.md has the table that crates_table.py makes from crates.txt
+and docs/gate.md, and each script has a row on the page of its folder.
 """
 
 import collections
@@ -21,7 +21,7 @@ from harness import check, compare
 
 TOP = pathlib.Path(__file__).resolve().parent.parent
 LONGEST_LINE = 120
-# Folders of which nothing is looked at: what is built, and what git keeps.
+# Folders that aren't checked: built files, and those of git.
 PASSED_OVER = {"out", ".git"}
 CODE, TABLE, HEADING, TEXT = "code", "table", "heading", "text"
 
@@ -35,7 +35,7 @@ CRATES = frozenset(lines_of_crates())
 # Pages
 
 class Page:
-    """A document: its lines, each with what it is."""
+    """A document: its lines, each with its kind."""
 
     def __init__(self, path):
         self.path = path
@@ -133,7 +133,7 @@ def long_lines(page):
     return [number for number, (line, kind) in numbered if kind in (TEXT, HEADING) and len(line) > LONGEST_LINE]
 
 
-# What is quoted
+# Quotes
 
 def quotes(program):
     """Each block of docs/top.md is from the file that is linked last before it."""
@@ -159,11 +159,11 @@ def check_quote(page, source, block):
     check(f"{page.name}: {source} doesn't have these lines: {block[0]} ..", quoted in f"\n{text}\n")
 
 
-# What is named
+# Names
 
 def ledger(program):
-    """The names in docs/proved.md: a path that begins with a crate is declared there, and any other name of an item
-    stands in one of the crates that the item names."""
+    """The names in docs/proved.md: a path that begins with a crate is declared there, and any other name of an item is
+    in one of the crates that the item names."""
     page = page_at(TOP / "docs" / "proved.md")
     return [functools.partial(check_names, page, block) for block in page.blocks() if crates_named(block)]
 
@@ -187,12 +187,12 @@ def check_names(page, block):
             check(f"{page.name}: {name} stands in none of {sorted(crates)}", any(parts <= words_of(c) for c in crates))
 
 
-# A place in a test: names, and the file that is linked behind them.
+# A place in a test: names, and the file that is linked after them.
 IN_TESTS = re.compile(r"((?:`\w+`(?: and )?)+) of \[[^\]]*\]\(([^)]+)\)")
 
 
 def tried(program):
-    """docs/limits.md names, for inputs at limits, tests that are there."""
+    """docs/limits.md names, for inputs at limits, tests that exist."""
     page = page_at(TOP / "docs" / "limits.md")
     found = [one for line in page.lines for one in IN_TESTS.findall(line)]
     check(f"{page.name}: it names only {len(found)} tests", len(found) >= 12)
@@ -214,9 +214,9 @@ def contracts(program):
 
 # A row of a table that begins with a crate and a number.
 COUNTED = re.compile(r"\| `(\w+)` \| ([\d,]+) \|")
-# By so many lines a trusted crate may have grown or shrunk since they were counted.
+# A trusted crate may have grown or shrunk by so many lines since they were counted.
 SOME_LINES = 50
-# The crates that name what the system gives.
+# The crates that name functions of the system.
 OF_THE_SYSTEM = re.compile(r"\bHostRuntime\b|\blibc::")
 
 
@@ -256,7 +256,8 @@ def words_of(crate):
 # Crates and scripts
 
 def crates(program):
-    """The table of crates/README.md is the one that is due, and has one row for each crate, with what is written by hand."""
+    """The table of crates/README.md is the expected one, and has one row for each crate, with the cells that are
+    written by hand."""
     text = crates_table.PAGE.read_text(encoding="utf-8")
     what = "how its table differs from what tests/crates_table.py --write makes"
     folders = {path.name for path in (TOP / "crates").iterdir() if path.is_dir()}

@@ -1,7 +1,7 @@
-"""Runs `perkeep load`: what two indexes tell of generated stores, and what it refuses.
+"""Runs `perkeep load`: its output for generated stores, and its refusals.
 
-What is expected is the reference's, over the blobs that writing.py makes, but for a few values that are written down
-here and that the reference has to give too.
+The expected output is the reference's, over the blobs that writing.py makes, except for a few values that are written
+down here and that the reference has to return too.
 """
 
 import os
@@ -29,7 +29,7 @@ def both(blobs, permanodes, answer):
 
 
 def tells(program, what, count, start, keyring=KEYRING, words=None):
-    """Runs a line; it has to print what the reference tells of the same blobs."""
+    """Runs a line; it has to print the reference's output for the same blobs."""
     out = reference.load_text(writing.load_blobs(count, start), keyring or b"")
     words = words or ["load", str(count), str(start)]
     program.check(f"{what}: {count} {start}", words, out, folder=program.working_folder(keyring))
@@ -65,7 +65,7 @@ def counts(program):
 
 
 def keyrings(program):
-    """Only the key `load` under its own secret makes the permanodes genuine."""
+    """Only the key `load` with its own secret makes the permanodes genuine."""
     other = keyring_line("other", writing.LOAD_SECRET)
     checks = [
         lambda text=text: tells(program, f"the keyring {text}", 41, 7, text)
@@ -91,7 +91,7 @@ BAD_STARTS = ["18446744073709551616", "0018446744073709551616", "368934881474191
 
 
 def numbers(program):
-    """Leading zeros may stand before a number. What is no number, or isn't within bounds, is status 4."""
+    """Leading zeros may come before a number. A text that isn't a number, or isn't within bounds, is status 4."""
     folder = program.working_folder(KEYRING)
     good = [
         lambda words=words: tells(program, "leading zeros", *map(int, words), words=["load", *words])

@@ -1,9 +1,9 @@
-"""Requests for memory that are refused: of a run of each command, of a server's start and of a server's answers, one
-request in each run, from the first one on until a run makes no more.
+"""Requests for memory that are refused: in a run of each command, at a server's start and during a server's answers,
+one request in each run, from the first one on until a run makes no more.
 
-Memory may run out at any time (docs/commands.md, "Input and order"). A run then has its own outcome all the same, or it
-ends for want of memory or, within a call on the folder or the peer, with that object's fault. What it leaves is looked
-at, and that the same is done well once there is memory. Servers are in memory_served.py and memory_shares.py.
+Memory may run out at any time (docs/commands.md, "Input and order"). A run then still has its own result, or it ends
+for want of memory or, within a call on the folder or the peer, with that object's fault. The state that it leaves is
+checked, and that the same run succeeds once there is memory. Servers are in memory_served.py and memory_shares.py.
 """
 
 import collections
@@ -17,7 +17,7 @@ from harness import Difference, run_quickly
 from libraries import CLOCK, DICE, made_library
 from refusing import Page, refusing
 
-# What makes more requests than so many doesn't end.
+# A run that makes more requests than so many doesn't end.
 MOST = 1_000_000
 # How many runs of each row ended with which status.
 ENDINGS = {}
@@ -36,7 +36,7 @@ class Runs:
         self.known = [made_library(program, name, text) for name, text in (("clock", CLOCK), ("dice", DICE))]
 
     def refused_in_turn(self, row):
-        """Answers how many runs ended with which status."""
+        """Returns how many runs ended with which status."""
         page = Page(self.program, self.library)
         endings = ENDINGS[row.what] = collections.Counter()
         for number in range(1, MOST):
@@ -47,8 +47,8 @@ class Runs:
         raise Difference(f"{row.what}: more than {MOST} requests")
 
     def refused(self, row, page, number):
-        """A run from whose request of a number on some are refused, and then one of which none is; answers how the
-        first one ended, or None where it made fewer requests."""
+        """A run in which some requests are refused, from that of a number on, and then one in which none is; returns
+        how the first one ended, or None if it made fewer requests."""
         what = f"{row.what}, request {number} refused"
         with Trial(self.program, row) as trial:
             status = trial.runs(what, lambda line, source: self.run(row, page, line, source, number))
@@ -59,7 +59,7 @@ class Runs:
 
     def run(self, row, page, line, source, number=None):
         """How a line ended, and how it may have ended."""
-        # A peer is waited for by the clock.
+        # The program waits for a peer by the clock.
         variables = {**os.environ, **KNOWN, **page.variables(*(self.known if row.peer is None else ()))}
         if number is not None:
             page.refuse(number, self.count)
@@ -78,7 +78,7 @@ def tell_counts(_):
 
 
 def checks_of(program, group):
-    # What run_quickly runs is in a folder with the keyring.
+    # run_quickly runs its program in a folder with the keyring.
     os.chdir(program.working_folder(KEYRING))
     return group(program)
 

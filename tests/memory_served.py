@@ -1,9 +1,9 @@
 """A server's requests for memory that are refused: one while it starts, or one from the moment on at which something is
 sent to it. (Servers of shares are in memory_shares.py.)
 
-What is sent is answered as ever, or by 503 as there is no memory, or its connection ends before a reply; over another
-connection it is answered well then. Where an upload wasn't acknowledged a front of its parts was put. In the end all
-workers answer at once, and the packs hold what was put and nothing else.
+Each request gets its usual reply, or 503 for lack of memory, or its connection ends before a reply; over another
+connection it then succeeds. If an upload wasn't acknowledged, a prefix of its parts was put. In the end all workers
+answer at once, and the packs have exactly the blobs that were put.
 """
 
 import contextlib
@@ -29,9 +29,9 @@ from serving import store_of
 WORKERS = 2
 KEYS = reference.read_keyring(inputs.KEYRING)
 NO_MEMORY = Reply(503, json_text({"error": "memory"}), closes=True).text()
-# How often the server is asked: it has no more requests for memory once so many numbers in a row were too great.
+# How often the server is tried: it has no more requests for memory once so many numbers in a row were too great.
 QUIET, MOST = 3, 10_000
-# What is done after a reply is done once no request for memory comes for so many seconds.
+# Work after a reply is done once no request for memory comes for so many seconds.
 STILL, MOMENT, SOON = 0.01, 0.001, 10
 # docs/commands.md, "Exit statuses"
 MEMORY, DISK, LISTENER = 1, 7, 14
@@ -39,10 +39,10 @@ MEMORY, DISK, LISTENER = 1, 7, 14
 COUNTS = {}
 
 
-# What is sent
+# Requests of the cases
 
 class Case(NamedTuple):
-    """What is sent by a number while memory is refused, and what is sent before it."""
+    """The request for a number while memory is refused, and what is sent before it."""
 
     what: str
     stream: Callable
@@ -94,8 +94,8 @@ CASES = [
 
 
 class OfAStore:
-    """A store and what serves it: the class of the server and its words, what it is sent, and a request with its reply. A
-    start is called by a name of its own."""
+    """A store and its server: the class of the server and its arguments, the requests that it gets, and a request with
+    its reply. A start has a name of its own."""
 
     START, SERVER, WORDS = "a start", Server, (f"--workers={WORKERS}", "--indexers=1")
     CASES, GOOD = CASES, (get(blob_target(ABC)), ABC_REPLY)
@@ -104,19 +104,19 @@ class OfAStore:
         self.store = store_of(program, *inputs.EXAMPLE_BLOBS, b"abc")
 
     def connection(self, stream, blobs):
-        """What a stream has to get where blobs stand."""
+        """The expected replies to a stream if blobs are there."""
         return Connection(stream, blobs, KEYS)
 
     def other(self, number):
-        """What is asked after each case too."""
+        """A request after each case too."""
         return search_of(f"v{number}")
 
     def exchanged(self, port, stream):
-        """What a stream gets."""
+        """The replies to a stream."""
         return Exchange(port, [stream]).bytes()
 
     def workers_answer(self, what, port):
-        """As many connections as there are workers are answered while all of them stay."""
+        """As many connections as there are workers are answered while all of them stay open."""
         with contextlib.ExitStack() as stack:
             for number in range(WORKERS):
                 talk = stack.enter_context(Talk(port))
@@ -124,18 +124,18 @@ class OfAStore:
 
 
 def routes(program, kind=OfAStore):
-    """What a server does from the moment on at which a request is sent, until it is still."""
+    """A server's work from the moment on at which a request is sent, until it is idle."""
     library = refusing(program)
     return [lambda case=case: Asked(program, library, kind(program), case).in_turn() for case in kind.CASES]
 
 
 def front_of(page):
-    """What starts a server under the library."""
+    """The words that start a server with the library."""
     return ("env", *(f"{name}={value}" for name, value in page.variables().items()))
 
 
 class Asked:
-    """A server that is sent what a case has, by one number after the other."""
+    """A server that gets the requests of a case, for one number after the other."""
 
     def __init__(self, program, library, kind, case):
         self.kind, self.case, self.page = kind, case, Page(program, library)
@@ -156,7 +156,7 @@ class Asked:
         COUNTS[self.case.what] = number - QUIET
 
     def refuses(self, what, number):
-        """Answers whether a request was refused."""
+        """Returns whether a request was refused."""
         self.asks(f"{what}, before it", self.case.before(number))
         self.is_still()
         stream = self.case.stream(number)
@@ -174,7 +174,7 @@ class Asked:
         return was_refused
 
     def is_still(self):
-        """Waits until nothing is done any more: no memory is asked for, and no thread has anything to do."""
+        """Waits until the server is idle: it requests no memory, and no thread has anything to do."""
         made, since = self.page.made(), time.monotonic()
         until = since + SOON
         while time.monotonic() < since + STILL:
@@ -184,7 +184,7 @@ class Asked:
                 made, since = self.page.made(), time.monotonic()
 
     def takes_in(self, what, due, is_whole):
-        """What was put: all that was due, or else a front of it."""
+        """The blobs that were put: all expected ones, or a prefix of them."""
         new = [ref for ref in due.blobs if ref not in self.blobs]
         if new and not is_whole:
             standing = self.standing(new)
@@ -197,7 +197,7 @@ class Asked:
         return [one["blobRef"] for one in json.loads(body)["stat"]]
 
     def asks(self, what, stream):
-        """Asks what has to be answered as ever, if anything."""
+        """Sends a request that has to get its usual reply, if there is one."""
         due = self.kind.connection(stream, self.blobs)
         told = b"".join(reply.text() for reply in due.replies())
         compare_texts(what, told, self.kind.exchanged(self.server.port, stream) if stream else b"")
@@ -222,7 +222,7 @@ def is_busy(pid):
 
 
 def is_answer(what, texts, got, was_refused):
-    """The replies that are due; or a front of them, and then that there is no memory, or nothing."""
+    """The expected replies; or a prefix of them, followed by the reply that there is no memory, or nothing."""
     fronts = [b"".join(texts[:count]) for count in range(len(texts))] if was_refused else []
     if got not in [front + end for front in fronts for end in (NO_MEMORY, b"")]:
         compare_texts(what, b"".join(texts), got)
@@ -246,14 +246,14 @@ def starts_in_turn(program, library, kind):
 
 
 class Start:
-    """A server that may not come to serve."""
+    """A server that may not start to serve."""
 
     def __init__(self, program, page, kind):
         self.program, self.page, self.kind = program, page, kind
         self.store, self.port = kind.store, PORTS.free()
 
     def refuses(self, what, number):
-        """Answers whether a request was refused until the server has answered once, or ended."""
+        """Returns whether a request was refused until the server has answered once, or ended."""
         before = self.store.files()
         self.page.refuse(number)
         self.start()
@@ -283,7 +283,7 @@ class Start:
             time.sleep(MOMENT)
 
     def first_answer(self):
-        """What a connection gets; where that is nothing the server may have ended."""
+        """The reply to a connection; if there is none, the server may have ended."""
         got = b""
         with contextlib.suppress(ConnectionRefusedError, ConnectionResetError):
             got = self.kind.exchanged(self.port, self.kind.GOOD[0])

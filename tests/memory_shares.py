@@ -1,4 +1,4 @@
-"""A server of shares, whose requests for memory are refused as those of a server of a store are (memory_served.py)."""
+"""A server of shares, whose requests for memory are refused like those of a server of a store (memory_served.py)."""
 
 import memory_served
 from http_inputs import post
@@ -17,7 +17,7 @@ REFS = {letter: ref_of(blob) for letter, blob in BLOBS.items()}
 
 
 def asks(path):
-    """A request by a path, whose last ref is asked for."""
+    """A request by a path, for the last ref of it."""
     *via, last = (REFS.get(letter, letter) for letter in path.split())
     return get(last, *via)
 
@@ -38,7 +38,7 @@ CASES = [
 
 
 class OfShares:
-    """A store of these blobs in which T is deleted, and what serves its shares, as `OfAStore` has it."""
+    """A store of these blobs in which T is deleted, and the server of its shares, in the form of `OfAStore`."""
 
     START, SERVER, WORDS = "a start of shares", ShareServer, ()
     CASES, GOOD = CASES, (asks("S F C"), blob_reply(BLOBS["C"]))

@@ -1,8 +1,8 @@
-"""`mirror`: a round over a store and servers, after which all hold what any held.
+"""`mirror`: a round over a store and servers, after which each has all blobs that any had.
 
-What has to stand then is worked out from docs/ring.md: after a round that ends well the hub and each server hold the
-join of all, and after one that fails what they held and more of that. Packs are compared to the byte: what was copied
-is appended, in the order in which docs/ring.md has it.
+The expected blobs are computed by docs/ring.md: after a round that succeeds the hub and each server have the union of
+all, and after one that fails what they had and more of the union. Packs are compared to the byte: copied blobs are
+appended, in the order of docs/ring.md.
 """
 
 import os
@@ -59,7 +59,7 @@ class Ring:
         self.is_so(what)
 
     def takes_up(self):
-        """Says what the packs have to be after a round."""
+        """Records the expected packs after a round."""
         maps = [store.blobs() for store in self.stores]
         hub, after = reference.round_over(self.hub.blobs(), maps)
         for there in maps:
@@ -74,7 +74,7 @@ class Ring:
             store.check_files(f"{what}: store {number}")
 
     def again(self, what):
-        """A round that has nothing to copy: no byte and no time of a file is another."""
+        """A round that has nothing to copy: no byte and no time of a file changes."""
         before = [look(store.path) for store in (self.hub, *self.stores)]
         self.program.check(f"{what}, again", self.words(), line_of(self.hub, len(self.stores)))
         compare(f"{what}, again", "the folders", before, [look(store.path) for store in (self.hub, *self.stores)])
@@ -91,7 +91,7 @@ def line_of(hub, peers):
 
 
 def some_stores(program, what, count, blobs_each):
-    """A hub and so many stores, each of which has some blobs of its own and some that others have."""
+    """A hub and so many stores, each with some blobs of its own and some that others have."""
     blobs = Blobs("mirror", what, count, blobs_each)
     pool = blobs.some(blobs_each * (count + 1))
     return [blobs.store(program, blobs.random.sample(pool, blobs_each)) for _ in range(count + 1)]
@@ -159,7 +159,7 @@ def first_row(program):
 
 
 def notes(program):
-    """A key, permanodes, claims and deletions, apart in four stores: all then find the same, byte for byte."""
+    """A key, permanodes, claims and deletions, distributed over four stores: all then find the same, byte for byte."""
     return [lambda: found_in_all(program)]
 
 
@@ -180,10 +180,10 @@ def found_in_all(program):
             check_search(store, archive, "tag", value, date)
 
 
-# What is asked
+# Requests
 
 def requests(program):
-    """Each blob that is lacking is fetched once and sent once, and a second round neither fetches nor sends any."""
+    """Each missing blob is fetched once and sent once, and a second round neither fetches nor sends any."""
     return [lambda: asks(program)]
 
 
@@ -209,7 +209,7 @@ def asks(program):
 
 
 def ended_connections(program):
-    """Servers that end each connection behind a reply, and ones that say nothing of a length."""
+    """Servers that end each connection after a reply, and ones that give no length."""
     return [lambda: goes_on(program)]
 
 
@@ -228,8 +228,8 @@ def goes_on(program):
 
 
 def idle(program):
-    """A server stands idle for longer than a connection may while another one is copied from: it is asked over another
-    connection. So is a real one that has ended it."""
+    """A server is idle for longer than a connection may be while another one is copied from: it gets its requests over
+    another connection. So does a real one that has ended it."""
     return [lambda: stands_idle(program, 2), lambda: stands_idle(program, 62)]
 
 
@@ -255,7 +255,7 @@ def stands_idle(program, more):
 # Refusals
 
 def words(program):
-    """Words that are no line, and texts that are; the order of the refusals."""
+    """Arguments that are no line, and texts that are; the order of the refusals."""
     folder = str(program.new_path())
     behind = [[], [folder], ["--x=1", folder, "a"], [folder, "-a"], [folder, "a", "--limit=1"]]
     behind += [[folder, *["a"] * (MOST + 1)]]
@@ -267,7 +267,7 @@ def words(program):
 
 
 def nobody_there(program):
-    """An address at which no one is: what stands before it was gathered, and what stands after it wasn't asked."""
+    """An address at which no one is: the peers before it were read, and those after it got no request."""
     return [lambda place=place: is_refused(program, place) for place in range(3)]
 
 
@@ -287,7 +287,7 @@ def is_refused(program, place):
 
 
 def before_the_peers(program):
-    """What is wrong with the folder is told before a connection is made. The keyring isn't read."""
+    """Faults of the folder are reported before a connection is made. The keyring isn't read."""
     file = program.new_path()
     file.write_bytes(b"")
 
@@ -306,7 +306,7 @@ def before_the_peers(program):
 
 
 def locked(program):
-    """The folder is another program's, or one that a server among the addresses serves: status 7 after ten seconds."""
+    """The folder is locked by another program, or by a server among the addresses: status 7 after ten seconds."""
     def by_another():
         what, (here, there) = "a folder that another program holds", some_stores(program, "locked", 1, 4)
         with Server(program, there.path) as server, Locked(here.path):
@@ -361,7 +361,7 @@ def damage(program):
 # Kills
 
 def kills(program):
-    """Servers, and the command, that are killed at a random moment of a round: nothing is lost, nothing is there that
+    """Servers, and the command, that are killed at a random moment of a round: no blob is lost, no blob is there that
     none had, and the next round ends equal."""
     return [lambda turn=turn: killed(program, turn) for turn in range(KILLS)]
 

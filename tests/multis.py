@@ -1,4 +1,4 @@
-"""What notes.sh shows of `multi` alone: which lists it takes, the claim that it puts, what is found by it then, and what
+"""The tests of notes.sh for `multi` alone: which lists it accepts, the claim that it puts, the searches then, and what
 it refuses, in which order.
 """
 
@@ -26,7 +26,8 @@ LONGEST_DATE = "2020-01-01T00:00:00.123456789Z"
 # Lists
 
 def lists(program):
-    """Each list of inputs.py, and more, as standard input: what it says is put, or it is refused and nothing is touched."""
+    """Each list of inputs.py, and more, as standard input: its changes are put, or it is refused and nothing is
+    touched."""
     store = Notes(program, {0: pack(b"abc")})
     nowhere = Notes(program)
     bad = [text for text, reads in LISTS if reads is False] + NO_LISTS
@@ -35,13 +36,13 @@ def lists(program):
     return checks + [lambda: are_put(nowhere, good)]
 
 
-# Texts that are no list of changes.
+# Texts that aren't lists of changes.
 NO_LISTS = ["", " ", "[", "]", "[]]", "nul", "\0", "\ufeff[" + inputs.CHANGE + "]", inputs.CHANGE + "\n" + inputs.CHANGE]
 NO_LISTS += [f"[{inputs.CHANGE},]", f"[{inputs.CHANGE}", f"[{inputs.CHANGE}] x", f"[{inputs.CHANGE}][{inputs.CHANGE}]"]
 NO_LISTS += [f"[{inputs.CHANGE} {inputs.CHANGE}]", f"[{inputs.CHANGE}]\x0b", f'{{"changes":[{inputs.CHANGE}]}}']
 NO_LISTS += [f'[{inputs.CHANGE[:-1]},"n":1e400}}]', f'[{inputs.CHANGE[:-1]},"n":"\\ud800"}}]']
 NO_LISTS += [f'[{inputs.CHANGE[:-1]},"n":{"[" * 126}{"]" * 126}}}]']
-# Such that are, in other words than the program's own.
+# Lists in other forms than the program's own.
 ODD_LISTS = [f"\r\n\t [\n{inputs.CHANGE}\n]\n\n", f'[{inputs.CHANGE[:-1]},"n":{"[" * 125}{"]" * 125}}}]']
 ODD_LISTS += [f'[{{"value":"b","attribute":"tag","n":0.5,"permaNode":"{ABC}","changeType":"add-attribute"}}]']
 ODD_LISTS += [f'[{{"changeType":"set-attribute","permaNode":"{ABC}","attribute":"\\u00e4\\/\\n","value":"\\ud83d\\ude00"}}]']
@@ -49,7 +50,7 @@ ODD_LISTS += [f'[{{"changeType":"del-attribute","permaNode":"{older_ref_of(NODE)
 
 
 def is_refused(store, text):
-    """A text that is no list: status 4, and nothing is touched."""
+    """A text that isn't a list: status 4, and nothing is touched."""
     what, source = f"the list {text[:90]!r}", writing.octets(text)
     compare(what, "the reference", None, changes_in(source))
     store.keeps(what, store.words("multi", KEY), status=4, source=source)
@@ -64,7 +65,7 @@ def are_put(store, texts):
 
 
 def changes_in(source):
-    """The changes that a text lists, as writing.py takes them; None where it is no list."""
+    """The changes that a text lists, in the form of writing.py; None if it isn't a list."""
     try:
         changes = reference.change_list(strict_json.read(source))
     except strict_json.Unread:
@@ -105,7 +106,7 @@ def is_too_many(program, count, change):
 
 
 def has_length(program, more):
-    """A short list in white space, by so many bytes longer than the limit."""
+    """A short list with white space, by so many bytes longer than the limit."""
     what, store = f"an input of {more} bytes above the limit", Notes(program, {0: pack(b"abc")})
     change = ("set", NOWHERE, "tag", "a")
     source = list_text([change]).encode().ljust(LONGEST_LIST + more)
@@ -121,8 +122,8 @@ def has_length(program, more):
 
 
 def is_long(program, more):
-    """A claim that has so many bytes more than a schema blob may have, where its date has the most digits. The list
-    itself isn't too long."""
+    """A claim that has so many bytes more than a schema blob may have, if its date has the most digits. The list itself
+    isn't too long."""
     what, store = f"a claim of {more} bytes above the limit", Notes(program, {0: pack(b"abc")})
     changes = [("add", NOWHERE, "tag", "v"), ("set", NOWHERE, "title", "")]
     room = reference.LARGEST_SCHEMA_BLOB + more - len(writing.multi(changes, LONGEST_DATE))
@@ -137,7 +138,7 @@ def is_long(program, more):
     else:
         before = look(store.path)
         status, out, err = program.run(what, line, source)
-        # Where the moment that is drawn has a short text the claim fits all the same.
+        # If the moment that is drawn has a short text, the claim still fits.
         compare_ending(what, status and 4, status, err)
         if status == 0:
             store.noted(what, "jefe", DATE, lambda date: writing.multi_payload(changes, date), out)
@@ -146,7 +147,7 @@ def is_long(program, more):
             compare(what, "standard output", b"", out)
 
 
-# What is found
+# Searches
 
 def found(program):
     return [lambda one=one: one(program) for one in (by_one_claim, on_several, on_any)]
@@ -157,7 +158,7 @@ def tag(kind, value, on):
 
 
 def by_one_claim(program):
-    """Changes of one permanode by one claim, behind and before others, and what a deletion of it brings back."""
+    """Changes of one permanode by one claim, after and before others, and what a deletion of it brings back."""
     what, store = "several changes", Notes(program)
     node = store.permanode(what)
     for changes, values in [
@@ -213,7 +214,7 @@ def on_several(program):
 
 
 def on_any(program):
-    """What the changes are on need not stand, nor be a permanode; a permanode under its older name is."""
+    """The targets of the changes needn't be there, nor be permanodes; a permanode under its older name is one."""
     what, node = "a claim on anything", writing.permanode(signer=older_ref_of(inputs.KEY))
     store = Notes(program, {0: pack(b"abc") + pack(inputs.KEY, node, name_of=older_ref_of)})
     ref = older_ref_of(node)
@@ -223,10 +224,11 @@ def on_any(program):
     compare(what, "what is read", refs, [change.on for change in reference.fact_of(store.blobs()[claim]).changes])
 
 
-# What is refused, and what stands then
+# Refusals, and the state then
 
 def multi_streams(program):
-    """Standard input that fails or isn't read, standard output that takes nothing, and which fault is told first."""
+    """Standard input that fails or isn't read, standard output that accepts nothing, and which error is reported
+    first."""
     return [lambda one=one: one(program) for one in (input_fails, not_read, unsaid, first_of_all)]
 
 
@@ -257,7 +259,7 @@ def not_read(program):
 
 
 def unsaid(program):
-    """What was put stands where its ref can't be printed."""
+    """The blobs that were put are kept if their ref can't be printed."""
     path = program.new_path()
     path.write_bytes(SOURCE)
     for what, stream in [("full", {"sink": "/dev/full"}), ("closed", {"closed": 1})]:
@@ -270,7 +272,7 @@ def unsaid(program):
 
 
 def first_of_all(program):
-    """Where several things are wrong, the first one is told."""
+    """If several things are wrong, the first one is reported."""
     broken, unread = Store(program, {}, {"keyring": b"x"}), Store(program, {})
     (unread.path / "keyring").mkdir()
     failing, full = failing_store(program), Store(program, {99_999: b"x"}, OTHERS)

@@ -1,9 +1,9 @@
-"""Bytes that are changed at random, for bench/fuzz.sh. Each change is made of the random choices, the bytes, other
+"""Bytes that are changed at random, for bench/fuzz.sh. Each change is made from the random choices, the bytes, other
 inputs of the kind, and pieces that mean something in them."""
 
 import re
 
-# No input grows longer by changes.
+# Changes never make an input longer than this.
 LONGEST = 200_000
 
 

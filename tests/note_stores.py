@@ -1,7 +1,7 @@
 """Stores with a keyring, into which the program puts permanodes and claims.
 
-The program draws a moment and random bytes. These are read out of the blob that it put; all else of the blob, its
-signature too, has to be what writing.py gives for them, and the moment has to lie between the start and the end of the
+The program draws a moment and random bytes. These are read from the blob that it put. The rest of the blob, including
+its signature, has to be what writing.py makes with them, and the moment has to be between the start and the end of the
 program.
 """
 
@@ -32,7 +32,7 @@ DATE = re.compile(rb'"claimDate":"([^"]*)"')
 
 
 class Notes(Store):
-    """A store with a keyring, and what the program put into it."""
+    """A store with a keyring, and the blobs that the program put into it."""
 
     def __init__(self, program, packs=None):
         super().__init__(program, packs or {}, OTHERS)
@@ -40,32 +40,32 @@ class Notes(Store):
         self.moments = []
 
     def permanode(self, what, key="jefe", words=None):
-        """Puts a permanode; answers its ref."""
+        """Puts a permanode; returns its ref."""
         line = words or ["permanode", str(self.path), f"--key={key}"]
         return self.note(what, line, key, RANDOM, lambda drawn: writing.permanode_payload(drawn, signer(key)))
 
     def claim(self, what, kind, on, attribute, *value, key="jefe", words=None):
-        """Puts a claim; answers its ref."""
+        """Puts a claim; returns its ref."""
         line = words or ["claim", f"--key={key}", "--", str(self.path), kind, on, attribute, *value]
         text = "".join(value)
         payload_of = lambda date: writing.attribute_payload(kind, on, attribute, text, date, signer(key))
         return self.dated(what, line, key, payload_of)
 
     def multi(self, what, changes, source=None, key="jefe", words=None):
-        """Puts a claim of several changes, each of a kind, a permanode, an attribute and a value, out of this text or a
-        plain one; answers its ref."""
+        """Puts a claim of several changes, each given by its kind, permanode, attribute and value, from this text or a
+        plain one; returns its ref."""
         line = words or ["multi", str(self.path), f"--key={key}"]
         text = source or writing.octets(list_text(changes))
         payload_of = lambda date: writing.multi_payload(changes, date, signer(key))
         return self.dated(what, line, key, payload_of, source=text)
 
     def delete(self, what, target, key="jefe", words=None):
-        """Puts a delete claim; answers its ref."""
+        """Puts a delete claim; returns its ref."""
         line = words or ["delete", str(self.path), target, f"--key={key}"]
         return self.dated(what, line, key, lambda date: writing.delete_payload(target, date, signer(key)))
 
     def put_file(self, what, name, content):
-        """Puts a file; answers its ref."""
+        """Puts a file; returns its ref."""
         blobs = writing.file_blobs(name, writing.chunks_of(content))
         for blob in blobs:
             self.packs = reference.put(self.packs, blob)
@@ -86,13 +86,13 @@ class Notes(Store):
         return ref
 
     def note(self, what, line, key, pattern, payload_of, **streams):
-        """Runs a line; the key's blob and one blob more have to stand then."""
+        """Runs a line; then the key's blob and one more blob have to be there."""
         status, out, err = self.program.run(what, line, **streams)
         compare_ending(what, 0, status, err)
         return self.noted(what, key, pattern, payload_of, out)
 
     def noted(self, what, key, pattern, payload_of, out):
-        """The ref of what was put, and printed."""
+        """The ref of the blob that was put, and printed."""
         last = list(reference.arrivals(reference.packs_of(self.files())).values())[-1:]
         drawn = last and pattern.search(last[0])
         check(f"{what}: what stands last is {last}", drawn)

@@ -1,6 +1,7 @@
-"""Runs `perkeep permanode`, `claim`, `multi` and `delete`: what they put, what is found by it, and what they refuse.
+"""Runs `perkeep permanode`, `claim`, `multi` and `delete`: the blobs that they put, searches then, and what they
+refuse.
 
-What they put is looked at in note_stores.py, and what is shown of `multi` alone stands in multis.py.
+note_stores.py checks the blobs; the tests of `multi` alone are in multis.py.
 """
 
 import concurrent.futures
@@ -28,7 +29,8 @@ from writing import directory, keyring_line, pack, record, static_set
 
 EXAMPLE_KEY = "sha224-da4a89851a3c8f7ce55ef510378a1b717451b9f0b152bb73f28508dc"
 EXAMPLE_NODE = "sha224-adef53a16a87934f7f5595fa4225e39e14c1c80a4e3ed252d959d9b1"
-# The time of the clock, the text of its moment, what is claimed of the permanode, and the claim's ref.
+# The time of the clock, the text of its moment, the attribute and value of the claim on the permanode, and the claim's
+# ref.
 EXAMPLE_CLAIMS = [
     (
         "1577836800.0",
@@ -86,7 +88,7 @@ def pages(program):
 
 
 def lines_of(folder):
-    """One good line of each command over a folder; what the last one reads is SOURCE."""
+    """One valid line of each command over a folder; the input of the last one is SOURCE."""
     key = ("--key", "jefe")
     return [
         ["permanode", str(folder), *key],
@@ -96,7 +98,7 @@ def lines_of(folder):
     ]
 
 
-# What is put
+# Blobs that are put
 
 def rows(program):
     checks = (first_note, stands_already, on_older, on_anything, side_by_side)
@@ -104,7 +106,7 @@ def rows(program):
 
 
 def first_note(program):
-    """A permanode, a claim on it and a delete of that: the key's blob stands once, in front."""
+    """A permanode, a claim on it and a delete of that: the key's blob is there once, before them."""
     store = Notes(program)
     node = store.permanode("the first permanode")
     claim = store.claim("the first claim", "set", node, "tag", "a")
@@ -119,7 +121,7 @@ def first_note(program):
 
 
 def stands_already(program):
-    """The key's blob isn't put where it stands; notes go to a new pack where the last one is torn."""
+    """The key's blob isn't put if it is there; notes go to a new pack if the last one is torn."""
     for what, packs in [("the key stands", {0: pack(b"abc", inputs.KEY)}), ("a torn pack", {3: TORN})]:
         store = Notes(program, packs)
         node = store.permanode(what)
@@ -128,8 +130,8 @@ def stands_already(program):
 
 
 def on_older(program):
-    """Notes on a permanode under its older name, whose own signer stands under both names: the refs are said as they
-    are, and the key of a new note is the one that the program names."""
+    """Notes on a permanode under its older name, whose own signer has both names: the refs are kept as given, and the
+    key of a new note is the one that the program names."""
     node, what = writing.permanode(signer=older_ref_of(inputs.KEY)), "notes on an older permanode"
     ref = older_ref_of(node)
     store = Notes(program, {0: pack(inputs.KEY, node, name_of=older_ref_of)})
@@ -147,7 +149,7 @@ def on_older(program):
 
 
 def on_anything(program):
-    """What a claim is on need not stand, nor be a permanode."""
+    """The target of a claim needn't be there, nor be a permanode."""
     store = Notes(program, {0: pack(b"abc")})
     refs = [NOWHERE, ABC, "sha224-" + "0" * 56, "sha224-" + "f" * 56, ref_of(inputs.KEY)]
     refs += [inputs.OLDER_ABSENT, older_ref_of(b"abc"), older_ref_of(inputs.KEY)]
@@ -163,7 +165,7 @@ AT_ONCE, NOTES = 6, 30
 
 
 def side_by_side(program):
-    """Permanodes by several programs at a time: none is lost, none stands twice, the key stands once."""
+    """Permanodes by several programs at a time: none is lost, none is there twice, the key is there once."""
     what, store = f"{NOTES} permanodes by {AT_ONCE} at once", Notes(program)
 
     def note(number):
@@ -202,7 +204,7 @@ def signs(program, names):
 
 # Texts
 
-# The texts that JSON escapes, and some that it doesn't. Words can't hold the character 0.
+# Strings that JSON escapes, and some that it doesn't. Arguments can't contain the character 0.
 TEXTS = [*map(chr, range(1, 32)), "".join(map(chr, range(1, 128)))]
 TEXTS += ['"', "\\", "\x7f", "\x80", "\x85", "/", " ", "'", "<", "&", "=", "-", "--", "--key"]
 TEXTS += ['\\"', '"\\', "\\\\", "\\n", "\\u0041", "a\\", '""', "\r\n", "\x1b[0m", " a ", "a,b:c"]
@@ -213,7 +215,7 @@ STORES_OF_TEXTS = 4
 
 
 def texts(program):
-    """Attributes and values of all kinds of texts: what is put, and that it is found."""
+    """Attributes and values of all kinds of strings: the blobs that are put, and that they are found."""
     shares = [TEXTS[number::STORES_OF_TEXTS] for number in range(STORES_OF_TEXTS)]
     return [lambda share=share: has_texts(program, share) for share in shares]
 
@@ -236,7 +238,7 @@ def has_texts(program, its_texts):
         store.finds(f"del of all of {text!r}", [], text, text)
 
 
-# The longest word that Linux lets through, with the 0 behind it.
+# The longest argument that Linux accepts, including the 0 at its end.
 LONGEST_WORD = 131_072 - 1
 
 
@@ -247,7 +249,7 @@ def long_texts(program):
 
 
 def near_the_limit(program, more, kind):
-    """A claim that has so many bytes more than the limit, where its date has the most digits."""
+    """A claim that has so many bytes more than the limit, if its date has the most digits."""
     what, store = f"{kind} with {more} bytes above the limit", Notes(program, {0: pack(b"abc")})
     longest_date = "2020-01-01T00:00:00.123456789Z"
     room = reference.LARGEST_SCHEMA_BLOB + more - len(writing.claim(kind, NOWHERE, "a", "b", longest_date))
@@ -269,7 +271,7 @@ def near_the_limit(program, more, kind):
 
 
 def ends_either_way(store, what, line, kind, attribute, value):
-    """Where the moment that is drawn has a short text the claim fits all the same."""
+    """If the moment that is drawn has a short text, the claim still fits."""
     before = look(store.path)
     status, out, err = store.program.run(what, line)
     compare_ending(what, status and 4, status, err)
@@ -284,7 +286,7 @@ def ends_either_way(store, what, line, kind, attribute, value):
 
 # Claims in time
 
-# What is claimed one after another, and the values of `tag` then. A number is the step that is deleted, and `node` the
+# The steps one after another, and the values of `tag` then. A number is the step that is deleted, and `node` the
 # permanode.
 STEPS = [
     (("set", "tag", "a"), ["a"]),
@@ -317,7 +319,7 @@ def changes(program):
 
 
 def in_steps(program):
-    """Claims, deletions and deletions of deletions, looked at after each, and again at the dates between them."""
+    """Claims, deletions and deletions of deletions, with searches after each, and again at the dates between them."""
     store = Notes(program)
     node = store.permanode("a permanode")
     other = store.permanode("another permanode")
@@ -375,7 +377,7 @@ def random_changes(program, number):
 # Words
 
 def words(program):
-    """Lines that aren't lines: status 2, whatever the keyring is. Lines in all their forms."""
+    """Lines that aren't valid: status 2, whatever the keyring is. Valid lines in all their forms."""
     store = Store(program, {0: pack(b"abc")}, {"keyring": b"a bad keyring"})
     folder = str(store.path)
     return refused_lines(store, "words", bad_lines(folder, ABC), 2) + [lambda: good_lines(program)]
@@ -476,7 +478,7 @@ def bad_multis(folder, key):
 
 
 def good_lines(program):
-    """Options in front of positions, between and behind them; positions behind `--`."""
+    """Options before positions, between and after them; positions after `--`."""
     store = Notes(program)
     folder, key = str(store.path), ("--key", "jefe")
     node = ABC
@@ -521,7 +523,7 @@ NO_KEYS = ["none", "jef", "jefe-", "k" * 63, "-jefe", "4a656665"]
 
 
 def refused_texts(program):
-    """Texts that can't be used, and keys that the keyring lacks: status 4, whatever the disk holds."""
+    """Texts that can't be used, and keys that the keyring lacks: status 4, whatever the disk has."""
     store = Notes(program, {0: pack(b"abc"), 2: pack(b"abc") + b"[torn"})
     folder, missing, key = str(store.path), program.new_path(), ("--key", "jefe")
     lines = [("permanode", folder, f"--key={name}") for name in BAD_KEYS + NO_KEYS]
@@ -543,7 +545,7 @@ def refused_texts(program):
     ]
 
 
-# What the machine refuses
+# Failures of the machine
 
 def keyrings(program):
     return bad_keyrings(program, lines_of)
@@ -558,7 +560,7 @@ def folders(program):
 
 
 def full(program):
-    """A store that takes no blob more, or but one: then the key's blob stands."""
+    """A store that accepts no more blobs, or only one: then the key's blob is there."""
     torn = Notes(program, {99_999: pack(b"abc") + b"x"})
     keyed = Notes(program, {99_998: pack(inputs.KEY), 99_999: b"x"})
     return refused_lines(torn, "a full store", lines_of(torn.path), 9) + refused_lines(
@@ -567,7 +569,7 @@ def full(program):
 
 
 def room_for_one(program, line):
-    """The last pack takes the key's blob, and then no more."""
+    """The last pack accepts the key's blob, and then no more."""
     what, store = f"room for the key: {line}", Store(program, {}, OTHERS)
     path = store.path / reference.pack_name(reference.LAST_PACK)
     length, key = reference.BYTES_OF_A_FULL_PACK - 1, record(inputs.KEY)
@@ -582,7 +584,7 @@ def room_for_one(program, line):
 
 
 def streams(program):
-    """Standard output that takes nothing: what was put stands. Standard input isn't read."""
+    """Standard output that accepts nothing: the blobs that were put are kept. Standard input isn't read."""
     return [lambda check=check: check(program) for check in (kept_though_unsaid, closed_input, which_is_first)]
 
 
@@ -606,7 +608,7 @@ def kept_though_unsaid(program):
 
 
 def closed_input(program):
-    """Standard input may be closed, and nothing of it is taken, but by `multi`."""
+    """Standard input may be closed, and nothing of it is read, except by `multi`."""
     store = Notes(program, {})
     source = program.new_path()
     source.write_bytes(b"a source")
@@ -620,7 +622,7 @@ def closed_input(program):
 
 
 def which_is_first(program):
-    """Where several things are wrong, the first one is told."""
+    """If several things are wrong, the first one is reported."""
     broken = Store(program, {}, {"keyring": b"x"})
     unread = Store(program, {})
     (unread.path / "keyring").mkdir()
@@ -644,7 +646,7 @@ def which_is_first(program):
     ])
 
 
-# A store as a person has one
+# A realistic store
 
 PERMANODES, FILES = 40, 12
 MEMBERS_OF_TRIPS = (
@@ -687,7 +689,7 @@ def holds_all(program):
 # The clock and the random bytes
 
 def known_dice(program):
-    """A permanode with random bytes that are told: its ref is known before, and the store holds the key and it."""
+    """A permanode with given random bytes: its ref is known before, and the store has the key and it."""
     library = made_library(program, "dice", DICE)
     return [lambda: first_permanode(program, library)]
 
@@ -705,7 +707,7 @@ def first_permanode(program, library):
 
 
 def dice(program):
-    """Random bytes that can't be had: a permanode fails with status 12, before the disk; claims don't ask for them."""
+    """Random bytes that can't be read: a permanode fails with status 12, before the disk; claims don't need them."""
     need_strace(program)
     return [lambda: no_random_bytes(program)]
 
@@ -733,7 +735,7 @@ def no_random_bytes(program):
 # Calls that fail, and the order of syncs
 
 def failing(program):
-    """Each call of a permanode in turn fails: the key's blob may stand then, or both."""
+    """Each call of a permanode in turn fails: then the key's blob may be there, or both."""
     need_strace(program)
     checks = []
     for packs in ({}, {0: pack(b"abc") + b"[torn"}, {0: pack(inputs.KEY)}):
@@ -779,7 +781,7 @@ def note_fails(program, packs, call, fault):
 
 
 def clock(program):
-    """Claims under a clock that tells what it is told to: the text of each moment, and the clock's failures."""
+    """Claims under a clock that is set: the text of each moment, and the clock's failures."""
     library = made_library(program, "clock", CLOCK)
     moments = [lambda time=time, date=date: tells(program, library, time, date) for time, date in TIMES]
     examples = [lambda example=example: makes_example(program, library, *example) for example in EXAMPLE_CLAIMS]
@@ -827,7 +829,7 @@ def makes_example(program, library, time, date, change, ref):
 
 
 def fails(program, library, time):
-    """A time that is no moment: status 12, before the disk, but behind the key. A permanode asks for no time."""
+    """A time that isn't a moment: status 12, before the disk, but after the key. A permanode needs no time."""
     store, failing = Notes(program, {0: pack(b"abc")}), Store(program, {}, OTHERS)
     (failing.path / "pack-00001.blobs").mkdir()
     for one in (store, failing):
@@ -839,7 +841,7 @@ def fails(program, library, time):
             compare_ending(what, status, is_status, err)
             compare(what, "standard output", b"", out)
             compare(what, "the folder", before, look(one.path))
-    # A list that is none is told before the clock is asked.
+    # A list that isn't valid is reported before the clock is read.
     what = f"the time {time}: no list"
     is_status, _, err = program.run(what, lines_of(store.path)[-1], b"[]", **under_clock(library, time))
     compare_ending(what, 4, is_status, err)

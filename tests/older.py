@@ -1,7 +1,7 @@
-"""Stores as older ones are, whose blobs stand under their SHA-1 refs (docs/formats/blobrefs.md, "Two names").
+"""Older stores, whose blobs have SHA-1 refs (docs/formats/blobrefs.md, "Two names").
 
-The packs here are written out byte by byte, with what is told of them, by other programs than those that are tested:
-the digests are those of sha1sum, the signatures those of openssl.
+The packs here are written out byte by byte, with the expected results, by other programs than the tested one: the
+digests are those of sha1sum, the signatures those of openssl.
 """
 
 import hashlib
@@ -88,7 +88,7 @@ QUERIES = [
     (b'{"constraint":{"permanode":{"attr":"camliContent","valueInSet":{"file":{"fileName":{"equals":"x"}}}}}}', False),
 ]
 
-# Two blobs of 320 bytes that share their SHA-1 digest: the fronts of the two files of https://shattered.io.
+# Two blobs of 320 bytes that share their SHA-1 digest: the beginnings of the two files of https://shattered.io.
 FRONT = (
     b"%PDF-1.3\n%\xe2\xe3\xcf\xd3\n\n\n1 0 obj\n<</Width 2 0 R/Height 3 0 R/Type 4 0 R/Subtype 5 0 R/Filter 6 0 R"
     b"/ColorSpace 7 0 R/Length 8 0 R/BitsPerComponent 8>>\nstream\n\xff\xd8\xff\xfe\0$SHA-1 is dead!!!!!\x85/\xec"
@@ -111,7 +111,7 @@ COLLIDING_REF = "sha1-f92d74e3874587aaf443d1db961d4e26dde13e9c"
 # A store of each kind
 
 def older(program):
-    """Stores as older ones are, by each command."""
+    """Older stores, by each command."""
     return [lambda check=check: check(program) for check in (both_names, one_name, whole_store, colliding)]
 
 
@@ -136,7 +136,7 @@ def both_names(program):
 
 
 def one_name(program):
-    """A blob under its older name alone isn't found by the other one; a put adds it under that."""
+    """A blob that is only there under its older name isn't found by the other one; a put adds it under that."""
     store, what = Store(program, {0: BOTH_NAMES[:52]}), "one name"
     store.reads(what, "list", out=f"{OLDER_ABC} 3\n".encode())
     store.reads(what, "get", ABC, status=3)
@@ -147,7 +147,8 @@ def one_name(program):
 
 
 def whole_store(program):
-    """A store with a key, a note and a file: what is found, searched and read, and what is put into it then."""
+    """A store with a key, a note and a file: its listing, searches and reads, and the blobs that are then put into
+    it."""
     store, what = Store(program, {0: PACK}, {"keyring": KEYRING}), "an older store"
     lines = [f"pack-00000.blobs {at} {ref} {size}\n" for at, ref, size in FOUND]
     store.reads(what, "salvage", out="".join([*lines, "pack-00000.blobs clean\n"]).encode())
@@ -168,7 +169,7 @@ def whole_store(program):
 
 
 def searched(store, what):
-    """What is written down above, which the reference has to give too."""
+    """The results that are written down above, which the reference has to return too."""
     archive = reference.archive_of_store(store.packs, KEYRING)
     for attribute, value, at, is_found in TAGS:
         found = [NODE] if is_found else []

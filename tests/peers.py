@@ -1,7 +1,8 @@
-"""Servers that `push` and `pull` ask: one in Python that looks at each byte of each request, and answers as it is told.
+"""Servers as peers of `push` and `pull`: one in Python that checks each byte of each request, and replies as the test
+says.
 
-Which requests a peer is asked stands in docs/sync.md ("Requests over HTTP"), and what it replies in docs/http.md and
-docs/formats/answers.md. A request that isn't one of those, to the byte, is told as a fault of the check.
+The requests to a peer are in docs/sync.md ("Requests over HTTP"), and its replies in docs/http.md and
+docs/formats/answers.md. A request that isn't one of those, to the byte, fails the check.
 """
 
 import http.server
@@ -28,7 +29,7 @@ LENGTH = re.compile(rb"\r\nContent-Length: ([0-9]+)\r\n")
 
 
 class Asked:
-    """A request: which of the three it is, and the ref in it; for a page the one that it begins behind, or none."""
+    """A request: which of the three it is, and the ref in it; for a page the one after which it begins, or none."""
 
     def __init__(self, kind, ref, blob=None):
         self.kind, self.ref, self.blob = kind, ref, blob
@@ -48,13 +49,13 @@ def upload_text(ref, blob):
 
 
 def least_boundary(text):
-    """The least number in eight digits such that CR LF, two hyphens, `pk` and the number don't stand in a text."""
+    """The least number in eight digits such that CR LF, two hyphens, `pk` and the number aren't in a text."""
     taken = {int(digits) for digits in re.findall(rb"\r\n--pk(?=([0-9]{8}))", text)}
     return next(number for number in range(len(taken) + 1) if number not in taken)
 
 
 def asked_by(head, body):
-    """What a request asks; None where it is none of the three."""
+    """The kind of a request; None if it is none of the three."""
     page, fetch, name = PAGE.fullmatch(head), FETCH.fullmatch(head), NAME.search(body[:4_096])
     if page is not None and not body:
         return Asked("page", (page[1] or b"").decode())
@@ -68,11 +69,11 @@ def asked_by(head, body):
 
 
 class FalsePeer:
-    """A server that holds blobs by their refs, and lists, gives and keeps them.
+    """A server that has blobs by their refs, and lists, returns and keeps them.
 
-    `wrongs` and `rights` have by the numbers of requests, from 0 on, what is done in place of a plain reply: a function
-    of the connection and the reply that was due, after which the connection is ended where it answers True. A blob
-    whose upload is answered by one of `wrongs` isn't kept. `before` is called before each reply."""
+    `wrongs` and `rights` have, by the numbers of requests from 0 on, replacements for a plain reply. Each is a function
+    of the connection and the expected reply, and returns whether the connection is ended after it. A blob whose upload
+    is answered by one of `wrongs` isn't kept. `before` is called before each reply."""
 
     def __init__(self, blobs=None, wrongs=None, rights=None, before=None):
         self.blobs, self.wrongs, self.rights, self.before = dict(blobs or {}), wrongs or {}, rights or {}, before
@@ -91,12 +92,12 @@ class FalsePeer:
         self.close()
 
     def close(self):
-        # Who waits for a connection is woken by this alone.
+        # Only this wakes a thread that waits for a connection.
         self.listener.shutdown(socket.SHUT_RDWR)
         self.listener.close()
 
     def is_good(self, what):
-        """Each request so far was one of those that a peer is asked."""
+        """Each request so far was one of those that a peer gets."""
         compare(what, "requests that no peer is asked", [], self.faults)
 
     def of_kind(self, kind):
@@ -128,7 +129,7 @@ class FalsePeer:
                     return
 
     def next_request(self, wire, come):
-        """The head and the body of the next request, and what came behind; None where the connection ends before it."""
+        """The head and the body of the next request, and the bytes after it; None if the connection ends before it."""
         while b"\r\n\r\n" not in come:
             piece = wire.recv(PIECE)
             if not piece:
@@ -147,7 +148,7 @@ class FalsePeer:
         return come[:end], come[end:whole], come[whole:]
 
     def answer(self, wire, head, body):
-        """Answers a request; answers whether the connection is to end."""
+        """Answers a request; returns whether the connection is to end."""
         asked = asked_by(head, body)
         if asked is None:
             self.faults.append((head, body[:200]))
@@ -204,7 +205,7 @@ def absent(ref):
     return Reply(404, json_text({"error": "absent", "blobRef": ref}))
 
 
-# What is done once a reply is due; each answers whether the connection is ended then.
+# Actions when a reply is due; each returns whether the connection is then ended.
 
 def plainly(wire, due):
     wire.sendall(due.text())
@@ -217,7 +218,7 @@ def sends(text, ends=False):
 
 
 def changes(change, ends=False):
-    """Sends what a function makes of the reply."""
+    """Sends the reply, changed by a function."""
     def send(wire, due):
         wire.sendall(change(due))
         return ends
@@ -225,7 +226,7 @@ def changes(change, ends=False):
 
 
 def resets(wire, due):
-    """The other end is told of a failure, and not of an end."""
+    """The other end sees a failure, and not an end."""
     wire.setsockopt(socket.SOL_SOCKET, socket.SO_LINGER, b"\1\0\0\0\0\0\0\0")
     return True
 

@@ -2,23 +2,23 @@
 #
 #     tests/NAME.sh [GROUP..]
 #
-# Without a group all groups of the script are run. The last line is `N passed, M failed`, and the status is 0 where
-# nothing failed. A failure is told with the command that runs its group again.
+# Without a group all groups of the script are run. The last line is `N passed, M failed`, and the status is 0 if
+# nothing failed. A failure is printed with the command that runs its group again.
 #
-#     PERKEEP=PATH   runs that program; else the launcher ./perkeep builds its own where needed, and that one is run
+#     PERKEEP=PATH   runs that program; otherwise the launcher ./perkeep builds its own if needed, and that one is run
 #     SEED=N         makes other random choices
 #     KEEP=1         keeps the folder in which the script works, and prints its path
 set -eu
 cd "$(dirname "${BASH_SOURCE[0]}")/.."
 
-# Ends the script as one failure, before any check could be run.
+# Ends the script as one failure, before any check was run.
 give_up() {
   echo "$1" >&2
   echo "0 passed, 1 failed"
   exit 1
 }
 
-# Runs the tests of a name with the words of the script.
+# Runs the tests of a name with the arguments of the script.
 run_tests() {
   local name=$1
   shift

@@ -1,7 +1,7 @@
-"""Runs `perkeep put-file`: which blobs it cuts a file into, what stands after what it refuses, and what `get-file`
-reads of what was put.
+"""Runs `perkeep put-file`: the blobs into which it cuts a file, the state after its refusals, and what `get-file` reads
+from them.
 
-Each blob that is put is the one that writing.py gives, and each byte of each pack is the reference's.
+Each blob that is put is the one that writing.py makes, and each byte of each pack is the reference's.
 """
 
 import concurrent.futures
@@ -32,7 +32,7 @@ class Files(Store):
     """A store into which files are put."""
 
     def put_file(self, what, content, name=NAME, words=None, run=None):
-        """Puts a file, which has to succeed, and compares the ref and all files; answers the ref."""
+        """Puts a file, which has to succeed, and compares the ref and all files; returns the ref."""
         line = words or self.words("put-file", "--", name)
         run = run or (lambda: self.program.run(what, line, content))
         self.put_all(file_blobs(name, chunks_of(content)))
@@ -44,7 +44,7 @@ class Files(Store):
         return ref
 
     def put_all(self, blobs):
-        """The blobs have to stand, in this order."""
+        """The blobs have to be there, in this order."""
         for blob in blobs:
             self.packs = reference.put(self.packs, blob)
 
@@ -53,7 +53,7 @@ def lines_of(folder):
     return [["put-file", str(folder), NAME]]
 
 
-# What is put
+# Blobs that are put
 
 SIZES = [0, 1, 2, 65_535, 65_536, 65_537, BYTES_OF_A_CHUNK - 1, BYTES_OF_A_CHUNK, BYTES_OF_A_CHUNK + 1, 2_500_000]
 SIZES += [2 * BYTES_OF_A_CHUNK, 5 * BYTES_OF_A_CHUNK - 1]
@@ -101,7 +101,7 @@ def worked_row(program):
 
 
 def chunks_that_repeat(program):
-    """Equal chunks are one blob, and so is the last one where it begins alike, but isn't equal."""
+    """Equal chunks are one blob; the last chunk is one of its own if it only begins like another."""
     chunk = content_of(BYTES_OF_A_CHUNK)
     contents = {"zeros": bytes(5_000_000), "a chunk three times": chunk * 3, "a front behind": chunk * 2 + chunk[:9]}
     for what, content in contents.items():
@@ -111,7 +111,7 @@ def chunks_that_repeat(program):
 
 
 def beside_others(program):
-    """Files that share chunks, in packs that stand, and one that is torn."""
+    """Files that share chunks, in existing packs, one of which is torn."""
     content = content_of(3_000_000)
     first_chunk, empty_file = content[:BYTES_OF_A_CHUNK], file_blob(NAME, [])
     for packs in ({}, {0: CLEAN}, {2: pack(first_chunk) + b"[torn"}, {0: pack(empty_file)}):
@@ -126,7 +126,7 @@ def beside_others(program):
 
 
 def already(program):
-    """A file's blobs are put where some of them stand, in whatever order; a chunk may be a file, a key or a claim."""
+    """A file's blobs are put if some of them are there, in any order; a chunk may be a file, a key or a claim."""
     content = content_of(2_100_000)
     blobs = file_blobs(NAME, chunks_of(content))
     for number, order in enumerate(itertools.permutations(blobs, 2)):
@@ -154,7 +154,7 @@ LONG_NAMES = ["n" * (LONGEST_NAME + 1), "\1" * (LONGEST_NAME + 1), "\u00e4" * (L
 
 
 def names(program):
-    """Names of all kinds of texts, and those that are too long: these are refused before anything is read or made."""
+    """Names of all kinds of strings, and those that are too long: these are refused before anything is read or made."""
     store = Files(program, {})
     one_by_one = [lambda: [store.put_file(f"the name {name[:40]!r}", b"abc", name) for name in NAMES]]
     return one_by_one + [lambda name=name: too_long(program, name) for name in LONG_NAMES]
@@ -178,7 +178,7 @@ def sources(program):
 
 
 def from_a_file(program):
-    """Standard input is a file, from where it stands on."""
+    """Standard input is a file, read from its present position."""
     store, content, path = Files(program), content_of(2_500_000), program.new_path()
     path.write_bytes(b"passed over" + content)
     with open(path, "rb", buffering=0) as file:
@@ -193,7 +193,7 @@ def from_a_file(program):
 
 
 def in_pieces(program):
-    """Standard input that comes in pieces is cut no differently."""
+    """Standard input that comes in pieces is cut in the same way."""
     for number, most in enumerate((1, 4_000, 70_000, 3_000_000)):
         random = chance("pieces", number)
         content = random.randbytes(40 if most == 1 else 2_200_000)
@@ -226,8 +226,8 @@ def little_memory(program):
 
 
 def broken_sources(program):
-    """A source that can't be read, or breaks off: status 5. Chunks that were read whole may stand, in their order, and
-    nothing else is put."""
+    """A source that can't be read, or breaks off: status 5. Chunks that were read whole may be there, in their order,
+    and nothing else is put."""
     for packs in (None, {}, {0: pack(b"abc")}, {0: b"[torn"}):
         store = Files(program, packs)
         for what, stream in [("closed", {"closed": 0}), ("a folder", {"source": program.folder})]:
@@ -301,7 +301,8 @@ def is_synced(program, what, packs, size):
 # Calls that fail
 
 def failing(program):
-    """Each call of a put-file in turn fails: a front of the file's blobs stands then, and the file can be put again."""
+    """Each call of a put-file in turn fails: then a prefix of the file's blobs is there, and the file can be put
+    again."""
     need_strace(program)
     return [check for packs in (None, {0: pack(b"abc") + b"[torn"}) for check in failing_calls(program, packs)]
 
@@ -352,7 +353,7 @@ def reads_back(program, content):
 # Refusals
 
 def words(program):
-    """Lines that aren't lines: status 2, whatever the keyring is. Lines in all their forms."""
+    """Lines that aren't valid: status 2, whatever the keyring is. Valid lines in all their forms."""
     store = Store(program, {0: pack(b"abc")}, {"keyring": b"a bad keyring"})
     folder = str(store.path)
     bad = [(), (folder,), (folder, "--"), (folder, NAME, NAME), (folder, NAME, ""), (folder, "-x"), (folder, "-")]
@@ -392,7 +393,7 @@ def folders(program):
 
 
 def full(program):
-    """A store that takes no blob more, or but some of the file's: these stand, and nothing is printed."""
+    """A store that accepts no more blobs, or only some of the file's: these are kept, and nothing is printed."""
     content = content_of(2_500_000)
     chunks = chunks_of(content)
     torn = Files(program, {0: pack(b"abc"), 99_999: b"x"})
@@ -410,7 +411,7 @@ def full(program):
 
 
 def room_for(program, content, kept):
-    """The last pack takes some blobs, and then no more."""
+    """The last pack accepts some blobs, and then no more."""
     what, store = f"room for {len(kept)} blobs", Store(program, {})
     path, added = store.path / reference.pack_name(reference.LAST_PACK), pack(*kept)
     length = reference.BYTES_OF_A_FULL_PACK - max(len(added) - 1, 0)
@@ -425,7 +426,7 @@ def room_for(program, content, kept):
 
 
 def streams(program):
-    """Standard output that takes nothing: the file stands. What is told where several things are wrong."""
+    """Standard output that accepts nothing: the file is there. Which error is reported if there are several."""
     return [lambda: kept_though_unsaid(program), lambda: which_is_first(program)]
 
 
@@ -477,8 +478,8 @@ def has_two_lists(program, most):
 
 
 def has_many_chunks(program, count, rest, front=()):
-    """Zeros of so many chunks, and some bytes more, in and out; answers the store. Words may stand in front of
-    put-file's."""
+    """Zeros of so many chunks, and some bytes more, in and out; returns the store. put-file may have words before its
+    own."""
     what, store, source = f"{count} chunks and {len(rest)} bytes", Files(program), program.new_path()
     with open(source, "wb") as file:
         file.truncate(count * BYTES_OF_A_CHUNK)

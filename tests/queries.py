@@ -1,7 +1,7 @@
 """Queries, read, written and answered a second time.
 
 All of it is written from docs/formats/queries.md and docs/search.md alone, to be read beside these pages, over the
-facts of reference.py (docs/claims.md). It is slow and plain on purpose, but for what is kept once it was worked out.
+facts of reference.py (docs/claims.md). It is slow and plain on purpose, except that computed values are kept.
 
 A query is a dict, and so is each object in it: the keys of the page with their values, a date as its moment.
 """
@@ -29,10 +29,10 @@ class Fault(Exception):
         super().__init__(self.kind, self.path)
 
 
-# Values that are no objects
+# Values that aren't objects
 
 class Kind(NamedTuple):
-    """How a value is read, that stands under keys and within so many constraints, and how it is written."""
+    """How a value is read under keys and within so many constraints, and how it is written."""
 
     read: Callable
     write: Callable
@@ -76,7 +76,7 @@ TEXT = plain(is_text, writing.text)
 FULL_TEXT = plain(lambda value: is_text(value) and value != "", writing.text)
 TRUE = plain(lambda value: value is True, write_truth)
 TRUTH = plain(lambda value: isinstance(value, bool), write_truth)
-# The moment is written as its one written text (docs/formats/dates.md).
+# The moment is written in its canonical form (docs/formats/dates.md).
 DATE = Kind(read_date, lambda moment: writing.text(reference.date_text(moment)))
 
 
@@ -177,12 +177,12 @@ def read_object(name, value, keys, depth):
 
 
 def query_of(value):
-    """The query of a value of JSON; Fault where it is none."""
+    """The query in a JSON value; Fault if it isn't one."""
     return {**USUAL, **read_object("query", value, (), 0)}
 
 
 def read_query(text):
-    """The query of a text of bytes; Fault where it is none."""
+    """The query in a text of bytes; Fault if it isn't one."""
     try:
         value = strict_json.read(text)
     except strict_json.Unread:
@@ -201,7 +201,7 @@ def write_query(query):
     return write_object("query", query).encode()
 
 
-# Tests of numbers and texts ("What a constraint means")
+# Tests of numbers and strings ("What a constraint means")
 
 def meets_int(test, number):
     return test.get("min", number) <= number <= test.get("max", number)
@@ -221,7 +221,7 @@ def meets_text(test, text):
     return all(TEXT_TESTS[key](text.encode(), argument) for key, argument in test.items())
 
 
-# The archive that is asked
+# The archive that is searched
 
 # docs/search.md, "What a constraint means": the row of `camliType`
 TYPES = {
@@ -235,7 +235,7 @@ TYPES = {
 
 
 class Archive(reference.Archive):
-    """What a query asks of the blobs, kept once it was worked out."""
+    """Facts about the blobs that a query needs, kept after they are computed."""
 
     def __init__(self, blobs, keys):
         super().__init__(blobs, keys)
@@ -244,12 +244,12 @@ class Archive(reference.Archive):
         self.known_sizes, self.known_values, self.known_parents, self.known_changes = {}, {}, {}, {}
 
     def type_of(self, ref):
-        """The type of a blob; None where it has none."""
+        """The type of a blob; None if it has none."""
         fact = self.facts[ref]
         return fact.name if fact.kind == "Unread" else TYPES.get(fact.kind)
 
     def sound_size(self, ref):
-        """The size of a sound file tree; None where under the ref there is none (docs/claims.md, "File trees")."""
+        """The size of a sound file tree; None if the ref has none (docs/claims.md, "File trees")."""
         if ref not in self.known_sizes:
             is_tree = ref in self.ready and self.facts[ref].kind in ("File", "Bytes")
             is_sound = is_tree and all(map(self.is_within, self.facts[ref].parts))
@@ -257,7 +257,7 @@ class Archive(reference.Archive):
         return self.known_sizes[ref]
 
     def is_within(self, part):
-        """Whether a part of a ready tree stays within its origin."""
+        """Whether a part of a ready tree lies within its origin."""
         if part.blob is None and part.tree is None:
             return True
         length = self.sound_size(part.tree) if part.blob is None else self.lengths[part.blob]
@@ -287,7 +287,7 @@ class Archive(reference.Archive):
         return self.known_parents[when].get(ref, set())
 
     def last_change(self, permanode, when):
-        """The date of the last counted change of a genuine permanode; None where there is none (docs/claims.md,
+        """The date of the last counted change of a genuine permanode; None if there is none (docs/claims.md,
         "Values")."""
         if (permanode, when) not in self.known_changes:
             dates = [date for date, _ in self.counted(permanode, when)]
@@ -298,7 +298,7 @@ class Archive(reference.Archive):
 # Constraints
 
 class Asking:
-    """A query that is asked of an archive. What a constraint says of a blob at a time is worked out once."""
+    """A query over an archive. The result of a constraint for a blob at a time is computed once."""
 
     def __init__(self, archive, query):
         self.archive = archive
@@ -320,13 +320,13 @@ class Asking:
         return found[: self.query["limit"]]
 
     def last_moment(self, permanode, when):
-        """The date of the last change; a moment before all dates where there is none."""
+        """The date of the last change; a moment before all dates if there is none."""
         change = self.archive.last_change(permanode, when)
         return reference.LEAST_MOMENT - 1 if change is None else change
 
     def meets(self, constraint, ref, when):
-        """Whether a ready blob meets a constraint that is asked at a time."""
-        # The query lives as long as what is known of its parts.
+        """Whether a ready blob meets a constraint at a time."""
+        # The query lives as long as the results for its parts.
         asked = id(constraint), ref, when
         if asked not in self.known:
             self.known[asked] = all(TESTS[key](self, argument, ref, when) for key, argument in constraint.items())
@@ -377,7 +377,8 @@ class Asking:
         return meet(self.meets(constraint, ref, when) for ref in relatives(permanode, when))
 
 
-# The keys of a constraint; each test is told who asks, the key's value, the ref and the time.
+# The keys of a constraint. The arguments of each test are the query's evaluation, the key's value, the ref and the
+# time.
 TESTS = {
     "logical": Asking.meets_logical,
     "anything": lambda asking, test, ref, when: True,

@@ -1,9 +1,9 @@
 """Runs `perkeep query` over small stores, and compares outputs, standard error and exit statuses byte by byte.
 
-What a query finds is written down in query_inputs.py for two worked stores, and the reference has to give it as well as
-the program. For random stores and queries it is the reference's alone (queries.py), and so it is for lines of search
-words, which are handed to `perkeep words`. The first faults of texts that are made with one or two (query_faults.py)
-are compared with the reference's; the program shows no more than that it refuses them.
+The answers to queries are written down in query_inputs.py for two worked stores, and the reference has to return them
+as well as the program. For random stores and queries they are the reference's alone (queries.py), and so they are for
+lines of search words, which are given to `perkeep words`. The first faults of texts that are made with one or two
+(query_faults.py) are compared with the reference's; the program shows only that it refuses them.
 """
 
 import functools
@@ -36,10 +36,10 @@ REFUSED = b"", 4
 ANY_QUERY = spell(SMALL).encode()
 
 
-# Asking
+# Running queries
 
 class Shelf:
-    """A store, the program that is asked, and the reference's archive of it."""
+    """A store, the program, and the reference's archive of the store."""
 
     def __init__(self, program, packs, keyring=KEYRING):
         self.program = program
@@ -47,7 +47,7 @@ class Shelf:
         self.archive = queries.Archive(self.store.blobs(), reference.read_keyring(keyring))
 
     def ending(self, text):
-        """What the program has to print for a text of bytes, and its exit status, by the reference."""
+        """The expected output for a text of bytes, and the exit status, by the reference."""
         try:
             return self.ending_of(queries.read_query(text))
         except queries.Fault:
@@ -57,7 +57,7 @@ class Shelf:
         return queries.search_text(self.archive, query) + b"\n", 0
 
     def asks(self, what, text, ending=None):
-        """Asks a query, or what is none; it has to end so, or as the reference says."""
+        """Runs a query, or a text that isn't one; it has to end as given, or as the reference says."""
         out, status = ending or self.ending(text)
         what = f"{what}, asked of {self.store.path}: {short(text)}"
         is_status, is_out, err = run_quickly(self.program, self.store.words("query"), text)
@@ -65,7 +65,7 @@ class Shelf:
         compare(what, "standard output", out, is_out)
 
     def asks_by_words(self, what, line, query, at=None):
-        """Asks a line of search words, at a date or at none; the reference's answer is that to its query."""
+        """Runs a line of search words, at a date or without one; the reference's answer is that to its query."""
         what = f"{what}, asked of {self.store.path}: words {line!r} at {at}"
         words = self.store.words("words", *(() if at is None else ("--at", at)), "--", line)
         status, out, err = run_quickly(self.program, words, b"")
@@ -73,7 +73,7 @@ class Shelf:
         compare(what, "standard output", self.ending_of(query)[0], out)
 
     def finds(self, what, value, refs):
-        """Asks a query whose answer is known, and finds the folder as it was."""
+        """Runs a query whose answer is known, and finds the folder unchanged."""
         text = spell(value).encode()
         out = reference.search_text(refs) + b"\n"
         compare(f"{what}: {short(text)}", "the reference", (out, 0), self.ending(text))
@@ -81,7 +81,7 @@ class Shelf:
 
 
 def first_fault(text):
-    """The kind and the path of a text's first fault; None where it is a query."""
+    """The kind and the path of a text's first fault; None if it is a query."""
     try:
         queries.read_query(text)
     except queries.Fault as fault:
@@ -120,7 +120,7 @@ def page_example(shelf, text, found):
 
 
 def written_queries():
-    """Texts of queries, and what is written for them."""
+    """Texts of queries, and their written form."""
     usual = ',"limit":200,"sort":"blobref"'
     yield '{"constraint":{"anything":true}}', '{"constraint":{"anything":true}' + usual + "}"
     yield (
@@ -153,7 +153,7 @@ EXAMPLES = [["letters"], ["two titles"], ["pdf"], ["late draft", "early draft"],
 
 
 def example_store():
-    """Permanodes that the examples find, and others that they just don't; the refs by names."""
+    """Permanodes that the examples find, and others that they just miss; the refs by names."""
     files = {
         "pdf": writing.file_blob("a.pdf", [writing.part(1_000_001)]),
         "small pdf": writing.file_blob("a.pdf", [writing.part(1_000_000)]),
@@ -188,7 +188,7 @@ def meanings(program):
     checks = []
     for constraint, names in query_inputs.MEANINGS:
         found = sorted(holders[name] for name in names)
-        # Of the blob that isn't there, and of the text that is no ref, nothing holds.
+        # Nothing holds of the blob that isn't there, or of the text that isn't a ref.
         value = query_inputs.with_content(constraint)
         checks.append(lambda value=value, found=found: contents.finds("the meaning", value, found))
     for constraint, names in query_inputs.NODE_MEANINGS:
@@ -203,7 +203,7 @@ def meanings(program):
 
 
 def kinds(program):
-    """What constraints tell of the kinds of blobs."""
+    """The results of constraints for the kinds of blobs."""
     blobs, found = query_inputs.kind_store()
     shelf = Shelf(program, {0: pack(*blobs)})
     values = {name: query_inputs.with_content(constraint) for name, constraint in query_inputs.TELLING.items()}
@@ -233,7 +233,7 @@ STORES, QUERIES = 110, 70
 
 
 class RandomShelf:
-    """A random store, that is made when the first query is asked of it."""
+    """A random store, which is made when the first query is run over it."""
 
     def __init__(self, program, number):
         self.program, self.number = program, number
@@ -247,8 +247,8 @@ class RandomShelf:
         return Shelf(self.program, self.made.packs())
 
     def query(self, number):
-        """The random choices of a query, its value and the query: of three the first that finds some permanodes and
-        not all."""
+        """The random choices of a query, its value and the query: of three the first that finds some permanodes and not
+        all."""
         random = chance("query", self.number, number)
         for _ in range(3):
             value = RandomQuery(random, self.made).query()
@@ -271,7 +271,7 @@ class RandomShelf:
         self.shelf.asks(what, text, self.shelf.ending_of(query))
 
     def asks_by_words(self, number):
-        """What a line of search words finds, at a date or at none."""
+        """The results of a line of search words, at a date or without one."""
         random = chance("search words", self.number, number)
         constraint = search_words.random_constraint(random, random.choice((1, 2, 3)), self.asked_by_word)
         at = random.choice((None, *query_inputs.QUERY_DATES))
@@ -279,7 +279,7 @@ class RandomShelf:
         self.shelf.asks_by_words(f"store {self.number}", search_words.random_line(random, constraint), query, at)
 
     def asked_by_word(self, random):
-        """A constraint that a search word asks."""
+        """A constraint that a search word can express."""
         ref, text = self.made.any_ref(random), random.choice(self.made.texts)
         attribute = random.choice(query_inputs.ATTRIBUTES)
         value = ref if attribute.startswith("camli") else text
@@ -293,7 +293,7 @@ class RandomShelf:
         ))
 
     def holders(self, number):
-        """The same as `search` finds by one value."""
+        """The same results that `search` finds by one value."""
         random = chance("holders", self.number, number)
         attribute = random.choice(query_inputs.ATTRIBUTES)
         refs = [self.made.any_ref(random) for _ in range(3)]
@@ -330,7 +330,7 @@ STORES_OF_WORDS, LINES = 40, 25
 
 def typed(program):
     """Random lines of search words over random stores; a line that begins with a dash; and that at most 200 refs are
-    answered."""
+    returned."""
     shelves = [RandomShelf(program, number) for number in range(STORES_OF_WORDS)]
     checks = [lambda shelf=shelf, n=n: shelf.asks_by_words(n) for shelf in shelves for n in range(LINES)]
     lives, untagged = Shelf(program, {0: pack(*query_inputs.lives())}), negated(node(attr="tag", value="a"))
@@ -341,10 +341,10 @@ def typed(program):
     return checks + [lambda shelf=shelf: shelf.asks_by_words("a dash", "-tag:a", query) for shelf in (lives, many)]
 
 
-# Texts that are no queries
+# Texts that aren't queries
 
 def asked_of_lives(program, what, texts):
-    """Checks of texts, each asked once."""
+    """Checks of texts, each run once."""
     shelf = Shelf(program, {0: pack(*query_inputs.lives())})
     octets = dict.fromkeys(text if isinstance(text, bytes) else text.encode() for text in texts)
     return [lambda text=text: shelf.asks(what, text) for text in octets]
@@ -374,7 +374,7 @@ def check_fault(shelf, value, made):
 
 
 def values(program):
-    """Each value at each place of a deep query, and keys that stand twice."""
+    """Each value at each place of a deep query, and keys that are there twice."""
     return asked_of_lives(program, "a value at a place", query_faults.every_change())
 
 
@@ -421,7 +421,8 @@ def tree(leaf, leaves):
 
 
 def long_forms():
-    """What is long, the front and the end of a text and the byte that fills it up, and a short text of its meaning."""
+    """A description, the beginning and the end of a long text and the byte that fills it up, and a short text with its
+    meaning."""
     any_rest, nothing = ANY_QUERY[1:], spell({"constraint": negated(ANYTHING)}).encode()
     tagged = node(attr="tag", value="letters")
     yield "space behind", ANY_QUERY, b"", b" ", ANY_QUERY
@@ -459,7 +460,7 @@ def piped(shelf, what, text, ending):
 
 
 def refuses_early(shelf):
-    """A query that is far too long isn't read on; what the program doesn't read may stand in the pipe."""
+    """A query that is far too long isn't read to its end; the rest may stay in the pipe."""
     what, piece = "a query without end", b" " * 65_536
     streams = {"stdin": subprocess.PIPE, "stdout": subprocess.PIPE, "bufsize": 0}
     process = shelf.program.start(shelf.store.words("query"), **streams)
@@ -480,7 +481,7 @@ AMPLE = 1_024
 
 
 def memory(program):
-    """A query of many constraints with so many MiB of memory: it ends well, or for want of memory."""
+    """A query of many constraints with so many MiB of memory: it succeeds, or ends for want of memory."""
     shelf = Shelf(program, {0: pack(*query_inputs.lives())})
     out, _ = shelf.ending(ANY_QUERY)
     text = tree(spell(ANYTHING), LEAVES)
@@ -544,7 +545,7 @@ def bad_lines(folder):
 
 
 def keyrings(program):
-    """Keyrings that are bad, can't be read, or hold no key that counts."""
+    """Keyrings that are bad, can't be read, or have no key that counts."""
     checks = []
     packs = {0: pack(*inputs.EXAMPLE_BLOBS)}
     unread = Store(program, packs)
@@ -564,12 +565,12 @@ def keyrings(program):
 
 
 def asked(store, what, text, out=b"", status=0):
-    """Asks a query, which leaves the folder as it was."""
+    """Runs a query, which leaves the folder unchanged."""
     store.keeps(what, store.words("query"), out, status, text)
 
 
 def folders(program):
-    """Folders that aren't there or can't be a store, packs that are none, and a store that is locked."""
+    """Folders that aren't there or can't be a store, files that aren't packs, and a store that is locked."""
     missing, empty = Store(program), Store(program, {})
     no_parent = program.new_path() / "store"
     file = program.new_path()
@@ -605,7 +606,7 @@ def while_locked(program):
 
 
 def streams(program):
-    """Standard input and standard output that fail, and which of several faults is told."""
+    """Standard input and standard output that fail, and which of several errors is reported."""
     lives = Shelf(program, {0: pack(*query_inputs.lives())})
     line, file = lives.store.words("query"), program.new_path()
     file.write_bytes(b"")
@@ -656,7 +657,7 @@ def slowly(lives):
 
 # Sizes
 
-# Each permanode of a ring has those up to so many places behind it as members from day 1 on, and as many before it from
+# Each permanode of a ring has those up to so many places after it as members from day 1 on, and as many before it from
 # day 2 on. A query has to end within so many seconds.
 RING, REACH, SOON = 1_000, 10, 100
 # From the inside to the outside: the relation, whether any or all meet, and the date; valueInSet is a relation here.
@@ -734,7 +735,7 @@ ONE_AT_A_TIME = [memory, streams, sizes]
 
 
 def checks_of(program, group):
-    # What run_quickly runs stands in the usual folder.
+    # run_quickly runs its program in the usual folder.
     os.chdir(program.working)
     return group(program)
 

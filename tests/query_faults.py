@@ -1,4 +1,4 @@
-"""Texts that are no queries, and their neighbours that are, for query.py.
+"""Texts that aren't queries, and similar ones that are, for query.py.
 
 The first fault of a text with one fault or two is known from how it was made. The faults of all others, and whether
 they have one, are the reference's.
@@ -20,7 +20,7 @@ TEXT_TEST = {
     "byteLength": {"min": 1, "max": 1},
 }
 FILE = {"file": {"fileName": TEXT_TEST, "fileSize": {"min": 0, "max": 9}}}
-# Each key of each object stands in one of these.
+# Each key of each object is in one of these.
 FULL = [
     {
         "constraint": {
@@ -85,7 +85,7 @@ def value_at(value, keys):
 
 
 def changed(value, keys, change):
-    """The value with what stands at a place changed; `GONE` takes it away."""
+    """The value with a change at a place; `GONE` removes it."""
     if not keys:
         return change(value)
     one = changed(value[keys[0]], keys[1:], change)
@@ -110,14 +110,14 @@ def depth_at(keys):
 # Single faults, known from how they are made
 
 class Made(NamedTuple):
-    """A change at a place, the fault that it makes, and what is gone with it: nothing where it is None."""
+    """A change at a place, the fault that it makes, and what it removes: nothing if that is None."""
 
     place: tuple
     change: Callable
     kind: str
     keys: tuple
     gone: object
-    # Where it stands among other faults: keys that are unknown, values of keys, conditions on the whole.
+    # Its order among other faults: keys that are unknown, values of keys, conditions on the whole.
     order: tuple
 
 
@@ -187,7 +187,7 @@ VALUE_TESTS = {"value": "a", "valueMatches": TEXT_TEST, "valueInSet": ANYTHING, 
 
 
 def wrong_wholes(keys, value):
-    """Changes of an object at a place that break its condition on the whole alone."""
+    """Changes of an object at a place that break only its condition on the whole."""
 
     def without(name):
         return wrong_whole(keys, lambda old: {key: one for key, one in old.items() if key != name}, (*keys, name))
@@ -227,7 +227,7 @@ def pair_of_faults(random, query, faults):
             return both, min(one, two, key=lambda made: made.order)
 
 
-# Changes whose outcome the reference tells
+# Changes whose result comes from the reference
 
 VALUES = ["null", "true", "false", "0", "1", "2", "-0", "-1", "1.0", "1e0", "0.5", "1000000", "1000001", "1e400", "01"]
 VALUES += ["18446744073709551615", "18446744073709551616", '""', '"a"', '"not"', '"all"', '"mod"', '"-mod"', '"parent"']
@@ -284,7 +284,7 @@ def deep_chains(random):
             for _ in range(8):
                 yield spell({"constraint": chain(random.choices(LINKS, k=length), inside)})
     for link in LINKS:
-        # A constraint that isn't too deep beside one that is, and a key that stands twice.
+        # A constraint that isn't too deep beside one that is, and a key that is there twice.
         deep = chain([link] * (queries.DEEPEST - 1), ANYTHING)
         for pair in [(ANYTHING, deep), (deep, ANYTHING), (deep, deep)]:
             yield spell({"constraint": logical("or", *pair)})
@@ -295,7 +295,7 @@ def deep_chains(random):
 # JSON
 
 def nested(depth):
-    """A query with a key in front that counts for nothing, whose value nests as deep as said with the query itself."""
+    """A query with an ignored key in front, whose value is nested so deeply, counting the query itself."""
     for opening, closing in [("[", "]"), ('{"a":', "}"), ('[{"a":', "}]")]:
         step = opening.count("[") + opening.count("{")
         count, rest = divmod(depth - 1, step)
@@ -326,7 +326,7 @@ def json_texts():
     yield from (small + end for end in ENDS)
     yield from (small.replace(b":", space + b":" + space) for space in SPACES)
     for member, _ in inputs.MEMBERS:
-        # The member's key is a known one whose value is replaced behind it.
+        # The member's key is a known one whose value is replaced later.
         octets = member if isinstance(member, bytes) else member.encode()
         if octets.startswith(b'"n":'):
             yield b'{"constraint":' + octets[4:] + b"," + small[1:]

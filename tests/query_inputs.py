@@ -1,6 +1,7 @@
-"""The inputs of query.py: stores with what has to be found in them, random stores and queries, and texts that are none.
+"""The inputs of query.py: stores with the expected results, random stores and queries, and texts that aren't queries.
 
-A query is made as a value, whose dates are texts, and then spelled as JSON. `Raw` is a value that is spelled as it is.
+A query is made as a value, whose dates are strings, and then spelled as JSON. `Raw` is a value that is spelled
+unchanged.
 """
 
 import inputs
@@ -25,7 +26,7 @@ class Raw(str):
 
 
 class Pairs(list):
-    """An object whose keys may stand twice."""
+    """An object whose keys may be there twice."""
 
 
 def spell(value):
@@ -76,7 +77,7 @@ def escaped(random, character):
     return "\\/" if character == "/" and random.random() < 0.5 else character
 
 
-# A store in which every blob is the content of a permanode, so that a constraint can be asked of any of them
+# A store in which every blob is the content of a permanode, so that a constraint can be tried on any of them
 
 def blobs_of_all_kinds():
     """Blobs by names."""
@@ -288,7 +289,7 @@ def with_content(constraint, **others):
     return {"constraint": {"permanode": {"attr": "camliContent", "valueInSet": constraint, **others}}}
 
 
-# A store in which constraints tell of blobs what kinds they are of
+# A store in which constraints find the kinds of blobs
 
 # The constraints, by names.
 TELLING = {
@@ -302,7 +303,8 @@ TELLING = {
 }
 LINK = '{"camliVersion":1,"camliType":"link"}'
 DIRECTORY = '{"camliVersion":2,"camliType":"x","camliVersion":1,"camliType":"directory","entries":"%s"}'
-# Blobs, and the constraints that each meets. A directory waits for its entries, and what isn't read waits for nothing.
+# Blobs, and the constraints that each meets. A directory waits for its entries; a blob that isn't read waits for
+# nothing.
 KINDS = [
     (LINK, "ready link"),
     ("perkeep-hmac-sha256 jefe", "ready"),
@@ -318,7 +320,7 @@ KINDS = [
     (f'{{"camliVersion":1,"camliType":"directory","fileName":null,"entries":"{ABSENT}"}}', "ready directory"),
     ('{"camliVersion":1,"camliType":"permanode"}', "ready permanode"),
 ]
-# What stands in the brackets of parts, and whether it is a part list; none of these parts leaves its origin.
+# The text in the brackets of parts, and whether it is a part list; none of these parts leaves its origin.
 PARTS = [
     ('{"size":281474976710656},{"size":0,"offset":281474976710656}', True),
     ('{"size":281474976710656},{"size":1}', False),
@@ -337,7 +339,7 @@ def kind_store():
     rows = [(writing.octets(blob), met.split()) for blob, met in KINDS]
     for parts, is_list in PARTS:
         tree = bytes_blob([parts])
-        # No byte of the tree is asked for, but a file is sound only where each tree in it is.
+        # No byte of the tree is needed, but a file is sound only if each tree in it is.
         files = [file_blob("", [parts]), file_blob("of a tree", [part(0, ref_of(tree), "bytesRef")])]
         rows.append((tree, ["ready", "bytes"]))
         rows += [(file, ["ready", "file", "sound"] if is_list else ["ready", "file"]) for file in files]
@@ -518,7 +520,7 @@ BY_CHANGE = ["d", *by_ref("b", "back"), "a", "c", "e"]
 BY_CHANGE_ON_3 = [*by_ref("d", "e"), *by_ref("b", "gone", "back"), *by_ref("a", "c")]
 LATEST_FIRST = ["e", "c", "a", *by_ref("b", "back"), "d"]
 LATEST_FIRST_ON_3 = [*by_ref("a", "c"), *by_ref("b", "gone", "back"), *by_ref("d", "e")]
-# What a query has beside its constraint, the constraint, and the names of its answer in their order.
+# The rest of a query, its constraint, and the names of its answer in their order.
 NODE_ORDERS = [
     ({}, ANYTHING, by_ref(*ALL)),
     ({"sort": "blobref"}, ANYTHING, by_ref(*ALL)),
@@ -568,7 +570,7 @@ def around(constraint, depth):
 
 # A constraint, and the names of the permanodes of an answer without a date.
 PAIR_MEANINGS = [
-    # So deep that going each way by itself would not end.
+    # So deep that evaluating both ways separately would never end.
     (around(TAGGED, queries.DEEPEST - 1), {"tagged", "other"}),
     (node(relation=parent(any=TAGGED)), {"tagged", "other"}),
     (node(relation=child(all=TAGGED)), {"alone"}),
@@ -617,9 +619,9 @@ ODD_BLOBS = [
 
 
 class RandomStore:
-    """Blobs that speak of one another, half of them by their older names: keys of which one is in no keyring and one is
-    often in no store, permanodes, plain blobs, trees and files of which some aren't sound, and claims on all of them,
-    deletions of deletions too."""
+    """Blobs that refer to one another, half of them by their older names: keys, of which one is in no keyring and one
+    is often in no store, permanodes, plain blobs, trees and files of which some aren't sound, and claims on all of
+    them, including deletions of deletions."""
 
     def __init__(self, random):
         self.random, self.name_of = random, Names(random)
@@ -654,11 +656,11 @@ class RandomStore:
         self.others[ref] = self.name_of.other(blob)
 
     def said(self, ref):
-        """The ref, or now and then the other one of its blob."""
+        """The ref, or occasionally the other one of its blob."""
         return self.others.get(ref, OLDER_ABSENT) if self.random.random() < OTHER_NAMES else ref
 
     def signer(self):
-        """A signer, and what it signs with, now and then falsely."""
+        """A signer, and its secret, occasionally a false one."""
         name = self.random.choices(("jefe", "other", "late", "lost"), (75, 15, 7, 3))[0]
         key, is_other = key_blob(name), self.random.random() < OTHER_NAMES
         ref = self.name_of.other(key) if is_other else self.name_of(key)
@@ -671,7 +673,7 @@ class RandomStore:
             parts.append(one)
             size += its_size
         self.add(refs, blob_of(parts))
-        # The length of a tree's own blob is looked at where a part takes its bytes.
+        # The length of a tree's own blob is checked when a part takes its bytes.
         self.sizes[refs[-1], "tree"] = size
 
     def part(self):
@@ -699,14 +701,14 @@ class RandomStore:
         return self.others[ref] if ref in self.others and random.random() < OTHER_NAMES else ref
 
     def odd_ref(self, random):
-        """A text that is almost a ref."""
+        """A string that is almost a ref."""
         ref = self.any_ref(random)
         name, _, digits = ref.partition("-")
         renamed = {"sha1": "sha224-", "sha224": "sha1-"}[name] + digits
         return random.choice((ref.upper(), ref[:-1], ref + " ", digits, renamed, "sha1-" + digits[:39]))
 
     def changes(self):
-        """A claim of one change, or now and then of several."""
+        """A claim of one change, or occasionally of several."""
         some = [self.change() for _ in range(self.random.choice(CHANGES_OF_A_CLAIM))]
         date, signer = self.random.choice(DATES), self.signer()
         return claim(*some[0], date, *signer) if len(some) == 1 else multi(some, date, *signer)
@@ -759,7 +761,7 @@ class RandomQuery:
         random = self.random
         depth = random.choice((1, 1, 2, 2, 2, 3, 3, 4, 5))
         if random.random() < 0.3:
-            # A constraint that is asked of blobs of all kinds.
+            # A constraint that is tried on blobs of all kinds.
             depth += 1
             attribute = random.choice(("camliContent", "camliMember"))
             query = {"constraint": node(attr=attribute, valueInSet=self.constraint(depth - 1, False))}
@@ -796,7 +798,7 @@ class RandomQuery:
         return node(relation={"relation": which, how: constraint})
 
     def constraint(self, depth, of_node):
-        """A constraint of at most a depth, that is asked of permanodes or of any blob."""
+        """A constraint of at most a depth, for permanodes or for any blob."""
         makers = {
             "logical": lambda: self.logical(depth - 1, of_node),
             "permanode": lambda: self.permanode(depth - 1),

@@ -1,9 +1,9 @@
-"""What a newcomer reads first: whether README.md, docs/guide.md and docs/limits.md say what is so.
+"""The pages for newcomers: whether README.md, docs/guide.md and docs/limits.md are correct.
 
-The blocks of a page that are fenced as `sh` are one script of bash, from top to bottom. It is run in a fresh folder with
-the program as ./perkeep, and the repository's examples and their keyring. What a block prints, errors too, is shown in
-the block behind it, if that is fenced as `text`; there `..` stands for anything in a line. A block without one has to
-end well.
+The blocks of a page that are fenced as `sh` are one script of bash, from top to bottom. It is run in a fresh folder
+with the program as ./perkeep, and the repository's examples and their keyring. The output of a block, errors too, is
+shown in the block after it, if that is fenced as `text`; there `..` stands for anything in a line. A block without one
+has to succeed.
 """
 
 import itertools
@@ -33,7 +33,7 @@ SECONDS = 60
 # Commands
 
 def blocks(page):
-    """The commands of a page, each with what they have to print, if that is shown."""
+    """The commands of a page, each with its expected output, if that is shown."""
     fenced = [*FENCED.findall(page.read_text()), ("", "")]
     for (kind, text), (next_kind, shown) in itertools.pairwise(fenced):
         if kind == "sh":
@@ -45,7 +45,7 @@ def script(commands):
 
 
 def run_script(program, commands):
-    """What each block prints, and its status."""
+    """The output of each block, and its status."""
     folder = program.new_path()
     folder.mkdir()
     (folder / "perkeep").symlink_to(program.path)
@@ -66,7 +66,7 @@ def run_script(program, commands):
 
 
 def kill_group(process):
-    """Kills what a script has left running."""
+    """Kills all that a script has left running."""
     try:
         os.killpg(process, signal.SIGKILL)
     except ProcessLookupError:
@@ -101,7 +101,7 @@ def guide(program):
     return commands_of(GUIDE, program)
 
 
-# What else the pages name
+# Other names on the pages
 
 def size(program):
     return [lambda: check(f"README.md has more than {MOST_BYTES} bytes", README.stat().st_size <= MOST_BYTES)]
@@ -119,7 +119,7 @@ POWER = re.compile(r"2\^(\d+)")
 
 
 def limits(program):
-    """Each row of docs/limits.md has the number that stands in the source."""
+    """Each row of docs/limits.md has the number that is in the source."""
     return [lambda row=row: limit_stands(*row) for row in ROW.findall(LIMITS.read_text())]
 
 

@@ -1,10 +1,10 @@
-"""What the program's commands answer and store, worked out a second time.
+"""The answers of the program's commands, and what they store, computed a second time.
 
 Everything here is written from the pages of docs/ alone, to be read beside them: claims.md, commands.md, files.md, and
 of formats/ packs.md, blobrefs.md, schema.md, dates.md, keyring.md, answers.md and generated.md. It is slow and plain on
-purpose. The tests compare the program with it. What is written, blob by blob, is in writing.py.
+purpose. The tests compare the program with it. The blobs that are written, one by one, are in writing.py.
 
-Each constant names the page, and the part of it, that it is from. Bytes are `bytes`, refs and texts are `str`. A
+Each constant names the page, and the part of it, that it is from. Bytes are `bytes`, refs and strings are `str`. A
 moment is a number of nanoseconds, and ALWAYS stands for no moment at all.
 """
 
@@ -58,7 +58,7 @@ class Found(NamedTuple):
 
 
 def salvage(pack):
-    """The blobs found in a pack, in order, and the first place that was passed over (None in a clean pack)."""
+    """The blobs found in a pack, in order, and the first offset that was skipped (None in a clean pack)."""
     found = []
     broken = None
     at = 0
@@ -74,7 +74,7 @@ def salvage(pack):
             continue
         if broken is None:
             broken = at
-        # One byte is passed over, and with it all up to the next bracket: no header begins before that.
+        # One byte is skipped, and with it all up to the next bracket: no header begins before that.
         at = pack.find(b"[", at + 1)
         if at < 0:
             break
@@ -82,7 +82,7 @@ def salvage(pack):
 
 
 def record_at(pack, at):
-    """The record that begins at a place of the pack, if one does."""
+    """The record that begins at an offset of the pack, if one does."""
     header = BLOB_HEADER.match(pack, at)
     end = body_end(pack, header, 2)
     if end is None:
@@ -93,12 +93,12 @@ def record_at(pack, at):
 
 
 def behind_deleted(pack, at):
-    """The place behind the deleted record that begins at a place of the pack, if one does."""
+    """The offset after the deleted record that begins at an offset of the pack, if one does."""
     return body_end(pack, DELETED_HEADER.match(pack, at), 1)
 
 
 def body_end(pack, header, size_group):
-    """Where the bytes that a header announces end; None without a header, or where they don't lie in the pack."""
+    """Where the bytes that a header announces end; None without a header, or if they don't lie in the pack."""
     if header is None:
         return None
     size = int(header[size_group])
@@ -134,7 +134,7 @@ def pack_name(number):
 
 
 def packs_of(files):
-    """The packs among files by their names."""
+    """The packs among files, by their names."""
     names = {name: PACK_NAME.fullmatch(name) for name in files}
     return {int(match[1]): files[name] for name, match in sorted(names.items()) if match}
 
@@ -149,7 +149,7 @@ def arrivals(packs):
 
 
 def pack_for_the_next_record(packs):
-    """The number of the pack to which the next record goes; Full where there is none."""
+    """The number of the pack to which the next record goes; Full if there is none."""
     if not packs:
         return 0
     greatest = max(packs)
@@ -162,7 +162,7 @@ def pack_for_the_next_record(packs):
 
 
 def put(packs, blob, ref=None):
-    """The packs of a store once a blob has been put into it, under its usual ref or another one of its own."""
+    """The packs of a store after a blob was put into it, under its usual ref or another one of its own."""
     ref = ref or ref_of(blob)
     if ref in arrivals(packs):
         return packs
@@ -179,7 +179,7 @@ def joined(first, second):
 
 
 def round_over(hub, peers):
-    """What a round makes of the maps of a hub and its peers."""
+    """The maps of a hub and its peers after a round."""
     for peer in peers:
         hub = joined(hub, peer)
     return hub, [joined(peer, hub) for peer in peers]
@@ -220,7 +220,7 @@ DAY_0 = datetime.date(1970, 1, 1).toordinal()
 
 
 def moment_of(text):
-    """The nanoseconds of a date's text; None where it is no date."""
+    """The nanoseconds of a date's text; None if it isn't a date."""
     parts = DATE.fullmatch(text)
     if parts is None:
         return None
@@ -254,11 +254,11 @@ KEYRING_LINE = re.compile(rb"([a-z0-9-]{1,64}) ((?:[0-9a-f]{2}){1,128})")
 
 
 class KeyringFault(Exception):
-    """What is wrong, `BadLine` or `Twice`, and in which line, counted from 1."""
+    """The fault, `BadLine` or `Twice`, and its line, counted from 1."""
 
 
 def read_keyring(text):
-    """The secrets of a keyring by their names; KeyringFault where the text is no keyring."""
+    """The secrets of a keyring by their names; KeyringFault if the text isn't a keyring."""
     keys = {}
     lines = text.split(b"\n")
     last = lines.pop()
@@ -287,7 +287,7 @@ class Signed(NamedTuple):
 
 
 class Part(NamedTuple):
-    """So many bytes, from an offset on, of what stands under a ref, or so many zeros."""
+    """So many bytes, from an offset on, of the content of a ref, or so many zeros."""
 
     size: int
     offset: int
@@ -296,7 +296,7 @@ class Part(NamedTuple):
 
 
 class Change(NamedTuple):
-    """What is done to the values of an attribute of a permanode."""
+    """A change of the values of an attribute of a permanode."""
 
     act: str
     on: str
@@ -305,7 +305,7 @@ class Change(NamedTuple):
 
 
 class Fact(NamedTuple):
-    """What a blob says. Fields that its kind doesn't have are None."""
+    """The meaning of a blob by itself. Fields that its kind doesn't have are None."""
 
     kind: str
     needs: tuple = ()
@@ -353,7 +353,7 @@ def fact_of(blob):
 
 
 def object_of(text):
-    """The object that a text of bytes is; None where it is none."""
+    """The object in a text of bytes; None if it isn't one."""
     try:
         value = strict_json.read(text)
     except strict_json.Unread:
@@ -393,12 +393,12 @@ def static_set_fact(body):
 
 
 def part_refs(parts):
-    """The refs of parts, as they come."""
+    """The refs of parts, in their order."""
     return tuple(ref for part in parts for ref in (part.blob, part.tree) if ref is not None)
 
 
 def part_list(items):
-    """The parts of a part list; None where it is none."""
+    """The parts of a part list; None if it isn't one."""
     if not isinstance(items, list):
         return None
     parts = []
@@ -446,7 +446,7 @@ def claim_fact(blob):
 
 
 def change_of(body, key):
-    """The change that an object says, with its type under this key; None where it says none."""
+    """The change in an object, with its type under this key; None if it is none."""
     act, on, attribute = body.get(key), body.get("permaNode"), body.get("attribute")
     value = body.get("value", "" if act == "del-attribute" else None)
     good = act in ACTS and is_ref(on) and isinstance(attribute, str) and attribute != "" and isinstance(value, str)
@@ -454,7 +454,7 @@ def change_of(body, key):
 
 
 def change_list(items):
-    """The changes of a list, in their order; None where it is no list of 1 to 1,000 changes."""
+    """The changes of a list, in their order; None if it isn't a list of 1 to 1,000 changes."""
     if not isinstance(items, list) or not 1 <= len(items) <= MOST_CHANGES:
         return None
     changes = tuple(change_of(item, "changeType") if isinstance(item, dict) else None for item in items)
@@ -462,7 +462,7 @@ def change_list(items):
 
 
 def signed_of(blob):
-    """What is signed, and the payload's object; None twice where the blob isn't signed."""
+    """The signed part, and the payload's object; None twice if the blob isn't signed."""
     unsigned = None, None
     place = blob.rfind(MARKER)
     if place < 0:
@@ -478,7 +478,7 @@ def signed_of(blob):
     return Signed(body["camliSigner"], payload, bytes.fromhex(digits)), body
 
 
-# What the blobs say together: which are ready, genuine and deleted, and which values stand (docs/claims.md)
+# The meaning of the blobs together: which are ready, genuine and deleted, and the values of permanodes (docs/claims.md)
 
 # docs/search.md, "Queries of the program"
 MOST_ANSWERS = 1_000_000
@@ -496,7 +496,7 @@ class Archive:
         self.known_deleted = {}
 
     def rounds(self):
-        """The refs that are ready: round by round those whose needs all are, until a round brings none."""
+        """The refs that are ready: round by round those whose dependencies all are, until a round adds none."""
         ready = set()
         waiting = set(self.facts)
         while True:
@@ -599,7 +599,7 @@ def archive_of(pack, keyring):
 
 
 def search_pack(pack, keyring, attribute, value):
-    """What the command prints for a pack."""
+    """The output of the command for a pack."""
     return search_text(archive_of(pack, keyring).holders(attribute, value)) + b"\n"
 
 
@@ -624,7 +624,7 @@ def word(start, number):
 
 
 def load_text(blobs, keyring):
-    """What `load` prints where it makes these blobs (docs/commands.md, "load")."""
+    """The output of `load` when it makes these blobs (docs/commands.md, "load")."""
     by_ref = {}
     for blob in blobs:
         by_ref.setdefault(ref_of(blob), blob)
@@ -642,7 +642,7 @@ MOST_TREES = 64
 
 
 class Refused(Exception):
-    """Why a file has no more bytes that can be read: the exit status of docs/commands.md."""
+    """Why no further bytes of a file can be read: the exit status of docs/commands.md."""
 
     def __init__(self, status):
         super().__init__(status)
@@ -679,7 +679,7 @@ def size_of(parts):
 
 
 def pieces_of(blobs, parts, start, count, trees):
-    """So many bytes of parts, from a place on; a part of which no byte is asked isn't looked at."""
+    """So many bytes of parts, from an offset on; a part of which no byte is needed isn't read."""
     for part in parts:
         passed = min(start, part.size)
         asked = min(part.size - passed, count)
@@ -690,7 +690,7 @@ def pieces_of(blobs, parts, start, count, trees):
 
 
 def part_pieces(blobs, part, at, count, trees):
-    """So many bytes of a part within so many trees, from a place of its origin on."""
+    """So many bytes of a part within so many trees, from an offset of its origin on."""
     end = part.offset + part.size
     if part.tree is not None:
         if trees == MOST_TREES:

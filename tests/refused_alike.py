@@ -1,6 +1,7 @@
-"""What commands over a store refuse alike: keyrings, folders and packs that can't be used, and a store that is locked.
+"""Refusals that commands over a store have in common: keyrings, folders and packs that can't be used, and a store that
+is locked.
 
-Each function takes the program, and a function that gives the lines of a folder, and answers checks.
+Each function takes the program, and a function that returns the lines over a folder, and returns checks.
 """
 
 import contextlib
@@ -15,19 +16,19 @@ from stores import ABC, Store, look
 from writing import change_text, pack
 
 SECONDS_OF_WAITING = 10
-# What standard input holds, a list of changes; no command may read it where it is refused before.
+# The content of standard input, a list of changes; no command may read it if it is refused before.
 SOURCE = f"[{change_text('set', ABC, 'tag', 'a')}]".encode()
 
 
 def refused_lines(store, what, lines, status):
-    """Lines that end with a status and leave the folder as it was."""
+    """Lines that end with a status and leave the folder unchanged."""
     return [
         lambda line=line: store.keeps(f"{what}: {line}", list(line), status=status, source=SOURCE) for line in lines
     ]
 
 
 def bad_keyrings(program, lines_of):
-    """A keyring that is none, and one that can't be read."""
+    """A keyring that isn't valid, and one that can't be read."""
     checks = []
     bad = [text for _, text in inputs.bad_keyrings()]
     for text in bad[:2] + bad[-2:]:
@@ -61,7 +62,7 @@ def bad_folders(program, lines_of, status):
 
 
 def leaves(program, what, line, status, path, working=None):
-    """A line that ends with a status and leaves a path, or the nothing that is there, as it was."""
+    """A line that ends with a status and leaves a path unchanged, or missing."""
     before = look(path)
     program.check(what, line, status=status, source=SOURCE, folder=working)
     compare(what, "what stands there", before, look(path))
@@ -90,6 +91,6 @@ def waits_too_long(program, line_of, others):
 
 
 def ends_first(program, cases):
-    """Cases of what comes first, a line, its status, and streams: so it ends."""
+    """Cases of which fault comes first: a line, its status, and streams."""
     for what, line, status, streams in cases:
         with_streams(program, what, line, status, folder=program.working, **streams)

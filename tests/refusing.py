@@ -1,5 +1,5 @@
-"""Programs that are refused memory: started with refuse.c before the C library, and told which of their requests are
-refused by a page that both share."""
+"""Programs that are refused memory: started with refuse.c before the C library. A page that both share says which of
+their requests are refused."""
 
 import ctypes
 import mmap
@@ -15,7 +15,7 @@ def refusing(program):
 
 
 class Page:
-    """The numbers that the library counts, and those that it is told."""
+    """The numbers that the library counts, and those that it is given."""
 
     def __init__(self, program, library):
         self.path, self.library = program.new_path(), library
@@ -24,7 +24,7 @@ class Page:
             self.numbers = (ctypes.c_long * 4).from_buffer(mmap.mmap(file.fileno(), 0))
 
     def variables(self, *libraries):
-        """What a program's environment has to have, which may be started with other libraries too."""
+        """The variables that a program's environment needs; it may be started with other libraries too."""
         return {"LD_PRELOAD": ":".join(map(str, (self.library, *libraries))), "REFUSE": str(self.path)}
 
     def refuse(self, number, count=1):
@@ -38,7 +38,7 @@ class Page:
         self.numbers[LAST] = 0
 
     def refused(self):
-        """How many requests were refused since that was said."""
+        """How many requests were refused since the last `refuse`."""
         return self.numbers[REFUSED]
 
     def made(self):

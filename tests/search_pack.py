@@ -1,7 +1,9 @@
-"""Runs `perkeep search-pack` over many inputs, and compares standard output, standard error and the exit status byte by byte.
+"""Runs `perkeep search-pack` over many inputs, and compares standard output, standard error and the exit status byte by
+byte.
 
-Most inputs have an expected answer that is written down here, and the reference has to give it as well as the program. The random
-packs are compared with the reference alone; so are random stores, which `perkeep search` looks through at many dates.
+Most inputs have an expected answer that is written down here, and the reference has to return it as well as the
+program. The random packs are compared with the reference alone; so are random stores, which `perkeep search` searches
+at many dates.
 """
 
 import functools
@@ -38,7 +40,8 @@ class Case(NamedTuple):
 
 
 def answer(what, source, found, attribute="tag", value="a", keyring=inputs.KEYRING):
-    """A pack, and what is found in it: a list of refs, or whether the example's permanode is. The reference must find it too."""
+    """A pack, and the search results: a list of refs, or whether the example's permanode is found. The reference must
+    find it too."""
     if isinstance(found, bool):
         found = inputs.FOUND if found else []
     out = reference.search_text(sorted(found)) + b"\n"
@@ -56,7 +59,7 @@ def refused(what, status, words=("search-pack", "tag", "a"), source=b"", keyring
 
 
 def check_case(program, case):
-    """Runs a case; Difference where it ends otherwise."""
+    """Runs a case; Difference if it ends otherwise."""
     if case.found is not None:
         _, attribute, value = case.words
         found = reference.archive_of(case.source, case.keyring or b"").holders(attribute, value)
@@ -89,7 +92,7 @@ def salvage():
 
 
 def torn():
-    """A key, a permanode, its claim and a delete of the claim, cut off behind each byte."""
+    """A key, a permanode, its claim and a delete of the claim, cut off after each byte."""
     whole = pack(*inputs.EXAMPLE_BLOBS, inputs.DELETE)
     tagged = len(inputs.EXAMPLE)
     for cut in range(len(whole) + 1):
@@ -97,13 +100,14 @@ def torn():
 
 
 def filled(front):
-    """A blob more in front, so that 199 bytes behind this a piece that is read ends."""
+    """Another blob before it, so that a piece of the reading ends 199 bytes after this."""
     room = (PACK_PIECE - 199 - len(front) - len(writing.header(bytes(10_000)))) % PACK_PIECE
     return record(bytes(room if room >= 10_000 else room + PACK_PIECE)) + front
 
 
 def torn_behind_many():
-    """Many blobs, and then the claim and a delete of it, cut off behind each byte of these two. A piece that is read ends in the claim."""
+    """Many blobs, and then the claim and a delete of it, cut off after each byte of these two. A piece of the reading
+    ends in the claim."""
     chances = chance("torn behind many")
     many = [chances.randbytes(chances.choice([1, 300, 9_000])) for _ in range(300)]
     front = filled(pack(*many) + inputs.BEFORE_CLAIM)
@@ -160,7 +164,7 @@ def older():
 
 
 def orders():
-    """What a pack answers doesn't depend on the order of its blobs."""
+    """The answer of a pack doesn't depend on the order of its blobs."""
     for what, blobs, found in inputs.order_packs():
         for number, order in enumerate(itertools.permutations(blobs)):
             yield answer(f"{what}, order {number}", pack(*order), found)
@@ -327,8 +331,8 @@ def with_broken_source(program, what, line, front, **streams):
 
 
 def limits():
-    """A pack of the greatest length, and a longer one, of which the rest isn't read; a record that doesn't fit into memory, one that does,
-    and a pack that takes none."""
+    """A pack of the greatest length, and a longer one, of which the rest isn't read; a record that doesn't fit into
+    memory, one that does, and a pack that takes none."""
 
     def greatest(program):
         poured(program, "a pack of the greatest length", reference.LARGEST_PACK, 0)
@@ -337,7 +341,7 @@ def limits():
         poured(program, "a pack of one byte more", reference.LARGEST_PACK + 1, 4)
 
     def longer(program):
-        # What the program doesn't read may stand in the pipe.
+        # The part that the program doesn't read may stay in the pipe.
         most = reference.LARGEST_PACK + 2 * PIECE
         taken = poured(program, "a longer pack", reference.LARGEST_PACK + 64 * PIECE, 4)
         if taken > most:
@@ -364,12 +368,12 @@ PACK_PIECE = 65_536
 LONGEST = f"[sha224-{0:056x} {16 * PIECE}]".encode()
 
 
-# How many there are of each shape, and the seconds in which a search over it has to end.
+# The number of blobs of each shape, and the seconds in which a search over it has to end.
 MEMBERS, DELETIONS, LATE, TREES, SOON = 20_000, 10_000, 50_000, 60, 100
 
 
 def shapes():
-    """Blobs that hang together in ways that could cost much. Each search has to end soon."""
+    """Blobs that depend on one another in ways that could cost much. Each search has to end soon."""
     node, date = writing.permanode(), "2020-01-01T00:00:00Z"
     tag = writing.claim("set", ref_of(node), "tag", "a", date)
 
@@ -381,7 +385,7 @@ def shapes():
         ends_soon(program, "members, the last first", blobs[::-1], "camliMember", refs[0], [node])
 
     def deletions(program):
-        """Each deletes the one before. Where their number is even the last one undoes the first."""
+        """Each deletes the one before. If their number is even, the last one undoes the first."""
         chain = [tag]
         for _ in range(DELETIONS):
             chain.append(writing.delete(ref_of(chain[-1]), date))
@@ -414,7 +418,8 @@ def ends_soon(program, what, blobs, attribute, value, found):
 
 
 def poured(program, what, length, status, first=b"", **streams):
-    """Pours zeros into the program behind some first bytes, in pieces of any size, until it ends or all are taken; answers how many were."""
+    """Sends zeros to the program after some first bytes, in pieces of any size, until it ends or all are read; returns
+    how many were."""
     folder = program.working_folder(inputs.KEYRING)
     streams |= {"stdin": subprocess.PIPE, "stdout": subprocess.PIPE, "bufsize": 0}
     process = program.start(("search-pack", "tag", "a"), folder, **streams)

@@ -1,6 +1,7 @@
-"""Search words by docs/formats/search_words.md alone: a second implementation, which reads by the page's grammar as it
-stands, all rules at once and character by character, and writes lines by what the page says of them. What `lab words`
-says of lines, and `lab words-of` of queries, is compared with that."""
+"""Search words by docs/formats/search_words.md alone: a second implementation, which reads by the page's grammar
+literally, all rules at once and character by character, and writes lines by the page's rules. It is compared with the
+output of `lab words` for lines, and of `lab words-of` for queries.
+"""
 import copy
 import functools
 import json
@@ -29,7 +30,7 @@ def logical(op, a, b=None):
 
 
 def levels(constraint):
-    """How many constraints stand within one another."""
+    """How many constraints are nested within one another."""
     joined = constraint.get("logical", {})
     inner = [joined[key] for key in "ab" if key in joined]
     relation = constraint.get("permanode", {}).get("relation")
@@ -38,7 +39,7 @@ def levels(constraint):
     return 1 + max(map(levels, inner), default=0)
 
 
-# The grammar: a form has rules, and a rule is what stands in a row, and what it stands for. A character is a test.
+# The grammar: a form has rules, and a rule has a row of items, and their meaning. A character is a test.
 
 def one_of(characters):
     return lambda c: c in characters
@@ -92,7 +93,8 @@ EMPTY = {"o": "", "within": ""}
 
 
 class Chart:
-    """All ways to go on, after each character: (form, rule, how much of it, where it began), with what it has read."""
+    """All ways to continue, after each character: (form, rule, how much of it, where it began), with what it has
+    read."""
 
     def __init__(self):
         self.sets = [{}]
@@ -101,7 +103,7 @@ class Chart:
         self.complete(0)
 
     def copy(self):
-        """Another one that has read the same: what stands is never changed, and only more put behind it."""
+        """Another one that has read the same: its content never changes, and only more is appended."""
         other = copy.copy(self)
         other.sets = list(self.sets)
         return other
@@ -119,7 +121,7 @@ class Chart:
         self.new.append(item)
 
     def complete(self, place):
-        """All that follows of what stands at a place without one more character."""
+        """Adds everything that follows without another character."""
         self.new = list(self.sets[place])
         while self.new:
             item = self.new.pop()
@@ -144,7 +146,8 @@ class Chart:
                         self.add(place, (form, rule, done + 1, began), parts + (value,))
 
     def goes_on(self, c):
-        """Whether some line begins with what was read and this character. What is begun can end: each form has texts."""
+        """Whether some line begins with what was read and this character. Everything that is begun can end: each form
+        has texts."""
         after = {}
         for (form, rule, done, began), parts in self.sets[-1].items():
             row = RULES[form][rule][0]
@@ -157,14 +160,14 @@ class Chart:
         return True
 
     def asks(self):
-        """What is asked, where the line may end here."""
+        """The meanings of the line, if it may end here."""
         parts = self.sets[-1].get(("line", 0, 3, 0))
         return None if parts is None else parts[1]
 
 
 def read(text, chart=None, done=0):
-    """What a text asks, or the first fault: ("asks", constraint), ("TooLong", len), ("Bad", at) or ("TooDeep",). The
-    chart is one that has read so many of its characters."""
+    """The meaning of a text, or the first fault: ("asks", constraint), ("TooLong", len), ("Bad", at) or ("TooDeep",).
+    The chart is one that has read so many of its characters."""
     size = len(text.encode())
     if size > LONGEST:
         return ("TooLong", size)
@@ -181,7 +184,7 @@ def read(text, chart=None, done=0):
 
 
 def charts(line):
-    """The charts of all fronts of a line, from the empty one on."""
+    """The charts of all prefixes of a line, from the empty one on."""
     chart = Chart()
     yield chart
     for c in line:
@@ -190,8 +193,8 @@ def charts(line):
         yield chart
 
 
-# A line that asks a constraint. `more` says each time whether it has what needn't be, as the one that is written never
-# has.
+# A line for a constraint. `more` returns each time whether the line has optional parts; the one that is written never
+# has any.
 
 def never():
     return False
@@ -208,7 +211,7 @@ def is_blobref(text):
 
 
 def words(constraint, more):
-    """The words that have the texts of a constraint, each with what it asks."""
+    """The words for the values of a constraint, each with its meaning."""
     test = constraint.get("permanode", {})
     attr, value = test.get("attr", ""), test.get("value", "")
     part = test.get("valueMatches", {}).get("contains", "")
@@ -225,19 +228,18 @@ def words(constraint, more):
 
 
 def word(constraint, more=never):
-    """The word that asks a constraint, or None."""
+    """The word for the constraint, or None."""
     found = [line for line, asks in words(constraint, more) if asks == constraint]
     return found[-1 if more() else 0] if found else None
 
 
-# How tightly the form of an `op` holds together; a word is of rank 3.
+# How tightly the form of an `op` binds; a word is of rank 3.
 RANKS = {"or": 0, "and": 1, "not": 2}
 BETWEEN = {"or": " or ", "and": " "}
 
 
 def written(constraint, least=0, more=never):
-    """The line that asks it, or None; in parentheses where a form that holds together as tightly as `least` is wanted.
-    """
+    """The line for it, or None; in parentheses if a form that binds as tightly as `least` is needed."""
     if set(constraint) != {"logical"}:
         line, rank = word(constraint, more), 3
     else:
@@ -265,7 +267,7 @@ FORMS = ("or", "and", "unit", "atom")
 
 
 def rows_of(constraint, form):
-    """How many parentheses there are at least where a constraint is asked by a form's own row."""
+    """The least number of parentheses for a constraint by a form's own row."""
     joined = constraint["logical"] if set(constraint) == {"logical"} else {"op": None}
     if form == "atom":
         return math.inf if "logical" in constraint or word(constraint) is None else 0
@@ -279,14 +281,14 @@ def rows_of(constraint, form):
 
 
 def fewest(constraint, form="or"):
-    """How many parentheses there are at least outside quotes where a constraint is asked by a form: infinitely many
-    where it never is. Each form is also a tighter one, and the tightest any in parentheses."""
+    """The least number of parentheses outside quotes for a constraint by a form; infinite if it is impossible. Each
+    form is also a tighter one, and the tightest any in parentheses."""
     counts = [rows_of(constraint, each) for each in FORMS]
     return min(*counts[FORMS.index(form):], 1 + min(counts))
 
 
 def parentheses(line):
-    """How many `(` stand outside quotes."""
+    """How many `(` are outside quotes."""
     return re.sub(r'"(\\.|[^"\\])*"', "", line, flags=re.DOTALL).count("(")
 
 
@@ -301,7 +303,7 @@ def related(which, **kin):
 
 
 def asked_by_word(rng):
-    """A constraint that a word asks."""
+    """A constraint that a word can express."""
     text = rng.choice(TEXTS)
     name = rng.choice([t for t in TEXTS if t])
     kind = rng.randrange(6)
@@ -334,7 +336,7 @@ def spaced(rng, line):
     return " " * rng.choice([0, 0, 2]) + out + " " * rng.choice([0, 0, 2])
 
 
-# Constraints of queries that no line asks
+# Constraints of queries that no line can express
 
 DATE = "2026-01-31T00:00:00Z"
 REF = SHA1[0] + "0" * SHA1[1]
@@ -390,7 +392,7 @@ def texts_of(cell):
 
 
 def table_rows(page):
-    """Of each row of the page's tables, whether it is so."""
+    """For each row of the page's tables, whether it is correct."""
     for cells in rows(page, "| line | constraint |"):
         line, asked = cells[0].strip("`"), cells[1]
         if asked.startswith("`{"):
@@ -408,7 +410,7 @@ def table_rows(page):
 
 
 def typed_rows(page):
-    """Of each row of the table of what can be typed, whether its example is a line."""
+    """For each row of the table of what can be typed, whether its example is a line."""
     for cells in rows(page, "| you type | it asks for | example |"):
         yield cells, [read(text)[0] for text in texts_of(cells[2])] == ["asks"]
 
@@ -418,7 +420,7 @@ def so(cells, holds):
 
 
 def tables(program):
-    """The rows of the pages' tables, by this reading of the grammar; and what the program tells of their texts."""
+    """The rows of the pages' tables, by this reading of the grammar; and the program's output for their texts."""
     grammar, search = (open(f"docs/{name}.md", encoding="utf-8").read() for name in ("formats/search_words", "search"))
     checks = [so(cells, holds) for cells, holds in (*table_rows(grammar), *typed_rows(search))]
     columns = [("| line | constraint |", 0), ("| text | fault | since |", 0), ("| you type | it asks for | example |", 2)]
@@ -435,13 +437,13 @@ def tables(program):
 # The program
 
 def fault(answer):
-    """How `lab words` says what was read."""
+    """How `lab words` writes the result of a reading."""
     kind = answer[0]
     return {"TooLong": "too long {}", "Bad": "bad {}", "TooDeep": "too deep"}[kind].format(*answer[1:])
 
 
 def told_of(program, what, word, lines):
-    """What the program tells of each line."""
+    """The program's output for each line."""
     status, out, err = program.run(what, [word], "\n".join(lines).encode())
     compare_ending(what, 0, status, err)
     told = out.decode().split("\n")
@@ -454,7 +456,7 @@ def compare_lines(program, what, lines):
 
 
 def compare_answers(program, what, answers):
-    """Compares what is told of lines with what they ask, or why they ask nothing, and gives what is told."""
+    """Compares the output for lines with their meanings, or with why they have none, and returns the output."""
     told = told_of(program, what, "words", [line for line, _ in answers])
     for (line, answer), told_of_it in zip(answers, told, strict=True):
         compare_line(f"{what}, {line!r}", answer, told_of_it)
@@ -470,14 +472,14 @@ def compare_line(what, answer, told):
 
 
 def compare_written(program, what, queries, lines):
-    """Compares the lines that are told of queries with those that ask their constraints, of which there may be none."""
+    """Compares the lines that are written for queries with the expected ones, of which there may be none."""
     told = told_of(program, what, "words-of", queries)
     for query, line, told_of_it in zip(queries, lines, told, strict=True):
         compare(f"{what}, {query}", "the line", "none" if line is None else line, told_of_it)
 
 
 def compare_lines_of(program, what, constraints):
-    """Compares the lines that are told of constraints with those that are written here, and what these ask with the
+    """Compares the lines that are written for constraints with those that are written here, and their meanings with the
     constraints."""
     lines = [written(constraint) for constraint in constraints]
     for constraint, line in zip(constraints, lines, strict=True):
@@ -491,7 +493,7 @@ def compare_lines_of(program, what, constraints):
 
 
 def random_line(rng, constraint):
-    """A line that asks a constraint, with more spaces, quotes and parentheses than are needed."""
+    """A line for a constraint, with more spaces, quotes and parentheses than are needed."""
     return spaced(rng, written(constraint, more=lambda: rng.random() < 0.1))
 
 
@@ -500,8 +502,8 @@ SOME = ' ()":\\-orta0\té'
 
 
 def right(program):
-    """Random lines, each of which asks the constraint for which it was made; the lines that are written for what they
-    ask, and what these ask."""
+    """Random lines, each of which means the constraint for which it was made; the lines that are written for their
+    meanings, and what these mean."""
     def lines(share):
         what, rng = f"right {share}", chance("right", share)
         asked = [random_constraint(rng, rng.choice([1, 1, 2, 3, 4])) for _ in range(400)]
@@ -516,8 +518,8 @@ def right(program):
 
 
 def broken(line, characters):
-    """What a line is broken into at every character: its front alone, and the line without the character, with another
-    one before it, and with another one in its place; each with what it asks, or why it asks nothing."""
+    """The variants of a line that is broken at every character: its prefix alone, and the line without the character,
+    with another one before it, and with another one in its place; each with its meaning, or why it has none."""
     for place, chart in enumerate(charts(line)):
         front, rest = line[:place], line[place:]
         for text in (front, front + rest[1:], *(front + c + rest[gone:] for c in characters() for gone in (0, 1))):
@@ -556,7 +558,7 @@ def limits(program):
 
 
 def asked(program):
-    """Random constraints, some of which no line asks."""
+    """Random constraints, some of which no line can express."""
     def lines(share):
         rng = chance("asked", share)
         one = lambda rng: rng.choice(UNASKED) if rng.random() < 0.05 else asked_by_word(rng)
@@ -591,21 +593,21 @@ def every_shape(program):
 
 
 def told_of_one(program, query):
-    """What is told of one query, whose line may have line ends."""
+    """The output for one query, whose line may have line ends."""
     status, out, err = program.run("one query", ["words-of"], json.dumps(query).encode())
     compare_ending("one query", 0, status, err)
     return out.decode().removesuffix("\n")
 
 
 def words_with(text):
-    """What each word asks with a text, wherever that may be."""
+    """The meaning of each word with a text, at every place."""
     named = [tests(attr=text), tests(attr=text, value=text)] if text else []
     return [tests(attr="tag", value=text), tests(attr="title", valueMatches={"contains": text}),
             tests(attr="a", value=text), {"blobRefPrefix": text}, *named]
 
 
 def every_text(program):
-    """Texts of every ASCII character and of some others. One with a line end is told of alone."""
+    """Texts of every ASCII character and of some others. One with a line end is tried alone."""
     def lines(texts):
         constraints = [constraint for text in texts for constraint in words_with(text)]
         compare_lines_of(program, f"texts from {texts[0]!r} on", constraints)
@@ -621,7 +623,7 @@ def every_text(program):
 
 
 def within(constraint):
-    """Constraints that hold one, in every place."""
+    """Constraints that contain one, in every place."""
     word = tests(attr="a")
     ops = ("or", "and")
     return [logical("not", constraint), *(logical(op, constraint, word) for op in ops),
@@ -629,7 +631,7 @@ def within(constraint):
 
 
 def unasked(program):
-    """Constraints that no line asks, alone and within others."""
+    """Constraints that no line can express, alone and within others."""
     def lines(constraint):
         once = within(constraint)
         some = [constraint, *once, *(outer for inner in once for outer in within(inner))]
@@ -639,12 +641,13 @@ def unasked(program):
 
 
 def chain(count, join):
-    """So many constraints within one another."""
+    """So many constraints nested within one another."""
     return functools.reduce(lambda inner, _: join(inner), range(count - 1), tests(attr="a"))
 
 
 def bounds(program):
-    """Constraints as deep as a query's may be, and lines longer than those that are read; and what is no query."""
+    """Constraints as deep as a query's may be, and lines longer than those that are read; and texts that aren't
+    queries."""
     word = tests(attr="a")
     joins = [lambda c: logical("not", c)]
     joins += [lambda c, op=op: logical(op, c, word) for op in ("or", "and")]

@@ -1,10 +1,10 @@
 """Servers of the program (docs/commands.md, "serve"; docs/server.md): which lines start one, what else ends it at once,
 who can reach it, when it ends, and what goes wrong at it.
 
-Who gets in is in serve_door.py, clients that stay in serve_stays.py, streams in serve_streams.py, clients that ask in
-turn in serve_sessions.py, other programs as clients in serve_clients.py, eight clients at once in serve_load.py, many
-values on one permanode in serve_values.py, a query that takes long in serve_long.py, kills in serve_kills.py, full disks
-and folders that go in serve_disk.py, and calls to the system in serve_calls.py.
+Who gets in is in serve_door.py, clients that stay in serve_stays.py, streams in serve_streams.py, clients in turn in
+serve_sessions.py, other programs as clients in serve_clients.py, eight clients at once in serve_load.py, many values on
+one permanode in serve_values.py, a query that takes long in serve_long.py, kills in serve_kills.py, full disks and
+folders that are removed in serve_disk.py, and calls to the system in serve_calls.py.
 """
 
 import contextlib
@@ -38,7 +38,7 @@ from stores import CLEAN, TORN, Store, look
 from writers import Locked
 from writing import pack
 
-# It is asked for by setting it, before any program runs.
+# Setting it selects it, before any program runs.
 UMASK = os.umask(0o77)
 os.umask(UMASK)
 
@@ -46,7 +46,7 @@ os.umask(UMASK)
 # Words
 
 def words(program):
-    """Lines that are none of `serve` end with status 2, and nothing is made; other lines start a server."""
+    """Invalid lines of `serve` end with status 2, and nothing is made; other lines start a server."""
     return [lambda line=line: no_line(program, line) for line in BAD_LINES] + [
         lambda line=line: serves_line(program, line) for line in GOOD_LINES
     ]
@@ -114,7 +114,7 @@ def starts(program):
 
 
 def three_connections(program):
-    """The server ends once three connections were served, however little they asked, and serves no fourth."""
+    """The server ends after three connections were served, however little they did, and serves no fourth."""
     for words in ([], ["--workers=1", "--indexers=1"], ["--workers=64", "--indexers=64"], ["--workers=2"]):
         with Server(program, store_of(program, b"abc").path, "--connections=3", *words) as server:
             for stream in (PROBE, b"", b"GET"):
@@ -133,7 +133,7 @@ def three_at_once(program):
 
 
 def a_held_connection(program):
-    """The last connection to end ends the server, also where it is the first that came."""
+    """The last connection to end ends the server, even if it is the first that came."""
     with Server(program, store_of(program, b"abc").path, "--connections=3") as server:
         with Talk(server.port) as held:
             held.ask("the first", get(blob_target(ABC)), ABC_REPLY)
@@ -146,7 +146,7 @@ def a_held_connection(program):
 
 
 def ends_before_it_ends(program):
-    """The last connection of each worker is ended as soon as it was served, and not once the server ends."""
+    """The last connection of each worker is ended as soon as it was served, and not only when the server ends."""
     with Server(program, store_of(program, b"abc").path, "--connections=3") as server:
         with Talk(server.port) as held, Talk(server.port) as one, Talk(server.port) as two:
             held.ask("the one that stays", get(blob_target(ABC)), ABC_REPLY)
@@ -178,7 +178,7 @@ def one_worker(program):
 
 
 def taken_ports(program):
-    """A port that is taken ends the server at once, whoever has it, and leaves the folder and who has it alone."""
+    """A taken port ends the server at once, whoever has it, and changes neither the folder nor the other program."""
     for address in (HOST, "0.0.0.0"):
         with socket.create_server((address, 0)) as holder:
             is_taken(program, f"a port that a program has at {address}", holder.getsockname()[1])
@@ -216,7 +216,7 @@ def other_addresses():
 
 
 def makes_its_folder(program):
-    """A folder that isn't there is made, as by `put`, and can be written by commands behind the server."""
+    """A folder that isn't there is made, as by `put`, and can be written by commands after the server."""
     store = Store(program)
     with Server(program, store.path, "--connections=1") as server:
         with Talk(server.port) as talk:
@@ -241,7 +241,8 @@ def goes_on_behind_a_torn_pack(program):
 
 
 def keeps_older_refs(program):
-    """What is uploaded under refs of older stores is written under them, byte by byte, and read by commands behind it."""
+    """Blobs that are uploaded under refs of older stores are written under them, byte by byte, and read by later
+    commands."""
     store = Store(program, {0: pack(b"abc")}, {"keyring": inputs.KEYRING})
     with Server(program, store.path, "--connections=1") as server:
         with Talk(server.port) as talk:
@@ -256,7 +257,7 @@ def keeps_older_refs(program):
 
 
 def no_folder(program):
-    """A folder that can't be one fails as the disk's fault, once the port is taken."""
+    """A folder that can't be one fails as the disk's fault, after the port is taken."""
     file = program.new_path()
     file.write_bytes(b"")
     with socket.create_server((HOST, 0)) as holder:
@@ -266,7 +267,7 @@ def no_folder(program):
 
 
 def waits_for_the_lock(program):
-    """Who connects while the server waits for the lock of its folder is answered once the lock is free."""
+    """A client that connects while the server waits for the lock of its folder is answered once the lock is free."""
     store = store_of(program, b"abc")
     with Locked(store.path):
         server = Server(program, store.path, "--connections=1")
@@ -281,7 +282,7 @@ def waits_for_the_lock(program):
 
 
 def keyrings(program):
-    """A keyring that is none is bad input, and one that can't be read a failed read, whatever else is wrong."""
+    """An invalid keyring is bad input, and one that can't be read a failed read, whatever else is wrong."""
     with socket.create_server((HOST, 0)) as holder:
         for keyring, status in ((b"jefe", 4), (inputs.KEYRING * 2, 4), (None, 5)):
             store = Store(program, {0: pack(b"abc")}, {"keyring": keyring} if keyring else {})
@@ -321,7 +322,7 @@ def closed_streams(program):
 # What goes wrong at the server
 
 def wrong(program):
-    """A store that is full, and bytes that change under a server: others are served all the same."""
+    """A store that is full, and bytes that change while a server runs: other requests are still served."""
     checks = (full, damaged, older_damaged, cut_short)
     return [lambda check=check: check(program) for check in checks]
 
@@ -343,7 +344,7 @@ def full(program):
 
 
 def damaged(program):
-    """A byte of a blob is changed in its pack: it is told by both refs, and the connection stays."""
+    """A byte of a blob is changed in its pack: the reply has both refs, and the connection stays open."""
     store = store_of(program, b"abc", b"def")
     with Server(program, store.path) as server, Talk(server.port) as talk:
         talk.ask("before the damage", get(blob_target(ABC)), ABC_REPLY)
@@ -358,7 +359,8 @@ def damaged(program):
 
 
 def older_damaged(program):
-    """The same of a blob under its older ref: it is told by refs of that kind, and its bytes under the other one stay."""
+    """The same for a blob under its older ref: the reply has refs of that kind, and the bytes under the other one are
+    unchanged."""
     store = Store(program, {0: pack(b"abc", name_of=older_ref_of) + pack(b"abc")}, {"keyring": inputs.KEYRING})
     with Server(program, store.path) as server, Talk(server.port) as talk:
         talk.ask("before the damage", get(blob_target(OLDER_ABC)), ABC_REPLY)
@@ -370,7 +372,7 @@ def older_damaged(program):
 
 
 def cut_short(program):
-    """A pack that was cut shorter: what is left of the blob has another ref."""
+    """A pack that was cut shorter: the rest of the blob has another ref."""
     store = store_of(program, b"def", b"abc")
     with Server(program, store.path) as server, Talk(server.port) as talk:
         talk.ask("before the cut", get(blob_target(ABC)), ABC_REPLY)

@@ -1,5 +1,6 @@
-"""The calls to the system that a server makes, by strace: what it binds to, how it reads blobs, and that a reply to an
-upload is written only once the blobs are durable."""
+"""The calls to the system that a server makes, by strace: the addresses to which it binds, how it reads blobs, and that
+a reply to an upload is written only after the blobs are durable.
+"""
 
 from connections import Reply, entry, json_text
 from harness import check, compare
@@ -15,7 +16,7 @@ ACCEPTS, SENDS = ("accept", "accept4"), ("sendto", "sendmsg", "write", "writev")
 BLOBS = [b"blob %d" % number for number in range(20)]
 NEW = [b"new %d" % number * 50 for number in range(12)]
 WRITING, SYNCING = "write,pwrite64,writev,pwritev", "fsync,fdatasync"
-# By what a call on a pack fails: its names and the error.
+# How a call on a pack fails: its names and the error.
 FAILS = {"a write": (WRITING, "EIO"), "a write to a full disk": (WRITING, "ENOSPC"), "a sync": (SYNCING, "EIO")}
 
 
@@ -25,7 +26,7 @@ def calls(program):
 
 
 def traced(program, store, what, requests):
-    """The calls of a server that answers requests, each once the one before is answered, on one connection."""
+    """The calls of a server that answers requests, each sent after the reply to the one before, on one connection."""
     log = program.new_path()
     trace = ",".join("?" + name for name in (*TRACED, *NETWORK))
     front = ("strace", "-f", "-y", "-s", "0", "-o", str(log), "-e", f"trace={trace}")
@@ -46,7 +47,7 @@ def uploads(blobs):
 
 
 def binds(program):
-    """It binds to its port of 127.0.0.1 alone, and connects to nothing."""
+    """It binds only to its port of 127.0.0.1, and connects to nothing."""
     store = store_of(program, *BLOBS)
     made, port = traced(program, store, "a server", gets(BLOBS[:1]))
     bound = [made[place].words for place in places(made, ("bind",))]
@@ -57,7 +58,7 @@ def binds(program):
 
 
 def reads(program):
-    """A blob is read by one call, from a pack that is opened once at most, and nothing else is read of it."""
+    """A blob is read by one call, from a pack that is opened at most once, and nothing else is read of it."""
     store = store_of(program, *BLOBS)
     asked = BLOBS + BLOBS[::-1] + BLOBS[:1] * 10
     made, _ = traced(program, store, "blobs", gets(asked))
@@ -92,14 +93,14 @@ def syncs(program):
 # Calls that fail
 
 def failing(program):
-    """Calls on a pack fail: the requests are told so, others are served, and what was acknowledged stands."""
+    """Calls on a pack fail: the requests get that reply, others are served, and acknowledged blobs are kept."""
     need_strace(program)
     checks = [lambda what=what: upload_fails(program, what) for what in FAILS]
     return checks + [lambda number=number: sync_fails(program, number) for number in (1, 2)] + [lambda: reads_fail(program)]
 
 
 def one_worker(program, store, log, *words):
-    """A server that is traced on its first pack alone. What strace counts, it counts for each thread."""
+    """A server of which only the first pack is traced. strace counts calls for each thread."""
     front = ("strace", "-f", "-o", str(log), "-P", str(store.path / pack_name(0)), *words)
     return Server(program, store.path, "--connections=2", "--workers=1", "--indexers=1", front=front)
 
@@ -121,7 +122,7 @@ def calls_of_two(program, names):
 
 
 def upload_fails(program, what):
-    """Of an upload of three blobs the second fails. Nothing more is added to that pack, and in the end it is as it was
+    """The second blob of an upload of three fails. Nothing more is added to that pack, and in the end it is as it was
     before the fault."""
     names, error = FAILS[what]
     number = calls_of_two(program, names) + 1
@@ -141,8 +142,8 @@ def upload_fails(program, what):
 
 
 def sync_fails(program, number):
-    """What couldn't be synced is taken back at once, so that it isn't there where the server is killed then. Of a pack that
-    was never synced nothing is left."""
+    """A record that couldn't be synced is taken back at once, so that it isn't there if the server is then killed. Of a
+    pack that was never synced nothing is left."""
     what = f"a server that is killed once its sync {number} has failed"
     store, log = Store(program, {}), program.new_path()
     with one_worker(program, store, log, "-e", f"inject={SYNCING}:error=EIO:when={number}") as server:
@@ -157,7 +158,7 @@ def sync_fails(program, number):
 
 
 def reads_fail(program):
-    """Some reads of a pack fail: these requests are told so, and the connection stays."""
+    """Some reads of a pack fail: these requests get that reply, and the connection stays open."""
     store, log = Store(program, {}), program.new_path()
     failed, texts = Reply(503, json_text({"error": "disk"})).text(), []
     with one_worker(program, store, log, "-e", "inject=pread64:error=EIO:when=5+7") as server:

@@ -1,7 +1,7 @@
-"""Routes as clients ask them that know nothing of this program: curl, wget, Python's `requests` and `http.client`, node's
-`fetch`, and any of them through a forwarder.
+"""The routes as used by clients that know nothing of this program: curl, wget, Python's `requests` and `http.client`,
+node's `fetch`, and any of them through a forwarder.
 
-What each has to get is worked out from an equal request that is spelled here (connections.py).
+The expected replies are computed from an equal request that is spelled here (connections.py).
 """
 
 import http.client
@@ -34,7 +34,7 @@ def url_of(one, target=b"/"):
 # curl
 
 class Curl:
-    """curl, and a server that it asks."""
+    """curl, and the server to which it sends."""
 
     def __init__(self, program, store):
         self.one = shelf(program, http_inputs.STORES[store])
@@ -47,7 +47,7 @@ class Curl:
         return done.stdout
 
     def gets(self, what, words, request, source=b"", target=b"/"):
-        """Runs curl with words; it has to print the reply to a request, head and body."""
+        """Runs curl with arguments; it has to print the reply to a request, head and body."""
         told = self.one.text(request)
         compare_texts(what, told, self.run(what, ["--include", *words, url_of(self.one, target)], source))
 
@@ -92,7 +92,8 @@ def curl_searches(by):
 
 
 def curl_forms(by):
-    """What curl makes of files and of texts: parts with a file's name and a type, and parts with a name alone."""
+    """The forms that curl makes from files and from texts: parts with a file's name and a type, and parts with only a
+    name."""
     old, new = b"abc", b"\x00\r\n--x\xff"
     words = ["--form", f"{ref_of(new)}=@{by.file(new)};type=image/png;filename=\"a;\tb.png\""]
     words += ["--form-string", f"{ref_of(old)}={old.decode()}"]
@@ -122,7 +123,7 @@ def curl_older(by):
 
 
 def curl_chunks(by):
-    """A body in chunks, which curl sends by itself where it doesn't know the length."""
+    """A body in chunks, which curl sends by itself when it doesn't know the length."""
     body = form(*map(blob_part, (b"in", b"chunks")))
     words = ["--request", "POST", "--header", FORM, "--upload-file", "-"]
     by.gets("an upload in chunks", words, post_pieces(UPLOAD, [body], FORM), body, target=UPLOAD)
@@ -200,7 +201,7 @@ def in_session(program, check):
     by = Session(program, store)
     with by.session:
         check(by)
-    # It was one connection: the server has ended now.
+    # It was one connection: the server has now ended.
     by.one.server.ends(check.__name__)
     by.one.ends(check.__name__)
 
@@ -221,7 +222,7 @@ def requests_stats(by):
 
 
 def requests_pages(by):
-    """All refs, page by page, as a client does that goes on where it is told to."""
+    """All refs, page by page, by a client that continues where the replies say."""
     refs, after = [], ""
     while after is not None:
         request = get(LISTING + f"?limit=300&after={after}".encode())

@@ -1,5 +1,5 @@
-"""Servers on a disk that is full, and over folders and packs that go: what isn't durable in the store isn't acknowledged,
-nothing that was is lost, and nothing is left behind of what failed.
+"""Servers on a disk that is full, and over folders and packs that are removed. A blob that isn't durable in the store
+isn't acknowledged, no acknowledged blob is lost, and nothing is left of a failed upload.
 """
 
 import contextlib
@@ -63,7 +63,7 @@ def mounted(program, folder=None):
 
 
 def with_small_disk(program, check_it):
-    """Runs a check with a folder on a small disk, and the words in front of a program that is to see it."""
+    """Runs a check with a folder on a small disk, and the words before a program that is to see it."""
     folder = program.new_path()
     folder.mkdir()
     with mounted(program, folder) as process:
@@ -73,7 +73,7 @@ def with_small_disk(program, check_it):
 
 
 class SmallDisk:
-    """A folder of a store, as programs behind `front` see it, and as it is seen from here."""
+    """A folder of a store, as programs after `front` see it, and as it is seen from here."""
 
     def __init__(self, folder, seen, front):
         self.folder, self.seen, self.front = folder / "store", seen / "store", front
@@ -138,13 +138,14 @@ def leaves_nothing(program, disk):
 
 
 def open_files(server):
-    """How many files the server has open. Sockets aren't counted: it listens on for a moment to a connection that it has ended."""
+    """How many files the server has open. Sockets aren't counted: it listens a moment longer to a connection that it
+    has ended."""
     links = (link_of(entry) for entry in pathlib.Path(f"/proc/{server.process.pid}/fd").iterdir())
     return sum(not link.startswith("socket:") for link in links)
 
 
 def link_of(entry):
-    """What a descriptor leads to; a socket's words where it was closed meanwhile."""
+    """The target of a descriptor; that of a socket if it was closed meanwhile."""
     try:
         return os.readlink(entry)
     except FileNotFoundError:
@@ -152,7 +153,7 @@ def link_of(entry):
 
 
 def counts_on(program, disk):
-    """Behind a start the numbers of packs go on behind the last one that is there."""
+    """After a start the numbers of packs continue after the last one that is there."""
     what = f"{FAILURES_AND_A_START} uploads that fail, and a start"
     with disk.serve(program) as server:
         disk.fill(what, server)
@@ -165,10 +166,10 @@ def counts_on(program, disk):
         compare(what, "the packs", [pack_name(0), pack_name(1)], list(disk.packs()))
 
 
-# Folders and packs that go
+# Folders and packs that are removed
 
 def goes(program):
-    """The folder of a store, or a pack, goes under a server."""
+    """The folder of a store, or a pack, is removed while a server runs."""
     return [lambda check=check: check(program) for check in (moved_and_back, replaced, removed, pack_removed)]
 
 
@@ -189,7 +190,7 @@ def moved_and_back(program):
 
 
 def replaced(program):
-    """Nothing is made in a folder that stands in its place."""
+    """Nothing is made in another folder in its place."""
     what, store = "a folder that is replaced", store_of(program, b"abc")
     aside = program.new_path()
     with Server(program, store.path) as server:
@@ -216,7 +217,7 @@ def removed(program):
 
 
 def pack_removed(program):
-    """The blobs of a pack that the user removed are gone; those behind it are kept."""
+    """The blobs of a pack that the user removed are gone; those after it are kept."""
     what, store = "a pack that is removed", store_of(program, b"abc")
     with Server(program, store.path) as server:
         puts(what, server, b"before")

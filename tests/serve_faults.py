@@ -1,8 +1,9 @@
-"""Calls to the system that fail in a server while four clients ask it, by strace: in each run the k-th call of a name
+"""Calls to the system that fail in a server that serves four clients, by strace: in each run the k-th call of a name
 that each of its threads makes, for each k up to where none makes so many.
 
-A request is answered as ever, by 503 as the disk failed, or its connection ends. Once nothing fails any more all
-workers answer at once, new blobs are taken, and whatever was acknowledged is found. """
+A request gets its usual reply, or 503 for a failed disk, or its connection ends. Once nothing fails any more all
+workers answer at once, new blobs are stored, and all acknowledged blobs are found.
+"""
 
 import contextlib
 import os
@@ -20,9 +21,9 @@ from tracing import need_strace
 
 CLIENTS = WORKERS = 4
 WORDS = (f"--workers={WORKERS}", "--indexers=1")
-# So often each client connects, uploads a blob and asks for it.
+# So often each client connects, uploads a blob and reads it.
 ROUNDS = 4
-# By the name of a call the errors with which it fails.
+# For the name of each call the errors with which it fails.
 FAILS = {
     "recvfrom": ("ECONNRESET", "EINTR"),
     "sendto": ("ECONNRESET", "EINTR"),
@@ -35,11 +36,11 @@ FAILS = {
     "write": ("EIO", "ENOSPC", "EINTR"),
     "fsync": ("EIO",),
 }
-# What a server takes back that couldn't be synced: so these fail with a sync.
+# The calls that take back what couldn't be synced: these fail together with a sync.
 WITH_A_SYNC = ("ftruncate", "unlink,unlinkat")
 SYNC = "fsync:error=EIO:when=%d"
 MOST = 60
-# Nothing is done once no call is made for so many seconds.
+# The server is idle once no call is made for so many seconds.
 STILL = 0.05
 
 
@@ -61,7 +62,7 @@ def fails_in_turn(program, fault, *others):
 
 
 class Tracer:
-    """A strace that has a server's calls fail, from its beginning to its end: those of all threads, or of one."""
+    """A strace that makes a server's calls fail, from its beginning to its end: those of all threads, or of one."""
 
     def __init__(self, program, process, faults, thread=None):
         self.log = program.new_path()
@@ -77,8 +78,8 @@ class Tracer:
         return self
 
     def __exit__(self, *_):
-        """A call that strace has begun to fail would end otherwise if it left the program now: so it waits for the
-        last."""
+        """A call that strace has begun to fail would end otherwise if it left the program now. Therefore it waits for
+        the last."""
         size = None
         while size != self.log.stat().st_size:
             size = self.log.stat().st_size
@@ -106,7 +107,7 @@ class Session:
         self.wrong = []
 
     def runs(self):
-        """Answers whether a call failed."""
+        """Returns whether a call failed."""
         with Server(self.program, self.store.path, *WORDS) as server:
             has_begun(server)
             with Tracer(self.program, server.process.pid, self.faults) as tracer:
@@ -149,7 +150,7 @@ class Session:
             self.answers(talk, stat(ref), size, *none)
 
     def answers(self, talk, request, due, *others):
-        """Whether a request gets the reply that is due; else it has to get another one of these, or none."""
+        """Whether a request gets the expected reply; otherwise it has to get another one of these, or none."""
         talk.send(request)
         text = talk.read_text(self.what)
         if text not in [other.text() for other in others]:
@@ -182,8 +183,8 @@ ACCEPT4 = "288"
 
 
 def accept_fails(program, number):
-    """Of two workers one has a connection that stays; an accept of the other one fails. What that one accepted before is
-    served, and it ends; what comes then is served by the first, once that is free."""
+    """One of two workers has a connection that stays open; an accept of the other one fails. What that one accepted
+    before is served, and it ends; later connections are served by the first, once that is free."""
     what = f"accept {number} of a worker fails"
     store = store_of(program, b"abc")
     with Server(program, store.path, "--workers=2", "--indexers=1") as server:
@@ -226,13 +227,13 @@ def wait_until(what, comes):
 
 
 def call_of(server, thread):
-    """The number of the call at which a thread is."""
+    """The number of the call that a thread is in."""
     with open(f"/proc/{server.process.pid}/task/{thread}/syscall") as file:
         return file.read().split()[0]
 
 
 def one_listener_fails(program):
-    """A worker that can't accept ends, and the others go on."""
+    """A worker that can't accept ends, and the others continue."""
     store = store_of(program, b"abc")
     with Server(program, store.path, *WORDS) as server:
         has_begun(server)
@@ -249,7 +250,7 @@ def threads_of(server):
 
 
 def fails_to_accept(program, server, thread):
-    """Whether a thread that is at an accept ends, as that fails."""
+    """Whether a thread that is in an accept ends when that fails."""
     with Tracer(program, server.process.pid, ["accept4:error=EIO"], thread) as tracer:
         time.sleep(0.3)
     return tracer.has_injected()

@@ -1,9 +1,9 @@
-"""Servers that are killed while clients upload to them: what was acknowledged stands.
+"""Servers that are killed while clients upload to them: acknowledged blobs are kept.
 
 A blob counts as acknowledged once the whole reply to its upload was read. After each kill the packs are compared with
-what was sent: what stood before stands, a request that wasn't answered has a front of its parts there, and only the
-last pack may end in a torn record. The next server over the same store has to serve each blob that was acknowledged,
-and to find exactly those permanodes whose blobs stand.
+what was sent: earlier blobs are kept, a request that wasn't answered has a prefix of its parts there, and only the last
+pack may end in a torn record. The next server over the same store has to serve each acknowledged blob, and to find
+exactly those permanodes whose blobs are there.
 
 KILLS is another number of kills than fifty.
 """
@@ -26,14 +26,14 @@ from writers import at_once
 KILLS = int(os.environ.get("KILLS") or 50)
 STORES = 4
 CLIENTS = 4
-# A blob of some bytes, and now and then one that takes a while to be written.
+# A blob of some bytes, and occasionally one that takes a while to be written.
 SMALL, LARGE = 3_000, 2_000_000
 LONGEST_LIFE = 0.25
-# After each kill so many of all blobs that were ever acknowledged are asked for, beside those of the last server; and
-# at the end so many by commands.
+# After each kill so many of all blobs that were ever acknowledged are read, besides those of the last server; and at
+# the end so many by commands.
 OLD, BY_COMMANDS = 30, 5
 LIMIT = 1_000_000
-# Half of what is sent has its older name.
+# Half of the blobs that are sent have their older names.
 NAMES = writing.Names(chance("names of what is sent"))
 QUESTION = post(QUERY, GOOD_QUERY.replace(b'{"constraint"', b'{"limit":%d,"constraint"' % LIMIT))
 
@@ -56,7 +56,7 @@ class Request:
 
 
 def uploads(what, port, random, is_killed):
-    """Uploads until the server is killed; answers the requests."""
+    """Uploads until the server is killed; returns the requests."""
     requests = []
     try:
         with Talk(port) as talk:
@@ -72,7 +72,7 @@ def uploads(what, port, random, is_killed):
 
 
 class Killed:
-    """A store whose servers are killed, what was acknowledged, and which permanodes are to be found."""
+    """A store whose servers are killed, the acknowledged blobs, and the permanodes that are to be found."""
 
     def __init__(self, program, number):
         self.program, self.number = program, number
@@ -90,7 +90,7 @@ class Killed:
         self.settle(what, requests)
 
     def load(self, what, server, random):
-        """Lets clients upload until the server is killed; answers their requests."""
+        """Lets clients upload until the server is killed; returns their requests."""
         seeds = [random.randrange(2**32) for _ in range(CLIENTS)]
         is_killed = threading.Event()
         tasks = [lambda seed=seed: uploads(what, server.port, chance(what, seed), is_killed) for seed in seeds]
@@ -102,7 +102,7 @@ class Killed:
             timer.join()
 
     def serves_all(self, what, server, random):
-        """A server that has just started serves what was acknowledged, and finds what stands."""
+        """A server that has just started serves the acknowledged blobs, and finds what is there."""
         old = random.sample(sorted(self.acknowledged), min(OLD, len(self.acknowledged)))
         with Talk(server.port) as talk:
             talk.ask(f"{what}: a search", QUESTION, Reply(200, search_text(sorted(self.found()))))
@@ -113,7 +113,7 @@ class Killed:
         stand = self.store.blobs()
         return [node for node, claim in self.nodes.items() if node in stand and claim in stand]
 
-    # What stands after a kill
+    # The state after a kill
 
     def settle(self, what, requests):
         before = self.store.packs
@@ -132,7 +132,7 @@ class Killed:
         self.endings["answered"] += sum(one.is_answered for one in requests)
 
     def keeps(self, what, before):
-        """What stood stands, and only the pack to which the next record went, and a new one, may have grown."""
+        """Earlier blobs are kept, and only the pack to which the next record went, and a new one, may have grown."""
         packs = self.store.packs
         growing = reference.pack_for_the_next_record(before)
         compare(what, "packs", {*before, growing}, {*packs, growing})
@@ -144,7 +144,7 @@ class Killed:
         self.store.reads(f"{what}: salvage", "salvage", out=reference.salvage_text(packs))
 
     def ask(self):
-        """A last server serves all of it, and so do the commands behind it."""
+        """A last server serves all of it, and so do the commands after it."""
         random = chance("asked", self.number)
         self.last = sorted(self.acknowledged)
         with Server(self.program, self.store.path) as server:
@@ -154,7 +154,7 @@ class Killed:
 
 
 def kills(program):
-    """Kills shared out among a few stores; each store is a check."""
+    """Kills distributed over a few stores; each store is a check."""
     return [lambda number=number: one_store(program, number) for number in range(STORES)]
 
 

@@ -1,9 +1,9 @@
-"""Eight clients that upload and search at once, each over a connection of its own, and every reply is looked at.
+"""Eight clients that upload and search at once, each over a connection of its own. Every reply is checked.
 
-Each client tags permanodes with a value of its own, so it knows the whole answer to a search for it: what it has
-uploaded by then. All of them tag some with a value that they share: the answer to that has all that was acknowledged to
-anybody before it was asked, and what any answer to it had before, and nothing that nobody sent. By its ref everybody
-finds what was acknowledged to anybody.
+Each client tags permanodes with a value of its own, and therefore knows the whole answer to a search for it: what it
+has uploaded by then. All of them tag some with a common value. The answer to that has all permanodes that were
+acknowledged to any client before the request and those of earlier answers, and none that nobody sent. Every client
+finds by its ref each blob that was acknowledged to any.
 
 LOAD_SECONDS is another time than a minute.
 """
@@ -30,12 +30,12 @@ CLIENTS = 8
 SECONDS = float(os.environ.get("LOAD_SECONDS") or 60)
 OWN, COMMON, COMMON_VALUE = "tag", "common", "all"
 LIMIT = 1_000_000
-# Half of what is sent has its older name.
+# Half of the blobs that are sent have their older names.
 NAMES = writing.Names(chance("names of what is sent"))
 # No ref is greater.
 BEHIND_ALL = "sha224-g"
 SIGNER = NAMES(writing.key_blob())
-# So many blobs are asked for by the commands, once the server has ended.
+# So many blobs are read by the commands, once the server has ended.
 ASKED = 12
 
 
@@ -47,7 +47,7 @@ def question(attribute, value):
 # What is known
 
 class Known:
-    """What all clients have sent, and what was acknowledged to them."""
+    """The blobs that all clients have sent, and those that were acknowledged to them."""
 
     def __init__(self):
         self.lock = threading.Lock()
@@ -66,7 +66,7 @@ class Known:
             self.common.update(common)
 
     def now(self):
-        """What is acknowledged by now: the blobs, and those that have the common value."""
+        """The acknowledged blobs by now, and those that have the common value."""
         with self.lock:
             return dict(self.acknowledged), set(self.common)
 
@@ -106,7 +106,7 @@ class Client:
         self.talk.ask(f"{self.what}: {what}", request, reply)
 
     def answer(self, what, request, spelled):
-        """The value of a reply that isn't known before; `spelled` gives the text of such a value."""
+        """The value of a reply that isn't known before; `spelled` returns the text of such a value."""
         self.requests += 1
         code, body = self.talk.answer(f"{self.what}: {what}", request, JSON)
         compare(f"{self.what}: {what}", "code", 200, code)
@@ -160,7 +160,7 @@ class Client:
         self.own()
 
     def delete(self):
-        """A permanode that only this client has tagged goes."""
+        """A permanode that only this client has tagged is deleted."""
         if self.may_go:
             node = self.may_go.pop(self.random.randrange(len(self.may_go)))
             self.upload("a deletion", [writing.delete(NAMES(node), self.date(), SIGNER)])
@@ -172,10 +172,10 @@ class Client:
         self.upload("plain blobs", [self.random.randbytes(16 + size) for size in sizes])
 
     def again(self):
-        """What somebody has uploaded before."""
+        """Blobs that some client has uploaded before."""
         self.upload("once more", [self.known.sent[ref] for ref in dict.fromkeys(self.known.some(self.random, 3))])
 
-    # Questions
+    # Requests
 
     def own(self):
         self.ask("its own search", question(OWN, self.value), Reply(200, search_text(sorted(self.holders))))
@@ -201,7 +201,7 @@ class Client:
         self.ask("stat", post(STAT, stat_pairs(*refs)), Reply(200, json_text(told)))
 
     def page(self):
-        """A page has all that was acknowledged between its ends, and nothing that nobody sent."""
+        """A page has all acknowledged blobs between its ends, and none that nobody sent."""
         least, _ = self.known.now()
         after = NAMES(self.random.randbytes(20)) if self.random.random() < 0.9 else "sha1-" + "0" * 40
         limit = self.random.choice((1, 10, 100, 1_000))
@@ -251,7 +251,7 @@ def all_at_once(program):
 
 
 def stands_afterwards(store, known, all_of_them):
-    """The packs, and what the commands tell, are what was acknowledged."""
+    """The packs, and the output of the commands, have the acknowledged blobs."""
     store.packs = reference.packs_of(store.files())
     compare("eight clients", "the blobs in the packs", known.acknowledged, store.blobs())
     listing = reference.listing(known.sent, limit=len(known.sent))

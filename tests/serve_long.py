@@ -1,8 +1,8 @@
 """A query that takes long on one connection of a running server, and short requests on another one beside it.
 
-docs/server.md, "What is behind a lock": GETs, uploads and searches that have nothing to settle are answered
-while the long query is evaluated. A search for what was uploaded meanwhile may wait for it, and finds it. The long query's
-answer is that of the blobs before it.
+docs/server.md, "What is behind a lock": GETs, uploads and searches that have nothing to settle are answered while the
+long query is evaluated. A search for a later upload may wait for it, and finds the blob. The long query's answer is
+that of the blobs before it.
 
 LONG_PARTS is another number of the parts of the long query than 256.
 """
@@ -22,10 +22,10 @@ from serving import Server, Talk, blob_reply, compare_texts, stored
 from stores import Store
 
 PARTS = int(os.environ.get("LONG_PARTS") or 256)
-# So many permanodes stand in a ring, each with so many before and behind it as its members.
+# So many permanodes form a ring, each with so many before and after it as its members.
 RING, REACH = 400, 5
 LIMIT = 1_000_000
-# How long the long query is left to begin.
+# How long the long query is given to begin.
 SECONDS_TO_BEGIN = 0.5
 # So often each short request is made.
 ROUNDS = 5
@@ -42,7 +42,7 @@ def ring():
 
 
 def either(tests):
-    """A constraint that holds where one of the tests does, as a tree that is nowhere deep."""
+    """A constraint that holds if one of the tests does, as a tree that isn't deep."""
     if len(tests) == 1:
         return tests[0]
     half = len(tests) // 2
@@ -54,7 +54,7 @@ def has_member(prefix):
 
 
 def long_query(ref, parts):
-    """Its parts hold of no permanode, so each is asked of all of them; one more holds of the ref's."""
+    """Its parts hold for no permanode, so that each is tried on all of them; one more holds for that of the ref."""
     return either([has_member(f"sha224-x{number}") for number in range(parts)] + [{"blobRefPrefix": ref}])
 
 

@@ -1,9 +1,9 @@
-"""Random sessions of http_random.py as several clients have them: they ask in turn, each over a connection of its own,
-a server that is stopped now and then and started anew over the same store.
+"""Random sessions of http_random.py, distributed over several clients: they take turns, each over a connection of its
+own to a server that is stopped from time to time and started again over the same store.
 
-One request is under way at a time, so each reply is known before. Whatever was acknowledged to one client, all of them
-find, also behind a stop. What else is in the packs then counts too: blobs that a command put while no server ran, and
-records of which nobody was told.
+One request is under way at a time, so that each reply is known before. All clients find whatever was acknowledged to
+one, also after a stop. Other records in the packs then count too: blobs that a command put while no server ran, and
+records that were acknowledged to nobody.
 """
 
 import http_random
@@ -35,7 +35,7 @@ def sessions_of(program, number):
 
 
 def one_server(what, store, made, random):
-    """Answers how many searches found something."""
+    """Returns how many searches found something."""
     one = Foretold(store, KEYS, f"--workers={CLIENTS}", f"--indexers={random.choice((1, 2, 8, 64))}")
     talks, found = [Talk(one.port) for _ in range(CLIENTS)], 0
     for _ in range(REQUESTS):
@@ -59,14 +59,14 @@ def ask(what, one, talk, request):
     return replies
 
 
-# What a stop leaves
+# The state after a stop
 
 def leave(what, store, blob, name_of):
-    """What was acknowledged, and nothing else."""
+    """The acknowledged blobs, and nothing else."""
 
 
 def leave_record(what, store, blob, name_of):
-    """A record behind the others, which may be of a blob that stands."""
+    """A record after the others, which may be of a blob that is there."""
     number = max(store.packs)
     store.packs[number] += writing.record(blob, name_of)
     (store.path / pack_name(number)).write_bytes(store.packs[number])

@@ -1,4 +1,4 @@
-"""Clients that stop and stay, that say little, and those that don't read: others are served meanwhile, and their
+"""Clients that stop and stay, that send little, and those that don't read: others are served meanwhile, and their
 connections are ended after ten seconds, or after a minute. And the lock of the folder, for which another writer waits.
 """
 
@@ -19,8 +19,8 @@ from serving import ABC_REPLY, FIRST_HEAD, IDLE, PORTS, SECONDS_OF_WAITING, SOON
 from serving import blob_reply, compare_texts, connect, store_of, stored
 from writers import Locked
 
-# When a connection is ended that has to be ended after so many seconds: so many earlier at the least, and so many later
-# at the most.
+# When a connection is ended that has to be ended after so many seconds: at most so many earlier, and at most so many
+# later.
 EARLIER, LATER = 5, 15
 GREATEST = bytes(LARGEST_BLOB)
 # A client whose connection is over is read for a second. What it sends meanwhile comes after so many seconds each.
@@ -30,7 +30,7 @@ LITTLE_BY_LITTLE, A_MOMENT = 0.02, 5
 # Clients that stay
 
 LARGE = b"0123456789abcdef" * 65_536
-# A front of a request, behind which a client stops.
+# A prefix of a request, after which a client stops.
 FRONTS = {
     "nothing": b"",
     "empty lines": b"\r\n\r\n",
@@ -39,7 +39,7 @@ FRONTS = {
     "part of a chunk": http_inputs.post_pieces(STAT, [stat_pairs(ABC)])[:-20],
     "part of an upload": post(UPLOAD, form(blob_part(b"kept"), blob_part(LARGE)), FORM)[:700_000],
 }
-# Those of them that have no whole head.
+# Those of them that don't have a whole head.
 HEADLESS = ("nothing", "empty lines", "part of a head")
 
 
@@ -87,7 +87,7 @@ def others_beside_an_unread_reply(program):
         held = [held_by(server, get(blob_target(ref_of(GREATEST))) * 3) for _ in range(7)]
         time.sleep(0.5)
         others("replies that nobody reads", server, [b"new", LARGE])
-        # Whoever reads at last gets all of it.
+        # A client that reads at last gets all of it.
         told = blob_reply(GREATEST).text()
         held[0].settimeout(harness.SECONDS)
         with held[0].makefile("rb") as file:
@@ -106,7 +106,8 @@ def others_beside_all_kinds(program):
 
 
 def talks_on(program):
-    """A client that goes on sending behind the end of its connection keeps the worker for little more than a second."""
+    """A client that continues to send after the end of its connection keeps the worker for little more than a
+    second."""
     with Server(program, store_of(program, b"abc").path, "--workers=1") as server:
         with Talk(server.port) as one, Talk(server.port) as other:
             one.ask("the last request", get(blob_target(ABC), "Connection: close"), ABC_REPLY._replace(closes=True))
@@ -120,7 +121,7 @@ def talks_on(program):
 
 
 def talks_on_at_length(program):
-    """So does one that sends 16 KiB every few milliseconds, as much as is read at once."""
+    """So does one that sends 16 KiB every few milliseconds, which is as much as is read at once."""
     what = "a client that goes on sending at length"
     with Server(program, store_of(program, b"abc").path, "--workers=1") as server:
         with Talk(server.port) as one, Talk(server.port) as other:
@@ -136,7 +137,7 @@ def talks_on_at_length(program):
         check(f"{what} kept the worker for {seconds:.1f} seconds", seconds < A_MOMENT)
 
 
-# Clients that stay until they are ended, and locks that do
+# Clients that stay until they are ended, and locks
 
 def minutes(program):
     """A connection on which too little comes, or too little is read, is ended."""
@@ -147,7 +148,7 @@ def minutes(program):
 
 
 def ends_idle(what, server, start, idle=IDLE):
-    """The server, whose only connection this was, ends since the connection is ended; about so many seconds after."""
+    """The server, whose only connection this was, ends because the connection is ended, after about so many seconds."""
     server.ends(what, seconds=2 * (idle + LATER))
     seconds = time.monotonic() - start
     check(f"{what}: it was ended after {seconds:.1f} seconds", idle - EARLIER <= seconds <= idle + LATER)
@@ -178,7 +179,7 @@ def silent_after_requests(program):
 
 
 def slow_to_send(program):
-    """A client that goes on after a pause is answered, as long as its pauses within a request are a minute in all."""
+    """A client that continues after a pause is answered, as long as its pauses within a request are a minute in all."""
     what, stream = "a byte now and then", get(blob_target(ABC))
     with Server(program, store_of(program, b"abc").path, "--connections=1") as server, Talk(server.port) as talk:
         talk.ask(what, stream, ABC_REPLY)
@@ -189,7 +190,7 @@ def slow_to_send(program):
 
 
 def small_things(program):
-    """A client that asks a small thing now and then stays."""
+    """A client that sends a small request now and then stays."""
     what = "a small request now and then"
     with Server(program, store_of(program, b"abc").path, "--connections=1") as server, Talk(server.port) as talk:
         for _ in range(5):
@@ -205,19 +206,20 @@ def eight_slow_heads(program):
 
 
 def eight_slow_bodies(program):
-    """The same of bodies, for a minute."""
+    """The same for bodies, for a minute."""
     front = post(UPLOAD, form(blob_part(LARGE)), FORM)[:500]
     eight_beside_one(program, "slow bodies", front, lambda wire, _: wire.send(b"x"), IDLE)
 
 
 def eight_slow_readers(program):
-    """The same of clients that read eight bytes a second."""
+    """The same for clients that read eight bytes per second."""
     asked = get(blob_target(ref_of(GREATEST))) * 3
     eight_beside_one(program, "slow readers", asked, lambda wire, _: wire.recv(8), IDLE)
 
 
 def eight_beside_one(program, what, front, each_second, seconds, later=LATER):
-    """Eight clients that begin so, and each second do little, and one that asks and is answered soon after they ended."""
+    """Eight clients that begin so, and each second do little, and one whose request is answered soon after they
+    ended."""
     with Server(program, store_of(program, b"abc", GREATEST).path) as server, contextlib.ExitStack() as all_of_them:
         wires = [all_of_them.enter_context(held_by(server, front)) for _ in range(8)]
         time.sleep(0.5)
@@ -237,7 +239,7 @@ def eight_beside_one(program, what, front, each_second, seconds, later=LATER):
 
 
 def unread(program):
-    """What was sent before the connection was ended may come, and no more."""
+    """The bytes that were sent before the connection was ended may come, and no more."""
     what, told = "a reply that nobody reads", blob_reply(GREATEST).text()
     with Server(program, store_of(program, GREATEST).path, "--connections=1") as server:
         start = time.monotonic()
@@ -269,7 +271,7 @@ def slow_to_read(program):
 
 
 def a_locked_folder(program):
-    """A server waits for the lock of its folder for ten seconds, longer where the machine is busy, and then ends."""
+    """A server waits for the lock of its folder for ten seconds, longer if the machine is busy, and then ends."""
     what, store = "a folder that another program writes", store_of(program, b"abc")
     with Locked(store.path):
         start = time.monotonic()
@@ -279,7 +281,7 @@ def a_locked_folder(program):
 
 
 def a_put_beside(program):
-    """A put beside a server ends as the disk's fault, the server goes on, and behind its end the put succeeds."""
+    """A put beside a server ends as the disk's fault, the server continues, and after its end the put succeeds."""
     store = store_of(program, b"abc")
     with Server(program, store.path) as server:
         store.keeps("a put beside a server", store.words("put"), status=7, source=b"new")

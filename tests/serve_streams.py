@@ -1,6 +1,7 @@
-"""The streams of http_inputs.py, http_rows.py and http_random.py, handed to servers, and streams that the client cuts.
+"""The streams of http_inputs.py, http_rows.py and http_random.py, sent to servers, and streams that the client cuts.
 
-A server keeps what it is given, so each stream meets what those before it have left, which connections.py knows.
+A server keeps the blobs that it is given. Each stream therefore meets what those before it have left, which
+connections.py knows.
 """
 
 import contextlib
@@ -42,7 +43,7 @@ INPUTS += [http_rows.request_rows]
 
 
 def of_inputs(group):
-    """A group of http_inputs.py, each stream handed over whole, to one server for each of its stores."""
+    """A group of http_inputs.py, each stream sent whole, to one server for each of its stores."""
 
     def checks(program):
         named = functools.cache(lambda name: shelf(program, http_inputs.STORES[name]))
@@ -72,7 +73,7 @@ def alone(program, case):
 
 
 def random_streams(program):
-    """Random streams to random stores, in pieces that come apart."""
+    """Random streams to random stores, in pieces that are sent separately."""
     return [lambda number=number: random_store(program, number) for number in range(STORES)]
 
 
@@ -124,7 +125,7 @@ def cut_streams(program):
 
 
 def cut_at_random(program, number):
-    """One worker serves them, so what a stream has left stands when the next one is answered."""
+    """One worker serves them, so that the result of a stream is there when the next one is answered."""
     made = http_random.RandomConnection(number)
     one = shelf(program, made.pack, "--workers=1")
     for place in range(CUTS // STORES):
@@ -140,8 +141,8 @@ def cut_at_random(program, number):
 
 
 def broken_off(what, one, stream, is_reset):
-    """A client sends a stream, and closes without reading a reply. What is put then is a front of what is put where it
-    reads."""
+    """A client sends a stream, and closes without reading a reply. The blobs that are then put are a prefix of those
+    that are put if it reads."""
     before = dict(one.blobs)
     connection, _ = one.follow(stream)
     new = [ref for ref in connection.blobs if ref not in before]
@@ -157,7 +158,7 @@ def broken_off(what, one, stream, is_reset):
 
 
 def standing(what, one, refs):
-    """Those of some refs that stand."""
+    """Those of some refs that are there."""
     request = post(STAT, http_inputs.stat_pairs(*refs))
     with Talk(one.port) as talk:
         _, body = talk.answer(what, request, JSON)

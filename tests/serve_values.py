@@ -1,9 +1,8 @@
 """One client adds many values to one permanode of a running server, while another one searches for them.
 
-A search finds the permanode by each value that was acknowledged before it was asked, and by none that wasn't sent
-before its answer came. None takes over five seconds more than the longest upload did, which has a disk to wait for.
-Then the store is opened by a new server, which takes little more of a processor for it than one over as many values on
-as many permanodes.
+A search finds the permanode by each value that was acknowledged before the request, and by none that wasn't sent before
+its reply came. None takes over five seconds more than the longest upload, which has to wait for a disk. Then the store
+is opened by a new server. Its processor time is little more than over as many values on as many permanodes.
 
 LOAD_VALUES is another number of values than 20,000.
 """
@@ -29,7 +28,7 @@ IN_A_REQUEST = 200
 ATTRIBUTE = "tag"
 SECONDS_OF_A_SEARCH = 5
 MOST_OF_A_START = 1.5
-# How often each start is taken, the two in turn; the least counts.
+# How often each start is measured, the two in turn; the least counts.
 STARTS = 3
 TICKS_A_SECOND = os.sysconf("SC_CLK_TCK")
 
@@ -39,7 +38,7 @@ def value(number):
 
 
 def added(node, number):
-    """A claim that adds a value to a permanode. Each is dated a second behind the one before."""
+    """A claim that adds a value to a permanode. Each is dated a second after the one before."""
     date = date_text(writing.FIRST_MOMENT + number * 10**9)
     return writing.claim("add", ref_of(node), ATTRIBUTE, value(number), date)
 
@@ -50,7 +49,7 @@ def search(number):
 
 
 class Progress:
-    """How many of the values were sent, and how many acknowledged, and what the longest upload took."""
+    """How many of the values were sent, and how many acknowledged, and the time of the longest upload."""
 
     def __init__(self):
         self.sent = self.acknowledged = 0
@@ -73,7 +72,7 @@ def add_all(port, blobs, progress):
 
 
 def search_all_along(port, node, progress):
-    """Answers how many searches were made, and what the longest one took."""
+    """Returns how many searches were made, and the time of the longest one."""
     random, count, longest = chance("searches beside added values"), 0, 0.0
     with Talk(port) as talk:
         while not progress.is_over.is_set() or count == 0:
@@ -90,7 +89,7 @@ def search_all_along(port, node, progress):
 
 
 def answers(node, number, was_acknowledged, progress):
-    """What may be answered to a search for a value."""
+    """The possible answers to a search for a value."""
     found, nothing = search_text([ref_of(node)]), search_text([])
     if was_acknowledged:
         return [found]

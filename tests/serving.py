@@ -1,4 +1,4 @@
-"""Servers of the program, and connections to them byte by byte: what the tests of `serve` share.
+"""Servers of the program, and connections to them byte by byte: shared by the tests of `serve`.
 
 A server is started at a free port of 127.0.0.1, and is waited for without a connection, which would count as one that
 it serves. Replies are compared with those of connections.py, to the byte.
@@ -25,19 +25,19 @@ from writing import pack
 
 HOST = "127.0.0.1"
 SECONDS_TO_START = 30
-# A port is free when it is looked for, and may be taken by another program before the server takes it.
+# A port is free when it is looked up, and may be taken by another program before the server takes it.
 TRIES = 3
-# What a server does at once takes less, also where a disk stands still for some seconds.
+# What a server does at once takes less than this, even if a disk stops for some seconds.
 SOON = 30
 # docs/commands.md, "Exit statuses"
 TAKEN = 14
-# docs/server.md, "Connections": after so many seconds a connection is ended whose first head hasn't come, and one on which
-# nothing came or nothing was read.
+# docs/server.md, "Connections": after so many seconds a connection is ended whose first head hasn't come, and one on
+# which nothing came or nothing was read.
 FIRST_HEAD, IDLE = 10, 60
 # docs/store.md, "One writer"
 SECONDS_OF_WAITING = 10
 PIECE = 65_536
-# So many bytes are shown before the first that differs.
+# So many bytes before the first that differs are shown.
 SHOWN_BEFORE = 60
 
 
@@ -84,7 +84,7 @@ def kill_all():
 
 
 def kill_with_children(process):
-    """Kills a server. A tracer in front of it would leave it alone."""
+    """Kills a server. Killing only a tracer in front of it would leave it running."""
     for child in children_of(process.pid):
         os.kill(child, signal.SIGKILL)
     process.kill()
@@ -110,7 +110,7 @@ class Server:
         return process
 
     def comes(self):
-        """Waits until the server listens; answers whether it does, which it may not where its port was taken."""
+        """Waits until the server listens; returns whether it does. It may not, if its port was taken."""
         until = time.monotonic() + SECONDS_TO_START
         while not is_listened_to(self.port):
             if self.process.poll() == TAKEN:
@@ -130,7 +130,7 @@ class Server:
         self.kill()
 
     def kill(self):
-        """Kills the server, where it wasn't waited for. It has to have run until then, and to have written nothing."""
+        """Kills the server, if it wasn't waited for. It has to have run until then, and to have written nothing."""
         if self.process.returncode is None:
             kill_with_children(self.process)
             out, err = self.process.communicate()
@@ -145,7 +145,7 @@ class Server:
 
 
 class ShareServer(Server):
-    """A server of what a folder's store shares."""
+    """A server of the shares of a folder's store."""
 
     COMMAND = "serve-shares"
 
@@ -167,7 +167,7 @@ def connect(port, seconds=harness.SECONDS):
 
 
 class Exchange:
-    """Sends pieces of a stream on a connection of its own, says that no more comes, and reads to the end."""
+    """Sends pieces of a stream on a connection of its own, ends its sending, and reads to the end."""
 
     def __init__(self, port, pieces, pause=0):
         self.pieces, self.pause = [piece for piece in pieces if piece], pause
@@ -204,7 +204,7 @@ class Exchange:
         try:
             sent = self.wire.send(self.pieces[0])
         except (BrokenPipeError, ConnectionResetError):
-            # The server takes no more: what it has answered can still be read.
+            # The server accepts no more: its replies can still be read.
             self.pieces, self.was_reset = [], True
             return
         self.pieces[0] = self.pieces[0][sent:]
@@ -222,11 +222,11 @@ class Exchange:
 
 
 class Ended(Difference):
-    """A connection ends before a reply has come whole."""
+    """A connection ends before a whole reply has come."""
 
 
 class Talk:
-    """A connection on which a request is sent once the reply to the one before has come."""
+    """A connection on which a request is sent after the reply to the one before has come."""
 
     def __init__(self, port):
         self.wire = connect(port)
@@ -250,7 +250,7 @@ class Talk:
         compare_texts(what, reply.text(), self.read_text(what))
 
     def answer(self, what, request, kind):
-        """Sends a request; answers the code and the body of the reply, which has to be written as one."""
+        """Sends a request; returns the code and the body of the reply, which has to be written as one."""
         self.send(request)
         text = self.read_text(what)
         code, body = int(text[9:12]), text.partition(b"\r\n\r\n")[2]
@@ -288,7 +288,7 @@ class Talk:
 
 
 def compare_texts(what, expected, got):
-    """Compares from the first byte on that differs."""
+    """Compares from the first byte that differs."""
     if expected != got:
         pairs = enumerate(zip(expected, got))
         same = next((place for place, (one, other) in pairs if one != other), min(len(expected), len(got)))
@@ -315,10 +315,10 @@ def stored(*blobs, name_of=ref_of):
 ABC_REPLY = blob_reply(b"abc")
 
 
-# Servers whose replies are foretold
+# Servers whose replies are known before
 
 class Foretold:
-    """A server over a store, and what stands in it by what was answered: so each reply is known before."""
+    """A server over a store, and the content of the store by the replies, so that each reply is known before."""
 
     def __init__(self, store, keys, *words):
         self.store, self.keys = store, keys
@@ -328,7 +328,7 @@ class Foretold:
         self.port = self.server.port
 
     def replies(self, stream):
-        """The replies that a stream has to get. They count as given."""
+        """The replies that a stream has to get. They count as sent."""
         return self.follow(stream)[1]
 
     def follow(self, stream):
@@ -341,18 +341,18 @@ class Foretold:
         return b"".join(reply.text() for reply in self.replies(stream))
 
     def answers(self, what, stream, pieces=None, pause=0):
-        """Sends a stream whole, or in pieces, and compares every byte of the replies; answers these."""
+        """Sends a stream whole, or in pieces, and compares every byte of the replies; returns these."""
         connection, replies = self.follow(stream)
         told = b"".join(reply.text() for reply in replies)
         done = Exchange(self.port, [stream] if pieces is None else pieces, pause)
         compare_texts(what, told, done.bytes())
-        # A connection may break where the server doesn't read it to its end, and else it mustn't.
+        # A connection may break if the server doesn't read it to its end, and otherwise it mustn't.
         is_read = heard(stream) == stream and (not (replies and replies[-1].closes) or connection.at == len(stream))
         compare(what, "whether the connection broke", False, done.was_reset and is_read)
         return told
 
     def ends(self, what):
-        """Kills the server; the packs have to be clean, and to hold what stands, and nothing else."""
+        """Kills the server; the packs have to be clean, and to have exactly the expected blobs."""
         self.server.kill()
         self.store.packs = reference.packs_of(self.store.files())
         broken = [place for _, place in map(reference.salvage, self.store.packs.values()) if place is not None]

@@ -1,4 +1,4 @@
-"""What a server of shares answers, worked out a second time.
+"""The replies of a server of shares, computed a second time.
 
 Everything here is written from docs/shares.md and docs/http.md alone, to be read beside them. Heads, bodies and replies
 are those of connections.py, facts and deletions those of reference.py.
@@ -25,7 +25,7 @@ TEXTS = {"camliType": "claim", "claimType": "share", "authType": "haveref"}
 
 
 def share_of(blob):
-    """The share that a blob is; None where it is none."""
+    """The share in a blob; None if it is none."""
     whole = object_of(blob) if len(blob) <= LARGEST_SCHEMA_BLOB else None
     if whole is None or not is_version_1(whole) or whole.get("camliType") != "claim":
         return None
@@ -58,7 +58,7 @@ class Denied(Exception):
 
 
 class Shares:
-    """A store and a keyring, of which shares are served."""
+    """A store and a keyring, whose shares are served."""
 
     def __init__(self, blobs, keys):
         self.blobs, self.keys = blobs, keys
@@ -76,7 +76,7 @@ class Shares:
 
     # docs/shares.md, "What is answered to a path"
     def served(self, path):
-        """The blob at the end of a path, or None where it isn't there; `Denied` where the path is."""
+        """The blob at the end of a path, or None if it isn't there; `Denied` if the path is."""
         share = self.shares.get(path[0])
         if share is None:
             raise Denied("no share")
@@ -96,7 +96,7 @@ class Shares:
 
 
 def ref_of_path(path) -> Optional[str]:
-    """The ref of a path that names a shared blob; None where it names none."""
+    """The ref of a path that names a shared blob; None if it names none."""
     ref = path.removeprefix(SHARE).decode("latin-1")
     return ref if path.startswith(SHARE) and is_ref(ref) else None
 

@@ -1,9 +1,8 @@
 """Runs the commands over a store of packs in real folders, and compares outputs, exit statuses and all bytes on the
 disk.
 
-Here are the worked rows, puts of many blobs, listings and searches; store_refusals.py has what is refused,
-store_packs.py what packs may look like, and older.py stores as older ones are. What is compared, and with what, is said
-in stores.py.
+Here are the worked rows, puts of many blobs, listings and searches. store_refusals.py has the refusals, store_packs.py
+the forms of packs, and older.py older stores. stores.py says what is compared, and with what.
 """
 
 import itertools
@@ -102,7 +101,7 @@ def longest_blob(program):
 
 
 def refuses_early(store):
-    """A source that is far too long isn't read on; what the program doesn't read may stand in the pipe."""
+    """A source that is far too long isn't read to its end; the rest may stay in the pipe."""
     piece, what = bytes(1 << 20), "a source without end"
     streams = {"stdin": subprocess.PIPE, "stdout": subprocess.PIPE, "bufsize": 0}
     process = store.program.start(store.words("put"), store.program.working, **streams)
@@ -147,7 +146,7 @@ def puts(program):
 
 
 def many_puts(program, number):
-    """Puts blobs of all sizes, some of them again, into a store that isn't there at first, or that holds some of them
+    """Puts blobs of all sizes, some of them again, into a store that isn't there at first, or that has some of them
     already, half of these under their older names; and reads some of them."""
     random, what = chance("puts", number), f"store {number}"
     blobs, names = [], Names(random)
@@ -309,7 +308,7 @@ def check_found(store, at, is_found):
 
 
 def check_form(store, options):
-    """A search whose folder stands behind its options, between them and in front of them."""
+    """A search whose folder comes after its options, between them and before them."""
     out = reference.search_text(inputs.FOUND) + b"\n"
     folder = str(store.path)
     for words in ([*options, folder], [folder, *options], [*options, "--", folder]):
@@ -317,8 +316,8 @@ def check_form(store, options):
 
 
 def other_keyrings(program):
-    """Values that begin with a hyphen or are empty, an attribute with an equals sign, and keyrings that are another
-    one or missing."""
+    """Values that begin with a hyphen or are empty, an attribute with an equals sign, and keyrings that are different
+    or missing."""
     for value in ("-a", "", "--", "a=b", "\u00e4"):
         source, found = inputs.pack_with_value("tag", value)
         store = Store(program, {0: source}, {"keyring": inputs.KEYRING})
@@ -367,7 +366,8 @@ def random_searches(program, number):
 
 GROUPS = [rows, older, words, texts, keyrings, folders, listings, torn, flipped, damaged, batches, numbers, puts, large_blobs]
 GROUPS += [searches]
-# These run code between fork and exec, stop the program, or look at the clock, so nothing else runs beside them.
+# These run code between fork and exec, stop the program, or look at the clock, so that nothing else runs at the same
+# time.
 ONE_AT_A_TIME = [streams, file_limits, memory_limits, removed, rights, special_files, modes]
 
 

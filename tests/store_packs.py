@@ -1,6 +1,7 @@
-"""Packs on the disk: which one a put goes to, packs that are torn or damaged, files that can't grow, and little memory.
+"""Packs on the disk: the one to which a put goes, packs that are torn or damaged, files that can't grow, and little
+memory.
 
-Each group is a function of the program, and answers its checks.
+Each group is a function of the program, and returns its checks.
 """
 
 import collections
@@ -22,7 +23,7 @@ from writing import deleted_record, header, pack, record
 # Numbers and lengths of packs
 
 def numbers(program):
-    """Into which pack a put goes."""
+    """The pack to which a put goes."""
     cases = [
         ({}, 0),
         ({0: b""}, 0),
@@ -62,7 +63,7 @@ def goes_to(program, packs, number):
 
 
 def no_number_left(program):
-    """A store that needs a pack behind the last number is full; a blob that stands can be put all the same."""
+    """A store that needs a pack after the last number is full; a blob that is there can still be put."""
     store = Store(program, {0: pack(b"abc"), 99_999: pack(b"last") + b"x"})
     store.keeps("no number left", store.words("put"), status=9, source=b"new")
     store.put("a blob that stands, no number left", b"abc")
@@ -102,7 +103,7 @@ def salvage_of_full_pack(length, number):
     return f"{between}{pack_name(number)} {at} {ABC} 3\n{pack_name(number)} clean\n".encode()
 
 
-# Records behind one another, whose blobs are hashed several at a time
+# Consecutive records, whose blobs are hashed several at a time
 
 # How many records of which lengths: the blobs of at most 64 headers are hashed together, and at most 8 MiB of them.
 BATCHES = {
@@ -138,7 +139,7 @@ def torn_at(chances, records, at):
 
 
 def with_front(make):
-    """Some bytes more in front of a record."""
+    """Some more bytes before a record."""
     def change(chances, records, at):
         records[at] = make(chances, records, at) + record(records[at])
         return True
@@ -186,8 +187,8 @@ DAMAGES = {
 
 
 def batches(program):
-    """Records of several lengths behind one another, with damage before, within and behind those that are looked at
-    together: a pack for each place of the damage, and packs with several."""
+    """Consecutive records of several lengths, with damage before, within and after those that are read together: a pack
+    for each place of the damage, and packs with several."""
     return [
         lambda kind=kind, damage=damage: damaged_batch(program, kind, damage)
         for kind, damage in itertools.product(BATCHES, DAMAGES)
@@ -217,7 +218,7 @@ def random_batch(program, kind, turn):
 
 
 def batch(blobs, damages, chances):
-    """A pack of these blobs, where some are damaged. Each damage has the blobs behind it as they are."""
+    """A pack of these blobs, some of which are damaged. Each damage has the undamaged blobs after it."""
     parts = []
     for at, blob in enumerate(blobs):
         records = [blob] + blobs[at + 1 :]
@@ -229,8 +230,7 @@ def batch(blobs, damages, chances):
 # Files that can't grow
 
 def file_limits(program):
-    """Puts under a limit of the length of files, as on a disk that is full: with the signal of the limit ignored, and
-    not."""
+    """Puts under a limit of the length of files, as on a full disk: with the signal of the limit ignored, and not."""
     endings = collections.Counter()
     checks = []
     for handler in (signal.SIG_IGN, signal.SIG_DFL):
@@ -241,7 +241,7 @@ def file_limits(program):
 
 
 def within(program, packs, room, handler, endings):
-    """A put of 400 bytes, whose record has 469, where so many bytes may be written: it fails, or all are."""
+    """A put of 400 bytes, whose record has 469, if so many bytes may be written: it fails, or all are."""
     store, blob = Store(program, packs), bytes(400)
     what = f"room for {room} bytes beside {packs and sorted(packs)}"
     into = reference.pack_for_the_next_record(store.packs)
@@ -269,8 +269,8 @@ SCANT, AMPLE = 12, 256
 
 
 def memory_limits(program):
-    """Commands with so many MiB of memory, about the longest blob, which has 16: they fail where it can't fit, and
-    leave all as it was."""
+    """Commands with so many MiB of memory, over the longest blob, which has 16: they fail if it can't fit, and leave
+    everything unchanged."""
     longest = bytes(reference.LARGEST_BLOB)
     checks = [
         lambda packs=packs, mib=mib: put_within_memory(program, packs, longest, mib)
@@ -306,7 +306,7 @@ def read_within_memory(store, line):
     compare(what, "the folder", before, look(store.path))
 
 
-# Folders that go
+# Folders that are removed
 
 def removed(program):
     """Puts whose folder is removed while they run."""
@@ -318,8 +318,8 @@ def removed(program):
 
 
 def removed_after(program, moment, endings):
-    """The folder goes while a put opens its packs or writes: the disk's fault, or a ref whose blob stands if a folder
-    does."""
+    """The folder is removed while a put opens its packs or writes: the disk's fault, or a ref whose blob is there if a
+    folder is."""
     store = Store(program, {number: pack(bytes([number]) * 1_048_576) for number in range(16)})
     what = f"the folder is removed after {moment:.3f} seconds"
     source = program.new_path()
@@ -340,7 +340,8 @@ def removed_after(program, moment, endings):
 
 
 def after_a_fault(store, what, into):
-    """What stands after a put that may have failed: all that stood, and in one pack a front of a record behind it."""
+    """The state after a put that may have failed: all earlier blobs, and in one pack a prefix of a record after
+    them."""
     packs = reference.packs_of(store.files())
     for number, content in store.packs.items():
         front = packs.get(number, b"")[: len(content)] if number == into else packs.get(number)
@@ -352,7 +353,7 @@ def after_a_fault(store, what, into):
 # Torn and damaged packs
 
 def torn(program):
-    """A pack cut behind each byte, and stores of schema blobs cut here and there."""
+    """A pack cut after each byte, and stores of schema blobs cut at some places."""
     whole = pack(b"abc", b"")
     mixed = pack(b"one") + deleted_record(9) + pack(b"two")
     older = pack(b"abc", b"", name_of=older_ref_of)
@@ -369,7 +370,7 @@ def torn(program):
 
 
 def survives(program, what, packs, blobs, seed):
-    """All that salvage finds is answered, the next put goes where it must, and a torn pack stays as it is."""
+    """All that salvage finds is returned, the next put goes to its proper pack, and a torn pack stays unchanged."""
     store = Store(program, packs)
     store.lists(what)
     store.gets(what, [name_of(blob) for blob in blobs for name_of in (ref_of, older_ref_of)])
@@ -381,7 +382,7 @@ def survives(program, what, packs, blobs, seed):
 
 
 def lists_when_torn(program, content):
-    """Many blobs, and two more that are cut off behind any of their bytes."""
+    """Many blobs, and two more that are cut off after any of their bytes."""
     Store(program, {0: content}).lists(f"many blobs, {len(content)} bytes of them")
 
 
@@ -408,7 +409,7 @@ def flipped(program):
 
 
 def damaged(program):
-    """The damaged packs of the search tests, by turns as the last pack of a store and as one before it."""
+    """The damaged packs of the search tests, in turn as the last pack of a store and as one before it."""
     turns = zip(inputs.damaged_packs(), itertools.cycle(({}, {1: CLEAN})))
     cases = [(what, {0: source, **behind}) for (what, source, _), behind in turns]
     return [lambda case=case: put_beside(program, *case) for case in cases]

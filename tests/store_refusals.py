@@ -1,6 +1,6 @@
-"""What the commands refuse, and what then stands: words, texts, keyrings, streams and folders that can't be used.
+"""The refusals of the commands, and the state then: arguments, texts, keyrings, streams and folders that can't be used.
 
-Each group is a function of the program, and answers its checks.
+Each group is a function of the program, and returns its checks.
 """
 
 import contextlib
@@ -26,7 +26,7 @@ DATE = inputs.day(1)
 # Words, and texts in them
 
 def words(program):
-    """Lines that aren't lines: status 2, whatever the keyring is, and nothing is made."""
+    """Lines that aren't valid: status 2, whatever the keyring is, and nothing is made."""
     store = Store(program, {0: pack(b"abc")}, {"keyring": b"a bad keyring"})
     missing = Store(program)
     checks = []
@@ -118,7 +118,7 @@ def bad_lines(folder, ref):
 
 
 def good_lines(program):
-    """Positions before and behind `--`, and folders whose names begin with a hyphen, or are `--`."""
+    """Positions before and after `--`, and folders whose names begin with a hyphen, or are `--`."""
     inside = program.new_path()
     inside.mkdir()
     program.check("a folder of the name --", ["put", "--", "--"], ABC.encode() + b"\n", source=b"abc", folder=inside)
@@ -146,7 +146,7 @@ BAD_SEARCH_WORDS += ["tag:a\ttag:b:", "tag:" + "a" * 1_021, " ".join(["tag:a"] *
 
 
 def texts(program):
-    """Texts that can't be used: status 4, whatever the disk and the source hold."""
+    """Texts that can't be used: status 4, whatever the disk and the source have."""
     store = Store(program, {0: pack(b"abc", b"")}, {"keyring": inputs.KEYRING})
     file = program.new_path()
     file.write_bytes(b"")
@@ -195,7 +195,7 @@ def keyrings(program):
 
 
 def lost_keyring(program, line):
-    """A link to a keyring that isn't there, as on a drive that isn't mounted, is no empty keyring."""
+    """A link to a keyring that isn't there, as on a drive that isn't mounted, doesn't count as an empty keyring."""
     for target in (program.folder / "nowhere" / "keyring", "keyring", "pack-00000.blobs/keyring"):
         store = Store(program, {0: pack(b"abc")})
         (store.path / "keyring").symlink_to(target)
@@ -206,7 +206,7 @@ def lost_keyring(program, line):
 # Standard input, standard output and standard error
 
 def streams(program):
-    """Streams that are closed, full, or can't be read, or don't wait; what then stands."""
+    """Streams that are closed, full, or can't be read, or don't block; and the state then."""
     checks = (failing_sources, failing_sinks, kept_though_unsaid, closed_errors, which_is_first, late_source, late_sink)
     return [lambda check=check: check(program) for check in checks]
 
@@ -233,7 +233,7 @@ def failing_sinks(program):
 
 
 def kept_though_unsaid(program):
-    """A blob whose ref can't be printed is kept, and no text strays into a pack."""
+    """A blob whose ref can't be printed is kept, and no text gets into a pack."""
     for packs in (None, {0: pack(b"abc")}, {0: pack(b"abc") + b"["}):
         for what, stream in [("full", {"sink": "/dev/full"}), ("closed", {"closed": 1})]:
             store = Store(program, packs)
@@ -247,7 +247,7 @@ def kept_though_unsaid(program):
 
 
 def closed_errors(program):
-    """Standard error that is closed takes nothing to a pack either."""
+    """Standard error that is closed gets nothing into a pack either."""
     store = Store(program, {0: pack(b"abc")})
     source = program.new_path()
     source.write_bytes(b"kept")
@@ -260,7 +260,7 @@ def closed_errors(program):
 
 
 def which_is_first(program):
-    """Where several things are wrong, the first one is told."""
+    """If several things are wrong, the first one is reported."""
     file = program.new_path()
     file.write_bytes(b"")
     too_long = program.new_path()
@@ -278,12 +278,13 @@ def which_is_first(program):
         with_streams(program, what, line, status, folder=program.working, **stream)
 
 
-# How long a stream without anything to be read, or without room, is left so, and how much of that the processor may take.
+# How long a stream with nothing to read, or without room, is left so, and how much of that the processor may take.
 LATE, SPENT = 1.5, 0.5
 
 
 def late_source(program):
-    """An input that doesn't wait, as another program may have left it, is waited for, and takes no processor meanwhile."""
+    """An input that doesn't block, as another program may have left it, is waited for, and takes no processor
+    meanwhile."""
     store, what, longest = Store(program, {}), "an input that doesn't wait", bytes(range(256)) * 4_096
     theirs, ours = os.pipe()
     os.set_blocking(theirs, False)
@@ -300,7 +301,7 @@ def late_source(program):
 
 
 def late_sink(program):
-    """So is an output without room."""
+    """The same for an output without room."""
     longest, what = bytes(range(256)) * 16_384, "an output that doesn't wait"
     store = Store(program, {0: pack(longest)})
     ours, theirs = os.pipe()
@@ -316,7 +317,7 @@ def late_sink(program):
 
 
 def stands_still(what, process):
-    """The process goes on for a while and takes next to no time of the processor."""
+    """The process runs for a while and takes almost no time of the processor."""
     with contextlib.suppress(subprocess.TimeoutExpired):
         process.wait(LATE)
         raise Difference(f"{what}: it ended with {process.returncode}")
@@ -328,7 +329,7 @@ def stands_still(what, process):
 
 
 def ticks_of(process):
-    """How much of the processor a process has taken: the fields utime and stime of proc(5), behind its name."""
+    """How much of the processor a process has taken: the fields utime and stime of proc(5), after its name."""
     text = pathlib.Path(f"/proc/{process.pid}/stat").read_text()
     return sum(map(int, text.rpartition(")")[2].split()[11:13]))
 
@@ -372,7 +373,7 @@ IGNORED += ["pack-+0001.blobs", f"pack-{5 * chr(0x661)}.blobs"]
 
 
 def other_names(program):
-    """Files and folders of other names are left alone."""
+    """Files and folders with other names aren't touched."""
     others = {name: pack(b"of no pack") for name in IGNORED}
     for packs in ({}, {2: pack(b"abc")}):
         store = Store(program, packs, others)
@@ -428,7 +429,7 @@ def pack_that_is_a_folder(program, number):
     store = Store(program, {1: pack(b"abc")})
     (store.path / pack_name(number)).mkdir()
     for command, line in lines_of(store.path).items():
-        # What stands before it is told by then.
+        # The output before it is written by then.
         told = TOLD_OF_ABC if command == "salvage" and number > 1 else b""
         store.keeps(f"{command}, pack {number} is a folder", line, told, 7, source=b"new")
 
@@ -441,7 +442,7 @@ def in_proc(program):
         program.check("list of /proc", ["list", "/proc"])
 
 
-# Rights
+# Permissions
 
 NOBODY = 65_534
 
@@ -455,7 +456,7 @@ def rights(program):
 
 
 class Nobody(Program):
-    """A copy of the program that runs as another user, where this one is root."""
+    """A copy of the program that runs as another user, if this one is root."""
 
     def __init__(self, program):
         folder = program.new_path()
@@ -500,15 +501,15 @@ def pack_unread(program):
         store.keeps(f"{command}, a pack that can't be read", line, status=7, source=b"new")
 
 
-# Files that are no files, and modes
+# Special files, and modes
 
-# Nothing here waits but for a machine that stands still for a while.
+# Nothing here waits, unless a machine stops for a while.
 SOON = 30
 
 
 def special_files(program):
-    """A pack that is a pipe or a folder is the disk's fault, and a keyring that is one a failed read, and nothing
-    waits for a writer."""
+    """A pack that is a pipe or a folder is the disk's fault, and a keyring that is one a failed read, and nothing waits
+    for a writer."""
     checks = []
     for number in (0, 3):
         store = Store(program, {1: pack(b"abc")})
@@ -536,7 +537,7 @@ def ends_soon(program, what, line, status, out=b"", folder=None):
 
 
 def modes(program):
-    """What a put makes is the owner's alone; what stands keeps its mode."""
+    """Files that a put makes are only the owner's; existing ones keep their modes."""
     return [lambda mask=mask: made_with_modes(program, mask) for mask in (0o022, 0, 0o077)] + [lambda: kept_modes(program)]
 
 

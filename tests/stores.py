@@ -1,8 +1,8 @@
-"""Stores in real folders: runs the program over them, and compares what it prints, how it ends and every byte that
-then stands.
+"""Stores in real folders: runs the program over them, and compares its output, how it ends and every byte that is then
+there.
 
-What has to be printed, and each byte of each pack, is the reference's. The refs that `put` prints are those of the
-tool sha224sum. Each command that only reads must leave the folder as it was, to the times of its files.
+The expected output, and each byte of each pack, is the reference's. The refs that `put` prints are those of the tool
+sha224sum. Each command that only reads must leave the folder unchanged, to the times of its files.
 """
 
 import shutil
@@ -23,10 +23,10 @@ CLEAN, TORN = pack(b"a blob"), pack(b"a blob") + b"[torn"
 
 
 class Store:
-    """A folder of packs, the packs and other files that have to stand in it, and the program."""
+    """A folder of packs, its expected packs and other files, and the program."""
 
     def __init__(self, program, packs=None, others=None):
-        """Makes the folder with packs by their numbers and other files by their names; no folder where both are None."""
+        """Makes the folder with packs by their numbers and other files by their names; no folder if both are None."""
         self.program = program
         self.path = program.new_path()
         self.packs = dict(packs or {})
@@ -62,7 +62,7 @@ class Store:
         self.check_files(what)
 
     def reads(self, what, command, *rest, out=b"", status=0):
-        """Runs a command that only reads, or one that is refused, and finds the folder as it was."""
+        """Runs a command that only reads, or one that is refused, and finds the folder unchanged."""
         self.keeps(what, self.words(command, *rest), out, status)
 
     def keeps(self, what, words, out=b"", status=0, source=b""):
@@ -71,7 +71,7 @@ class Store:
         compare(what, "the folder", before, look(self.path))
 
     def lists(self, what):
-        """Compares what salvage and a whole listing say."""
+        """Compares the output of salvage and of a whole listing."""
         self.reads(f"{what}: salvage", "salvage", out=reference.salvage_text(self.packs))
         self.reads(f"{what}: list", "list", out=reference.listing(self.blobs()))
 
@@ -86,7 +86,7 @@ class Store:
 
 
 def look(path):
-    """What stands at a path and in it, with sizes, times and numbers of files; None where nothing does."""
+    """The content of a path, with sizes, times and numbers of files; None if there is nothing."""
     if not path.exists():
         return None
     entries = sorted(path.rglob("*"))
@@ -105,7 +105,7 @@ def ref_by_tool(blob):
 
 
 def lines_of(folder):
-    """One good line of each command over a folder."""
+    """One valid line of each command over a folder."""
     folder = str(folder)
     return {
         "put": ["put", folder],

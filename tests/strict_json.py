@@ -1,10 +1,10 @@
-"""Reads JSON as docs/formats/schema.md asks, and no other text.
+"""Reads JSON as docs/formats/schema.md says, and no other text.
 
-Python's own json module takes more than that: `NaN`, half a surrogate pair, numbers that no finite float holds, any depth. This
-reader is about as long as the page needs.
+Python's own json module accepts more than that: `NaN`, half a surrogate pair, numbers that no finite float holds, any
+depth. This reader is about as long as the page needs.
 
-Values are str, dict, list, bool, None, int and float. An int is a whole number of the page: digits alone, below 2^64. Every other
-number is a float.
+Values are str, dict, list, bool, None, int and float. An int is a whole number of the page: only digits, below 2^64.
+Every other number is a float.
 """
 
 import math
@@ -27,7 +27,7 @@ class Unread(Exception):
 
 
 def read(octets):
-    """The value of a text of bytes; Unread where it has none."""
+    """The value in a text of bytes; Unread if it has none."""
     try:
         reader = Reader(octets.decode("utf-8"))
     except UnicodeDecodeError:
@@ -48,7 +48,7 @@ class Reader:
         self.at = SPACE.match(self.text, self.at).end()
 
     def next_is(self, mark):
-        """Whether the mark stands next; then it is behind us."""
+        """Whether the mark comes next; if so, it is read."""
         self.skip_space()
         found = self.text.startswith(mark, self.at)
         if found:
@@ -60,7 +60,7 @@ class Reader:
             raise Unread(f"no {mark}")
 
     def value(self, depth):
-        """The value that stands next, inside `depth` arrays and objects."""
+        """The next value, inside `depth` arrays and objects."""
         if self.next_is("{"):
             return self.object(nested(depth))
         if self.next_is("["):
@@ -96,7 +96,7 @@ class Reader:
             self.expect(",")
 
     def string(self):
-        """The rest of a string whose first quote is behind us."""
+        """The rest of a string whose first quote was read."""
         pieces = []
         while True:
             plain = PLAIN.match(self.text, self.at)
@@ -111,7 +111,7 @@ class Reader:
             pieces.append(self.escape())
 
     def escape(self):
-        """The character of an escape whose backslash is behind us."""
+        """The character of an escape whose backslash was read."""
         letter = self.text[self.at : self.at + 1]
         self.at += 1
         if letter != "u":

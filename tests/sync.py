@@ -1,9 +1,9 @@
-"""`push` and `pull`: what one store has and the other lacks, copied to and from real servers, and from a server in
-Python that looks at each request and answers as it is told.
+"""`push` and `pull`: blobs that one store has and the other lacks, copied to and from real servers, and from a server
+in Python that checks each request and replies as the test says.
 
-What has to stand then is worked out from docs/sync.md: behind a run that ends well the store that was copied to holds
-what either had, and behind one that fails what it had and a front, in the order of refs, of what it lacked. The packs of
-a store are compared to the byte.
+The expected state is computed from docs/sync.md: after a run that succeeds the target has all blobs of both, and after
+one that fails what it had and a prefix, in the order of refs, of what it lacked. The packs of a store are compared to
+the byte.
 """
 
 import contextlib
@@ -41,7 +41,7 @@ KILLS = 4
 # Stores and what is copied
 
 class Blobs:
-    """Blobs in the order of a store, and under which refs they stand: half of them under their older names."""
+    """Blobs in the order of a store, and their refs: half of them have their older names."""
 
     def __init__(self, *what):
         self.random, self.name_of = chance(*what), writing.Names(chance("names", *what))
@@ -87,7 +87,7 @@ def at(server):
 
 
 def push(what, source, target, address):
-    """Pushes a store to a server over another; both stores have to be as they then should be."""
+    """Pushes a store to a server over another; both stores have to be as expected then."""
     here, there = source.blobs(), target.blobs()
     source.keeps(f"{what}: push", source.words("push", address), told(here, there))
     target.packs = with_blobs(target.packs, here, lacking(here, there))
@@ -106,8 +106,8 @@ def pull(what, source, target, address):
 # Both ways
 
 def both_ways(program):
-    """Stores of each number of blobs, a page and one less and more among them, that have half of them in common: both
-    ends hold the same, and a second run copies nothing."""
+    """Stores of each number of blobs, including a page and one less and more, that have half of them in common: both
+    ends have the same, and a second run copies nothing."""
     return [lambda count=count: become_equal(program, f"{count} blobs", *overlapping(program, count)) for count in COUNTS]
 
 
@@ -152,7 +152,7 @@ def out_of_torn_packs(program):
 
 
 def names(program):
-    """One blob under both of its names is two, and a blob that only the other one has under this name is lacking."""
+    """One blob under both of its names is two, and a blob that only the other one has under this name is missing."""
     what, blob = "both names", b"a blob of both names"
     both = {0: writing.pack(blob) + writing.pack(blob, name_of=older_ref_of)}
     for packs in ({}, {0: writing.pack(blob)}, {0: writing.pack(blob, name_of=older_ref_of)}, both):
@@ -160,7 +160,7 @@ def names(program):
 
 
 def long_blobs(program):
-    """Blobs of 16 MiB, one of them full of what ends the parts of other uploads."""
+    """Blobs of 16 MiB, one of them full of text that ends the parts of other uploads."""
     return [lambda: longest(program)]
 
 
@@ -175,7 +175,8 @@ def longest(program):
 
 
 def notes(program):
-    """A key, permanodes, claims and a deletion, apart in two stores: a search finds them only once they are together."""
+    """A key, permanodes, claims and a deletion, distributed over two stores: a search finds them only once they are
+    together."""
     return [lambda: found_together(program)]
 
 
@@ -199,7 +200,7 @@ def found_together(program):
 # Ends
 
 def words(program):
-    """Words that are no line, and texts that are."""
+    """Arguments that are no line, and texts that are."""
     folder = str(program.new_path())
     none = [["push"], ["push", folder], ["push", folder, "a", "b"], ["push", "--x=1", folder, "a"], ["push", folder, "-a"]]
     none += [["Push", folder, "a"], ["push", folder, "a", "--limit=1"], ["--", "push", folder, "a"]]
@@ -214,7 +215,7 @@ def words(program):
 
 
 def nowhere(program):
-    """Addresses at which no one is, and texts that are none, also where there is nothing to copy."""
+    """Addresses at which no one is, and texts that aren't addresses, even if there is nothing to copy."""
     port = PORTS.free()
     some = [f"{HOST}:{port}", f"localhost:{port}", f"[::1]:{port}", "", ":", f":{port}", HOST, f"{HOST}:", f"{HOST}:0"]
     some += [f"{HOST}:65536", f"{HOST}:-1", f"{HOST}:http", f" {HOST}:{port}", f"http://{HOST}:{port}", "a b:1", "\u00e9:1"]
@@ -242,7 +243,7 @@ def reached(program):
 
 
 def before_the_peer(program):
-    """What is wrong before the peer is asked is told, and no connection made."""
+    """A fault before the peer's first request is reported, and no connection is made."""
     file = program.new_path()
     file.write_bytes(b"")
     bad_keyring = Store(program, {0: writing.pack(b"abc")}, {"keyring": b"jefe\n"})
@@ -261,7 +262,7 @@ def before_the_peer(program):
 
 
 def a_locked_folder(program):
-    """A pull waits for the lock of its folder, and then fails; a push asks for none."""
+    """A pull waits for the lock of its folder, and then fails; a push needs none."""
     def locked():
         what, blobs = "a folder that another program holds", Blobs("a locked folder")
         here, there = blobs.store(program, blobs.some(4)), blobs.store(program, [])
@@ -273,7 +274,7 @@ def a_locked_folder(program):
 
 
 def no_room(program):
-    """Stores that take no new blob: what stands stays, and where the store is full its status says so."""
+    """Stores that accept no new blob: existing blobs are kept, and if the store is full, its status says so."""
     return [lambda check_it=check_it: check_it(program) for check_it in (full_here, full_there, files_cannot_grow)]
 
 
@@ -300,7 +301,8 @@ def full_there(program):
 
 
 def files_cannot_grow(program):
-    """A pull into a folder in which no file may have above so many bytes: what was copied before stands."""
+    """A pull into a folder in which no file may be longer than so many bytes: the blobs that were copied before are
+    kept."""
     what, blobs = "a folder without room", Blobs("without room")
     some = {blobs.name_of(blob): blob for blob in blobs.some(20, 300)}
     limit = 1_500
@@ -322,7 +324,7 @@ READ_ONLY = 'mount --bind "$0" "$0" && mount -o remount,ro,bind "$0" && exec "$@
 
 
 def read_only(program):
-    """A pull into a folder that can't be written to copies nothing, and a push out of it all."""
+    """A pull into a folder that can't be written copies nothing, and a push out of it copies all."""
     blobs = Blobs("read only")
     here = blobs.store(program, blobs.some(3))
     front = ("unshare", "-Urm", "sh", "-c", READ_ONLY, str(here.path))
@@ -350,8 +352,8 @@ def stands_in(store):
 
 
 def front_stands(what, store, packs, source):
-    """What a store held stands, and with it a front of what it lacked; answers how many blobs. The store counts as being
-    so from then on."""
+    """A store still has what it had, and with it a prefix of what it lacked; returns how many blobs. The store counts
+    as being so from then on."""
     held, stands = reference.arrivals(packs), stands_in(store)
     refs = lacking(source, held)
     front = [ref for ref in refs if ref in stands]
@@ -365,7 +367,7 @@ def front_stands(what, store, packs, source):
 
 
 def damage(program):
-    """A pack that is changed while it is copied from: nothing of what stands there is sent under the ref."""
+    """A pack that is changed while it is copied from: none of its bytes are sent under the ref."""
     return [lambda: is_spoilt(program)]
 
 
@@ -386,10 +388,10 @@ def is_spoilt(program):
         peer.is_good(what)
 
 
-# Servers that come late, and go
+# Servers that come late, and end
 
 def opening(program):
-    """A server that has just been started, and reads its store, is waited for."""
+    """The command waits for a server that has just been started, and reads its store."""
     return [lambda: is_waited_for(program)]
 
 
@@ -402,8 +404,8 @@ def is_waited_for(program):
 
 
 def kills(program):
-    """Servers, and commands, that are killed at a random moment: a front of what lacked stands, and the next run copies
-    the rest."""
+    """Servers, and commands, that are killed at a random moment: a prefix of the missing blobs is there, and the next
+    run copies the rest."""
     both = [(turn, command) for turn in range(KILLS) for command in ("push", "pull")]
     return [lambda turn=turn, command=command: killed(program, turn, command) for turn, command in both]
 
@@ -444,10 +446,10 @@ def killed(program, turn, command):
     print(f"{what}: {copied} of {len(some)} were copied before", flush=True)
 
 
-# What is asked
+# Requests
 
 def requests(program):
-    """Each request is one of the three, to the byte, and there are no more of them than is said."""
+    """Each request is one of the three, to the byte, and there are no more of them than documented."""
     return [
         lambda command=command, sizes=sizes: asks(program, command, *sizes)
         for command in ("push", "pull")
@@ -477,7 +479,7 @@ def asks(program, command, here_alone, there_alone):
     compare(what, "what stands here", content if command == "push" else {**content, **there}, stands_in(here))
 
 
-# A peer that answers wrongly
+# A peer that replies wrongly
 
 def bare(code, *headers, body=b""):
     return b"".join(line + b"\r\n" for line in (b"HTTP/1.1 %d x" % code, *headers)) + b"\r\n" + body
@@ -488,7 +490,7 @@ def sized(body, code=200):
 
 
 def in_chunks(due):
-    """The same in chunks of several sizes, with what may stand beside them."""
+    """The same in chunks of several sizes, with the optional parts of chunks."""
     chunks, body = b"", due.body
     for size in (1, 5, 16, 100, len(body)):
         piece, body = body[:size], body[size:]
@@ -497,7 +499,7 @@ def in_chunks(due):
 
 
 FULL_TEXT = b'{"received":[],"error":"full","blobs":1,"pack":0}'
-# In place of any reply: what is sent, and the status with which the command ends.
+# Wrong replies in place of any: the bytes that are sent, and the status with which the command ends.
 WRONG = {
     "nothing": (sends(b"", ends=True), REPLY),
     "a reset": (resets, PEER),
@@ -575,7 +577,7 @@ def with_64_headers(due):
     return bare(due.code, *[b"A: b"] * 63, b"content-length:\t%d " % len(due.body), body=due.body)
 
 
-# In place of any reply: what is written otherwise, and is no fault.
+# Valid replies in place of any, written differently.
 RIGHT = {
     "chunks": changes(in_chunks),
     "no length": changes(lambda due: bare(due.code, body=due.body), ends=True),
@@ -592,8 +594,8 @@ RIGHT_TEXTS = {
 
 
 class Exchange:
-    """A push or a pull of five blobs, two of which, the last among them, the other end has: what each request is, and what
-    then stands."""
+    """A push or a pull of five blobs. The other end has two of them, including the last one. Each request is checked,
+    and the state then."""
 
     def __init__(self, program, command):
         self.program, self.command = program, command
@@ -628,8 +630,8 @@ class Exchange:
 
 
 def at_each_request(program, rows_of):
-    """For a push and a pull, each of their requests, and each row of its kind: what says so, the exchange, the number of
-    the request and the row."""
+    """For a push and a pull, each of their requests, and each row of its kind: a description, the exchange, the number
+    of the request and the row."""
     for command in ("push", "pull"):
         for number, kind in enumerate(Exchange(program, command).kinds):
             for name, row in rows_of(kind).items():
@@ -637,8 +639,8 @@ def at_each_request(program, rows_of):
 
 
 def wrong_replies(program):
-    """Each wrong reply, at each request in turn: the command ends with its status, what was copied before stands, and
-    nothing stands that isn't its ref's."""
+    """Each wrong reply, at each request in turn: the command ends with its status, the blobs that were copied before
+    are kept, and no ref has other bytes."""
     rows = at_each_request(program, lambda kind: {**WRONG, **OWN_WRONGS[kind]})
     return [lambda row=row: goes_wrong(program, *row) for row in rows]
 
@@ -652,7 +654,7 @@ def goes_wrong(program, what, exchange, number, row):
 
 
 def right_replies(program):
-    """Replies that are written otherwise are read all the same; one that goes to its connection's end costs another
+    """Replies that are written differently are still read; one that lasts to its connection's end costs another
     connection."""
     def written(write):
         return changes(lambda due: with_body(due, write(due.body)))
@@ -673,7 +675,7 @@ def goes_well(program, what, exchange, number, right):
 
 
 def pages_out_of_turn(program):
-    """A second page that begins anew ends a pull."""
+    """A second page that begins from the start ends a pull."""
     return [lambda: begins_anew(program)]
 
 
@@ -693,8 +695,9 @@ def begins_anew(program):
 # Peers that are slow, and commands that pause
 
 def slow(program):
-    """A reply that stops, one that trickles, one of which nothing comes behind others, and a request that nobody reads: each
-    is given up after a minute. The first reply of another connection, and one to a long request, may take longer."""
+    """A reply that stops, one that trickles, one of which nothing comes after others, and a request that nobody reads:
+    each is given up after a minute. The first reply of another connection, and one to a long request, may take
+    longer."""
     return [
         lambda: is_given_up(program, "pull", "a reply that stops", 0, stops),
         lambda: is_given_up(program, "pull", "a reply that trickles", 0, trickles),
@@ -748,7 +751,7 @@ def late(wire, due):
 
 
 def takes_long(program):
-    """A blob that may still be on its way is waited for."""
+    """The command waits for a blob that may still be on its way."""
     what, blob = "a late reply to a long request", bytes(100_000)
     here = Store(program, {0: writing.pack(blob)}, OTHERS)
     with FalsePeer(rights={1: late}) as peer:
@@ -757,7 +760,7 @@ def takes_long(program):
 
 
 def comes_late(program):
-    """A server all of whose workers are with clients that say nothing answers over another connection after a minute."""
+    """A server whose workers all serve idle clients answers over another connection after a minute."""
     what, exchange = "a late reply over another connection", Exchange(program, "pull")
 
     with exchange.start(rights={0: RIGHT["no length"], 1: late}) as peer:
@@ -767,7 +770,7 @@ def comes_late(program):
 
 
 def is_not_read(program):
-    """An upload that has more bytes than the system holds for a server that doesn't read them."""
+    """An upload that has more bytes than the system buffers for a server that doesn't read them."""
     what, here = "an upload that nobody reads", Store(program, {0: writing.pack(bytes(LARGEST_BLOB))}, OTHERS)
 
     def serve(listener):
@@ -786,7 +789,7 @@ def is_not_read(program):
 
 
 def idle(program):
-    """A pull that stands still for longer than a connection may, while it stores a blob, goes on over another one."""
+    """A pull that pauses for longer than a connection may, while it stores a blob, continues over another one."""
     tracing.need_strace(program)
     return [lambda: stands_idle(program)]
 

@@ -1,5 +1,4 @@
-"""The calls to the kernel that the program makes, by strace: in which order they come, and what happens where one of
-them fails."""
+"""The calls to the kernel that the program makes, by strace: their order, and the results if one of them fails."""
 
 import re
 import shutil
@@ -21,7 +20,7 @@ ERROR = re.compile(r"\) += -1 ([A-Z0-9]+)")
 
 
 class Call(NamedTuple):
-    """A call: the how-manieth of its name it is, the number of its file and the path, if any, its words, and its
+    """A call: its number among those of its name, the number of its file and the path, if any, its arguments, and its
     error, if it failed."""
 
     name: str
@@ -36,7 +35,7 @@ class Call(NamedTuple):
 
 
 def need_strace(program):
-    """LeftOut where nothing can be traced here."""
+    """LeftOut if nothing can be traced here."""
     if not shutil.which("strace"):
         raise LeftOut("strace isn't there")
     command = ["strace", "-o", str(program.new_path()), "true"]
@@ -46,8 +45,8 @@ def need_strace(program):
 
 
 def trace(program, words, source=b"", faults=(), folder=None, variables=None, names=TRACED):
-    """Runs the program, with calls that fail as strace's words say, and more variables in its environment; answers its
-    status, output, errors and calls of these names in order."""
+    """Runs the program, with calls that fail as strace's options say, and more variables in its environment; returns
+    its status, output, errors and calls of these names in order."""
     log = program.new_path()
     program.starts[words[0]] += 1
     command = ["strace", "-f", "-y", "-s", "0", "-o", str(log), "-e", "trace=" + ",".join("?" + name for name in names)]
@@ -61,7 +60,7 @@ def trace(program, words, source=b"", faults=(), folder=None, variables=None, na
 
 
 def traced(program, what, words, source=b""):
-    """The calls of a run that has to end well."""
+    """The calls of a run that has to succeed."""
     status, _, _, calls = trace(program, words, source)
     compare(what, "exit status", 0, status)
     return calls
@@ -80,7 +79,7 @@ def calls_in(log):
 
 
 def places(calls, names, path=None, file=None):
-    """The places in a list of calls of those by name that were done, on a path or a file's number."""
+    """The places in a list of calls of the successful ones by name, on a path or a file's number."""
     some = [(place, call) for place, call in enumerate(calls) if call.name in names and call.error is None]
     there = [(place, call) for place, call in some if path is None or call.path == str(path)]
     return [place for place, call in there if file in (None, call.file)]

@@ -1,5 +1,6 @@
-"""Folders for the tests of examples/put_tree.py: made at random, looked at, and written as blobs a second time, from
-docs/formats/trees.md alone."""
+"""Folders for the tests of examples/put_tree.py: made at random, compared, and written as blobs a second time, from
+docs/formats/trees.md alone.
+"""
 
 import hashlib
 import hmac
@@ -9,7 +10,7 @@ import stat
 import writing
 from reference import date_text, ref_of
 
-# Spaces, letters beyond ASCII, bytes that aren't UTF-8, and what other programs trip over.
+# Spaces, letters beyond ASCII, bytes that aren't UTF-8, and names that break other programs.
 NAMES = [b"a b", "\u00e9t\u00e9 \u65e5\u672c".encode(), b"\xff\xfe", b"caf\xe9.txt", b"\xed\xa0\x80", b"100%25", b"-n"]
 NAMES += [b'"q"\\', b"line\nfeed", b"\x1b[31m\x7f", b"...", b" ", b"~", b"*"]
 NAMES += [b"n" * 255, "\u00e9".encode() * 127, b"\xff" * 40]
@@ -57,7 +58,7 @@ def write(path, octets):
 
 
 def age(path, chance):
-    """Gives all that is in a folder, and the folder, modes and times, the innermost first."""
+    """Sets the modes and times of everything in a folder, and of the folder, the innermost first."""
     for above, folders, files in os.walk(path, topdown=False):
         for name in files + folders:
             dress(os.path.join(above, name), chance)
@@ -68,16 +69,16 @@ def dress(path, chance):
     status = os.lstat(path)
     if not stat.S_ISLNK(status.st_mode):
         os.chmod(path, chance.choice(FOLDER_MODES if stat.S_ISDIR(status.st_mode) else MODES))
-    # Before 1970, with and without a fraction, and in years to come.
+    # Before 1970, with and without a fraction, and in the future.
     seconds = chance.choice((-86_400 * 365, 0, 1_000_000_000, 1_700_000_000, 4_000_000_000)) + chance.randrange(10**6)
     moment = seconds * 10**9 + chance.choice((0, 500_000_000, 1, 123_456_789, 999_999_999))
     os.utime(path, ns=(moment, moment), follow_symlinks=False)
 
 
-# Looking
+# Comparing
 
 def picture(path):
-    """What stands in a folder, by paths within it: kinds, modes, times, contents and targets."""
+    """The content of a folder, by paths within it: kinds, modes, times, contents and targets."""
     seen = {b"": look(path)}
     for above, folders, files in os.walk(path):
         for name in folders + files:
@@ -155,7 +156,7 @@ def octets(key, value):
 
 
 def pieces(value):
-    """The longest texts that some bytes begin with, one after another, and where none begins the number of the byte."""
+    """The longest strings with which some bytes begin, one after another; if none does, the number of the byte."""
     while value:
         length = next((n for n in range(len(value), 0, -1) if is_text(value[:n])), 0)
         yield value[:length].decode() if length else value[0]

@@ -1,8 +1,8 @@
-"""Many programs over one folder at once: writers beside writers, of which some are killed, readers beside a writer,
-and a locked folder.
+"""Many programs over one folder at once: writers beside writers, some of which are killed, readers beside a writer, and
+a locked folder.
 
-One writer works at a time: a put waits for the lock of the folder, about ten seconds at most. Readers wait for
-nobody. A blob counts as acknowledged once its put has printed its ref and ended.
+One writer works at a time: a put waits for the lock of the folder, about ten seconds at most. Readers wait for nobody.
+A blob counts as acknowledged once its put has printed its ref and ended.
 """
 
 import concurrent.futures
@@ -28,7 +28,7 @@ SECONDS_OF_WAITING = 10
 
 
 def at_once(tasks, workers):
-    """Runs tasks, so many at a time; answers what they gave, in their order. The first difference is raised once all
+    """Runs tasks, so many at a time; returns their results, in their order. The first difference is raised after all
     have ended."""
     with concurrent.futures.ThreadPoolExecutor(workers) as pool:
         return [done.result() for done in [pool.submit(task) for task in tasks]]
@@ -50,7 +50,7 @@ def found_in(what, store, blobs):
 # Writers beside writers
 
 def writers(program):
-    """Puts by several programs at a time into a folder that isn't there: all end well, none is lost, none stands
+    """Puts by several programs at a time into a folder that isn't there: all succeed, no blob is lost, none is there
     twice, no pack is torn."""
     return [lambda turn=turn: put_side_by_side(program, turn) for turn in range(2)]
 
@@ -74,7 +74,7 @@ def put_side_by_side(program, turn):
 
 def killed_writers(program):
     """The same with a tenth of the programs killed: each ref that was printed is found, and those that weren't killed
-    end well."""
+    succeed."""
     return [lambda turn=turn: put_and_kill(program, turn) for turn in range(2)]
 
 
@@ -108,8 +108,8 @@ def put_and_kill(program, turn):
 # Readers beside a writer
 
 class Beside:
-    """A store that grows by a writer while others read: what was acknowledged, and which permanodes have a tag by
-    that."""
+    """A store that grows by a writer while others read: the acknowledged blobs, and the permanodes that have a tag by
+    them."""
 
     def __init__(self, program):
         self.program = program
@@ -131,7 +131,7 @@ class Beside:
             self.is_done = True
 
     def read(self, command, random):
-        """Reads until the writer is done, at least once; answers how often."""
+        """Reads until the writer is done, at least once; returns how often."""
         for count in itertools.count(1):
             is_last = self.is_done
             self.read_once(command, self.acknowledged, random)
@@ -163,8 +163,8 @@ class Beside:
 
 
 def readers(program):
-    """Each answers with all that was acknowledged when it began, and nothing that never was, while a hundred blobs
-    are put."""
+    """Each returns all that was acknowledged when it began, and nothing that never was, while a hundred blobs are
+    put."""
     return [lambda: read_beside(program)]
 
 
@@ -195,8 +195,7 @@ class Locked:
 
 
 def locked(program):
-    """A put waits for the lock, two seconds as well as not at all, and gives up after about ten; who reads doesn't
-    wait."""
+    """A put waits for the lock, two seconds as well as not at all, and gives up after about ten; readers don't wait."""
     return [lambda check=check: check(program) for check in (waits_too_long, waits_and_puts, reads_on)]
 
 

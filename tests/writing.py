@@ -64,13 +64,13 @@ def attribute_payload(kind, permanode, attribute, value, date, signer=KEY):
 
 
 def change_text(kind, permanode, attribute, value):
-    """A change of a claim of several, of the kind `set`, `add` or `del`."""
+    """A change in a claim of several changes, of the kind `set`, `add` or `del`."""
     written = "" if kind == "del" and value == "" else f',"value":{text(value)}'
     return f'{{"changeType":"{kind}-attribute","permaNode":"{permanode}","attribute":{text(attribute)}{written}}}'
 
 
 def multi_payload(changes, date, signer=KEY):
-    """A claim of several changes, each of a kind, a permanode, an attribute and a value."""
+    """A claim of several changes, each given by its kind, permanode, attribute and value."""
     return claim_head(date, signer) + f',"claimType":"multi","changes":[{",".join(change_text(*one) for one in changes)}]'
 
 
@@ -112,7 +112,7 @@ def load_blobs(count, start):
 
 
 def load_blob(start, i, before):
-    """Blob i of the generated store, behind those before it."""
+    """Blob i of the generated store, after those before it."""
     if i == 0:
         return key_blob(LOAD)
     signer = ref_of(before[0])
@@ -178,7 +178,7 @@ def file_blobs(name, chunks):
 # Packs
 
 class Names:
-    """Under which of its two refs each blob of a random store stands: half of them have the older one."""
+    """The one of its two refs that each blob of a random store has: half of them have the older one."""
 
     def __init__(self, random):
         self.salt = random.randbytes(8)
@@ -187,14 +187,14 @@ class Names:
         return older_ref_of(blob) if self.is_older(blob) else ref_of(blob)
 
     def other(self, blob):
-        """The ref that a blob has beside the one under which it stands."""
+        """The other ref of a blob than the one that it has."""
         return ref_of(blob) if self.is_older(blob) else older_ref_of(blob)
 
     def is_older(self, blob):
         return hashlib.sha256(self.salt + blob).digest()[0] % 2 == 1
 
 
-# In these a blob stands under the ref that `name_of` gives it.
+# In these a blob has the ref that `name_of` gives it.
 
 def header(blob, name_of=ref_of):
     return f"[{name_of(blob)} {len(blob)}]".encode()

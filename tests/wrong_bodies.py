@@ -1,8 +1,8 @@
-"""Looks whether each wrong body still is one changed line of its crate: the sixteen of the gate in crates/NAME/must-fail/, and all others in
-wrong_bodies/NAME/.
+"""Checks that each wrong body still is one changed line of its crate: the sixteen of the gate in
+crates/NAME/must-fail/, and all others in wrong_bodies/NAME/.
 
-An edit is a file with the lines `file: src/..`, `old: ..` and `new: ..`. Its old text has to stand in that file exactly once, and its new
-one is another. Nothing is proved here: the gate tries the sixteen, and bench/wrong_bodies.sh the others.
+An edit is a file with the lines `file: src/..`, `old: ..` and `new: ..`. That file must have the old text exactly once,
+and the new text must differ. Nothing is proved here: the gate tries the sixteen, and bench/wrong_bodies.sh the others.
 """
 
 import pathlib
@@ -14,7 +14,7 @@ EDIT = re.compile(r"file: (?P<file>src/\S+\.rt)\nold: (?P<old>.+)\nnew: ?(?P<new
 # A row of docs/gate.md that names edits of the gate: the crate, then their names in the last cell.
 ROW = re.compile(r"^\|.*\| `(\w+)` \| ((?:`\w+`(?:, )?)+) \|", re.M)
 
-# One that docs/gate.md names beside these.
+# One that docs/gate.md names besides these.
 NAMED = re.compile(r"`(\w+/\w+)`")
 
 
@@ -27,7 +27,7 @@ def edits():
 
 
 def fault(crate, file):
-    """Why an edit can't be tried; None where it can."""
+    """Why an edit can't be tried; None if it can."""
     edit = EDIT.fullmatch(file.read_text()) if file.suffix == ".edit" else None
     if not edit:
         return "it isn't a file NAME.edit with the lines file, old and new"
@@ -49,7 +49,7 @@ def of_the_gate():
 
 
 def missing():
-    """The edits that docs/gate.md names beside its table and that aren't there."""
+    """The edits that docs/gate.md names besides its table and that aren't there."""
     stand = {f"{crate}/{file.stem}" for crate, file in edits()}
     return sorted(set(NAMED.findall((TOP / "docs/gate.md").read_text())) - stand)
 
