@@ -4,6 +4,7 @@ scripts compare.
 """
 
 import contextlib
+import copy
 import os
 import pty
 import pathlib
@@ -174,7 +175,6 @@ def hints(program):
         (["words", folder, "--at", "2026-12-01T09:00:00", "tag:a"], 4, no_date("2026-12-01T09:00:00")),
         (["list", folder, "--limit=x"], 4, no_limit("x")),
         (["list", folder, "--limit", "0"], 4, no_limit("0")),
-        (["load", "0", "0"], 4, LOAD),
         (["search", folder, "--attr=", "--value=b"], 4, "input (the name of an attribute is empty)"),
         (["words", folder, "tag:a", "--at=x"], 4, no_date("x")),
         (["words", folder, "tag:a", "tag:b"], 2, f"words ({QUOTES})"),
@@ -197,6 +197,7 @@ def hints(program):
     ]
     checks = [lambda row=row: is_told(program, *row) for row in rows]
     checks += [lambda check=check: check(program) for check in (misfits, numbers, keyrings, queries, damaged_chunk)]
+    checks.append(lambda: load_numbers(program))
     return checks + [lambda check=check: check(program) for check in (folders, held, unread, unwritten, keyless, done)]
 
 
@@ -282,6 +283,13 @@ def numbers(program):
     ]:
         text = f'--{option} takes a number from 1 to {most}, not "{value}"'
         is_told(program, [command, "d", *words], 2, f"words ({text})")
+
+
+def load_numbers(program):
+    """`load` names no folder, so the keyring is looked for in the working folder: here is none."""
+    other = copy.copy(program)
+    other.working = program.working_folder(None)
+    is_told(other, ["load", "0", "0"], 4, LOAD)
 
 
 def keyrings(program):
