@@ -1,9 +1,9 @@
 -- The rows of a permanode stay right where one change more is written among others.
-use Rattle.std.proofs.Common.{◌≡◌, ℕ, Bool, true, false, not, ◌&&◌, ◌||◌, List, [], ◌∷◌, ◌++◌, map, filter, Option, Some, None, refl, sym, ap, subst, ◌∙◌, ◌⊎◌, inl, inr}
+use Rattle.std.proofs.Common.{◌≡◌, ℕ, Bool, true, false, not, ◌&&◌, ◌||◌, cond, List, [], ◌∷◌, ◌++◌, map, filter, Option, Some, None, refl, sym, ap, subst, ◌∙◌, ◌⊎◌, inl, inr, nat_lt}
 use Rattle.std.proofs.Math.Bool.{and-false}
 use Rattle.std.proofs.lemmas.Bool.{and_parts, or_cases, false≢true, cases_Bool}
 use Rattle.std.proofs.lemmas.Cmp.{tied_itself}
-use Rattle.std.proofs.lemmas.List.{map-append}
+use Rattle.std.proofs.lemmas.List.{append-nil, map-append}
 use Rattle.std.proofs.lemmas.List.Folds.{list_any-append}
 use Rattle.std.proofs.lemmas.Slice.Eq.{bytes_eq-Decides}
 use Rattle.std.specs.declared.cmp.Ordering.TheVariants.{Less, Greater}
@@ -15,21 +15,64 @@ use Rattle.blobref.specs.Blobref.{ref_cmp}
 use Rattle.schema_date.specs.declared.date.When.TheVariants.{Always}
 use Rattle.schema_fact.specs.declared.changes.Change.{Change}
 use Rattle.claim_model.specs.Facts.{Facts, passes}
-use Rattle.claim_model.specs.Changes.{gives, has_after}
+use Rattle.claim_model.specs.Changes.{gives}
 use Rattle.claim_model.specs.Claims.{Moment, moment_cmp}
 use Rattle.index_rows.specs.Changes.{Changes, ChangeKey, change_cmp, changes_after, changes_before}
 use Rattle.index_rows.specs.Deletes.{Deletes, row_deleted}
-use Rattle.index_rows.specs.Holders.{Holders, is_given, says_permanode, IsHeldBut}
+use Rattle.index_rows.specs.Holders.{Holders, is_given, says_permanode, times_at, AllCounted, IsHeldBut}
 use Rattle.index_rows.specs.States.{States}
 use Rattle.index_rows.specs.Values.{change_at, IsChange}
 use Rattle.index_rows.proofs.Orders.{ref_total, change_total, moment_total}
-use Rattle.attr_fold.specs.Following.{counted, counted_after, counted_before, holds_values, IsSettled}
+use Rattle.attr_fold.specs.Following.{counted, counted_after, counted_before, holds_values, is_row, AreRight, IsFollowed, IsSettled}
+use Rattle.attr_fold.specs.Times.{times_after}
 use Rattle.attr_fold.proofs.Deciding.{beside_late}
 use Rattle.attr_fold.proofs.Dropping.{counted-append, none_counted_of, one_counted}
-use Rattle.attr_fold.proofs.Followed.{new, right_after, true_of}
+use Rattle.attr_fold.proofs.Followed.{new, right_now, true_of}
 use Rattle.attr_fold.proofs.OneChange.{own_bytes}
 use Rattle.attr_fold.proofs.Splitting.{parts_with, parts_without}
 use Rattle.attr_fold.proofs.Walking.{Row, change_is}
+
+-- ---- the rows of an attribute that are right, among all of p
+
+module _ (p : List ℕ) (c : Change) (was now : List Change) (before after : Holders) (f : AreRight p c was now before after)
+  where
+    still : (name value : List ℕ) → bytes_eq name c.attr ≡ false
+        → times_at after (name, value, p) ≡ times_at before (name, value, p)
+    still name value out = f.others name value p (ap (λ b. b && bytes_eq p p) out)
+
+    pub right_rows : ((name value : List ℕ) → bytes_eq name c.attr ≡ false
+        → times_after name value was ≡ times_after name value now)
+        → (name value : List ℕ) → times_at before (name, value, p) ≡ times_after name value was
+        → times_at after (name, value, p) ≡ times_after name value now
+    right_rows beside name value h = by (cases_Bool (bytes_eq name c.attr))
+      where
+        by : (bytes_eq name c.attr ≡ true) ⊎ (bytes_eq name c.attr ≡ false)
+            → times_at after (name, value, p) ≡ times_after name value now
+        by (inl t) = subst (λ n. times_at before (n, value, p) ≡ times_after n value was
+            → times_at after (n, value, p) ≡ times_after n value now) (sym ((bytes_eq-Decides name c.attr).0 t))
+            (f.own value) h
+        by (inr out) = still name value out ∙ h ∙ beside name value out
+
+    pub given_rows : (name value : List ℕ) → is_row after (name, value, p) ≡ true
+        → (is_row before (name, value, p) ≡ true) ⊎ (gives name value c ≡ true)
+    given_rows name value h = by (cases_Bool (bytes_eq name c.attr))
+      where
+        own : is_row after (c.attr, value, p) ≡ true
+            → (is_row before (c.attr, value, p) ≡ true) ⊎ (gives c.attr value c ≡ true)
+        own t = or_cases (is_row before (c.attr, value, p)) (gives c.attr value c) (f.given value t)
+
+        by : (bytes_eq name c.attr ≡ true) ⊎ (bytes_eq name c.attr ≡ false)
+            → (is_row before (name, value, p) ≡ true) ⊎ (gives name value c ≡ true)
+        by (inl t) = subst (λ n. is_row after (n, value, p) ≡ true
+            → (is_row before (n, value, p) ≡ true) ⊎ (gives n value c ≡ true))
+            (sym ((bytes_eq-Decides name c.attr).0 t)) own h
+        by (inr out) = inl (ap (nat_lt 0) (sym (still name value out)) ∙ h)
+
+-- the last change is one with none behind it
+pub followed_is_settled : (p : List ℕ) (c : Change) (said : List Change) (before after : Holders)
+    → IsFollowed p c said before after → IsSettled p c said [] before after
+followed_is_settled p c said before after f =
+    subst (λ was. AreRight p c was (said ++ c ∷ []) before after) (sym (append-nil said)) f
 
 -- ---- the changes of p before one of them, that one, and those behind it
 
@@ -91,7 +134,7 @@ module _ (before : Changes) (p : List ℕ) (k : Moment) (fresh : contains_key be
   abbrev passing : (ChangeKey → Bool) → List Row → List Row
   passing f es = filter (λ (e : Row). f e.0) es
 
-  all_now : changes_after now p None ≡ changes_before now p k ++ ((p, k), tt) ∷ changes_after now p (Some k)
+  pub all_now : changes_after now p None ≡ changes_before now p k ++ ((p, k), tt) ∷ changes_after now p (Some k)
   all_now =
       ap (passing (of_p p k)) (entries-insert change_total before (p, k) tt)
       ∙ parts_with change_total (of_p p k) (earlier p k) (later p k) (p, k) tt (before_it p k) (not_before_it p k) (behind_it p k) (not_behind_it p k)
@@ -121,20 +164,40 @@ module _ (before : Changes) (p : List ℕ) (k : Moment) (fresh : contains_key be
     said-append es fs =
         ap (counted facts deletes) (map-append moment_of es fs) ∙ counted-append facts deletes (map moment_of es) (map moment_of fs)
 
-    said_before : said (changes_after before p None) ≡ front ++ back
+    pub said_before : said (changes_after before p None) ≡ front ++ back
     said_before = ap said all_before ∙ said-append (changes_before now p k) (changes_after now p (Some k))
 
-    said_now : said (changes_after now p None) ≡ front ++ (counted facts deletes (k ∷ []) ++ back)
+    pub said_now : said (changes_after now p None) ≡ front ++ (counted facts deletes (k ∷ []) ++ back)
     said_now =
         ap said all_now
         ∙ said-append (changes_before now p k) (((p, k), tt) ∷ changes_after now p (Some k))
         ∙ ap (λ cs. front ++ cs) (counted-append facts deletes (k ∷ []) (map moment_of (changes_after now p (Some k))))
 
-    module _ (but : List (List ℕ)) (holders : Holders) (was : IsHeldBut but facts state deletes before holders) where
+    -- the change gives its value
+    module _ (is : IsChange facts state p k) where
+      abbrev gives_it : List ℕ → List ℕ → Row → Bool
+      gives_it name value e = passes (gives name value) (change_at facts e.0.1)
+
+      pub given_now : (name value : List ℕ) → gives name value is.change ≡ true → is_given facts now name value p ≡ true
+      given_now name value h =
+          ap (list_any (gives_it name value)) all_now
+          ∙ list_any-append (gives_it name value) (changes_before now p k) (((p, k), tt) ∷ changes_after now p (Some k))
+          ∙ ap (λ (o : Option Change). list_any (gives_it name value) (changes_before now p k) || (passes (gives name value) o || list_any (gives_it name value) (changes_after now p (Some k))))
+          (change_is facts state p k is)
+          ∙ by (list_any (gives_it name value) (changes_before now p k)) (gives name value is.change) (list_any (gives_it name value) (changes_after now p (Some k))) h
+        where
+          by : (a b c : Bool) → b ≡ true → (a || (b || c)) ≡ true
+          by true b c t = refl
+          by false true c t = refl
+          by false false c t = absurd (false≢true t)
+
+    module _ (but : List (List ℕ)) (holders : Holders) (was : IsHeldBut but facts state deletes before holders)
+        (counted_rows : AllCounted holders) where
       -- a change that doesn't count changes nothing
       pub not_counted : row_deleted facts deletes Always k.1 ≡ true → IsHeldBut but facts state deletes now holders
-      not_counted gone = right_after before p k fresh facts state deletes but holders was holders (λ name value q h. refl)
-          (λ name value h. h ∙ ap (λ cs. holds_values facts state deletes p && has_after name value cs)
+      not_counted gone = right_now before p k fresh facts state deletes but holders was counted_rows holders counted_rows
+          (λ name value q h. refl)
+          (λ name value h. h ∙ ap (λ cs. cond (holds_values facts state deletes p) (times_after name value cs) 0)
           (said_before ∙ sym (said_now ∙ ap (λ cs. front ++ (cs ++ back)) (none_counted_of facts deletes k gone))))
           (λ name value h. inl h)
 
@@ -142,57 +205,27 @@ module _ (before : Changes) (p : List ℕ) (k : Moment) (fresh : contains_key be
         with_it : said (changes_after now p None) ≡ front ++ is.change ∷ back
         with_it = said_now ∙ ap (λ cs. front ++ (cs ++ back)) (one_counted facts deletes k is.change (change_is facts state p k is) live)
 
-        alone_has : (cs : List Change) (name value : List ℕ) → (holds_values facts state deletes p && has_after name value cs) ≡ has_after name value cs
-        alone_has cs name value = ap (λ b. b && has_after name value cs) holds
-
-        abbrev gives_it : List ℕ → List ℕ → Row → Bool
-        gives_it name value e = passes (gives name value) (change_at facts e.0.1)
-
-        given_now : (name value : List ℕ) → gives name value is.change ≡ true → is_given facts now name value p ≡ true
-        given_now name value h =
-            ap (list_any (gives_it name value)) all_now
-            ∙ list_any-append (gives_it name value) (changes_before now p k) (((p, k), tt) ∷ changes_after now p (Some k))
-            ∙ ap (λ (o : Option Change). list_any (gives_it name value) (changes_before now p k) || (passes (gives name value) o || list_any (gives_it name value) (changes_after now p (Some k))))
-            (change_is facts state p k is)
-            ∙ by (list_any (gives_it name value) (changes_before now p k)) (gives name value is.change) (list_any (gives_it name value) (changes_after now p (Some k))) h
-          where
-            by : (a b c : Bool) → b ≡ true → (a || (b || c)) ≡ true
-            by true b c t = refl
-            by false true c t = refl
-            by false false c t = absurd (false≢true t)
+        alone_times : (cs : List Change) (name value : List ℕ)
+            → cond (holds_values facts state deletes p) (times_after name value cs) 0 ≡ times_after name value cs
+        alone_times cs name value = ap (λ b. cond b (times_after name value cs) 0) holds
 
         -- the rows of its own attribute are right with it, and the others of p stay
-        pub settled_late : (after : Holders) → IsSettled p is.change front back holders after → IsHeldBut but facts state deletes now after
-        settled_late after f = right_after before p k fresh facts state deletes but holders was after
-            (λ name value q out. f.others name value q (ap (λ b. bytes_eq name is.change.attr && b) out ∙ and-false (bytes_eq name is.change.attr)))
-            (λ name value h. right name value (h ∙ ap (λ cs. holds_values facts state deletes p && has_after name value cs) said_before ∙ alone_has (front ++ back) name value)
-            (cases_Bool (bytes_eq name is.change.attr))
-            ∙ sym (ap (λ cs. holds_values facts state deletes p && has_after name value cs) with_it ∙ alone_has (front ++ is.change ∷ back) name value))
-            (λ name value h. given name value h (cases_Bool (bytes_eq name is.change.attr)))
-          where
-            still : (name value : List ℕ) → bytes_eq name is.change.attr ≡ false → contains_key after (name, value, p) ≡ contains_key holders (name, value, p)
-            still name value out = f.others name value p (ap (λ b. b && bytes_eq p p) out)
-
-            right : (name value : List ℕ) → contains_key holders (name, value, p) ≡ has_after name value (front ++ back)
-                → (bytes_eq name is.change.attr ≡ true) ⊎ (bytes_eq name is.change.attr ≡ false)
-                → contains_key after (name, value, p) ≡ has_after name value (front ++ is.change ∷ back)
-            right name value h (inl t) =
-                let same : name ≡ is.change.attr = (bytes_eq-Decides name is.change.attr).0 t in
-                subst (λ n. contains_key after (n, value, p) ≡ has_after n value (front ++ is.change ∷ back)) (sym same)
-                (f.own value (ap (λ n. contains_key holders (n, value, p)) (sym same) ∙ h ∙ ap (λ n. has_after n value (front ++ back)) same))
-            right name value h (inr out) = still name value out ∙ h ∙ sym (beside_late name value is.change front back out)
-
-            given : (name value : List ℕ) → contains_key after (name, value, p) ≡ true
-                → (bytes_eq name is.change.attr ≡ true) ⊎ (bytes_eq name is.change.attr ≡ false)
-                → (contains_key holders (name, value, p) ≡ true) ⊎ ((says_permanode facts state p ≡ true) × (is_given facts now name value p ≡ true))
-            given name value h (inl t) =
-                let same : name ≡ is.change.attr = (bytes_eq-Decides name is.change.attr).0 t in
-                elim (or_cases (contains_key holders (is.change.attr, value, p)) (gives is.change.attr value is.change)
-                (f.given value (ap (λ n. contains_key after (n, value, p)) (sym same) ∙ h))) [
-                  | inl old ↦ inl (ap (λ n. contains_key holders (n, value, p)) same ∙ old)
-                  | inr own ↦ inr (
-                    (and_parts (says_permanode facts state p) (not (row_deleted facts deletes Always p)) holds).0,
-                    given_now name value (ap (λ n. gives n value is.change) same ∙ own),
-                  )
-                ]
-            given name value h (inr out) = inl (sym (still name value out) ∙ h)
+        pub settled_late : (after : Holders) → AllCounted after → IsSettled p is.change front back holders after
+            → IsHeldBut but facts state deletes now after
+        settled_late after counted' f = right_now before p k fresh facts state deletes but holders was counted_rows after
+            counted'
+            (λ name value q out. f.others name value q (ap (λ b. bytes_eq name is.change.attr && b) out
+            ∙ and-false (bytes_eq name is.change.attr)))
+            (λ name value h. right_rows p is.change (front ++ back) (front ++ is.change ∷ back) holders after f
+            (λ name value out. sym (beside_late name value is.change front back out)) name value
+            (h ∙ ap (λ cs. cond (holds_values facts state deletes p) (times_after name value cs) 0) said_before
+            ∙ alone_times (front ++ back) name value)
+            ∙ sym (ap (λ cs. cond (holds_values facts state deletes p) (times_after name value cs) 0) with_it
+            ∙ alone_times (front ++ is.change ∷ back) name value))
+            (λ name value h. elim (given_rows p is.change (front ++ back) (front ++ is.change ∷ back) holders after f name value h) [
+              | inl old ↦ inl old
+              | inr own ↦ inr (
+                (and_parts (says_permanode facts state p) (not (row_deleted facts deletes Always p)) holds).0,
+                given_now is name value own,
+              )
+            ])

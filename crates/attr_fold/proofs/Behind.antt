@@ -1,6 +1,6 @@
 -- The changes behind a moment, one after another.
-use Rattle.std.proofs.Common.{◌≡◌, ◌≤◌, ◌+◌, ℕ, Bool, true, false, not, ◌&&◌, ◌||◌, cond, List, [], ◌∷◌, length, map}
-use Rattle.std.proofs.Common.{filter, Option, Some, None, refl, sym, ap, subst, ◌∙◌, arith}
+use Rattle.std.proofs.Common.{◌≡◌, ◌≤◌, ◌+◌, ℕ, Bool, true, false, not, ◌&&◌, ◌||◌, cond, List, [], ◌∷◌, ◌++◌, length, map}
+use Rattle.std.proofs.Common.{filter, Option, Some, None, refl, sym, ap, subst, ◌∙◌, inl, inr, arith}
 use Rattle.std.proofs.lemmas.Bool.{and_parts}
 use Rattle.std.proofs.lemmas.List.Folds.{list_any-append}
 use Rattle.std.specs.List.{filter_map, list_any, cons_option}
@@ -16,8 +16,9 @@ use Rattle.index_rows.specs.Deletes.{Deletes, row_deleted}
 use Rattle.index_rows.specs.Removals.{AreRemovals, Removals, RemovalKey, has_mark, removals_after}
 use Rattle.index_rows.specs.Values.{change_at}
 use Rattle.index_rows.proofs.Stands.{change_stands, removal_stands}
-use Rattle.attr_fold.specs.Following.{counted, counted_after, counted_under}
-use Rattle.attr_fold.proofs.Dropping.{counted-append}
+use Rattle.attr_fold.specs.Following.{added_from, counted, counted_after, counted_under, decides}
+use Rattle.attr_fold.proofs.Adding.{added_beside}
+use Rattle.attr_fold.proofs.Dropping.{counted-append, none_or_one}
 use Rattle.attr_fold.proofs.Walking.{Row}
 
 module _ (changes : Changes) (p q : List ℕ) (own : q ≡ p) (at k : Moment)
@@ -32,21 +33,18 @@ module _ (changes : Changes) (p q : List ℕ) (own : q ≡ p) (at k : Moment)
   pub one_behind : length (changes_after changes p (Some at)) ≡ length (changes_after changes p (Some k)) + 1
   one_behind = ap length next_in ∙ omega arith
 
-  module _ (facts : Facts) (deletes : Deletes) (test : Change → Bool) where
-    pub more_behind : list_any test (counted_after facts deletes changes p at)
-        ≡ (list_any test (counted facts deletes (k ∷ [])) || list_any test (counted_after facts deletes changes p k))
-    more_behind =
-        ap (λ (es : List Row). list_any test (counted facts deletes (map (λ (e : Row). e.0.1) es))) next_in
-        ∙ ap (list_any test) (counted-append facts deletes (k ∷ [])
-        (map (λ (e : Row). e.0.1) (changes_after changes p (Some k))))
-        ∙ list_any-append test (counted facts deletes (k ∷ [])) (counted_after facts deletes changes p k)
+  pub all_behind : (facts : Facts) (deletes : Deletes)
+      → counted_after facts deletes changes p at
+      ≡ counted facts deletes (k ∷ []) ++ counted_after facts deletes changes p k
+  all_behind facts deletes =
+      ap (λ (es : List Row). counted facts deletes (map (λ (e : Row). e.0.1) es)) next_in
+      ∙ counted-append facts deletes (k ∷ []) (map (λ (e : Row). e.0.1) (changes_after changes p (Some k)))
 
-pub none_behind : (changes : Changes) (p q : List ℕ) (own : q ≡ p) (at : Moment)
-    → changes_after changes q (Some at) ≡ []
-    → (facts : Facts) (deletes : Deletes) (test : Change → Bool)
-    → list_any test (counted_after facts deletes changes p at) ≡ false
-none_behind changes p q own at none facts deletes test =
-    ap (λ (es : List Row). list_any test (counted facts deletes (map (λ (e : Row). e.0.1) es)))
+pub nothing_behind : (changes : Changes) (p q : List ℕ) (own : q ≡ p) (at : Moment)
+    → changes_after changes q (Some at) ≡ [] → (facts : Facts) (deletes : Deletes)
+    → counted_after facts deletes changes p at ≡ []
+nothing_behind changes p q own at none facts deletes =
+    ap (λ (es : List Row). counted facts deletes (map (λ (e : Row). e.0.1) es))
     (subst (λ (r : List ℕ). changes_after changes r (Some at) ≡ []) own none)
 
 module _ (facts : Facts) (deletes : Deletes) (k : Moment) (c : Change) (is : change_at facts k ≡ Some c)
@@ -76,6 +74,15 @@ module _ (facts : Facts) (deletes : Deletes) (k : Moment) (c : Change) (is : cha
       by : (gone : Bool) → cond gone false true ≡ not gone
       by true = refl
       by false = refl
+
+-- a change that has nothing to do with a value, whether it counts or not
+pub beside_one : (facts : Facts) (deletes : Deletes) (k : Moment) (c : Change) → change_at facts k ≡ Some c
+    → (name value : List ℕ) → decides false name value c ≡ false → (n : ℕ)
+    → Some n ≡ added_from name value n (counted facts deletes (k ∷ []))
+beside_one facts deletes k c is name value f n = elim (none_or_one facts deletes k c is) [
+  | inl none ↦ sym (ap (added_from name value n) none)
+  | inr one ↦ sym (ap (added_from name value n) one ∙ added_beside name value c f n)
+]
 
 module _ (p : List ℕ) (k : Moment) where
   abbrev behind : Row → Bool

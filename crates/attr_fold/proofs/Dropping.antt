@@ -1,7 +1,7 @@
 -- The rows of an attribute's values, dropped by a walk back over the changes.
-use Rattle.std.proofs.Common.{◌≡◌, ◌≤◌, ◌+◌, ◌==◌, ℕ, Bool, true, false, not, ◌&&◌, ◌||◌, cond, List, [], ◌∷◌, ◌++◌, length, map, filter, Option, Some, None, Result, Ok, Err, OnOk, refl, sym, ap, subst, ◌∙◌, ◌⊎◌, inl, inr, is_some, arith, length-append}
+use Rattle.std.proofs.Common.{◌≡◌, ◌≤◌, ◌+◌, ◌==◌, ℕ, Bool, true, false, not, ◌&&◌, ◌||◌, cond, List, [], ◌∷◌, ◌++◌, length, map, filter, Option, Some, None, Result, Ok, Err, OnOk, refl, sym, ap, subst, ◌∙◌, ◌⊎◌, inl, inr, is_some, nat_lt, zero, suc, arith, length-append}
 use Rattle.std.proofs.Math.Bool.{and-false}
-use Rattle.std.proofs.lemmas.Bool.{and_parts, and_from, or_cases, or_left, or_right, false≢true, cases_Bool, cond-true}
+use Rattle.std.proofs.lemmas.Bool.{and_parts, or_left, false≢true, cases_Bool, cond-true, cond-false, lt-ltb}
 use Rattle.std.proofs.lemmas.List.{map-append}
 use Rattle.std.proofs.lemmas.List.Elements.{filter-append, filter_map-append}
 use Rattle.std.proofs.lemmas.List.Sums.{fold-append}
@@ -9,28 +9,44 @@ use Rattle.std.proofs.lemmas.Slice.Eq.{bytes_eq-Decides}
 use Rattle.std.specs.List.{filter_map, list_any, cons_option, AllByRecursion}
 use Rattle.std.specs.Ordering.{is_lt}
 use Rattle.std.specs.Str.{bytes_eq}
-use Rattle.std.specs.FinMap.{get, insert, remove, entries, contains_key}
+use Rattle.std.specs.FinMap.{get, remove, entries, contains_key}
 use Rattle.schema_date.specs.declared.date.When.TheVariants.{Always}
 use Rattle.schema_fact.specs.declared.changes.Act.{Act}
 use Rattle.schema_fact.specs.declared.changes.Act.TheVariants.{Set as sets, Add as adds, Del as removes}
 use Rattle.schema_fact.specs.declared.changes.Change.{Change}
 use Rattle.claim_model.specs.Facts.{Facts}
-use Rattle.claim_model.specs.Changes.{change_values, values_after, has_after}
+use Rattle.claim_model.specs.Changes.{change_values, left_by, values_after, has_after}
 use Rattle.claim_model.specs.Claims.{Moment, moment_cmp}
 use Rattle.claim_model.proofs.Changes.{add_last, del_last}
 use Rattle.index_look.proofs.Keys.{entries_held}
 use Rattle.index_rows.specs.Changes.{Changes, ChangeKey, changes_after, changes_before}
 use Rattle.index_rows.specs.Deletes.{Deletes, row_deleted}
 use Rattle.index_rows.specs.Counted.{IsCounted}
-use Rattle.index_rows.specs.Holders.{Holders}
+use Rattle.index_rows.specs.Holders.{Holders, times_at, with_times}
 use Rattle.index_rows.specs.States.{States}
 use Rattle.index_rows.proofs.LooseFacts.{in_order}
 use Rattle.index_rows.specs.declared.rows.Rows.{Rows}
 use Rattle.index_rows.specs.Values.{change_at, moment_counts, IsListed}
 use Rattle.index_rows.proofs.Orders.{change_total, change_same}
 use Rattle.index_rows.proofs.WalksBack.{all_passing, all_last}
-use Rattle.attr_fold.specs.Following.{counted, counted_before, is_end, AreFewer, AreGone, IsFollowed, IsTakenBack}
-use Rattle.attr_fold.proofs.OneChange.{own_bytes, beside, put_beside, put_own, drop_beside, drop_own, drop_fewer}
+use Rattle.attr_fold.specs.Following.{counted, counted_before, is_end, is_row, AreFewer, AreGone, IsFollowed, IsTakenBack}
+use Rattle.attr_fold.specs.Times.{act_times, times_after}
+use Rattle.attr_fold.proofs.OneChange.{own_bytes, drop_beside, drop_own, drop_fewer, with_beside, with_given, with_own}
+use Rattle.attr_fold.proofs.HeldTimes.{no_row}
+use Rattle.attr_fold.proofs.Times.{has_by_times, times-last}
+
+-- a change of another attribute leaves the values
+pub beside : (name value : List ℕ) (c : Change) (cs : List Change) → bytes_eq name c.attr ≡ false
+    → has_after name value (cs ++ c ∷ []) ≡ has_after name value cs
+beside name value c cs out =
+    ap (list_any (bytes_eq value)) (fold-append (change_values name) [] cs (c ∷ []))
+    ∙ ap (list_any (bytes_eq value)) (cond-false (bytes_eq name c.attr) (left_by c.act c.value (values_after name cs)) (values_after name cs) out)
+
+-- a row with a smaller number is there only where the one with the greater is
+row_less : (n m : ℕ) → n ≤ m → nat_lt 0 n ≡ true → nat_lt 0 m ≡ true
+row_less zero m le t = absurd (false≢true t)
+row_less (suc n) zero le t = absurd (omega (arith, le))
+row_less (suc n) (suc m) le t = lt-ltb 0 (suc m) (omega arith)
 
 -- ---- the changes that count
 
@@ -96,7 +112,7 @@ append_none (x ∷ xs) = ap (λ ys. x ∷ ys) (append_none xs)
 
 module _ (attr p : List ℕ) (holders : Holders) where
   pub same_fewer : AreFewer attr p holders holders
-  same_fewer = record { others = λ name value q h. refl; fewer = λ value t. t }
+  same_fewer = record { others = λ name value q h. refl; fewer = λ value. omega arith }
 
   -- of a change that doesn't count, or is of another attribute
   pub back_none : (said : List Change) → said ≡ [] → IsTakenBack attr p said false holders
@@ -113,18 +129,18 @@ module _ (attr p : List ℕ) (holders : Holders) where
     pub drop_is_fewer : AreFewer attr p holders (remove holders (attr, v, p))
     drop_is_fewer = record {
       others = drop_beside p attr v holders;
-      fewer = λ value t. drop_fewer p attr v holders (attr, value, p) t;
+      fewer = drop_fewer p attr v holders;
     }
 
     -- of one that does
     pub back_taken : (on : List ℕ) (act : Act) (said : List Change) → said ≡ record { on = on; act = act; attr = attr; value = v } ∷ []
         → IsTakenBack attr p said (is_end act v) (remove holders (attr, v, p))
     back_taken on act said one value front t h =
-        by act (not_it (bytes_eq value v) ((and_parts (not (bytes_eq value v)) (contains_key holders (attr, value, p)) (sym (drop_own p attr v holders value) ∙ t)).0))
+        by act (not_it (bytes_eq value v) (ap (nat_lt 0) (sym (drop_own p attr v holders value)) ∙ t))
         (ap (λ cs. has_after attr value (front ++ cs)) (sym one) ∙ h)
       where
-        not_it : (b : Bool) → not b ≡ true → b ≡ false
-        not_it true h = sym h
+        not_it : (b : Bool) → nat_lt 0 (cond b 0 (times_at holders (attr, value, p))) ≡ true → b ≡ false
+        not_it true h = absurd (false≢true h)
         not_it false h = refl
 
         by : (act : Act) → bytes_eq value v ≡ false → has_after attr value (front ++ record { on = on; act = act; attr = attr; value = v } ∷ []) ≡ true
@@ -147,13 +163,13 @@ module _ (attr p : List ℕ) (holders : Holders) where
 
 -- what is there behind the changes of the first moment was there behind those of the one at hand
 abbrev pub IsLeft : Facts → Deletes → Changes → List ℕ → List ℕ → Moment → Moment → Holders → Type 0
-IsLeft facts deletes changes attr p moment at holders = (value : List ℕ) → contains_key holders (attr, value, p) ≡ true
+IsLeft facts deletes changes attr p moment at holders = (value : List ℕ) → is_row holders (attr, value, p) ≡ true
     → has_after attr value (counted_before facts deletes changes p moment) ≡ true → has_after attr value (counted_before facts deletes changes p at) ≡ true
 
 pub fewer_then : (attr p : List ℕ) (a b c : Holders) → AreFewer attr p a b → AreFewer attr p b c → AreFewer attr p a c
 fewer_then attr p a b c one two = record {
   others = λ name value q out. two.others name value q out ∙ one.others name value q out;
-  fewer = λ value t. one.fewer value (two.fewer value t);
+  fewer = λ value. let a = one.fewer value in let b = two.fewer value in omega (arith, a, b);
 }
 
 pub before_stands : (changes : Changes) (p : List ℕ) (k j : Moment) (es : List (ChangeKey × Unit {0})) → changes_before changes p k ≡ es ++ ((p, j), tt) ∷ []
@@ -169,11 +185,11 @@ module _ (facts : Facts) (deletes : Deletes) (changes : Changes) (attr p : List 
   pub one_back : (at before : Moment) → changes_before changes p at ≡ changes_before changes p before ++ ((p, before), tt) ∷ []
       → (old new : Holders) (done : Bool) → IsLeft facts deletes changes attr p moment at old → AreFewer attr p old new
       → IsTakenBack attr p (counted facts deletes (before ∷ [])) done new
-      → (value : List ℕ) → contains_key new (attr, value, p) ≡ true → has_after attr value (counted_before facts deletes changes p moment) ≡ true
+      → (value : List ℕ) → is_row new (attr, value, p) ≡ true → has_after attr value (counted_before facts deletes changes p moment) ≡ true
       → (done ≡ false) × (has_after attr value (counted_before facts deletes changes p before) ≡ true)
   one_back at before h old new done left fewer back value t u =
       back value (counted_before facts deletes changes p before) t
-      (ap (has_after attr value) (sym (counted_front facts deletes changes p at before h)) ∙ left value (fewer.fewer value t) u)
+      (ap (has_after attr value) (sym (counted_front facts deletes changes p at before h)) ∙ left value (row_less (times_at new (attr, value, p)) (times_at old (attr, value, p)) (fewer.fewer value) t) u)
 
   -- at the end of the walk
   pub gone_at_last : (at : Moment) (holders : Holders) → changes_before changes p at ≡ [] → IsLeft facts deletes changes attr p moment at holders
@@ -185,7 +201,7 @@ module _ (facts : Facts) (deletes : Deletes) (changes : Changes) (attr p : List 
       by false u = u
 
   pub gone_at_end : (holders : Holders) (done : Bool) → done ≡ true
-      → ((value : List ℕ) → contains_key holders (attr, value, p) ≡ true → has_after attr value (counted_before facts deletes changes p moment) ≡ true → done ≡ false)
+      → ((value : List ℕ) → is_row holders (attr, value, p) ≡ true → has_after attr value (counted_before facts deletes changes p moment) ≡ true → done ≡ false)
       → AreGone attr p (counted_before facts deletes changes p moment) holders
   gone_at_end holders done is ends value t = by (has_after attr value (counted_before facts deletes changes p moment)) refl
     where
@@ -210,32 +226,50 @@ fewer_before changes p k = go (entries changes)
 -- ---- all of an attribute's values dropped
 
 module _ (p attr v on : List ℕ) (said : List Change) (old mid : Holders) (fewer : AreFewer attr p old mid) (gone : AreGone attr p said mid) where
-  nothing : (value : List ℕ) → contains_key old (attr, value, p) ≡ has_after attr value said → contains_key mid (attr, value, p) ≡ false
-  nothing value h = by (contains_key mid (attr, value, p)) refl
+  nothing : (value : List ℕ) → times_at old (attr, value, p) ≡ times_after attr value said → times_at mid (attr, value, p) ≡ 0
+  nothing value h = by (cases_Bool (is_row mid (attr, value, p)))
     where
-      by : (b : Bool) → contains_key mid (attr, value, p) ≡ b → contains_key mid (attr, value, p) ≡ false
-      by true t = absurd (false≢true (sym (gone value t) ∙ sym h ∙ fewer.fewer value t))
-      by false f = f
+      by : (is_row mid (attr, value, p) ≡ true) ⊎ (is_row mid (attr, value, p) ≡ false) → times_at mid (attr, value, p) ≡ 0
+      by (inl t) =
+          let none = no_row (times_after attr value said) (sym (has_by_times attr value said) ∙ gone value t) in
+          let le = fewer.fewer value in
+          omega (arith, none, le, h)
+      by (inr f) = no_row (times_at mid (attr, value, p)) f
+
+  abbrev this : Act → Change
+  this act = record { on = on; act = act; attr = attr; value = v }
+
+  last_is : (act : Act) (value : List ℕ) → times_after attr value (said ++ this act ∷ []) ≡ act_times act v value (times_after attr value said)
+  last_is act value = times-last attr value said (this act)
+      ∙ ap (λ b. cond b (act_times act v value (times_after attr value said)) (times_after attr value said)) (own_bytes attr)
+
+  -- a row that is there now was there before, or is that of the value itself
+  still : (value : List ℕ) → is_row mid (attr, value, p) ≡ true → is_row old (attr, value, p) ≡ true
+  still value t = row_less (times_at mid (attr, value, p)) (times_at old (attr, value, p)) (fewer.fewer value) t
 
   -- and one put again
-  pub set_alone : IsFollowed p (record { on = on; act = sets; attr = attr; value = v }) said old (insert mid (attr, v, p) tt)
+  pub set_alone : IsFollowed p (this sets) said old (with_times mid (attr, v, p) 1)
   set_alone = record {
-    others = λ name value q out. put_beside p attr v mid name value q out ∙ fewer.others name value q out;
-    own = λ value h. put_own p attr v mid value ∙ ap (λ b. bytes_eq value v || b) (nothing value h) ∙ sym (set_last attr value on v said);
-    given = λ value t. given_by value (or_cases (bytes_eq value v) (contains_key mid (attr, value, p)) (sym (put_own p attr v mid value) ∙ t));
+    others = λ name value q out. with_beside p attr v mid 1 name value q out ∙ fewer.others name value q out;
+    own = λ value h. with_own p attr v mid 1 value ∙ ap (λ n. cond (bytes_eq value v) 1 n) (nothing value h) ∙ sym (last_is sets value);
+    given = λ value t. by value (is_row mid (attr, value, p)) refl (with_given p attr v mid 1 value t);
   }
     where
-      given_by : (value : List ℕ) → (bytes_eq value v ≡ true) ⊎ (contains_key mid (attr, value, p) ≡ true)
-          → (contains_key old (attr, value, p) || (bytes_eq attr attr && bytes_eq value v)) ≡ true
-      given_by value (inl t) = or_right (contains_key old (attr, value, p)) _ (and_from (bytes_eq attr attr) (bytes_eq value v) (own_bytes attr) t)
-      given_by value (inr t) = or_left (contains_key old (attr, value, p)) _ (fewer.fewer value t)
+      by : (value : List ℕ) (b : Bool) → is_row mid (attr, value, p) ≡ b → (b || (bytes_eq attr attr && bytes_eq value v)) ≡ true
+          → (is_row old (attr, value, p) || (bytes_eq attr attr && bytes_eq value v)) ≡ true
+      by value true is t = or_left (is_row old (attr, value, p)) _ (still value is)
+      by value false is t = ap (λ b. is_row old (attr, value, p) || b) t ∙ or_true (is_row old (attr, value, p))
+        where
+          or_true : (b : Bool) → (b || true) ≡ true
+          or_true true = refl
+          or_true false = refl
 
-  pub all_removed : (length v == 0) ≡ true → IsFollowed p (record { on = on; act = removes; attr = attr; value = v }) said old mid
+  pub all_removed : (length v == 0) ≡ true → IsFollowed p (this removes) said old mid
   all_removed none = record {
     others = fewer.others;
-    own = λ value h. nothing value h ∙ sym (del_last attr value on attr v said
-        ∙ (λ i. has_after attr value said && not (own_bytes attr i && (none i || bytes_eq value v))) ∙ and-false (has_after attr value said));
-    given = λ value t. or_left (contains_key old (attr, value, p)) _ (fewer.fewer value t);
+    own = λ value h. nothing value h ∙ sym (last_is removes value
+        ∙ ap (λ b. cond b 0 (cond (bytes_eq value v) 0 (times_after attr value said))) none);
+    given = λ value t. or_left (is_row old (attr, value, p)) _ (still value t);
   }
 
 -- the tables where only the rows of holders may have changed

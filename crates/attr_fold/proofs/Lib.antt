@@ -15,3 +15,7 @@ pub mod Deciding
 pub mod Behind
 pub mod Taking
 pub mod Among
+pub mod Times
+pub mod HeldTimes
+pub mod Adding
+pub mod Flipped

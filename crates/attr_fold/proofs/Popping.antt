@@ -10,7 +10,7 @@ use Rattle.index_rows.proofs.Orders.{holder_same}
 use Rattle.attr_fold.specs.Turns.{ValueTurns}
 
 abbrev pub Entry : Type 0
-Entry = HolderKey × ℕ
+Entry = HolderKey × (ℕ × ℕ)
 
 module _ (es fs : List Entry) (m : ValueTurns) (is : from_entries es ≡ m) where
   pub pop_held : (o : Option Entry) → IfSome o (λ e. lookup (is_at (holder_cmp e.0)) es ≡ Some e.1)

@@ -1,12 +1,12 @@
 -- The turns behind the moments of a permanode tell what it holds.
-use Rattle.std.proofs.Common.{◌≡◌, ◌<◌, ◌+◌, ℕ, zero, suc, Bool, true, false, not, ◌&&◌, ◌||◌, cond, List, [], ◌∷◌, ◌++◌, map, filter, take, length, Option, Some, None, refl, sym, ap, subst, ◌∙◌, ◌⊎◌, inl, inr, is_some, get_or, option_map, arith, add-one}
+use Rattle.std.proofs.Common.{◌≡◌, ◌<◌, ◌+◌, ℕ, zero, suc, Bool, true, false, not, ◌&&◌, ◌||◌, cond, List, [], ◌∷◌, ◌++◌, map, filter, take, length, Option, Some, None, refl, sym, ap, subst, ◌∙◌, ◌⊎◌, inl, inr, is_some, get_or, nat_lt, option_map, unwrap_or, arith, add-one}
 use Rattle.std.proofs.lemmas.Bool.{false≢true, cond-true, cond-false, cases_Bool, and_parts}
 use Rattle.std.proofs.lemmas.List.Elements.{filter_map-append}
 use Rattle.std.proofs.lemmas.Option.{same_Some}
 use Rattle.std.proofs.lemmas.Slice.Eq.{bytes_eq-Decides}
 use Rattle.std.specs.List.{list_any, filter_map, cons_option, AllByRecursion}
 use Rattle.std.specs.Str.{bytes_eq}
-use Rattle.std.specs.FinMap.{contains_key}
+use Rattle.std.specs.FinMap.{get, contains_key}
 use Rattle.schema_date.specs.declared.date.When.TheVariants.{Always}
 use Rattle.claim_model.specs.Facts.{Facts, passes}
 use Rattle.schema_fact.specs.declared.changes.Change.{Change}
@@ -16,12 +16,16 @@ use Rattle.claim_model.proofs.Changes.{held_is_given}
 use Rattle.index_look.proofs.Texts.{take_one}
 use Rattle.index_rows.specs.Changes.{Changes, changes_after}
 use Rattle.index_rows.specs.Deletes.{Deletes, row_deleted}
-use Rattle.index_rows.specs.Holders.{Holders, is_given, row_holds, says_permanode, IsHeldBut}
+use Rattle.index_rows.specs.Holders.{Holders, is_given, row_holds, says_permanode, times_at, AllCounted, IsHeldBut}
+use Rattle.index_rows.specs.Pairs.{number}
+use Rattle.index_rows.proofs.HolderTimes.{row_by_number}
 use Rattle.index_rows.specs.States.{States}
 use Rattle.index_rows.specs.Values.{change_at, moment_counts, row_values, IsChange, IsListed}
 use Rattle.attr_fold.specs.declared.turns.Turns.{Turns}
 use Rattle.attr_fold.specs.Refolded.{IsHeldSomehow}
-use Rattle.attr_fold.specs.Turns.{all_moments, change_noted, is_there, moment_noted, standing, told, told_at, Tells}
+use Rattle.attr_fold.specs.Times.{times_after}
+use Rattle.attr_fold.specs.Turns.{all_moments, change_noted, moment_noted, standing, times_there, told, told_at, Tells}
+use Rattle.attr_fold.proofs.HeldTimes.{held_by_times, holds_is, no_row, number_by_times, row_times, times_held}
 use Rattle.attr_fold.proofs.Noting.{tells_more}
 use Rattle.attr_fold.proofs.Walking.{Row, all_stand, change_is}
 
@@ -128,6 +132,10 @@ module _ (facts : Facts) (deletes : Deletes) where
     has_is name value =
         ap (λ ds. list_any (bytes_eq value) (values_after name ds)) (counting_told (all_moments changes p))
 
+    times_are : (name value : List ℕ) → times_after name value (counting cs)
+        ≡ number (bytes_eq value) (row_values facts deletes changes Always p name)
+    times_are name value = ap (λ ds. times_after name value ds) (counting_told (all_moments changes p))
+
     given_is : (name value : List ℕ)
         → is_given facts changes name value p ≡ list_any (λ (c : Change × Bool). gives name value c.0) cs
     given_is name value = given_told name value (changes_after changes p None)
@@ -154,12 +162,34 @@ module _ (facts : Facts) (deletes : Deletes) where
           (list_any (bytes_eq value) (row_values facts deletes changes Always p name)) h in
           has_given name value first.1
 
+      abbrev times : List ℕ → List ℕ → ℕ
+      times name value = row_times facts state deletes changes name value p
+
+      holds_by_times : (name value : List ℕ) → holds name value ≡ nat_lt 0 (times name value)
+      holds_by_times name value = holds_is facts state deletes changes name value p
+
       module _ (before : Holders) (somehow : IsHeldSomehow facts state deletes changes before) where
+        -- a value that can't be there has no row, and isn't held
+        none_there : (name value : List ℕ) → (contains_key before (name, value, p) ≡ true → ⊥)
+            → times_at before (name, value, p) ≡ 0
+        none_there name value never = by (get before (name, value, p)) never
+          where
+            by : (o : Option ℕ) → (is_some o ≡ true → ⊥) → unwrap_or o 0 ≡ 0
+            by None h = refl
+            by (Some n) h = absurd (h refl)
+
+        none_held : (name value : List ℕ) → (holds name value ≡ true → ⊥) → times name value ≡ 0
+        none_held name value never = elim (cases_Bool (nat_lt 0 (times name value))) [
+          | inl t ↦ absurd (never (holds_by_times name value ∙ t))
+          | inr f ↦ no_row (times name value) f
+        ]
+
         -- p is no genuine permanode
         pub own_none : None ≡ standing facts state deletes p → (name value : List ℕ)
-            → contains_key before (name, value, p) ≡ holds name value
-        own_none none name value = by (contains_key before (name, value, p)) refl
-            ∙ sym (by_holds (holds name value) refl)
+            → times_at before (name, value, p) ≡ times name value
+        own_none none name value =
+            none_there name value (λ t. unsaid (somehow.1.permanode name value p t))
+            ∙ sym (none_held name value (λ t. unsaid (holds_says name value t)))
           where
             unsaid : says_permanode facts state p ≡ true → ⊥
             unsaid says =
@@ -167,22 +197,14 @@ module _ (facts : Facts) (deletes : Deletes) where
                 (ap is_some none
                 ∙ ap (λ b. is_some (cond b (Some (not (row_deleted facts deletes Always p))) None)) says)
 
-            by : (b : Bool) → contains_key before (name, value, p) ≡ b → contains_key before (name, value, p) ≡ false
-            by true t = absurd (unsaid (somehow.1.permanode name value p t))
-            by false f = f
-
-            by_holds : (b : Bool) → holds name value ≡ b → holds name value ≡ false
-            by_holds true t = absurd (unsaid (holds_says name value t))
-            by_holds false f = f
-
         -- each value that the turns know was written, and no other is held
         pub own_written : (stood : Bool) → Some stood ≡ standing facts state deletes p → (turns : Turns) (n : ℕ)
             → Tells p cs turns n → (now : Holders)
             → ((name value : List ℕ)
-            → contains_key now (name, value, p)
+            → times_at now (name, value, p)
             ≡ cond (contains_key turns.given (name, value, p))
-            (stood && is_there turns.given turns.emptied (name, value, p)) (contains_key before (name, value, p)))
-            → (name value : List ℕ) → contains_key now (name, value, p) ≡ holds name value
+            (cond stood (times_there turns.given turns.emptied (name, value, p)) 0) (times_at before (name, value, p)))
+            → (name value : List ℕ) → times_at now (name, value, p) ≡ times name value
         own_written stood found turns n tells now written name value =
             written name value ∙ by (cases_Bool (contains_key turns.given (name, value, p)))
           where
@@ -197,66 +219,69 @@ module _ (facts : Facts) (deletes : Deletes) where
             unheld : contains_key turns.given (name, value, p) ≡ false → is_given facts changes name value p ≡ true → ⊥
             unheld unknown given = false≢true (sym unknown ∙ tells.known name value (sym (given_is name value) ∙ given))
 
-            no_row : contains_key turns.given (name, value, p) ≡ false → (b : Bool)
-                → contains_key before (name, value, p) ≡ b → contains_key before (name, value, p) ≡ false
-            no_row unknown true t = absurd (unheld unknown (somehow.1.given name value p t))
-            no_row unknown false f = f
-
-            not_held : contains_key turns.given (name, value, p) ≡ false → (b : Bool) → holds name value ≡ b
-                → holds name value ≡ false
-            not_held unknown true t = absurd (unheld unknown (holds_given name value t))
-            not_held unknown false f = f
-
             by : (contains_key turns.given (name, value, p) ≡ true) ⊎
                 (contains_key turns.given (name, value, p) ≡ false)
                 → cond (contains_key turns.given (name, value, p))
-                (stood && is_there turns.given turns.emptied (name, value, p))
-                (contains_key before (name, value, p)) ≡ holds name value
+                (cond stood (times_there turns.given turns.emptied (name, value, p)) 0)
+                (times_at before (name, value, p)) ≡ times name value
             by (inl t) =
                 cond-true (contains_key turns.given (name, value, p)) _ _ t
-                ∙ (λ i. both.1 i && (tells.there name value ∙ has_is name value) i)
-                ∙ ap (λ b. (b && not (row_deleted facts deletes Always p)) && list_any (bytes_eq value)
-                (row_values facts deletes changes Always p name)) (sym both.0)
+                ∙ (λ i. cond (both.1 i) ((tells.there name value ∙ times_are name value) i) 0)
+                ∙ ap (λ b. cond (b && not (row_deleted facts deletes Always p)) (number (bytes_eq value)
+                (row_values facts deletes changes Always p name)) 0) (sym both.0)
             by (inr f) =
                 cond-false (contains_key turns.given (name, value, p)) _ _ f
-                ∙ no_row f (contains_key before (name, value, p)) refl ∙ sym (not_held f (holds name value) refl)
+                ∙ none_there name value (λ t. unheld f (somehow.1.given name value p t))
+                ∙ sym (none_held name value (λ t. unheld f (holds_given name value t)))
 
         -- and so p needs no exception any more
-        pub held_after : (now : Holders)
-            → ((name value q : List ℕ) → bytes_eq q p ≡ false
-            → contains_key now (name, value, q) ≡ contains_key before (name, value, q))
-            → ((name value : List ℕ) → contains_key now (name, value, p) ≡ holds name value)
-            → (but : List (List ℕ)) → IsHeldBut (p ∷ but) facts state deletes changes before
-            → IsHeldBut but facts state deletes changes now
-        held_after now others own but was = record {
-          held = λ name value q h. at name value q h (cases_Bool (bytes_eq q p));
-          permanode = λ name value q h. says name value q h (cases_Bool (bytes_eq q p));
-          given = λ name value q h. given name value q h (cases_Bool (bytes_eq q p));
-        }
-          where
-            at : (name value q : List ℕ) → list_any (bytes_eq q) but ≡ false
-                → (bytes_eq q p ≡ true) ⊎ (bytes_eq q p ≡ false)
-                → contains_key now (name, value, q) ≡ row_holds facts state deletes changes name value q
-            at name value q h (inl t) =
-                subst (λ r. contains_key now (name, value, r) ≡ row_holds facts state deletes changes name value r)
-                (sym ((bytes_eq-Decides q p).0 t)) (own name value)
-            at name value q h (inr f) = others name value q f
-                ∙ was.held name value q (ap (λ b. b || list_any (bytes_eq q) but) f ∙ h)
+        module _ (now : Holders) (counted : AllCounted before) (counted_now : AllCounted now)
+            (others : (name value q : List ℕ) → bytes_eq q p ≡ false
+            → times_at now (name, value, q) ≡ times_at before (name, value, q)) where
+          pub others_stay : (name value q : List ℕ) → bytes_eq q p ≡ false
+              → contains_key now (name, value, q) ≡ contains_key before (name, value, q)
+          others_stay name value q f = row_by_number now counted_now (name, value, q)
+              ∙ ap (nat_lt 0) (others name value q f) ∙ sym (row_by_number before counted (name, value, q))
 
-            says : (name value q : List ℕ) → contains_key now (name, value, q) ≡ true
-                → (bytes_eq q p ≡ true) ⊎ (bytes_eq q p ≡ false) → says_permanode facts state q ≡ true
-            says name value q h (inl t) =
-                let same : q ≡ p = (bytes_eq-Decides q p).0 t in
-                ap (says_permanode facts state) same
-                ∙ holds_says name value
-                (sym (own name value) ∙ ap (λ r. contains_key now (name, value, r)) (sym same) ∙ h)
-            says name value q h (inr f) = was.permanode name value q (sym (others name value q f) ∙ h)
+          module _ (own : (name value : List ℕ) → times_at now (name, value, p) ≡ times name value) where
+            pub own_held : (name value : List ℕ) → contains_key now (name, value, p) ≡ holds name value
+            own_held name value = held_by_times facts state deletes changes name value p now counted_now (own name value)
 
-            given : (name value q : List ℕ) → contains_key now (name, value, q) ≡ true
-                → (bytes_eq q p ≡ true) ⊎ (bytes_eq q p ≡ false) → is_given facts changes name value q ≡ true
-            given name value q h (inl t) =
-                let same : q ≡ p = (bytes_eq-Decides q p).0 t in
-                ap (is_given facts changes name value) same
-                ∙ holds_given name value
-                (sym (own name value) ∙ ap (λ r. contains_key now (name, value, r)) (sym same) ∙ h)
-            given name value q h (inr f) = was.given name value q (sym (others name value q f) ∙ h)
+            pub held_after : (but : List (List ℕ)) → IsHeldBut (p ∷ but) facts state deletes changes before
+                → IsHeldBut but facts state deletes changes now
+            held_after but was = record {
+              held = λ name value q h. held_by_times facts state deletes changes name value q now counted_now
+                  (right name value q h (cases_Bool (bytes_eq q p)));
+              times = λ name value q n h e. number_by_times facts state deletes changes name value q now counted_now
+                  (right name value q h (cases_Bool (bytes_eq q p))) n e;
+              permanode = λ name value q h. says name value q h (cases_Bool (bytes_eq q p));
+              given = λ name value q h. given name value q h (cases_Bool (bytes_eq q p));
+            }
+              where
+                right : (name value q : List ℕ) → list_any (bytes_eq q) but ≡ false
+                    → (bytes_eq q p ≡ true) ⊎ (bytes_eq q p ≡ false)
+                    → times_at now (name, value, q) ≡ row_times facts state deletes changes name value q
+                right name value q h (inl t) =
+                    subst (λ r. times_at now (name, value, r) ≡ row_times facts state deletes changes name value r)
+                    (sym ((bytes_eq-Decides q p).0 t)) (own name value)
+                right name value q h (inr f) = others name value q f
+                    ∙ times_held facts state deletes changes name value q before (p ∷ but) was
+                    (ap (λ b. b || list_any (bytes_eq q) but) f ∙ h)
+
+                says : (name value q : List ℕ) → contains_key now (name, value, q) ≡ true
+                    → (bytes_eq q p ≡ true) ⊎ (bytes_eq q p ≡ false) → says_permanode facts state q ≡ true
+                says name value q h (inl t) =
+                    let same : q ≡ p = (bytes_eq-Decides q p).0 t in
+                    ap (says_permanode facts state) same
+                    ∙ holds_says name value
+                    (sym (own_held name value) ∙ ap (λ r. contains_key now (name, value, r)) (sym same) ∙ h)
+                says name value q h (inr f) = was.permanode name value q (sym (others_stay name value q f) ∙ h)
+
+                given : (name value q : List ℕ) → contains_key now (name, value, q) ≡ true
+                    → (bytes_eq q p ≡ true) ⊎ (bytes_eq q p ≡ false) → is_given facts changes name value q ≡ true
+                given name value q h (inl t) =
+                    let same : q ≡ p = (bytes_eq-Decides q p).0 t in
+                    ap (is_given facts changes name value) same
+                    ∙ holds_given name value
+                    (sym (own_held name value) ∙ ap (λ r. contains_key now (name, value, r)) (sym same) ∙ h)
+                given name value q h (inr f) = was.given name value q (sym (others_stay name value q f) ∙ h)

@@ -17,7 +17,7 @@ use Rattle.index_rows.specs.Values.{change_at}
 use Rattle.index_rows.specs.Pairs.{number}
 use Rattle.index_rows.proofs.Orders.{holder_same}
 use Rattle.index_rows.proofs.Counting.{number_whole, number-remove}
-use Rattle.attr_fold.specs.Turns.{ValueTurns, known, noted, change_noted, moment_noted, all_moments, standing}
+use Rattle.attr_fold.specs.Turns.{ValueTurns, known, times_there, noted, change_noted, moment_noted, all_moments, standing}
 use Rattle.attr_fold.specs.Refolded.{refold_steps}
 use Rattle.attr_fold.specs.declared.turns.Turns.{Turns}
 
@@ -27,7 +27,7 @@ size m = number (λ e. true) (entries m)
 size_is : (m : ValueTurns) → size m ≡ len m
 size_is m = number_whole (entries m) ∙ sym (len-entries m)
 
-size_insert : (m : ValueTurns) (k : HolderKey) (n : ℕ) → size (insert m k n) ≤ size m + 1
+size_insert : (m : ValueTurns) (k : HolderKey) (n : ℕ × ℕ) → size (insert m k n) ≤ size m + 1
 size_insert m k n =
     let a = size_is m in
     let b = size_is (insert m k n) in
@@ -42,22 +42,23 @@ size_insert m k n =
 size_known : (m : ValueTurns) (k : HolderKey) → size (known m k) ≤ size m + 1
 size_known m k = by (contains_key m k)
   where
-    by : (h : Bool) → size (cond h m (insert m k 0)) ≤ size m + 1
+    by : (h : Bool) → size (cond h m (insert m k (0, 0))) ≤ size m + 1
     by true = omega arith
-    by false = size_insert m k 0
+    by false = size_insert m k (0, 0)
 
 size_noted : (turns : Turns) (act : Act) (counts : Bool) (k : HolderKey) (n : ℕ)
     → size (noted turns act counts k n).given ≤ size turns.given + 1
-size_noted turns sets true k n = size_insert turns.given k (suc n)
+size_noted turns sets true k n = size_insert turns.given k (suc n, 1)
 size_noted turns sets false k n = size_known turns.given k
-size_noted turns adds true k n = size_insert turns.given k (suc n)
+size_noted turns adds true k n =
+    size_insert turns.given k (suc n, suc (times_there turns.given turns.emptied k))
 size_noted turns adds false k n = size_known turns.given k
 size_noted turns removes true k n = by (length k.1 == 0)
   where
     by : (h : Bool) → size (cond {A = Turns} h (record { given = turns.given; emptied = insert turns.emptied k.0 n })
-        (record { given = insert turns.given k 0; emptied = turns.emptied })).given ≤ size turns.given + 1
+        (record { given = insert turns.given k (0, 0); emptied = turns.emptied })).given ≤ size turns.given + 1
     by true = omega arith
-    by false = size_insert turns.given k 0
+    by false = size_insert turns.given k (0, 0)
 size_noted turns removes false k n = omega arith
 
 size_change : (turns : Turns) (p : List ℕ) (change : Option Change) (counts : Bool) (n : ℕ)
@@ -77,12 +78,12 @@ size_more facts deletes p turns turns' k n is le =
 pub size_none : (m : ValueTurns) → m ≡ empty → size m ≤ 0
 size_none m is =
     let a = size_is m in
-    let b : len m ≡ len (empty {X = ℕ} {R = holder_cmp}) = ap len is in
-    let c = len-empty holder_cmp ℕ in
+    let b : len m ≡ len (empty {X = ℕ × ℕ} {R = holder_cmp}) = ap len is in
+    let c = len-empty holder_cmp (ℕ × ℕ) in
     omega (arith, a, b, c)
 
-pub size_less : (m m' : ValueTurns) (k : HolderKey) (n : ℕ) → get m k ≡ Some n → m' ≡ remove m k → size m ≡ 1 + size m'
-size_less m m' k n found taken = number-remove holder_total holder_same (λ (e : HolderKey × ℕ). true) m k n found
+pub size_less : (m m' : ValueTurns) (k : HolderKey) (n : ℕ × ℕ) → get m k ≡ Some n → m' ≡ remove m k → size m ≡ 1 + size m'
+size_less m m' k n found taken = number-remove holder_total holder_same (λ (e : HolderKey × (ℕ × ℕ)). true) m k n found
     ∙ ap (λ z. 1 + size z) (sym taken)
 
 -- the walk over the changes

@@ -1,5 +1,5 @@
 -- Rows written one after another.
-use Rattle.std.proofs.Common.{◌≡◌, ℕ, ◌<◌, Bool, true, false, not, ◌&&◌, ◌||◌, cond, List, None, Some, refl, sym, ap, ◌∙◌, is_some, unwrap_or, nat_lt, arith, ◌⊎◌, inl, inr}
+use Rattle.std.proofs.Common.{◌≡◌, ℕ, ◌<◌, Bool, true, false, not, ◌&&◌, cond, List, None, Some, refl, sym, ap, ◌∙◌, is_some, unwrap_or, arith, ◌⊎◌, inl, inr}
 use Rattle.std.proofs.Math.Bool.{and-true}
 use Rattle.std.proofs.lemmas.Bool.{cond-true, false≢true, cases_Bool}
 use Rattle.std.proofs.lemmas.Slice.Eq.{bytes_eq-Decides}
@@ -8,22 +8,23 @@ use Rattle.std.specs.Ordering.{eq_by_cmp}
 use Rattle.std.specs.Cmp.{eq_by_cmp_equiv}
 use Rattle.std.specs.FinMap.{get, remove, entries, contains_key, get-remove}
 use Rattle.index_look.proofs.Order.{is_Equal}
-use Rattle.index_rows.specs.Holders.{HolderKey, Holders, holder_cmp, holder_total}
+use Rattle.index_rows.specs.Holders.{HolderKey, Holders, holder_cmp, holder_total, times_at, with_times}
 use Rattle.index_rows.specs.Pairs.{number}
-use Rattle.index_rows.proofs.Counting.{number-remove, contains-insert, contains-remove}
+use Rattle.index_rows.proofs.Counting.{number-remove, contains-remove}
+use Rattle.index_rows.proofs.HolderTimes.{times-with}
 use Rattle.index_rows.proofs.Orders.{holder_same}
 use Rattle.attr_fold.specs.declared.turns.Turns.{Turns}
-use Rattle.attr_fold.specs.Turns.{ValueTurns, turn_at, is_there, row_written}
+use Rattle.attr_fold.specs.Turns.{ValueTurns, times_by, times_there}
 
 -- what the loop keeps: of the rows before it those are written whose keys were taken out of the turns
 pub record IsWriting (p : List ℕ) (stands : Bool) (turns : Turns) (before : Holders) (rest : Turns) (holders : Holders)
     : Type 0 where
   pub others : (name value q : List ℕ) → bytes_eq q p ≡ false
-      → contains_key holders (name, value, q) ≡ contains_key before (name, value, q)
-  pub written : (name value : List ℕ) → contains_key holders (name, value, p)
+      → times_at holders (name, value, q) ≡ times_at before (name, value, q)
+  pub written : (name value : List ℕ) → times_at holders (name, value, p)
       ≡ cond (contains_key turns.given (name, value, p) && not (contains_key rest.given (name, value, p)))
-      (stands && is_there turns.given turns.emptied (name, value, p)) (contains_key before (name, value, p))
-  pub left : (k : HolderKey) (t : ℕ) → get rest.given k ≡ Some t → get turns.given k ≡ Some t
+      (cond stands (times_there turns.given turns.emptied (name, value, p)) 0) (times_at before (name, value, p))
+  pub left : (k : HolderKey) (t : ℕ × ℕ) → get rest.given k ≡ Some t → get turns.given k ≡ Some t
   pub emptied : rest.emptied ≡ turns.emptied
 
 module _ (p : List ℕ) (stands : Bool) (turns : Turns) (before : Holders) where
@@ -35,15 +36,15 @@ module _ (p : List ℕ) (stands : Bool) (turns : Turns) (before : Holders) where
     emptied = refl;
   }
     where
-      by : (b x y : Bool) → y ≡ cond (b && not b) x y
+      by : (b : Bool) (x y : ℕ) → y ≡ cond (b && not b) x y
       by true x y = refl
       by false x y = refl
 
   module _ (own : (k : HolderKey) → contains_key turns.given k ≡ true → k.2 ≡ p) (rest : Turns) (holders : Holders)
       (is : IsWriting p stands turns before rest holders) where
-    module _ (key : HolderKey) (turn : ℕ) (held : get rest.given key ≡ Some turn) where
-      abbrev there : Bool
-      there = stands && nat_lt (turn_at rest.emptied key.0) turn
+    module _ (key : HolderKey) (turn : ℕ × ℕ) (held : get rest.given key ≡ Some turn) where
+      abbrev there : ℕ
+      there = cond stands (times_by rest.emptied key.0 turn) 0
 
       in_turns : get turns.given key ≡ Some turn
       in_turns = is.left key turn held
@@ -51,37 +52,23 @@ module _ (p : List ℕ) (stands : Bool) (turns : Turns) (before : Holders) where
       of_p : key.2 ≡ p
       of_p = own key (ap is_some in_turns)
 
-      there_is : there ≡ (stands && is_there turns.given turns.emptied key)
-      there_is = λ i. stands && nat_lt (turn_at (is.emptied i) key.0) (unwrap_or (sym in_turns i) 0)
+      there_is : there ≡ cond stands (times_there turns.given turns.emptied key) 0
+      there_is = λ i. cond stands (times_by (is.emptied i) key.0 (unwrap_or (sym in_turns i) (0, 0))) 0
 
-      here : contains_key (row_written holders key there) key ≡ there
-      here = by there
-        where
-          itself : eq_by_cmp holder_cmp key key ≡ true
-          itself = (eq_by_cmp_equiv holder_total).refl key
-
-          by : (b : Bool) → contains_key (row_written holders key b) key ≡ b
-          by true = contains-insert holder_total holder_same holders key tt key
-              ∙ ap (λ x. x || contains_key holders key) itself
-          by false = contains-remove holder_total holder_same holders key key
-              ∙ ap (λ x. not x && contains_key holders key) itself
+      here : times_at (with_times holders key there) key ≡ there
+      here = times-with holders key there key
+          ∙ ap (λ b. cond b there (times_at holders key)) ((eq_by_cmp_equiv holder_total).refl key)
 
       beside : (q : HolderKey) → eq_by_cmp holder_cmp q key ≡ false
-          → contains_key (row_written holders key there) q ≡ contains_key holders q
-      beside q apart = by there
-        where
-          by : (b : Bool) → contains_key (row_written holders key b) q ≡ contains_key holders q
-          by true = contains-insert holder_total holder_same holders key tt q
-              ∙ ap (λ x. x || contains_key holders q) apart
-          by false = contains-remove holder_total holder_same holders key q
-              ∙ ap (λ x. not x && contains_key holders q) apart
+          → times_at (with_times holders key there) q ≡ times_at holders q
+      beside q apart = times-with holders key there q ∙ ap (λ b. cond b there (times_at holders q)) apart
 
       not_left : (q : HolderKey)
           → contains_key (remove rest.given key) q ≡ (not (eq_by_cmp holder_cmp q key) && contains_key rest.given q)
       not_left q = contains-remove holder_total holder_same rest.given key q
 
       others_on : (name value q : List ℕ) → bytes_eq q p ≡ false
-          → contains_key (row_written holders key there) (name, value, q) ≡ contains_key before (name, value, q)
+          → times_at (with_times holders key there) (name, value, q) ≡ times_at before (name, value, q)
       others_on name value q h = beside (name, value, q) (by (cases_Bool (eq_by_cmp holder_cmp (name, value, q) key)))
           ∙ is.others name value q h
         where
@@ -94,36 +81,36 @@ module _ (p : List ℕ) (stands : Bool) (turns : Turns) (before : Holders) where
               absurd (false≢true (sym h ∙ (bytes_eq-Decides q p).1 same))
           by (inr f) = f
 
-      written_on : (name value : List ℕ) → contains_key (row_written holders key there) (name, value, p)
+      written_on : (name value : List ℕ) → times_at (with_times holders key there) (name, value, p)
           ≡ cond (contains_key turns.given (name, value, p) && not
           (contains_key (remove rest.given key) (name, value, p)))
-          (stands && is_there turns.given turns.emptied (name, value, p)) (contains_key before (name, value, p))
+          (cond stands (times_there turns.given turns.emptied (name, value, p)) 0) (times_at before (name, value, p))
       written_on name value = by (cases_Bool (eq_by_cmp holder_cmp q key))
         where
           q : HolderKey
           q = (name, value, p)
 
           by : (eq_by_cmp holder_cmp q key ≡ true) ⊎ (eq_by_cmp holder_cmp q key ≡ false)
-              → contains_key (row_written holders key there) q
+              → times_at (with_times holders key there) q
               ≡ cond (contains_key turns.given q && not (contains_key (remove rest.given key) q))
-              (stands && is_there turns.given turns.emptied q) (contains_key before q)
+              (cond stands (times_there turns.given turns.emptied q) 0) (times_at before q)
           by (inl t) =
               let same : q ≡ key = holder_same q key (is_Equal (holder_cmp q key) t) in
               let known : contains_key turns.given q ≡ true = ap (contains_key turns.given) same
               ∙ ap is_some in_turns in
               let out : contains_key (remove rest.given key) q ≡ false = not_left q
               ∙ ap (λ x. not x && contains_key rest.given q) t in
-              ap (contains_key (row_written holders key there)) same ∙ here ∙ there_is
-              ∙ ap (λ k. stands && is_there turns.given turns.emptied k) (sym same)
+              ap (times_at (with_times holders key there)) same ∙ here ∙ there_is
+              ∙ ap (λ k. cond stands (times_there turns.given turns.emptied k) 0) (sym same)
               ∙ sym (cond-true (contains_key turns.given q && not (contains_key (remove rest.given key) q)) _ _
               (λ i. known i && not (out i)))
           by (inr f) =
               beside q f ∙ is.written name value
-              ∙ ap (λ x. cond (contains_key turns.given q && not x) (stands && is_there turns.given turns.emptied q)
-              (contains_key before q))
+              ∙ ap (λ x. cond (contains_key turns.given q && not x)
+              (cond stands (times_there turns.given turns.emptied q) 0) (times_at before q))
               (sym (not_left q ∙ ap (λ x. not x && contains_key rest.given q) f))
 
-      left_on : (k : HolderKey) (t : ℕ) → get (remove rest.given key) k ≡ Some t → get turns.given k ≡ Some t
+      left_on : (k : HolderKey) (t : ℕ × ℕ) → get (remove rest.given key) k ≡ Some t → get turns.given k ≡ Some t
       left_on k t h = is.left k t (by (eq_by_cmp holder_cmp k key) (sym (get-remove holder_total rest.given key k) ∙ h))
         where
           by : (b : Bool) → cond b None (get rest.given k) ≡ Some t → get rest.given k ≡ Some t
@@ -131,13 +118,13 @@ module _ (p : List ℕ) (stands : Bool) (turns : Turns) (before : Holders) where
           by false e = e
 
       pub writing_on : (given : ValueTurns) → given ≡ remove rest.given key → (now : Holders)
-          → now ≡ row_written holders key there
+          → now ≡ with_times holders key there
           → IsWriting p stands turns before (record { given = given; emptied = rest.emptied }) now
       writing_on given taken now put = record {
-        others = λ name value q h. ap (λ m. contains_key m (name, value, q)) put ∙ others_on name value q h;
-        written = λ name value. ap (λ m. contains_key m (name, value, p)) put ∙ written_on name value
+        others = λ name value q h. ap (λ m. times_at m (name, value, q)) put ∙ others_on name value q h;
+        written = λ name value. ap (λ m. times_at m (name, value, p)) put ∙ written_on name value
             ∙ ap (λ m. cond (contains_key turns.given (name, value, p) && not (contains_key m (name, value, p)))
-            (stands && is_there turns.given turns.emptied (name, value, p)) (contains_key before (name, value, p)))
+            (cond stands (times_there turns.given turns.emptied (name, value, p)) 0) (times_at before (name, value, p)))
             (sym taken);
         left = λ k t h. left_on k t (ap (λ m. get m k) (sym taken) ∙ h);
         emptied = is.emptied;
@@ -151,13 +138,13 @@ module _ (p : List ℕ) (stands : Bool) (turns : Turns) (before : Holders) where
           omega (arith, whole, now)
 
     pub writing_ends : ((k : HolderKey) → get rest.given k ≡ None) → (name value : List ℕ)
-        → contains_key holders (name, value, p)
+        → times_at holders (name, value, p)
         ≡ cond (contains_key turns.given (name, value, p))
-        (stands && is_there turns.given turns.emptied (name, value, p)) (contains_key before (name, value, p))
+        (cond stands (times_there turns.given turns.emptied (name, value, p)) 0) (times_at before (name, value, p))
     writing_ends none name value =
         is.written name value
         ∙ ap (λ o. cond (contains_key turns.given (name, value, p) && not (is_some o))
-        (stands && is_there turns.given turns.emptied (name, value, p)) (contains_key before (name, value, p)))
+        (cond stands (times_there turns.given turns.emptied (name, value, p)) 0) (times_at before (name, value, p)))
         (none (name, value, p))
-        ∙ ap (λ b. cond b (stands && is_there turns.given turns.emptied (name, value, p))
-        (contains_key before (name, value, p))) (and-true (contains_key turns.given (name, value, p)))
+        ∙ ap (λ b. cond b (cond stands (times_there turns.given turns.emptied (name, value, p)) 0)
+        (times_at before (name, value, p))) (and-true (contains_key turns.given (name, value, p)))

@@ -1,8 +1,9 @@
 -- The effect of one more change on the rows of a permanode.
-use Rattle.std.specs.Prelude.{◌≡◌, ℕ, ◌+◌, ◌*◌, ◌&&◌, ◌||◌, ◌==◌, Bool, true, false, not, List, [], ◌∷◌, ◌++◌, length}
-use Rattle.std.specs.Prelude.{map, filter, Some, None}
-use Rattle.std.specs.List.{filter_map}
+use Rattle.std.specs.Prelude.{◌≡◌, ◌≤◌, ℕ, ◌+◌, ◌*◌, ◌&&◌, ◌||◌, ◌==◌, Bool, true, false, not, List, [], ◌∷◌, ◌++◌, length}
+use Rattle.std.specs.Prelude.{map, filter, nat_lt, Option, Some, None, if◌then◌else◌}
+use Rattle.std.specs.List.{filter_map, list_any}
 use Rattle.std.specs.Str.{bytes_eq}
+use Rattle.std.specs.Ordering.{eq_by_cmp}
 use Rattle.std.specs.FinMap.{contains_key, insert}
 use Rattle.schema_date.specs.declared.date.When.TheVariants.{Always}
 use Rattle.schema_fact.specs.declared.changes.Act.{Act}
@@ -11,12 +12,13 @@ use Rattle.schema_fact.specs.declared.changes.Change.{Change}
 use Rattle.claim_model.specs.Facts.{Facts}
 use Rattle.claim_model.specs.Changes.{gives, has_after}
 use Rattle.claim_model.specs.Claims.{Moment}
-use Rattle.index_rows.specs.Changes.{Changes, changes_after, changes_before}
+use Rattle.index_rows.specs.Changes.{Changes, change_cmp, changes_after, changes_before}
 use Rattle.index_rows.specs.Deletes.{Deletes, row_deleted}
-use Rattle.index_rows.specs.Holders.{Holders, says_permanode}
+use Rattle.index_rows.specs.Holders.{HolderKey, Holders, says_permanode, times_at}
 use Rattle.index_rows.specs.Removals.{Removals, mark_of, removals_after}
 use Rattle.index_rows.specs.States.{States}
 use Rattle.index_rows.specs.Values.{change_at, moment_counts}
+use Rattle.attr_fold.specs.Times.{times_after, times_from}
 
 -- whether p is a permanode whose row says that it is genuine, and isn't deleted, by claims of every date
 abbrev pub holds_values : Facts → States → Deletes → List ℕ → Bool
@@ -58,23 +60,33 @@ is_addition removes = false
 abbrev pub takes : List ℕ → List ℕ → Change → Bool
 takes name value c = not (is_addition c.act) && decides false name value c
 
--- no rows were dropped but those of values of this attribute of p, and none was put
+-- how many times a value was added with these changes, if n times before them; `None` if one of them takes it away
+abbrev pub added_from : List ℕ → List ℕ → ℕ → List Change → Option ℕ
+added_from name value n said = if list_any (takes name value) said then None else Some (times_from name value n said)
+
+-- whether there is a row, by its number
+abbrev pub is_row : Holders → HolderKey → Bool
+is_row holders k = nat_lt 0 (times_at holders k)
+
+-- no row changed but those of values of this attribute of p
+abbrev pub AreOthers : List ℕ → List ℕ → Holders → Holders → Type 0
+AreOthers attr p before after = (name value q : List ℕ) → (bytes_eq name attr && bytes_eq q p) ≡ false
+    → times_at after (name, value, q) ≡ times_at before (name, value, q)
+
+-- no row changed but those of values of this attribute of p, and the numbers of these are no greater than before
 pub record AreFewer (attr p : List ℕ) (before after : Holders) : Type 0 where
-  pub others : (name value q : List ℕ) → (bytes_eq name attr && bytes_eq q p) ≡ false
-      → contains_key after (name, value, q) ≡ contains_key before (name, value, q)
-  pub fewer : (value : List ℕ) → contains_key after (attr, value, p) ≡ true
-      → contains_key before (attr, value, p) ≡ true
+  pub others : AreOthers attr p before after
+  pub fewer : (value : List ℕ) → times_at after (attr, value, p) ≤ times_at before (attr, value, p)
 
 -- each value with a row that is there after some changes was there before them; if these are all that matter, there is
 -- none
 abbrev pub IsTakenBack : List ℕ → List ℕ → List Change → Bool → Holders → Type 0
-IsTakenBack attr p said done holders = (value : List ℕ) (front : List Change)
-    → contains_key holders (attr, value, p) ≡ true
+IsTakenBack attr p said done holders = (value : List ℕ) (front : List Change) → is_row holders (attr, value, p) ≡ true
     → has_after attr value (front ++ said) ≡ true → (done ≡ false) × (has_after attr value front ≡ true)
 
 -- none of the rows is of a value that is there after these changes
 abbrev pub AreGone : List ℕ → List ℕ → List Change → Holders → Type 0
-AreGone attr p said holders = (value : List ℕ) → contains_key holders (attr, value, p) ≡ true
+AreGone attr p said holders = (value : List ℕ) → is_row holders (attr, value, p) ≡ true
     → has_after attr value said ≡ false
 
 -- these are the changes before, and that of p at the moment
@@ -82,24 +94,38 @@ pub record IsOneMore (before changes : Changes) (p : List ℕ) (k : Moment) : Ty
   pub fresh : contains_key before (p, k) ≡ false
   pub more : changes ≡ insert before (p, k) tt
 
--- the rows of p that were right after some changes are right after one more change, and no other row changed
-pub record IsFollowed (p : List ℕ) (c : Change) (said : List Change) (before after : Holders) : Type 0 where
-  pub others : (name value q : List ℕ) → (bytes_eq name c.attr && bytes_eq q p) ≡ false
-      → contains_key after (name, value, q) ≡ contains_key before (name, value, q)
-  pub own : (value : List ℕ) → contains_key before (c.attr, value, p) ≡ has_after c.attr value said
-      → contains_key after (c.attr, value, p) ≡ has_after c.attr value (said ++ c ∷ [])
-  pub given : (value : List ℕ) → contains_key after (c.attr, value, p) ≡ true
-      → (contains_key before (c.attr, value, p) || gives c.attr value c) ≡ true
+-- the rows of p that were right after the first of two lists of changes are right after the second one, which has this
+-- change more or less, and no row of another attribute or permanode changed
+pub record AreRight (p : List ℕ) (c : Change) (was now : List Change) (before after : Holders) : Type 0 where
+  pub others : AreOthers c.attr p before after
+  pub own : (value : List ℕ) → times_at before (c.attr, value, p) ≡ times_after c.attr value was
+      → times_at after (c.attr, value, p) ≡ times_after c.attr value now
+  pub given : (value : List ℕ) → is_row after (c.attr, value, p) ≡ true
+      → (is_row before (c.attr, value, p) || gives c.attr value c) ≡ true
 
--- the rows of p that were right without a change are right with it, between those before it and those after it, and no
--- other row changed
-pub record IsSettled (p : List ℕ) (c : Change) (front back : List Change) (before after : Holders) : Type 0 where
-  pub others : (name value q : List ℕ) → (bytes_eq name c.attr && bytes_eq q p) ≡ false
-      → contains_key after (name, value, q) ≡ contains_key before (name, value, q)
-  pub own : (value : List ℕ) → contains_key before (c.attr, value, p) ≡ has_after c.attr value (front ++ back)
-      → contains_key after (c.attr, value, p) ≡ has_after c.attr value (front ++ c ∷ back)
-  pub given : (value : List ℕ) → contains_key after (c.attr, value, p) ≡ true
-      → (contains_key before (c.attr, value, p) || gives c.attr value c) ≡ true
+-- they were right after some changes, and are right after one more change
+abbrev pub IsFollowed : List ℕ → Change → List Change → Holders → Holders → Type 0
+IsFollowed p c said before after = AreRight p c said (said ++ c ∷ []) before after
+
+-- they were right without a change, and are right with it, between those before it and those after it
+abbrev pub IsSettled : List ℕ → Change → List Change → List Change → Holders → Holders → Type 0
+IsSettled p c front back before after = AreRight p c (front ++ back) (front ++ c ∷ back) before after
+
+-- the same, or if the change is gone: right with it, and right without it
+abbrev pub IsTurned : Bool → List ℕ → Change → List Change → List Change → Holders → Holders → Type 0
+IsTurned true p c front back before after = AreRight p c (front ++ c ∷ back) (front ++ back) before after
+IsTurned false p c front back before after = IsSettled p c front back before after
+
+-- the claim of a moment was deleted by the earlier delete claims and isn't by the later ones, or the other way round; no
+-- deletion of another change's claim changed, and none of a permanode
+pub record IsFlipped (facts : Facts) (state : States) (changes : Changes) (before after : Deletes) (p : List ℕ)
+    (k : Moment) : Type 0 where
+  pub own : row_deleted facts before Always k.1 ≡ not (row_deleted facts after Always k.1)
+  pub others : (q : List ℕ) (j : Moment) → contains_key changes (q, j) ≡ true
+      → eq_by_cmp change_cmp (q, j) (p, k) ≡ false
+      → row_deleted facts before Always j.1 ≡ row_deleted facts after Always j.1
+  pub permanodes : (q : List ℕ) → says_permanode facts state q ≡ true
+      → row_deleted facts before Always q ≡ row_deleted facts after Always q
 
 -- three for each removal of p after a moment under the marks of an attribute alone, and of it with a value
 abbrev pub taking_steps : Removals → List ℕ → List ℕ → List ℕ → Moment → ℕ

@@ -1,4 +1,5 @@
 pub mod AttributeTurns
+pub mod Times
 pub mod Turns
 pub mod Refolded
 pub mod Following

@@ -1,5 +1,5 @@
 //! The rows of the values that a permanode has, after a new change that is later than all others.
-ghost use Rattle.std.specs.Prelude.{◌≡◌, ◌≤◌, ◌+◌, ◌*◌, ◌∷◌, [], ℕ, List, length, Some, true, false, IfOk, OnOk};
+ghost use Rattle.std.specs.Prelude.{◌≡◌, ◌≤◌, ◌+◌, ◌*◌, ◌∷◌, [], ℕ, List, length, Some, None, true, false, IfOk, OnOk};
 ghost use Rattle.std.specs.FinMap.{contains_key};
 ghost use Rattle.schema_fact.specs.declared.changes.Change.{Change};
 ghost use Rattle.schema_fact.specs.declared.changes.Act.TheVariants.{Set as sets, Add as adds, Del as removes};
@@ -8,8 +8,8 @@ ghost use Rattle.index_rows.specs.Counted.{IsCounted};
 ghost use Rattle.index_rows.specs.Holders.{IsHeldBut};
 ghost use Rattle.index_rows.specs.Removals.{AreRemovals};
 ghost use Rattle.index_rows.specs.Values.{change_at, IsChange, IsListed};
-ghost use Rattle.attr_fold.specs.Following.{counted, counted_before, follow_steps, holds_values, is_end, taking_steps};
-ghost use Rattle.attr_fold.specs.Following.{AreFewer, AreGone, IsFollowed, IsOneMore, IsTakenBack};
+ghost use Rattle.attr_fold.specs.Following.{counted, counted_after, counted_before, follow_steps, holds_values, is_end};
+ghost use Rattle.attr_fold.specs.Following.{taking_steps, AreFewer, AreGone, IsFollowed, IsOneMore, IsSettled, IsTakenBack};
 
 use crate::late::follow_late;
 use crate::refolding::standing;
@@ -37,7 +37,7 @@ use std::sync::ledger::Ledger;
 /// and for an addition also under that of its value, up to the first one that decides the effect of the change. The
 /// removal of a value that is there then walks over the later changes in the same way. This takes at most three for
 /// each. An addition therefore takes at most 8, and 3 for each such removal, and any other change at most 7 + 4 k if p
-/// has k changes. It takes memory for two keys.
+/// has k changes. It takes memory for two keys. `NoMemory` also comes if a value would be there 2^32 times.
 pub fn follow<L: Ledger>(
     alloc: Global,
     rows: &mut Rows,
@@ -66,12 +66,48 @@ pub fn follow<L: Ledger>(
     ensures added { (c : Change) → change_at rows.old.facts.ordered moment.now ≡ Some c → c.act ≡ adds
         → steps.new ≤ steps.old + 8 + taking_steps rows.old.removals p.now c.attr c.value moment.now }
 {
+    rows.holders.are_counted();
     if !holds_values(rows, p, steps) {
         return Ok(true);
     }
     if has_deleters(&rows.state, &moment.1, steps) {
         return Ok(true);
     }
+    let followed = follow_change(alloc, rows, p, moment, steps);
+    rows.holders.are_counted();
+    followed
+}
+
+// Writes the effect of the change of a moment, which counts.
+fn follow_change<L: Ledger>(
+    alloc: Global,
+    rows: &mut Rows,
+    p: &Ref,
+    moment: &Moment,
+    steps: &mut Steps<L>,
+) -> Result<bool, NoMemory>
+    requires counted { IsCounted rows.old.facts.ordered rows.old.deletes rows.old.state }
+    requires listed { IsListed rows.old.facts.ordered rows.old.state rows.old.changes }
+    requires taken { AreRemovals rows.old.facts.ordered rows.old.changes rows.old.removals }
+    ensures facts { rows.new.facts ≡ rows.old.facts }
+    ensures state { rows.new.state ≡ rows.old.state }
+    ensures waiters { rows.new.waiters ≡ rows.old.waiters }
+    ensures deletes { rows.new.deletes ≡ rows.old.deletes }
+    ensures changes { rows.new.changes ≡ rows.old.changes }
+    ensures removals { rows.new.removals ≡ rows.old.removals }
+    ensures settled { IfOk result (λ done. done ≡ true → (c : Change)
+        → change_at rows.old.facts.ordered moment.now ≡ Some c
+        → IsSettled p.now c
+        (counted_before rows.old.facts.ordered rows.old.deletes rows.old.changes p.now moment.now)
+        (counted_after rows.old.facts.ordered rows.old.deletes rows.old.changes p.now moment.now)
+        rows.old.holders rows.new.holders) }
+    ensures left { IfOk result (λ done. done ≡ false → rows.new.holders ≡ rows.old.holders) }
+    ensures ticks { steps.new ≤ steps.old + 4 + 4 * length (changes_after rows.old.changes p.now None) }
+    ensures done { (c : Change) → change_at rows.old.facts.ordered moment.now ≡ Some c → c.act ≡ adds
+        → IfOk result (λ done. done ≡ true) }
+    ensures added { (c : Change) → change_at rows.old.facts.ordered moment.now ≡ Some c → c.act ≡ adds
+        → steps.new ≤ steps.old + 5 + taking_steps rows.old.removals p.now c.attr c.value moment.now }
+{
     if is_last(&rows.changes, p, moment, steps) {
         return follow_last(alloc, rows, p, moment, steps);
     }
@@ -79,7 +115,7 @@ pub fn follow<L: Ledger>(
 }
 
 // Whether p is a genuine permanode that isn't deleted.
-fn holds_values<L: Ledger>(rows: &Rows, p: &Ref, steps: &mut Steps<L>) -> bool
+pub(crate) fn holds_values<L: Ledger>(rows: &Rows, p: &Ref, steps: &mut Steps<L>) -> bool
     requires { IsCounted rows.now.facts.ordered rows.now.deletes rows.now.state }
     ensures holds { result ≡ holds_values rows.now.facts.ordered rows.now.state rows.now.deletes p.now }
     ensures ticks { steps.new ≤ steps.old + 2 }
@@ -165,12 +201,12 @@ fn write_change<L: Ledger>(
 {
     match act {
         Act::Set => set_value(alloc, rows, moment, key, steps),
-        Act::Add => rows.holders.put(key, steps),
+        Act::Add => rows.holders.raise(key, steps),
         Act::Del => remove_value(alloc, rows, moment, &key, steps),
     }
 }
 
-// Leaves the row of one value only.
+// Leaves the row of one value only, with the number 1.
 fn set_value<L: Ledger>(
     alloc: Global,
     rows: &mut Rows,
@@ -193,7 +229,7 @@ fn set_value<L: Ledger>(
     ensures ticks { steps.new ≤ steps.old + 2 + 4 * length (changes_before rows.old.changes key.2 moment.now) }
 {
     drop_values(alloc, rows, moment, &key, steps)?;
-    rows.holders.put(key, steps)
+    rows.holders.set(key, 1, steps)
 }
 
 // Drops the row of a value that is removed; an empty value stands for all values.

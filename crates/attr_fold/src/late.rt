@@ -1,5 +1,6 @@
 //! The rows of the values that a permanode has, after a new change that is earlier than others.
-ghost use Rattle.std.specs.Prelude.{◌≡◌, ◌≤◌, ◌+◌, ◌*◌, ◌∷◌, [], ℕ, List, length, Some, true, false, IfOk, OnOk, not};
+ghost use Rattle.std.specs.Prelude.{◌≡◌, ◌≤◌, ◌+◌, ◌*◌, ◌∷◌, [], ℕ, List, length, Some, None, suc, true, false, IfOk, OnOk, not};
+ghost use Rattle.std.specs.Prelude.{if◌then◌else◌};
 ghost use Rattle.std.specs.List.{list_any};
 ghost use Rattle.schema_fact.specs.Changes.{change_seen};
 ghost use Rattle.schema_fact.specs.declared.changes.Act.TheVariants.{Add as adds, Del as removes};
@@ -8,14 +9,14 @@ ghost use Rattle.index_rows.specs.Changes.{changes_after};
 ghost use Rattle.index_rows.specs.Counted.{IsCounted};
 ghost use Rattle.index_rows.specs.Removals.{AreRemovals, removals_after};
 ghost use Rattle.index_rows.specs.Values.{change_at, IsChange, IsListed};
-ghost use Rattle.attr_fold.specs.Following.{counted, counted_after, counted_before, counted_under, decides};
-ghost use Rattle.attr_fold.specs.Following.{taking_steps, takes, IsSettled};
+ghost use Rattle.attr_fold.specs.Following.{added_from, counted, counted_after, counted_before, counted_under};
+ghost use Rattle.attr_fold.specs.Following.{decides, is_addition, taking_steps, takes, IsSettled};
 
 use crate::following::is_end;
 use blobref::{NoMemory, Ref};
 use edge_base::Steps;
 use index_look::claim::change_said;
-use index_rows::{HolderKey, Moment, Rows, has_deleters, mark_of};
+use index_rows::{HolderKey, Moment, Rows, has_deleters, mark_of, one_more};
 use schema_fact::{Act, ChangeView};
 use std::alloc::Global;
 use std::sync::ledger::Ledger;
@@ -95,11 +96,12 @@ fn write_late<L: Ledger>(
             add_late(rows, moment, key, steps)?;
             Ok(true)
         }
-        Act::Del => Ok(remove_late(rows, moment, &key, steps)),
+        Act::Del => remove_late(rows, moment, key, steps),
     }
 }
 
-// Puts the row of a value that is added, unless a later change that counts takes it away or sets the attribute to it.
+// Raises the number of a value that is added, unless a later change that counts takes it away or sets the attribute to
+// it.
 fn add_late<L: Ledger>(
     rows: &mut Rows,
     moment: &Moment,
@@ -127,17 +129,17 @@ fn add_late<L: Ledger>(
     if is_taken_after(rows, moment, &key, steps) {
         return Ok(());
     }
-    rows.holders.put(key, steps)
+    rows.holders.raise(key, steps)
 }
 
-// Drops the row of a value that is removed, unless a later change that counts decides whether it is there; an empty
-// value means all values. Returns whether it could.
+// Gives a value that is removed the number of later changes that count and add it, unless one that counts takes it away
+// or sets the attribute to it; an empty value means all values. Returns whether it could.
 fn remove_late<L: Ledger>(
     rows: &mut Rows,
     moment: &Moment,
-    key: &HolderKey,
+    key: HolderKey,
     steps: &mut Steps<L>,
-) -> bool
+) -> Result<bool, NoMemory>
     requires counted { IsCounted rows.old.facts.ordered rows.old.deletes rows.old.state }
     requires listed { IsListed rows.old.facts.ordered rows.old.state rows.old.changes }
     requires taken { AreRemovals rows.old.facts.ordered rows.old.changes rows.old.removals }
@@ -147,26 +149,26 @@ fn remove_late<L: Ledger>(
     ensures deletes { rows.new.deletes ≡ rows.old.deletes }
     ensures changes { rows.new.changes ≡ rows.old.changes }
     ensures removals { rows.new.removals ≡ rows.old.removals }
-    ensures settled { result ≡ true → (on : List ℕ)
-        → IsSettled key.now.2 (record { on = on; act = removes; attr = key.now.0; value = key.now.1 })
-        (counted_before rows.old.facts.ordered rows.old.deletes rows.old.changes key.now.2 moment.now)
-        (counted_after rows.old.facts.ordered rows.old.deletes rows.old.changes key.now.2 moment.now)
-        rows.old.holders rows.new.holders }
-    ensures left { result ≡ false → rows.new.holders ≡ rows.old.holders }
+    ensures settled { IfOk result (λ done. done ≡ true → (on : List ℕ)
+        → IsSettled key.2 (record { on = on; act = removes; attr = key.0; value = key.1 })
+        (counted_before rows.old.facts.ordered rows.old.deletes rows.old.changes key.2 moment.now)
+        (counted_after rows.old.facts.ordered rows.old.deletes rows.old.changes key.2 moment.now)
+        rows.old.holders rows.new.holders) }
+    ensures left { IfOk result (λ done. done ≡ false → rows.new.holders ≡ rows.old.holders) }
     ensures ticks { steps.new ≤ steps.old + 3
-        + 3 * length (changes_after rows.old.changes key.now.2 (Some moment.now)) }
+        + 3 * length (changes_after rows.old.changes key.2 (Some moment.now)) }
 {
     if key.value().is_empty() {
-        return is_emptied_after(rows, moment, key, steps);
+        return Ok(is_emptied_after(rows, moment, &key, steps));
     }
-    if !rows.holders.has(key, steps) {
-        return true;
+    if !rows.holders.has(&key, steps) {
+        return Ok(true);
     }
-    if is_decided_after(rows, moment, key, steps) {
-        return true;
+    match added_after(rows, moment, &key, steps)? {
+        Some(times) => rows.holders.set(key, times, steps)?,
+        None => {}
     }
-    rows.holders.drop_row(key, steps);
-    true
+    Ok(true)
 }
 
 // Whether a later change that counts leaves no value of the key's attribute that was there before it.
@@ -189,7 +191,7 @@ fn is_emptied_after<L: Ledger>(
 }
 
 // Whether a later change that counts takes the key's value away, or sets its attribute to it.
-fn is_taken_after<L: Ledger>(
+pub(crate) fn is_taken_after<L: Ledger>(
     rows: &Rows,
     moment: &Moment,
     key: &HolderKey,
@@ -244,28 +246,69 @@ fn is_decided_under<L: Ledger>(
     false
 }
 
-// Whether a later change that counts decides by itself whether the key's value is there.
-fn is_decided_after<L: Ledger>(
+// How many later changes that count add the key's value; `None` if one that counts takes it away or sets its attribute
+// to it.
+fn added_after<L: Ledger>(
     rows: &Rows,
     moment: &Moment,
     key: &HolderKey,
     steps: &mut Steps<L>,
-) -> bool
+) -> Result<Option<u32>, NoMemory>
     requires counted { IsCounted rows.now.facts.ordered rows.now.deletes rows.now.state }
     requires listed { IsListed rows.now.facts.ordered rows.now.state rows.now.changes }
-    ensures decided { result ≡ list_any (decides false key.now.0 key.now.1)
-        (counted_after rows.now.facts.ordered rows.now.deletes rows.now.changes key.now.2 moment.now) }
+    ensures added { IfOk result (λ times. times ≡ added_from key.now.0 key.now.1 0
+        (counted_after rows.now.facts.ordered rows.now.deletes rows.now.changes key.now.2 moment.now)) }
     ensures ticks { steps.new ≤ steps.old + 1
         + 3 * length (changes_after rows.now.changes key.now.2 (Some moment.now)) }
 {
+    let mut times = 0;
     let mut at = *moment;
     'walk: while let Some(next) = rows.changes.next_of(key.permanode(), Some(&at), steps) {
-        if is_decided_by(rows, &next, key, false, steps) {
-            return true;
+        match added_by(rows, &next, key, times, steps)? {
+            Some(more) => times = more,
+            None => return Ok(None),
         }
         at = next;
     }
-    false
+    Ok(Some(times))
+}
+
+// How many times the key's value is added, with the change of a moment if that counts, after it was added `times` times
+// before; `None` if this change takes it away or sets its attribute to it.
+fn added_by<L: Ledger>(
+    rows: &Rows,
+    moment: &Moment,
+    key: &HolderKey,
+    times: u32,
+    steps: &mut Steps<L>,
+) -> Result<Option<u32>, NoMemory>
+    requires counted { IsCounted rows.now.facts.ordered rows.now.deletes rows.now.state }
+    requires change { IsChange rows.now.facts.ordered rows.now.state key.now.2 moment.now }
+    ensures added { IfOk result (λ more. more ≡ added_from key.now.0 key.now.1 times
+        (counted rows.now.facts.ordered rows.now.deletes (moment.now ∷ []))) }
+    ensures ticks { steps.new ≤ steps.old + 2 }
+{
+    let Some(change) = change_said(&rows.facts.ordered, &moment.1, moment.2 as usize, steps) else {
+        return Ok(Some(times));
+    };
+    if !decides(&change, key, false) {
+        return Ok(Some(times));
+    }
+    if has_deleters(&rows.state, &moment.1, steps) {
+        return Ok(Some(times));
+    }
+    added_once(change.act, times)
+}
+
+// The same with a change of this kind that decides by itself whether the value is there.
+fn added_once(act: Act, times: u32) -> Result<Option<u32>, NoMemory>
+    ensures { IfOk result (λ more. more ≡ (if is_addition act then Some (suc times) else None)) }
+{
+    match act {
+        Act::Set => Ok(None),
+        Act::Add => Ok(Some(one_more(times)?)),
+        Act::Del => Ok(None),
+    }
 }
 
 // Whether the change of a moment counts, and decides that.

@@ -6,14 +6,14 @@ ghost use Rattle.index_rows.specs.Pairs.{number};
 ghost use Rattle.std.specs.Str.{bytes_eq};
 ghost use Rattle.index_rows.specs.Changes.{changes_after};
 ghost use Rattle.index_rows.specs.Counted.{IsCounted};
-ghost use Rattle.index_rows.specs.Holders.{row_holds, HolderKey as Seen, IsHeldBut};
+ghost use Rattle.index_rows.specs.Holders.{row_holds, times_at, with_times, HolderKey as Seen, IsHeldBut};
 ghost use Rattle.index_rows.specs.Values.{IsChange, IsListed};
 ghost use Rattle.attr_fold.specs.Refolded.{refold_steps, IsHeldSomehow};
-ghost use Rattle.attr_fold.specs.Turns.{all_moments, is_there, moment_noted, row_written, standing, told, turn_at};
+ghost use Rattle.attr_fold.specs.Turns.{all_moments, moment_noted, standing, times_by, times_there, told};
 ghost use Rattle.attr_fold.specs.Turns.{Tells};
 
 use crate::attribute_turns::AttributeTurns;
-use crate::turns::Turns;
+use crate::turns::{Turns, times_by};
 use blobref::{NoMemory, Ref};
 use edge_base::Steps;
 use index_look::claim::{change_said, is_permanode_at};
@@ -30,7 +30,7 @@ use std::sync::ledger::Ledger;
 ///
 /// It walks over the changes of the permanode once: if there are k, it takes at most 3 + 4 k look-ups, steps and
 /// changes, and time in k log k. For a ref that isn't a genuine permanode it takes at most 2 look-ups. It takes memory
-/// for the moments of these changes and for their values.
+/// for the moments of these changes and for their values. `NoMemory` also comes if a value would be there 2^32 times.
 pub fn refold<L: Ledger>(
     alloc: Global,
     rows: &mut Rows,
@@ -57,11 +57,14 @@ pub fn refold<L: Ledger>(
         → IsHeldBut but rows.old.facts.ordered rows.old.state rows.old.deletes rows.old.changes rows.new.holders) }
     ensures ticks { steps.new ≤ steps.old + refold_steps rows.old.facts.ordered rows.old.state rows.old.changes p.now }
 {
+    rows.holders.are_counted();
     let Some(stands) = standing(rows, p, steps) else {
         return Ok(());
     };
     let turns = turns_of(alloc, rows, p, steps)?;
-    write_rows(&mut rows.holders, turns, p, stands, steps)
+    let written = write_rows(&mut rows.holders, turns, p, stands, steps);
+    rows.holders.are_counted();
+    written
 }
 
 // Whether p isn't deleted, if it is a genuine permanode; `None` if it isn't one.
@@ -153,8 +156,8 @@ fn note_moment<L: Ledger>(
     turns.note(alloc, p, change, counts, n)
 }
 
-// Puts the row of each value that is there, and drops that of each other one that was ever given. None is there if p is
-// deleted.
+// Puts the row of each value that is there, with its number, and drops that of each other one that was ever given. None
+// is there if p is deleted.
 fn write_rows<L: Ledger>(
     holders: &mut HolderRows,
     mut turns: Turns,
@@ -164,11 +167,11 @@ fn write_rows<L: Ledger>(
 ) -> Result<(), NoMemory>
     requires { (k : Seen) → contains_key turns.given k ≡ true → k.2 ≡ p.now }
     ensures others { (name value q : List ℕ) → bytes_eq q p.now ≡ false
-        → contains_key holders.new (name, value, q) ≡ contains_key holders.old (name, value, q) }
-    ensures written { OnOk result ((name value : List ℕ) → contains_key holders.new (name, value, p.now)
+        → times_at holders.new (name, value, q) ≡ times_at holders.old (name, value, q) }
+    ensures written { OnOk result ((name value : List ℕ) → times_at holders.new (name, value, p.now)
         ≡ (if contains_key turns.given (name, value, p.now)
-        then stands && is_there turns.given turns.emptied (name, value, p.now)
-        else contains_key holders.old (name, value, p.now))) }
+        then (if stands then times_there turns.given turns.emptied (name, value, p.now) else 0)
+        else times_at holders.old (name, value, p.now))) }
     ensures ticks { steps.new ≤ steps.old + number (λ e. true) (entries turns.given) }
 {
     'rows: while let Some((key, turn)) = turns.given.pop_first() {
@@ -177,24 +180,24 @@ fn write_rows<L: Ledger>(
     Ok(())
 }
 
-// Puts the row of a value if it is there, and otherwise drops it.
+// Puts the row of a value with this turn and number if it is there, and otherwise drops it.
 fn write_row<L: Ledger>(
     holders: &mut HolderRows,
     emptied: &AttributeTurns,
     key: HolderKey,
-    turn: usize,
+    turn: (usize, u32),
     stands: bool,
     steps: &mut Steps<L>,
 ) -> Result<(), NoMemory>
     ensures ok { OnOk result (holders.new
-        ≡ row_written holders.old key (stands && nat_lt (turn_at emptied.now key.0) turn)) }
+        ≡ with_times holders.old key (if stands then times_by emptied.now key.0 turn else 0)) }
     ensures err { OnErr result (holders.new ≡ holders.old) }
     ensures ticks { steps.new ≡ steps.old + 1 }
 {
-    if stands && emptied.turn(key.attr()) < turn {
-        holders.put(key, steps)
+    if stands {
+        let times = times_by(emptied, &key, turn);
+        holders.set(key, times, steps)
     } else {
-        holders.drop_row(&key, steps);
-        Ok(())
+        holders.set(key, 0, steps)
     }
 }

@@ -1,19 +1,19 @@
-//! Which values are there after some changes.
+//! Which values are there after some changes, and how many times.
 ghost use Rattle.std.specs.Prelude.{◌≡◌, ◌+◌, ◌<◌, ◌^◌, OnOk};
 ghost use Rattle.std.specs.FinMap as finite;
 ghost use Rattle.schema_fact.specs.declared.changes.Act.TheVariants.{Set as sets, Add as adds, Del as removes};
-ghost use Rattle.attr_fold.specs.Turns.{noted};
+ghost use Rattle.attr_fold.specs.Turns.{noted, times_by, times_there};
 
 use crate::attribute_turns::AttributeTurns;
 use crate::value_turns::ValueTurns;
 use blobref::{NoMemory, Ref};
-use index_rows::HolderKey;
+use index_rows::{HolderKey, one_more};
 use schema_fact::{Act, ChangeView};
 use std::alloc::Global;
 
-// The turn at which each value was last given, or 0, and the turn at which all values of an attribute were last
-// removed. The turn after the change n is n + 1, so a value is there if its turn is greater than that of its
-// attribute.
+// The turn at which each value was last given, or 0, with the number of times that it was there then, and the turn at
+// which all values of an attribute were last removed. The turn after the change n is n + 1, so a value is there if its
+// turn is greater than that of its attribute.
 #[derive(Drop)]
 pub(crate) struct Turns {
     pub(crate) given: ValueTurns,
@@ -64,7 +64,7 @@ impl Turns {
     {
         if counts {
             self.emptied.put(alloc, key.attr(), n)?;
-            self.given.put(key, n + 1)
+            self.given.put(key, n + 1, 1)
         } else {
             self.given.know(key)
         }
@@ -75,7 +75,8 @@ impl Turns {
         ensures { OnOk result (self.new ≡ noted self.old adds counts key n) }
     {
         if counts {
-            self.given.put(key, n + 1)
+            let times = one_more(self.times(&key))?;
+            self.given.put(key, n + 1, times)
         } else {
             self.given.know(key)
         }
@@ -96,7 +97,25 @@ impl Turns {
         if key.value().is_empty() {
             self.emptied.put(alloc, key.attr(), n)
         } else {
-            self.given.put(key, 0)
+            self.given.put(key, 0, 0)
         }
+    }
+
+    // How many times a value is there.
+    fn times(&self, key: &HolderKey) -> u32
+        ensures { result ≡ times_there self.now.given self.now.emptied key.now }
+    {
+        times_by(&self.emptied, key, self.given.at(key))
+    }
+}
+
+// How many times a value with this turn and number is there.
+pub(crate) fn times_by(emptied: &AttributeTurns, key: &HolderKey, turn: (usize, u32)) -> u32
+    ensures { result ≡ times_by emptied.now key.now.0 turn }
+{
+    if emptied.turn(key.attr()) < turn.0 {
+        turn.1
+    } else {
+        0
     }
 }

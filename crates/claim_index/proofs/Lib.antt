@@ -31,4 +31,10 @@ pub mod Concerned
 pub mod TakeUp
 pub mod InsertTicks
 pub mod EnterOne
+mod SeenAlone
+mod OneSettled
+mod SettleTicks
+mod Alone
+mod Settleable
+mod FinishTicks
 pub mod Distinct

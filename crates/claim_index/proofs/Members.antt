@@ -1,5 +1,5 @@
 -- Which refs stand in a list.
-use Rattle.std.proofs.Common.{◌≡◌, ℕ, suc, ◌+◌, ◌-◌, ◌<◌, ◌≤◌, Bool, true, false, ◌||◌, length, get_or, take, drop, drop-cons, add-one, arith}
+use Rattle.std.proofs.Common.{◌≡◌, ◌==◌, ℕ, suc, ◌+◌, ◌-◌, ◌<◌, ◌≤◌, Bool, true, false, ◌||◌, length, get_or, take, drop, drop-cons, add-one, arith}
 use Rattle.std.proofs.Common.{List, [], ◌∷◌, ◌++◌, refl, sym, ap, ◌∙◌, append_assoc, ◌⊎◌, inl, inr}
 use Rattle.std.proofs.lemmas.Bool.{cases_Bool, false≢true, false_from_ne_true, or_left, or_right}
 use Rattle.std.proofs.lemmas.List.{append-nil}
@@ -76,3 +76,19 @@ take_last refs i r above below is =
 pub drop_first : {A : Type 0} (refs : List A) (i : ℕ) (r : A) → i < length refs → r ≡ get_or refs i r
     → drop i refs ≡ r ∷ drop (i + 1) refs
 drop_first refs i r within is = drop-cons refs i r within ∙ (λ j. sym is j ∷ drop (sym (add-one i) j) refs)
+
+-- a list of one ref, and of none
+pub one_long : (xs : List (List ℕ)) (x : List ℕ) → length xs ≡ 1 → x ≡ get_or xs 0 x → xs ≡ x ∷ []
+one_long [] x h is = absurd (omega (arith, h))
+one_long (y ∷ []) x h is = λ i. sym is i ∷ []
+one_long (y ∷ z ∷ zs) x h is = absurd (omega (arith, h))
+
+pub none_long : (xs : List (List ℕ)) → length xs ≡ 0 → xs ≡ []
+none_long [] h = refl
+none_long (x ∷ xs) h = absurd (omega (arith, h))
+
+is_zero : (n : ℕ) → (n == 0) ≡ true → n ≡ 0
+is_zero n h = grind arith
+
+pub none_empty : (xs : List (List ℕ)) → (length xs == 0) ≡ true → xs ≡ []
+none_empty xs h = none_long xs (is_zero (length xs) h)

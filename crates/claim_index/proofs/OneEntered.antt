@@ -105,7 +105,7 @@ module _ (rows : Rows) (entered : Deletes) (state : States) (d : List ℕ) (chan
         (among_all (concerned_by rows.facts.ordered state) q y changed turned
         (ap (list_any (bytes_eq q)) (sym (same_concerns y)) ∙ h))
 
-    held_after : IsListed rows.facts.ordered rows.state rows.changes
+    pub held_after : IsListed rows.facts.ordered rows.state rows.changes
         → IsHeldBut concerned rows.facts.ordered rows.state rows.deletes rows.changes rows.holders
         → IsHeldBut more rows.facts.ordered state entered rows.changes rows.holders
     held_after listed held =

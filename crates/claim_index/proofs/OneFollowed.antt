@@ -56,13 +56,13 @@ use Rattle.claim_index.proofs.OneJudged.{arrived_within, fresh, listed_now, with
 use Rattle.claim_index.proofs.OneJudged.{others_are_no_delete}
 use Rattle.claim_index.proofs.Refolds.{same_rows, IsSameBeside}
 
-own_bytes : (x : List ℕ) → bytes_eq x x ≡ true
+pub own_bytes : (x : List ℕ) → bytes_eq x x ≡ true
 own_bytes x = (bytes_eq-Decides x x).1 refl
 
 -- ---- the change of a claim
 
 -- the moment is that of the only change of x, which is no permanode
-record IsItsChange (x : List ℕ) (kind : Kind) (p : List ℕ) (k : Moment) : Type 0 where
+pub record IsItsChange (x : List ℕ) (kind : Kind) (p : List ℕ) (k : Moment) : Type 0 where
   pub claim : k.1 ≡ x
   pub own : is_change_on p k kind ≡ true
   pub one : (q : List ℕ) (j : Moment) → is_change_on q j kind ≡ true → j.1 ≡ x → ◌≡◌ {A = ChangeKey} (q, j) (p, k)
@@ -124,12 +124,12 @@ kind_its x (Claim signed date what) p k h = changes_its x signed date what p k (
 kind_its x (Unread name) p k h = absurd (false≢true (ap is_some h))
 
 -- the same of what stands under x
-record IsChangeOf (facts : Facts) (x p : List ℕ) (k : Moment) : Type 0 where
+pub record IsChangeOf (facts : Facts) (x p : List ℕ) (k : Moment) : Type 0 where
   pub fact : Fact
   pub found : get facts x ≡ Some fact
   pub its : IsItsChange x fact.kind p k
 
-change_of : (facts : Facts) (x p : List ℕ) (k : Moment) → ◌≡◌ {A = Option (List ℕ × Moment)} (change_by facts x)
+pub change_of : (facts : Facts) (x p : List ℕ) (k : Moment) → ◌≡◌ {A = Option (List ℕ × Moment)} (change_by facts x)
     (Some (p, k)) → IsChangeOf facts x p k
 change_of facts x p k h = by (get facts x) refl
     h
@@ -279,6 +279,7 @@ module _ (accepts : Accepts) (rows : Rows) (x : List ℕ) (left deletes concerne
       held = λ name value q out. h.held.held name value q out
           ∙ ap (λ b. (b && not (row_deleted rows.facts.ordered rows.deletes Always q)) && list_any (bytes_eq value)
           (row_values rows.facts.ordered rows.deletes rows.changes Always q name)) (sym (same_says q));
+      times = h.held.times;
       permanode = λ name value q t. same_says q ∙ h.held.permanode name value q t;
       given = h.held.given;
     }
@@ -297,7 +298,7 @@ module _ (accepts : Accepts) (rows : Rows) (x : List ℕ) (left deletes concerne
 -- ---- written
 
 module _ (accepts : Accepts) (left deletes : List (List ℕ)) (mid new : Rows) (same : IsSameBeside mid new) where
-  half_with : (any concerned : List (List ℕ)) → IsHalfway accepts left deletes any mid
+  pub half_with : (any concerned : List (List ℕ)) → IsHalfway accepts left deletes any mid
       → IsHeldBut concerned mid.facts.ordered mid.state mid.deletes mid.changes new.holders
       → IsHalfway accepts left deletes concerned new
   half_with any concerned half held = subst (IsHalfway accepts left deletes concerned) (same_rows mid new same)
@@ -356,7 +357,7 @@ kind_here x (Permanode signed) p k h = absurd (false≢true (ap is_some h))
 kind_here x (Claim signed date what) p k h = only_here x date (changes_of what) p k h
 kind_here x (Unread name) p k h = absurd (false≢true (ap is_some h))
 
-changed_here : (facts : Facts) (x p : List ℕ) (k : Moment) → ◌≡◌ {A = Option (List ℕ × Moment)} (change_by facts x)
+pub changed_here : (facts : Facts) (x p : List ℕ) (k : Moment) → ◌≡◌ {A = Option (List ℕ × Moment)} (change_by facts x)
     (Some (p, k))
     → list_any (bytes_eq p) (changed_by facts x) ≡ true
 changed_here facts x p k h = by (get facts x) h

@@ -102,6 +102,7 @@ pub held_by_members : (but refs : List (List ℕ)) (rows : Rows)
     → AreHeldBut refs rows
 held_by_members but refs rows same held = record {
   held = λ name value p h. held.held name value p (sym (same p) ∙ h);
+  times = λ name value p n h found. held.times name value p n (sym (same p) ∙ h) found;
   permanode = held.permanode;
   given = held.given;
 }

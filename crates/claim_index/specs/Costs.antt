@@ -1,5 +1,5 @@
 -- The steps that an index takes for the refs that one more fact touches.
-use Rattle.std.specs.Prelude.{◌≡◌, ◌+◌, ◌*◌, ℕ, ◌&&◌, ◌||◌, ◌++◌, Bool, true, List, [], length, map, flat_map, nat_lt}
+use Rattle.std.specs.Prelude.{◌≡◌, ◌≤◌, ◌+◌, ◌*◌, ◌⊎◌, ℕ, ◌&&◌, ◌||◌, ◌++◌, Bool, true, List, [], length, map, flat_map, nat_lt}
 use Rattle.std.specs.Prelude.{if◌then◌else◌}
 use Rattle.std.specs.List.{list_any, sum_by}
 use Rattle.std.specs.Str.{bytes_eq}
@@ -104,3 +104,11 @@ refolds_steps facts accepts heads changed = 3 * length heads + 7 * sum_by (chang
 abbrev pub finish_steps : Facts → Accepts → List (List ℕ) → List (List ℕ) → List (List ℕ) → ℕ
 finish_steps facts accepts deletes heads changed =
     sum_by (enter_steps facts accepts) deletes + refolds_steps facts accepts heads changed
+
+-- entering some delete claims took only its own steps; or also those of folding whom it concerns, and then nobody is
+-- left to be folded
+abbrev pub EntersWithin : Facts → Accepts → List (List ℕ) → List (List ℕ) → List (List ℕ) → List (List ℕ) → ℕ → ℕ
+    → Type 0
+EntersWithin facts accepts deletes concerned heads changed before after =
+    (after ≤ before + sum_by (enter_steps facts accepts) deletes)
+    ⊎ ((concerned ≡ []) × (after ≤ before + finish_steps facts accepts deletes heads changed))

@@ -2,13 +2,17 @@
 ghost use Rattle.std.specs.Prelude.{◌≡◌, ◌≤◌, ◌+◌, ◌*◌, ℕ, OnOk, IfOk, false, true};
 ghost use Rattle.schema_fact.specs.Changes.{changes_of};
 ghost use Rattle.claim_index.specs.Following.{change_by, kind_change, only_change, CanBeFollowed, IsFollowed};
-ghost use Rattle.claim_index.specs.Following.{IsNumbered, IsTaken};
+ghost use Rattle.claim_index.specs.Following.{is_addition, kind_addition, CanBeSettled, IsFolded, IsNumbered, IsSeen};
+ghost use Rattle.claim_index.specs.Following.{IsTaken};
+ghost use Rattle.index_rows.specs.Counted.{IsCounted};
+ghost use Rattle.index_rows.specs.Values.{IsListed};
 
-use crate::touching::concern;
-use attr_fold::follow;
+use crate::touching::{concern, concern_kind};
+use attr_fold::{follow, settle};
 use blobref::{NoMemory, Ref, RefList};
 use edge_base::Steps;
 use index_rows::{Moment, OrderedFacts, Rows};
+use row_answers::says_genuine;
 use schema_date::Date;
 use schema_fact::{Kind, What};
 use std::alloc::Global;
@@ -70,6 +74,42 @@ fn follow_claim<L: Ledger>(
     follow(alloc, rows, &change.0, &change.1, steps)
 }
 
+// Writes the effect of a changed deletion of y, if y is a claim that only adds one value. Otherwise it appends the
+// permanodes that y concerns to the list.
+pub(crate) fn settle_or_concern<L: Ledger>(
+    alloc: Global,
+    rows: &mut Rows,
+    y: &Ref,
+    concerned: &mut RefList,
+    steps: &mut Steps<L>,
+) -> Result<(), NoMemory>
+    requires counted { IsCounted rows.old.facts.ordered rows.old.deletes rows.old.state }
+    requires listed { IsListed rows.old.facts.ordered rows.old.state rows.old.changes }
+    requires able { CanBeSettled rows.old }
+    ensures facts { rows.new.facts ≡ rows.old.facts }
+    ensures state { rows.new.state ≡ rows.old.state }
+    ensures waiters { rows.new.waiters ≡ rows.old.waiters }
+    ensures deletes { rows.new.deletes ≡ rows.old.deletes }
+    ensures changes { rows.new.changes ≡ rows.old.changes }
+    ensures removals { rows.new.removals ≡ rows.old.removals }
+    ensures seen { OnOk result
+        (IsSeen rows.old rows.new.holders y.now concerned.old concerned.new steps.old steps.new) }
+    ensures ticks { (n : ℕ) → IsFolded rows.old.facts.ordered rows.old.state rows.old.changes y.now n
+        → steps.new ≤ steps.old + 2 + n }
+{
+    let Some(fact) = rows.facts.ordered.row(y, steps) else {
+        return Ok(());
+    };
+    let Some(change) = kind_addition(y, &fact.kind) else {
+        return concern_kind(&rows.state, y, &fact.kind, concerned, steps);
+    };
+    if !says_genuine(&rows.state, y, steps) {
+        return Ok(());
+    }
+    settle(alloc, rows, &change.0, &change.1, steps)?;
+    Ok(())
+}
+
 // The permanode that the claim x changes, and the moment of the change, if x has only one.
 fn change_by<L: Ledger>(
     facts: &OrderedFacts,
@@ -103,5 +143,29 @@ fn only_change(x: &Ref, date: &Date, what: &What) -> Option<(Ref, Moment)>
     match what.change(0) {
         Some(change) => Some((*change.on, (date.ns(), *x, 0))),
         None => None,
+    }
+}
+
+// The permanode to which a blob x of this kind adds a value, and the moment of the change, if it is a claim that does
+// only this.
+fn kind_addition(x: &Ref, kind: &Kind) -> Option<(Ref, Moment)>
+    ensures { result ≡ kind_addition x.now kind.now }
+{
+    if is_addition(kind) {
+        kind_change(x, kind)
+    } else {
+        None
+    }
+}
+
+fn is_addition(kind: &Kind) -> bool
+    ensures { result ≡ is_addition kind.now }
+{
+    match kind {
+        Kind::Claim { what, .. } => match what {
+            What::Add { .. } => true,
+            _ => false,
+        },
+        _ => false,
     }
 }

@@ -1,7 +1,7 @@
 //! The permanodes that the deletion of a ref touches.
 ghost use Rattle.std.specs.Prelude.{◌≡◌, ◌≤◌, ◌+◌, ◌++◌, OnOk, map, option_map, option_to_list};
 ghost use Rattle.schema_fact.specs.Changes.{change_seen};
-ghost use Rattle.index_meaning.specs.Touching.{concerned_by, changes_concern};
+ghost use Rattle.index_meaning.specs.Touching.{concerned_by, changes_concern, kind_concerns};
 
 use blobref::{NoMemory, Ref, RefList};
 use edge_base::Steps;
@@ -26,9 +26,23 @@ pub(crate) fn concern<L: Ledger>(
     let Some(fact) = rows.facts.ordered.row(y, steps) else {
         return Ok(());
     };
-    match &fact.kind {
+    concern_kind(&rows.state, y, &fact.kind, concerned, steps)
+}
+
+// The same for y of this kind.
+pub(crate) fn concern_kind<L: Ledger>(
+    state: &RefRows<StateRow>,
+    y: &Ref,
+    kind: &Kind,
+    concerned: &mut RefList,
+    steps: &mut Steps<L>,
+) -> Result<(), NoMemory>
+    ensures added { OnOk result (concerned.new ≡ concerned.old ++ kind_concerns state.now y.now kind.now) }
+    ensures ticks { steps.new ≤ steps.old + 1 }
+{
+    match kind {
         Kind::Permanode(_) => concerned.push(*y),
-        Kind::Claim { what, .. } => concern_changed(&rows.state, y, what, concerned, steps),
+        Kind::Claim { what, .. } => concern_changed(state, y, what, concerned, steps),
         _ => Ok(()),
     }
 }

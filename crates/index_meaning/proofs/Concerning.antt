@@ -40,6 +40,7 @@ not_among rs more among q h = false_from_ne_true (list_any (bytes_eq q) rs) (λ 
 pub held_but_more : HeldButMore
 held_but_more but more facts state deletes changes holders among was = record {
   held = λ name value p h. was.held name value p (not_among but more among p h);
+  times = λ name value p n h e. was.times name value p n (not_among but more among p h) e;
   permanode = was.permanode;
   given = was.given;
 }
@@ -49,6 +50,7 @@ none_is_held but facts state deletes changes all = record {
   held = λ name value p h. ap is_some (get-empty holder_cmp (name, value, p))
       ∙ sym (unsaid name value p (false_from_ne_true (says_permanode facts state p)
       (λ t. true≢false (sym (all p t) ∙ h))));
+  times = λ name value p n h e. absurd (false≢true (ap is_some (sym (get-empty holder_cmp (name, value, p)) ∙ e)));
   permanode = λ name value p h. absurd (false≢true (ap is_some (sym (get-empty holder_cmp (name, value, p))) ∙ h));
   given = λ name value p h. absurd (false≢true (ap is_some (sym (get-empty holder_cmp (name, value, p))) ∙ h));
 }

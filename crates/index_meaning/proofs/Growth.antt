@@ -25,7 +25,7 @@ use Rattle.claim_model.proofs.Least.{ready_grows}
 use Rattle.claim_model.proofs.DeletedBy.{targets_come_first}
 use Rattle.index_look.specs.Claims.{claim_says}
 use Rattle.index_rows.specs.declared.rows.StateRow.{StateRow}
-use Rattle.index_rows.specs.Pairs.{Pair}
+use Rattle.index_rows.specs.Pairs.{Pair, number}
 use Rattle.index_rows.specs.Changes.{Changes, ChangeKey}
 use Rattle.index_rows.specs.Deletes.{Deletes, IsDelete, Ringless, is_live, any_live, row_deleted}
 use Rattle.index_rows.specs.States.{States, says_genuine}
@@ -35,7 +35,7 @@ use Rattle.index_rows.proofs.Orders.{pair_total, pair_same, change_total, change
 use Rattle.index_rows.proofs.Deleting.{any-filter, any_entry, any_get, a_value, row_deleted_is, row_deletion_is_one}
 use Rattle.index_meaning.specs.Steps.{RowsStayRingless, RowDeletionStays, IsGrown, HeldStays, RowsStayListed, HeldStaysWithFacts, IsAsBefore, RowsAreAsBefore, beside_readiness, OneHasArrived}
 use Rattle.index_meaning.proofs.Said.{and_false}
-use Rattle.index_meaning.proofs.Unconcerned.{unconcerned_stay}
+use Rattle.index_meaning.proofs.Unconcerned.{unconcerned_stay, values_stay}
 
 pub rows_stay_ringless : RowsStayRingless
 rows_stay_ringless facts more deletes within ringless x d date h =
@@ -171,6 +171,10 @@ held_stays but concerned facts more before after deletes entered changes listed 
       was.held name value p (wider p h)
       ∙ sym (unconcerned_stay facts more before after deletes entered changes listed p grown.within rows
       (unconcerned p h) name value);
+  times = λ name value p n h e.
+      was.times name value p n (wider p h) e
+      ∙ ap (number (bytes_eq value)) (values_stay facts more before after deletes entered changes listed p grown.within
+      rows (unconcerned p h) (was.permanode name value p (ap is_some e)) name);
   permanode = λ name value p h. permanode_grows facts more grown.within before after changes listed grown p
       (was.permanode name value p h);
   given = λ name value p h. given_grows facts more grown.within before after changes listed grown name value p

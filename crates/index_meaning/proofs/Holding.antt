@@ -182,7 +182,7 @@ module _ (facts : Facts) (accepts : Accepts) (name value : List ℕ) where
           λ i. ((bytes_eq-Decides name k.0).0 both.0 i, (bytes_eq-Decides value k.1).0 both.1 i, k.2)
 
   abbrev Row : Type 0
-  Row = HolderKey × Unit {0}
+  Row = HolderKey × ℕ
 
   abbrev told_rows : List Row → List (List ℕ × Only)
   told_rows es = parts.told (is_of name value) (λ k. k.2) (λ m. Some tt) es

@@ -45,6 +45,11 @@ module _ (facts more : Facts) (before after : States) (deletes entered : Deletes
       by true h = h refl
       by false h = refl
 
+  -- its values are those that they were
+  pub values_stay : says_permanode facts before q ≡ true → (name : List ℕ)
+      → row_values facts deletes changes Always q name ≡ row_values more entered listed Always q name
+  values_stay says name = same_values q facts more deletes entered changes listed Always name (same_row says)
+
   stays : (name value : List ℕ) → row_holds more after entered listed name value q
       ≡ row_holds facts before deletes changes name value q
   stays name value = by (says_permanode facts before q) refl

@@ -1,5 +1,5 @@
 -- The rows of an attribute and a value stand side by side.
-use Rattle.std.proofs.Common.{◌≡◌, ℕ, Bool, true, false, ◌&&◌, cond, List, [], ◌∷◌, filter, map, None, Some, refl, sym, ap, subst, ◌∙◌, ◌⊎◌, inl, inr, Ordering, is_some}
+use Rattle.std.proofs.Common.{◌≡◌, ◌≤◌, ℕ, Bool, true, false, ◌&&◌, cond, List, [], ◌∷◌, filter, map, Option, None, Some, refl, sym, ap, subst, ◌∙◌, ◌⊎◌, inl, inr, Ordering, is_some, unwrap_or}
 use Rattle.std.proofs.lemmas.Bool.{cases_Bool, false≢true, and_parts}
 use Rattle.std.proofs.lemmas.Cmp.{tied_itself}
 use Rattle.std.proofs.lemmas.List.Kept.{IsStrictlySortedBy-filter}
@@ -10,6 +10,7 @@ use Rattle.std.specs.declared.ops.Bound.{Bound}
 use Rattle.std.specs.declared.ops.Bound.TheVariants.{Included, Unbounded}
 use Rattle.std.specs.List.{AllByRecursion}
 use Rattle.std.specs.List.Sorted.{IsStrictlySortedBy}
+use Rattle.std.specs.Map.{keys_of}
 use Rattle.std.specs.Str.{bytes_eq}
 use Rattle.std.specs.Ordering.{is_lt, is_le, eq_by_cmp, ordering_then, ordering_reverse}
 use Rattle.std.specs.BTreeMap.Range.{is_from_start, range_contains}
@@ -17,23 +18,22 @@ use Rattle.std.specs.FinMap.{get, insert, remove, empty, entries, from_entries, 
 use Rattle.blobref.specs.Blobref.{ref_cmp, least_ref, IsFromLeast}
 use Rattle.index_look.proofs.Order.{is_Equal}
 use Rattle.index_look.proofs.Keys.{entries_held}
-use Rattle.index_rows.specs.Changes.{keys_alone}
-use Rattle.index_rows.specs.Holders.{HolderKey, Holders, holder_cmp, holder_total, is_of, rows_holding, AllOfRefs}
-use Rattle.index_rows.proofs.Alone.{keys_of-alone, set_all}
+use Rattle.index_rows.specs.Holders.{HolderKey, Holders, holder_cmp, holder_total, is_of, rows_holding}
+use Rattle.index_rows.specs.Holders.{AllCounted, AllOfRefs}
 use Rattle.index_rows.proofs.Orders.{ref_total, ref_same, holder_same}
-use Rattle.index_rows.proofs.Groups.{filter_same, filter-filter, filter_none, filter_passing, all_more, all_keys, lt_le}
+use Rattle.index_rows.proofs.Groups.{filter_same, filter-filter, filter_none, filter_passing, from_range_all, all_more, all_keys, lt_le}
 
 abbrev Row : Type 0
-Row = HolderKey × Unit {0}
+Row = HolderKey × ℕ
 
 pub of_refs-empty : AllOfRefs empty
 of_refs-empty k h = absurd (false≢true (ap is_some (sym (get-empty holder_cmp k)) ∙ h))
 
-pub of_refs-insert : (m : Holders) (q : HolderKey) → AllOfRefs m → IsFromLeast q.2 → AllOfRefs (insert m q tt)
-of_refs-insert m q all valid k h =
-    by (eq_by_cmp holder_cmp k q) refl (ap is_some (sym (get-insert holder_total m q tt k)) ∙ h)
+pub of_refs-insert : (m : Holders) (q : HolderKey) (n : ℕ) → AllOfRefs m → IsFromLeast q.2 → AllOfRefs (insert m q n)
+of_refs-insert m q n all valid k h =
+    by (eq_by_cmp holder_cmp k q) refl (ap is_some (sym (get-insert holder_total m q n k)) ∙ h)
   where
-    by : (b : Bool) → eq_by_cmp holder_cmp k q ≡ b → is_some (cond b (Some tt) (get m k)) ≡ true → IsFromLeast k.2
+    by : (b : Bool) → eq_by_cmp holder_cmp k q ≡ b → is_some (cond b (Some n) (get m k)) ≡ true → IsFromLeast k.2
     by true e t = ap (λ (p : HolderKey). is_lt (ref_cmp p.2 least_ref)) (holder_same k q (is_Equal (holder_cmp k q) e))
         ∙ valid
     by false e t = all k t
@@ -42,6 +42,27 @@ pub of_refs-remove : (m : Holders) (q : HolderKey) → AllOfRefs m → AllOfRefs
 of_refs-remove m q all k h = by (eq_by_cmp holder_cmp k q) (ap is_some (sym (get-remove holder_total m q k)) ∙ h)
   where
     by : (b : Bool) → is_some (cond b None (get m k)) ≡ true → IsFromLeast k.2
+    by true t = absurd (false≢true t)
+    by false t = all k t
+
+pub counted-empty : AllCounted empty
+counted-empty k h = absurd (false≢true (ap is_some (sym (get-empty holder_cmp k)) ∙ h))
+
+pub counted-insert : (m : Holders) (q : HolderKey) (n : ℕ) → AllCounted m → 1 ≤ n → AllCounted (insert m q n)
+counted-insert m q n all one k h =
+    subst (λ (o : Option ℕ). 1 ≤ unwrap_or o 0) (sym (get-insert holder_total m q n k))
+    (by (eq_by_cmp holder_cmp k q) (ap is_some (sym (get-insert holder_total m q n k)) ∙ h))
+  where
+    by : (b : Bool) → is_some (cond b (Some n) (get m k)) ≡ true → 1 ≤ unwrap_or (cond b (Some n) (get m k)) 0
+    by true t = one
+    by false t = all k t
+
+pub counted-remove : (m : Holders) (q : HolderKey) → AllCounted m → AllCounted (remove m q)
+counted-remove m q all k h =
+    subst (λ (o : Option ℕ). 1 ≤ unwrap_or o 0) (sym (get-remove holder_total m q k))
+    (by (eq_by_cmp holder_cmp k q) (ap is_some (sym (get-remove holder_total m q k)) ∙ h))
+  where
+    by : (b : Bool) → is_some (cond b None (get m k)) ≡ true → 1 ≤ unwrap_or (cond b None (get m k)) 0
     by true t = absurd (false≢true t)
     by false t = all k t
 
@@ -127,40 +148,57 @@ module _ (name value : List ℕ) where
       by_parts t Equal Greater hx hy le = false≢true le
       by_parts t Greater y hx hy le = false≢true le
 
-  -- the permanodes of the keys in front, up to the first one of another group
-  abbrev pub walked : List HolderKey → List (List ℕ)
+  -- the permanodes of the rows in front, up to the first one of another group
+  abbrev pub walked : List Row → List (List ℕ)
   walked [] = []
-  walked (k ∷ ks) = cond (is_of name value k) (k.2 ∷ walked ks) []
+  walked (e ∷ es) = cond (is_of name value e.0) (e.0.2 ∷ walked es) []
 
-  -- of keys in order, from the start on, those of the group are in front
-  front_is : (ks : List HolderKey) → IsStrictlySortedBy holder_cmp ks
-      → AllByRecursion (λ k. is_from_start holder_cmp first k ≡ true) ks
-      → map (λ (e : Row). e.0.2) (filter of_group (keys_alone ks)) ≡ walked ks
+  -- of rows in order, from the start on, those of the group are in front
+  front_is : (es : List Row) → IsStrictlySortedBy holder_cmp (keys_of es)
+      → AllByRecursion (λ e. is_from_start holder_cmp first e.0 ≡ true) es
+      → map (λ (e : Row). e.0.2) (filter of_group es) ≡ walked es
   front_is [] sorted from = refl
-  front_is (k ∷ ks) sorted from = by (is_of name value k) refl (front_is ks (sorted_tail holder_cmp k ks sorted) from.1)
+  front_is (e ∷ es) sorted from =
+      by (is_of name value e.0) refl (front_is es (sorted_tail holder_cmp e.0 (keys_of es) sorted) from.1)
     where
-      later : is_of name value k ≡ false → AllByRecursion (λ e. of_group e ≡ false) (keys_alone ks)
-      later f = all_keys holder_total (λ j. is_of name value j ≡ false) (keys_alone ks)
-          (subst (AllByRecursion (λ j. is_of name value j ≡ false)) (sym (keys_of-alone ks))
-          (all_more (λ j. holder_cmp k j ≡ Less) (λ j. is_of name value j ≡ false) (λ j less. not_later k j from.0 f less)
-          ks (sorted_head holder_cmp k ks sorted)))
+      later : is_of name value e.0 ≡ false → AllByRecursion (λ d. of_group d ≡ false) es
+      later f = all_keys holder_total (λ j. is_of name value j ≡ false) es
+          (all_more (λ j. holder_cmp e.0 j ≡ Less) (λ j. is_of name value j ≡ false)
+          (λ j less. not_later e.0 j from.0 f less)
+          (keys_of es) (sorted_head holder_cmp e.0 (keys_of es) sorted))
 
-      by : (b : Bool) → is_of name value k ≡ b → map (λ (e : Row). e.0.2) (filter of_group (keys_alone ks)) ≡ walked ks
-          → map (λ (e : Row). e.0.2) (cond b ((k, tt) ∷ filter of_group (keys_alone ks)) (filter of_group (keys_alone ks)))
-          ≡ cond b (k.2 ∷ walked ks) []
-      by true t more = ap (λ ps. k.2 ∷ ps) more
-      by false f more = ap (map (λ (e : Row). e.0.2)) (filter_none of_group (keys_alone ks) (later f))
+      by : (b : Bool) → is_of name value e.0 ≡ b → map (λ (d : Row). d.0.2) (filter of_group es) ≡ walked es
+          → map (λ (d : Row). d.0.2) (cond b (e ∷ filter of_group es) (filter of_group es))
+          ≡ cond b (e.0.2 ∷ walked es) []
+      by true t more = ap (λ ps. e.0.2 ∷ ps) more
+      by false f more = ap (map (λ (d : Row). d.0.2)) (filter_none of_group es (later f))
+
+  keys_in_range : (es : List Row) → keys_of (filter (λ e. range_contains holder_cmp first Unbounded e.0) es)
+      ≡ filter (range_contains holder_cmp first Unbounded) (keys_of es)
+  keys_in_range [] = refl
+  keys_in_range (e ∷ es) = by (range_contains holder_cmp first Unbounded e.0) (keys_in_range es)
+    where
+      by : (b : Bool) → keys_of (filter (λ d. range_contains holder_cmp first Unbounded d.0) es)
+          ≡ filter (range_contains holder_cmp first Unbounded) (keys_of es)
+          → keys_of (cond b (e ∷ filter (λ d. range_contains holder_cmp first Unbounded d.0) es)
+          (filter (λ d. range_contains holder_cmp first Unbounded d.0) es))
+          ≡ cond b (e.0 ∷ filter (range_contains holder_cmp first Unbounded) (keys_of es))
+          (filter (range_contains holder_cmp first Unbounded) (keys_of es))
+      by true h = ap (λ ks. e.0 ∷ ks) h
+      by false h = h
 
   -- the walk from there on meets the whole group
-  pub walk_is : (ks : List HolderKey) → AllOfRefs (from_entries (keys_alone ks)) → IsStrictlySortedBy holder_cmp ks
-      → rows_holding (from_entries (keys_alone ks)) name value
-      ≡ walked (filter (range_contains holder_cmp first Unbounded) ks)
-  walk_is ks all sorted =
-      ap (map (λ (e : Row). e.0.2)) (group_is (from_entries (keys_alone ks)) all
-      ∙ ap (filter of_group) (set_all holder_total holder_same ks first sorted))
-      ∙ front_is (filter (range_contains holder_cmp first Unbounded) ks)
-      (IsStrictlySortedBy-filter holder_cmp (range_contains holder_cmp first Unbounded) ks sorted)
-      (all_more (λ k. range_contains holder_cmp first Unbounded k ≡ true) (λ k. is_from_start holder_cmp first k ≡ true)
-      (λ k h. sym (and_true (is_from_start holder_cmp first k)) ∙ h)
-      (filter (range_contains holder_cmp first Unbounded) ks)
-      (filter_passing (range_contains holder_cmp first Unbounded) ks))
+  pub walk_is : (es : List Row) → AllOfRefs (from_entries es) → IsStrictlySortedBy holder_cmp (keys_of es)
+      → rows_holding (from_entries es) name value
+      ≡ walked (filter (λ e. range_contains holder_cmp first Unbounded e.0) es)
+  walk_is es all sorted =
+      ap (map (λ (e : Row). e.0.2)) (group_is (from_entries es) all
+      ∙ ap (filter of_group) (from_range_all holder_total holder_same es first sorted))
+      ∙ front_is (filter (λ e. range_contains holder_cmp first Unbounded e.0) es)
+      (subst (IsStrictlySortedBy holder_cmp) (sym (keys_in_range es))
+      (IsStrictlySortedBy-filter holder_cmp (range_contains holder_cmp first Unbounded) (keys_of es) sorted))
+      (all_more (λ (e : Row). range_contains holder_cmp first Unbounded e.0 ≡ true)
+      (λ (e : Row). is_from_start holder_cmp first e.0 ≡ true)
+      (λ e h. sym (and_true (is_from_start holder_cmp first e.0)) ∙ h)
+      (filter (λ e. range_contains holder_cmp first Unbounded e.0) es)
+      (filter_passing (λ (e : Row). range_contains holder_cmp first Unbounded e.0) es))

@@ -22,3 +22,4 @@ pub mod DeletionCounts
 pub mod Sums
 pub mod LooseFacts
 pub mod LooseOrder
+pub mod HolderTimes

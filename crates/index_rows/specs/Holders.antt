@@ -1,12 +1,12 @@
 -- Which permanodes hold which values, as rows under the attribute, the value and the permanode.
-use Rattle.std.specs.Prelude.{◌≡◌, ℕ, ◌&&◌, Bool, true, false, not, List, filter, map, None}
+use Rattle.std.specs.Prelude.{◌≡◌, ◌≤◌, ◌==◌, ℕ, ◌&&◌, Bool, true, false, not, List, filter, map, Some, None, unwrap_or, if◌then◌else◌}
 use Rattle.std.specs.List.{list_any}
 use Rattle.std.specs.Str.{bytes_eq}
 use Rattle.std.specs.Ordering.{ordering_then}
 use Rattle.std.specs.Cmp.{IsTotalOrder, then_total, on_total}
 use Rattle.std.specs.Cmp.Lexicographic.{nat_list_cmp_total}
 use Rattle.std.specs.declared.cmp.Ordering.{Ordering}
-use Rattle.std.specs.FinMap.{FinMap, get, entries, contains_key}
+use Rattle.std.specs.FinMap.{FinMap, get, insert, remove, entries, contains_key}
 use Rattle.std.specs.Coded.{Coded, code_by, coded_ℕ, coded_list, coded×}
 use Rattle.blobref.specs.Blobref.{ref_cmp, IsFromLeast}
 use Rattle.schema_date.specs.declared.date.When.TheVariants.{Always}
@@ -14,6 +14,7 @@ use Rattle.claim_model.specs.Facts.{Facts, passes, is_permanode}
 use Rattle.claim_model.specs.Changes.{gives}
 use Rattle.index_rows.specs.Changes.{Changes, changes_after}
 use Rattle.index_rows.specs.Deletes.{Deletes, row_deleted}
+use Rattle.index_rows.specs.Pairs.{number}
 use Rattle.index_rows.specs.States.{States, says_genuine}
 use Rattle.index_rows.specs.Values.{change_at, row_values}
 
@@ -38,8 +39,21 @@ holder_code =
     (coded× (coded× (coded_list coded_ℕ) (coded_list coded_ℕ)) (coded_list coded_ℕ))
     (λ k. ((k.0, k.1), k.2)) (λ p. (p.0.0, p.0.1, p.1)) (λ k i. k)
 
+-- with the number of times that the value is among those of the attribute
 abbrev pub Holders : Type 0
-Holders = FinMap holder_cmp (Unit {0})
+Holders = FinMap holder_cmp ℕ
+
+-- the number of a row, or 0 if there is none
+abbrev pub times_at : Holders → HolderKey → ℕ
+times_at m k = unwrap_or (get m k) 0
+
+-- the rows with this number under a key; 0 means no row
+abbrev pub with_times : Holders → HolderKey → ℕ → Holders
+with_times m k n = if n == 0 then remove m k else insert m k n
+
+-- no row has the number 0
+abbrev pub AllCounted : Holders → Type 0
+AllCounted m = (k : HolderKey) → contains_key m k ≡ true → 1 ≤ times_at m k
 
 -- no permanode is before the least ref
 abbrev pub AllOfRefs : Holders → Type 0
@@ -68,12 +82,15 @@ abbrev pub is_given : Facts → Changes → List ℕ → List ℕ → List ℕ �
 is_given facts changes name value p =
     list_any (λ e. passes (gives name value) (change_at facts e.0.1)) (changes_after changes p None)
 
--- the rows are those of the values that permanodes have, except perhaps for some permanodes: each row of these is still
--- of a value that a change gives
+-- the rows are those of the values that permanodes have, each with the number of times, except perhaps for some
+-- permanodes: each row of these is still of a value that a change gives
 pub record IsHeldBut (but : List (List ℕ)) (facts : Facts) (state : States) (deletes : Deletes) (changes : Changes)
     (holders : Holders) : Type 0 where
   pub held : (name value p : List ℕ) → list_any (bytes_eq p) but ≡ false
       → contains_key holders (name, value, p) ≡ row_holds facts state deletes changes name value p
+  pub times : (name value p : List ℕ) (n : ℕ) → list_any (bytes_eq p) but ≡ false
+      → get holders (name, value, p) ≡ Some n
+      → n ≡ number (bytes_eq value) (row_values facts deletes changes Always p name)
   pub permanode : (name value p : List ℕ) → contains_key holders (name, value, p) ≡ true
       → says_permanode facts state p ≡ true
   pub given : (name value p : List ℕ) → contains_key holders (name, value, p) ≡ true

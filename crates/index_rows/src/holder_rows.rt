@@ -1,15 +1,16 @@
 //! Which permanodes hold which values of attributes.
-ghost use Rattle.std.specs.Prelude.{◌≡◌, ◌≤◌, ◌+◌, length, Some, OnOk, OnErr, IfOk, refl};
+ghost use Rattle.std.specs.Prelude.{◌≡◌, ◌≤◌, ◌+◌, ◌-◌, length, suc, nat_lt, Some, OnOk, OnErr, IfOk, refl};
 ghost use Rattle.std.specs.Cmp.{eq_by_cmp_equiv, partial_equiv_from_equiv, partial_order_from_total};
 ghost use Rattle.std.specs.FinMap as finite;
 ghost use Rattle.std.specs.Ordering.{eq_by_cmp};
-ghost use Rattle.index_rows.specs.Holders.{holder_cmp, holder_total, rows_holding, is_of};
+ghost use Rattle.index_rows.specs.Holders.{holder_cmp, holder_total, rows_holding, is_of, times_at, with_times};
+ghost use Rattle.index_rows.specs.Holders.{AllCounted};
 
 use blobref::{NoMemory, Ref, RefList, Text};
 use edge_base::Steps;
 use std::alloc::Global;
 use std::cmp::Ordering;
-use std::collections::BTreeSet;
+use std::collections::BTreeMap;
 use std::marker::Model;
 use std::ops::Bound;
 use std::sync::ledger::Ledger;
@@ -116,27 +117,27 @@ impl Ord for HolderKey {
     }
 }
 
-/// The permanodes that hold the values of attributes. A contract sees them as a map whose rows are empty.
-/// `steps` counts the look-ups, the steps from one row to the next and the changes, each of which takes time in the
-/// logarithm of the number of rows.
+/// The permanodes that hold the values of attributes, and how many times each value is among those of its attribute. A
+/// contract sees them as a map from keys to these numbers, none of which is 0. `steps` counts the look-ups, the steps
+/// from one row to the next and the changes, each of which takes time in the logarithm of the number of rows.
 #[derive(Drop)]
 pub struct HolderRows {
-    rows: BTreeSet<HolderKey>,
+    rows: BTreeMap<HolderKey, u32>,
 }
 
 impl Model for HolderRows {
     ghost use Rattle.std.specs.FinMap as finite;
-    ghost use base.Stored.{coded_unit};
-    ghost use Rattle.index_rows.specs.Changes.{keys_alone};
-    ghost use Rattle.index_rows.specs.Holders.{holder_cmp, holder_code, AllOfRefs, Holders};
+    ghost use Rattle.std.specs.Coded.{coded_ℕ};
+    ghost use Rattle.index_rows.specs.Holders.{holder_cmp, holder_code, AllCounted, AllOfRefs, Holders};
 
     ghost Value = { Holders };
 
-    ghost coded = { finite.code holder_code coded_unit };
+    ghost coded = { finite.code holder_code coded_ℕ };
 
-    ghost view = { λ a. finite.from_entries (keys_alone a.rows.keys) };
+    ghost view = { λ a. finite.from_entries a.rows.entries };
 
-    ghost invariant = { λ a. AllOfRefs (finite.from_entries (keys_alone a.rows.keys)) };
+    ghost invariant = { λ a. AllOfRefs (finite.from_entries a.rows.entries)
+        × AllCounted (finite.from_entries a.rows.entries) };
 }
 
 impl HolderRows {
@@ -145,29 +146,65 @@ impl HolderRows {
         ensures { result ≡ finite.empty }
     {
         HolderRows {
-            rows: BTreeSet::new(alloc),
+            rows: BTreeMap::new(alloc),
         }
+    }
+
+    /// A law: no row has the number 0.
+    pub fn are_counted(&self)
+        ensures { AllCounted self.now }
+    {
+        let _len = self.rows.len();
     }
 
     /// Whether there is a row under the key.
     pub fn has<L: Ledger>(&self, key: &HolderKey, steps: &mut Steps<L>) -> bool
         ensures value { result ≡ finite.contains_key self.now key.now }
+        ensures number { result ≡ nat_lt 0 (times_at self.now key.now) }
         ensures ticks { steps.new ≡ steps.old + 1 }
     {
         steps.tick();
-        self.rows.contains(key)
+        self.rows.contains_key(key)
     }
 
-    /// Puts the row of a key. If there is no memory, nothing changes, and the key is dropped.
-    pub fn put<L: Ledger>(&mut self, key: HolderKey, steps: &mut Steps<L>) -> Result<(), NoMemory>
-        ensures ok { OnOk result (self.new ≡ finite.insert self.old key tt) }
+    /// Raises the number of a key by one; if it had no row, the number is 1. `NoMemory` comes if there is no memory, or
+    /// if the number is 2^32 - 1 already. Nothing changes then, and the key is dropped.
+    pub fn raise<L: Ledger>(&mut self, key: HolderKey, steps: &mut Steps<L>) -> Result<(), NoMemory>
+        ensures ok { OnOk result (self.new ≡ with_times self.old key (suc (times_at self.old key))) }
+        ensures err { OnErr result (self.new ≡ self.old) }
+        ensures ticks { steps.new ≤ steps.old + 1 }
+    {
+        let more = one_more(self.times(&key))?;
+        self.set(key, more, steps)
+    }
+
+    /// Lowers the number of a key by one. If the number was 1, its row is dropped; if it had none, nothing changes. If
+    /// there is no memory, nothing changes, and the key is dropped.
+    pub fn lower<L: Ledger>(&mut self, key: HolderKey, steps: &mut Steps<L>) -> Result<(), NoMemory>
+        ensures ok { OnOk result (self.new ≡ with_times self.old key (times_at self.old key - 1)) }
+        ensures err { OnErr result (self.new ≡ self.old) }
+        ensures ticks { steps.new ≤ steps.old + 1 }
+    {
+        let less = self.times(&key).saturating_sub(1);
+        self.set(key, less, steps)
+    }
+
+    /// Gives a key this number; 0 drops its row. If there is no memory, nothing changes, and the key is dropped.
+    pub fn set<L: Ledger>(
+        &mut self,
+        key: HolderKey,
+        times: u32,
+        steps: &mut Steps<L>,
+    ) -> Result<(), NoMemory>
+        ensures ok { OnOk result (self.new ≡ with_times self.old key times) }
         ensures err { OnErr result (self.new ≡ self.old) }
         ensures ticks { steps.new ≡ steps.old + 1 }
     {
-        steps.tick();
-        key.permanode().is_from_least();
-        self.rows.insert(key)?;
-        Ok(())
+        if times == 0 {
+            self.drop_row(&key, steps);
+            return Ok(());
+        }
+        self.put(key, times, steps)
     }
 
     /// Drops the row of a key. If there is none, nothing changes.
@@ -177,6 +214,31 @@ impl HolderRows {
     {
         steps.tick();
         self.rows.remove(key);
+    }
+
+    // The number of a key, or 0 if it has no row.
+    fn times(&self, key: &HolderKey) -> u32
+        ensures { result ≡ times_at self.now key.now }
+    {
+        self.rows.get(key).copied().unwrap_or(0)
+    }
+
+    // Puts the row of a key with a number that isn't 0. If there is no memory, nothing changes.
+    fn put<L: Ledger>(
+        &mut self,
+        key: HolderKey,
+        times: u32,
+        steps: &mut Steps<L>,
+    ) -> Result<(), NoMemory>
+        requires { 1 ≤ times }
+        ensures ok { OnOk result (self.new ≡ finite.insert self.old key times) }
+        ensures err { OnErr result (self.new ≡ self.old) }
+        ensures ticks { steps.new ≡ steps.old + 1 }
+    {
+        steps.tick();
+        key.permanode().is_from_least();
+        self.rows.insert(key, times)?;
+        Ok(())
     }
 
     /// The permanodes that have this value of the attribute, ascending. It looks up the first one and takes a step for
@@ -194,7 +256,7 @@ impl HolderRows {
         let mut found = RefList::empty(alloc);
         let first = HolderKey::copy(alloc, attr, value, &Ref::least())?;
         steps.tick();
-        for key in self.rows.range((Bound::Included(first), Bound::Unbounded)) {
+        for (key, _) in self.rows.range((Bound::Included(first), Bound::Unbounded)) {
             if !is_of(key, attr, value) {
                 break;
             }
@@ -209,4 +271,14 @@ fn is_of(key: &HolderKey, attr: &str, value: &str) -> bool
     ensures { result ≡ is_of attr.now value.now key.now }
 {
     attr.as_bytes() == key.attr.as_bytes() && value.as_bytes() == key.value.as_bytes()
+}
+
+/// One more; `NoMemory` if 32 bits can't hold it.
+pub fn one_more(times: u32) -> Result<u32, NoMemory>
+    ensures { IfOk result (λ more. more ≡ suc times) }
+{
+    if times == u32::MAX {
+        return Err(NoMemory);
+    }
+    Ok(times + 1)
 }

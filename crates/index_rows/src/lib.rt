@@ -15,7 +15,7 @@ mod rows;
 pub use change_rows::{ChangeRows, Moment};
 pub use deletion::{deleted_at, has_deleters};
 pub use fact_rows::FactRows;
-pub use holder_rows::{HolderKey, HolderRows};
+pub use holder_rows::{HolderKey, HolderRows, one_more};
 pub use loose_rows::{LooseRows, Made};
 pub use ordered_facts::OrderedFacts;
 pub use pair_rows::PairRows;

@@ -2,7 +2,7 @@ use Rattle.std.proofs.Common.{◌==◌, List, ℕ, length, sym, ap, subst, ◌�
 use Rattle.schema_fact.specs.declared.changes.Act.TheVariants.{Del as removes}
 use Rattle.index_rows.specs.Holders.{Holders}
 use Rattle.attr_fold.specs.Following.{counted_before, IsFollowed}
-use Rattle.attr_fold.proofs.OneChange.{dropped}
+use Rattle.attr_fold.proofs.Deciding.{dropped}
 use Rattle.attr_fold.proofs.Dropping.{all_removed, on_both}
 use Rattle.attr_fold.proofs.following.remove_value.Goals as goal
 
@@ -21,4 +21,4 @@ returns-clause-followed g c = λ on.
     let old = c.args.rows.now in
     let said = counted_before old.facts.ordered old.deletes old.changes k.2 c.args.moment.now in
     subst (λ (hs : Holders). IsFollowed k.2 (record { on = on; act = removes; attr = k.0; value = k.1 }) said old.holders hs) (sym c.drop_row.ensures.value)
-    (dropped k.2 k.0 k.1 old.holders on said (ap (λ (v : List ℕ). length v == 0) (sym c.value.ensures) ∙ sym c.if-is_empty.ensures))
+    (dropped k.2 k.0 k.1 on said old.holders (ap (λ (v : List ℕ). length v == 0) (sym c.value.ensures) ∙ sym c.if-is_empty.ensures))

@@ -4,7 +4,7 @@ use Rattle.schema_fact.specs.declared.changes.Act.{Act}
 use Rattle.schema_fact.specs.declared.changes.Act.TheVariants.{Add as adds}
 use Rattle.index_rows.specs.Holders.{Holders}
 use Rattle.attr_fold.specs.Following.{counted_before, IsFollowed}
-use Rattle.attr_fold.proofs.OneChange.{added}
+use Rattle.attr_fold.proofs.Deciding.{added}
 use Rattle.attr_fold.proofs.following.write_change.Goals as goal
 
 pub returns-in-Set-clause-followed : goal.returns-in-Set-clause-followed
@@ -21,10 +21,10 @@ returns-in-Add-clause-followed g c =
     let k = c.args.key in
     let old = c.args.rows.now in
     let said = counted_before old.facts.ordered old.deletes old.changes k.2 c.args.moment.now in
-    on_ok_weaker c.put.result (λ put on.
-    subst (λ (a : Act). IsFollowed k.2 (record { on = on; act = a; attr = k.0; value = k.1 }) said old.holders c.put.new.self) (sym c.in-Add.is)
+    on_ok_weaker c.raise.result (λ put on.
+    subst (λ (a : Act). IsFollowed k.2 (record { on = on; act = a; attr = k.0; value = k.1 }) said old.holders c.raise.new.self) (sym c.in-Add.is)
     (subst (λ (hs : Holders). IsFollowed k.2 (record { on = on; act = adds; attr = k.0; value = k.1 }) said old.holders hs) (sym put)
-    (added k.2 k.0 k.1 old.holders on said))) c.put.ensures.ok
+    (added k.2 k.0 k.1 on said old.holders))) c.raise.ensures.ok
 
 pub returns-in-Del-clause-followed : goal.returns-in-Del-clause-followed
 returns-in-Del-clause-followed g c =

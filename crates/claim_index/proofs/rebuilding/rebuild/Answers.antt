@@ -3,6 +3,7 @@ use Rattle.index_rows.specs.declared.rows.Rows.{Rows}
 use Rattle.claim_index.specs.Halfway.{IsHalfway}
 use Rattle.claim_index.proofs.Finishable.{can_be_finished}
 use Rattle.claim_index.proofs.OneJudged.{ok_then}
+use Rattle.claim_index.proofs.Settleable.{can_be_settled}
 use Rattle.claim_index.proofs.Whole.{no_rows, none_taken, rests_once}
 use Rattle.claim_index.proofs.rebuilding.rebuild.Goals as goal
 
@@ -38,8 +39,14 @@ take_all-requires-clause-none g c = none_taken
     c.empty.ensures
 
 pub finish-requires : goal.finish-requires
-finish-requires g c = can_be_finished (g.V.Verifier.accepts c.args.keys.now) c.take_all.new.work.deletes
-    c.take_all.new.work.concerned c.take_all.new.rows c.in_ok-take_all.ensures.halfway
+finish-requires g c =
+    let accepts = g.V.Verifier.accepts c.args.keys.now in
+    let work = c.take_all.new.work in
+    let half = c.in_ok-take_all.ensures.halfway in
+    record {
+      finished = can_be_finished accepts work.deletes work.concerned c.take_all.new.rows half;
+      able = can_be_settled accepts work.deletes work.concerned c.take_all.new.rows half;
+    }
 
 pub returns-clause-rest : goal.returns-clause-rest
 returns-clause-rest g c =

@@ -7,12 +7,20 @@ use Rattle.claim_index.proofs.TakeUp.{few_freed, taken_ticks, finished_ticks, ar
 use Rattle.claim_index.proofs.TouchedSum.{heads}
 use Rattle.claim_index.proofs.Finishable.{can_be_finished}
 use Rattle.claim_index.proofs.OneJudged.{ok_then}
+use Rattle.claim_index.proofs.Settleable.{can_be_settled}
 use Rattle.claim_index.proofs.Whole.{rests_once}
 use Rattle.claim_index.proofs.rebuilding.take_up.Goals as goal
 use Rattle.index_rows.proofs.LooseFacts.{in_order}
 
 pub finish-requires : goal.finish-requires
-finish-requires g c = can_be_finished (g.V.Verifier.accepts c.args.keys.now) c.take_last.new.work.deletes c.take_last.new.work.concerned c.take_last.new.rows c.in_ok-take_last.ensures.halfway
+finish-requires g c =
+    let accepts = g.V.Verifier.accepts c.args.keys.now in
+    let work = c.take_last.new.work in
+    let half = c.in_ok-take_last.ensures.halfway in
+    record {
+      finished = can_be_finished accepts work.deletes work.concerned c.take_last.new.rows half;
+      able = can_be_settled accepts work.deletes work.concerned c.take_last.new.rows half;
+    }
 
 pub returns-clause-rest : goal.returns-clause-rest
 returns-clause-rest g c =
