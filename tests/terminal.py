@@ -92,7 +92,7 @@ DIGITS = "0123456789" * 6
 MIDDLE, LATE, EARLY = f"tag:{DIGITS}({DIGITS}", f"(tag:{DIGITS}{DIGITS}", f"tga:{DIGITS}{DIGITS}"
 ENDS = "input (TEXT lacks something at its end: a search word, a value, a quote or a ))"
 NO_WORD = (
-    "input (at the mark no search word begins: there are tag:, title:, attr:NAME:, has:, ref: and childrenof:, "
+    "input (the word at the mark is no search word: there are tag:, title:, attr:NAME:, has:, ref: and childrenof:, "
     "as in title:Letters)"
 )
 SMALL = "input (or is written small; a space alone means and, and - before a search word means not)"
@@ -101,13 +101,14 @@ MARKED = [
     ((), "tag:a or or", NO_LINE, "tag:a or or", 9),
     # What a shell leaves of title:"on the way".
     ((), "title:on the way", NO_LINE, "title:on the way", 10),
-    ((), "", ENDS, "", 0),
+    ((), "", "input (TEXT is empty: it takes a search word, as tag:letters)", "", 0),
     ((), "  ", ENDS, "  ", 2),
     ((), "tag:a or", ENDS, "tag:a or", 8),
     ((), "(tag:a", ENDS, "(tag:a", 6),
     ((), 'title:"on', ENDS, 'title:"on', 9),
     ((), "tag:a OR tag:b", SMALL, "tag:a OR tag:b", 6),
     ((), "NOT tag:a", SMALL, "NOT tag:a", 0),
+    ((), "tag:a and tag:b", SMALL, "tag:a and tag:b", 6),
     ((), "Letters of 1998", NO_WORD, "Letters of 1998", 0),
     ((), "tag:é(", NO_LINE, "tag:é(", 5),
     (("--",), "- tag:a", NO_WORD, "- tag:a", 1),
@@ -137,7 +138,8 @@ def marked_text(row):
 
 def no_keyring(folder, key):
     made = f"(umask 077; printf '{key} %s\\n' \"$(openssl rand -hex 32)\" > '{folder}/keyring')"
-    return f"input ({folder}/keyring isn't there: copy the archive's, or make one by {made})"
+    copied = "copy the archive's, since notes count only with the key that signed them"
+    return f"input ({folder}/keyring isn't there: {copied}; only for a new archive make one, by {made})"
 
 
 def no_blob(folder, ref=ABSENT):
@@ -158,6 +160,13 @@ def no_limit(text):
     return f'input (--limit takes a number from 1 to 4,194,304, not "{text}")'
 
 
+def no_key_name(text):
+    return f'input ("{text}" can\'t be the name of a key: it has 1 to 64 of a to z, 0 to 9 and -)'
+
+
+A_CHANGE = '{"changeType":"add-attribute","permaNode":"REF","attribute":"tag","value":"letters"}'
+NO_CHANGES = f"input (standard input is no list of changes, as [{A_CHANGE}] is)"
+DASHED = "-- goes before a dash"
 LOAD = "input (COUNT is a number from 1 to 100,000, START one from 0 to 2^64 - 1)"
 
 
@@ -186,14 +195,16 @@ def hints(program):
         (["words", folder, "tag:" + "a" * 1_021], 4, "input (TEXT is longer than 1,024 bytes)"),
         (["words", folder, " ".join(["tag:a"] * 33)], 4, "input (TEXT asks more than 32 constraints in one another)"),
         *((["words", *front, folder, text], 4, marked) for front, text, marked in map(marked_text, MARKED)),
-        (["permanode", folder, "--key=a b"], 4, 'input ("a b" can\'t be the name of a key)'),
-        (["permanode", folder, "--key", ""], 4, 'input ("" can\'t be the name of a key)'),
+        (["permanode", folder, "--key=a b"], 4, no_key_name("a b")),
+        (["permanode", folder, "--key", ""], 4, no_key_name("")),
         (["get-file", folder, ref_of(b"abc")], 4, no_file(b"abc")),
         (["permanode", str(bare.path), "--key=me"], 4, no_keyring(bare.path, "me")),
         (["permanode", nowhere, "--key=me"], 4, f"input ({nowhere} isn't there: is its name mistyped?)"),
         (["permanode", "", "--key=me"], 4, "input (DIR is the empty text)"),
         (["permanode", str(keyed.path), "--key=you"], 4, f"input ({keyed.path}/keyring has no key you: {NO_KEY})"),
-        (["multi", str(keyed.path), "--key=jefe"], 4, "input (standard input is no list of changes)"),
+        (["multi", str(keyed.path), "--key=jefe"], 4, NO_CHANGES),
+        (["words", folder, "tag:a", "--limit", "5"], 2, f'words ("--limit" can\'t stand there: {LINES["words"]})'),
+        (["words", folder, "tag:a", "-at", "x"], 2, f'words ("-at" can\'t stand there; {DASHED}: {LINES["words"]})'),
     ]
     checks = [lambda row=row: is_told(program, *row) for row in rows]
     checks += [lambda check=check: check(program) for check in (misfits, numbers, keyrings, queries, damaged_chunk)]
@@ -234,15 +245,19 @@ def needs_value(command, option):
 def misfits(program):
     """Which of the words is to blame."""
     *names, last = LINES
-    those = f"the commands are {', '.join(names)} and {last}"
+    those = f"the commands are {', '.join(names)} and {last}; man perkeep describes them"
     several = "can't stand there; a text of several words takes quotes"
-    no_words = 'standard input has the query, and its date as "at", not the words'
+    no_words = 'standard input has the query, with its date as "at"; perkeep words takes search words'
+    kept = "can't stand there; > FILE keeps what is printed"
     rows = [
         ([], f"a command is missing, or a word isn't UTF-8; {those}"),
         (["puts", "d"], f'"puts" is no command; {those}'),
         (["--help"], f'"--help" is no command; {those}'),
         (["put", "d", "letter.txt"], f'"letter.txt" can\'t stand there; standard input has the blob: {LINES["put"]}'),
-        (["get", "d", ABSENT, "more"], f'"more" can\'t stand there: {LINES["get"]}'),
+        (["get", "d", ABSENT, "more"], f'"more" {kept}: {LINES["get"]}'),
+        (["get-file", "d", ABSENT, "letter.txt"], f'"letter.txt" {kept}: {LINES["get-file"]}'),
+        (["put-file", "d", "-letter"], f'"-letter" can\'t stand there; {DASHED}: {LINES["put-file"]}'),
+        (["stat", "d", ABSENT, "more"], f'"more" can\'t stand there: {LINES["stat"]}'),
         (["list", "d", "--first", "1"], f'"--first" can\'t stand there: {LINES["list"]}'),
         (["list", "d", "--limit"], needs_value("list", "limit")),
         (["list", "d", "--limit", "-5"], needs_value("list", "limit")),
@@ -327,7 +342,8 @@ def damaged_chunk(program):
     chunk = b"a chunk of a file"
     file = file_blob("n", [part(len(chunk), ref_of(chunk))])
     store = Store(program, {0: pack(chunk, file).replace(chunk, b"b" + chunk[1:])})
-    text = f"absent (the store lacks {ref_of(chunk)}, a part of it: see salvage, and the backup)"
+    needed = f"the store lacks {ref_of(chunk)}, which the file needs"
+    text = f"absent ({needed}: see perkeep salvage {store.path}, and the backup)"
     is_told(program, store.words("get-file", ref_of(file)), 3, text)
 
 
@@ -370,7 +386,7 @@ def unread(program):
     what_it_is = "it is to be a file, or a link to one, that you may read"
     is_told(program, store.words("list"), 5, f"read ({keyring}: {what_it_is})")
     is_told(program, store.words("put"), 5, f"read ({keyring}: {what_it_is})")
-    text = b"perkeep: read (standard input is closed, or can't be read)\n"
+    text = b"perkeep: read (standard input is closed, is a folder, or can't be read)\n"
     for one in (bare, Store(program, {}, {"keyring": KEYRING})):
         folder = os.open(one.path, os.O_RDONLY)
         try:
@@ -459,7 +475,7 @@ def open_keyring(program):
     keyring = store.path / "keyring"
     for mode, is_open in ((0o600, False), (0o664, False), (0o666, True), (0o602, True)):
         keyring.chmod(mode)
-        text = f"perkeep: everyone may write to {keyring}\n".encode() if is_open else b""
+        text = f"perkeep: everyone may write to {keyring}; chmod 600 mends it\n".encode() if is_open else b""
         compare(f"mode {mode:o}", "what is told", (0, b"abc", text), told(program, store.words("get", ref_of(b"abc"))))
 
 
@@ -585,12 +601,15 @@ def named(program):
 def strangers(program):
     """Other programs at the address, and servers that refuse."""
     other = "another program may listen there"
-    no_room, not_found = (b"HTTP/1.1 %d X\r\nContent-Length: 0\r\n\r\n" % status for status in (507, 404))
+    no_room, not_found, damaged = (
+        b"HTTP/1.1 %d X\r\nContent-Length: 0\r\n\r\n" % status for status in (507, 404, 500)
+    )
     unlike = f"doesn't answer as perkeep serve does: {other}"
     for text, hint in [
         (b"SSH-2.0-a\r\n", f"%s {unlike}"),
         (not_found, f"%s answers 404, as perkeep serve doesn't: {other}"),
         (no_room, "the server at %s answers 507: its store is full"),
+        (damaged, "the server at %s answers 500: a blob of its store is damaged; see perkeep salvage there"),
     ]:
         is_strange(program, "pull", text, hint)
         is_strange(program, "mirror", text, hint)

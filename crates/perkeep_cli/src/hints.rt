@@ -79,7 +79,9 @@ pub(crate) fn tell_of_others(rt: &HostRuntime, screen: &Screen<'_>, folder: &str
     }
     if let Ok(found) = uninterrupted(|| fs::metadata(rt, &keyring)) {
         if found.mode() & BY_ALL != 0 {
-            screen.tell(format_args!("perkeep: everyone may write to {keyring}"));
+            screen.tell(format_args!(
+                "perkeep: everyone may write to {keyring}; chmod 600 mends it"
+            ));
         }
     }
 }

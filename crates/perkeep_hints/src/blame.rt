@@ -70,7 +70,9 @@ fn absent_text(alloc: Global, words: &[Text], folder: &str, lacks: &Ref) -> Opti
             "the store has no blob {lacks}; perkeep salvage {folder} says whether a pack is damaged"
         ).ok()
     } else {
-        format!(in alloc; "the store lacks {lacks}, a part of it: see salvage, and the backup").ok()
+        format!(in alloc;
+            "the store lacks {lacks}, which the file needs: see perkeep salvage {folder}, and the backup"
+        ).ok()
     }
 }
 
@@ -170,7 +172,9 @@ fn is_date_place(at: &str) -> bool {
 fn name_text(alloc: Global, words: &[Text]) -> Option<String> {
     match value_of(words, "key") {
         Some(key) if KeyName::read(key.as_bytes()).is_none() => {
-            format!(in alloc; "{key:?} can't be the name of a key").ok()
+            format!(in alloc;
+                "{key:?} can't be the name of a key: it has 1 to 64 of a to z, 0 to 9 and -"
+            ).ok()
         }
         _ => format!(in alloc; "the name of an attribute is empty").ok(),
     }
@@ -196,7 +200,8 @@ fn key_text(alloc: Global, words: &[Text], seen: Seen<'_>) -> Option<String> {
 // That there is no keyring, and how one with a key is made.
 fn no_keyring_text(alloc: Global, folder: &str, key: &str) -> Option<String> {
     format!(in alloc;
-        "{folder}/keyring isn't there: copy the archive's, or make one by (umask 077; \
+        "{folder}/keyring isn't there: copy the archive's, since notes count only with the key that signed \
+        them; only for a new archive make one, by (umask 077; \
         printf '{key} %s\\n' \"$(openssl rand -hex 32)\" > '{folder}/keyring')"
     )
     .ok()

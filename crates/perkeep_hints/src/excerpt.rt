@@ -24,13 +24,21 @@ pub(crate) fn quoting_hint(words: &[Text]) -> Option<&'static str> {
     }
 }
 
-// Whether there are more positions than DIR and TEXT, or a word begins with a single dash.
+// Whether there are more positions than DIR and TEXT, or a word begins with a single dash; not where an option is there
+// that the command doesn't have.
 fn has_loose_text(words: &[Text]) -> bool {
     let is_option = |word: &&Text| word.as_str().starts_with("--");
+    let is_strange = |word: &Text| {
+        let word = word.as_str();
+        word == "-at"
+            || word.starts_with("--")
+                && !(word == "--" || word == "--at" || word.starts_with("--at="))
+    };
     let positions = words.iter().filter(|word| !is_option(word)).count();
     let values = words.iter().filter(|word| word.as_str() == "--at").count();
     let dashed = |word: &Text| word.as_str().starts_with('-') && !word.as_str().starts_with("--");
-    positions.saturating_sub(values) > 2 || words.iter().any(dashed)
+    !words.iter().any(is_strange)
+        && (positions.saturating_sub(values) > 2 || words.iter().any(dashed))
 }
 
 /// What is around the place where the search words of a line go wrong, by the status; None where they don't, and where no

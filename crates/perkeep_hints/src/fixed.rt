@@ -7,9 +7,12 @@ use top_frame::{InputFault, ReplyFault, Status};
 pub fn fixed_hint(status: &Status, words: &[Text]) -> Option<&'static str> {
     match status {
         Status::BadInput(InputFault::Words(fault)) => Some(hint_of_words(fault, words)),
+        Status::BadInput(InputFault::TooBig { .. }) if is_put(words) => {
+            Some("standard input is longer than a blob, 16 MiB; perkeep put-file takes any length")
+        }
         Status::BadInput(fault) => hint_of_input(fault),
         Status::Disk => Some("the folder, or a file in it, can't be read or written"),
-        Status::ReadFault => Some("standard input is closed, or can't be read"),
+        Status::ReadFault => Some("standard input is closed, is a folder, or can't be read"),
         Status::WriteFault => Some(
             "standard output can't be written: its reader has gone, or there is no room for it",
         ),
@@ -22,6 +25,13 @@ pub fn fixed_hint(status: &Status, words: &[Text]) -> Option<&'static str> {
             "the port is taken, or no connection could be accepted; --port takes another one",
         ),
         _ => None,
+    }
+}
+
+fn is_put(words: &[Text]) -> bool {
+    match words.first() {
+        Some(command) => command.as_str() == "put",
+        None => false,
     }
 }
 
@@ -42,7 +52,10 @@ fn hint_of_input(fault: &InputFault) -> Option<&'static str> {
             Some("the blobs of the file don't fit together")
         }
         InputFault::TooLong { .. } => Some("a text, a file or a query is longer than it may be"),
-        InputFault::BadChanges => Some("standard input is no list of changes"),
+        InputFault::BadChanges => Some(
+            "standard input is no list of changes, as [{\"changeType\":\"add-attribute\",\"permaNode\":\"REF\",\
+            \"attribute\":\"tag\",\"value\":\"letters\"}] is",
+        ),
         InputFault::BadName | InputFault::NoKey | InputFault::BadQuery(_) | InputFault::Words(_) =>
             None,
     }

@@ -29,7 +29,7 @@ pub(crate) fn words_text(alloc: Global, words: &[Text]) -> Option<String> {
     }
     let Some((first, behind)) = words.split_first() else {
         return format!(in alloc;
-            "a command is missing, or a word isn't UTF-8; the commands are {COMMANDS}"
+            "a command is missing, or a word isn't UTF-8; the commands are {COMMANDS}; man perkeep describes them"
         ).ok();
     };
     match first.as_str() {
@@ -42,7 +42,9 @@ pub(crate) fn words_text(alloc: Global, words: &[Text]) -> Option<String> {
 
 fn command_text(alloc: Global, name: &str, behind: &[Text]) -> Option<String> {
     let Some(command) = CommandName::of(name) else {
-        return format!(in alloc; "{name:?} is no command; the commands are {COMMANDS}").ok();
+        return format!(in alloc;
+            "{name:?} is no command; the commands are {COMMANDS}; man perkeep describes them"
+        ).ok();
     };
     if let Some(word) = first_unknown(command, behind) {
         return unknown_text(alloc, command, name, word);
@@ -64,10 +66,18 @@ fn unknown_text(alloc: Global, command: CommandName, name: &str, word: &str) -> 
     if let Some(option) = option_of(command, word) {
         return needs_value_text(alloc, name, option);
     }
+    if is_dashed(word) {
+        return format!(in alloc; "{word:?} can't stand there; -- goes before a dash: {line}").ok();
+    }
     match command {
         CommandName::Query => {
             format!(in alloc;
-                "standard input has the query, and its date as \"at\", not the words: {line}"
+                "standard input has the query, with its date as \"at\"; perkeep words takes search words: {line}"
+            ).ok()
+        }
+        CommandName::Get | CommandName::GetFile => {
+            format!(in alloc;
+                "{word:?} can't stand there; > FILE keeps what is printed: {line}"
             ).ok()
         }
         CommandName::Put => {
@@ -83,6 +93,11 @@ fn unknown_text(alloc: Global, command: CommandName, name: &str, word: &str) -> 
             }
         _ => format!(in alloc; "{word:?} can't stand there: {line}").ok(),
     }
+}
+
+// Whether a word begins with a single dash.
+fn is_dashed(word: &str) -> bool {
+    word.starts_with('-') && !word.starts_with("--")
 }
 
 // The option of a command that a word names, without a value.

@@ -27,7 +27,12 @@ pub(crate) fn reply_text(alloc: Global, address: &str, fault: &ReplyFault) -> Op
         }
         ReplyFault::Refused { status: 503 } => {
             format!(in alloc;
-                "the server at {address} answers 503: its disk failed, or it has no memory left"
+                "the server at {address} answers 503: its disk is full or failed, or it has no memory left"
+            ).ok()
+        }
+        ReplyFault::Refused { status: 500 } => {
+            format!(in alloc;
+                "the server at {address} answers 500: a blob of its store is damaged; see perkeep salvage there"
             ).ok()
         }
         ReplyFault::Refused { status: 507 } => {

@@ -19,22 +19,27 @@ const QUOTES: &str =
 
 // What is wrong with a text of which so many bytes begin a line.
 fn hint_at(text: &str, at: u64) -> &'static str {
-    if (text.len() as u64) <= at {
+    if text.is_empty() {
+        "TEXT is empty: it takes a search word, as tag:letters"
+    } else if (text.len() as u64) <= at {
         "TEXT lacks something at its end: a search word, a value, a quote or a )"
-    } else if has_capitals(text) {
+    } else if has_joining_word(text) {
         "or is written small; a space alone means and, and - before a search word means not"
     } else if has_colon_before(text, at) {
         QUOTES
     } else {
-        "at the mark no search word begins: there are tag:, title:, attr:NAME:, has:, ref: and childrenof:, \
+        "the word at the mark is no search word: there are tag:, title:, attr:NAME:, has:, ref: and childrenof:, \
         as in title:Letters"
     }
 }
 
-// Whether a text has a word that would join others if it were small.
-fn has_capitals(text: &str) -> bool {
+// Whether a text has a word that another language would join words by.
+fn has_joining_word(text: &str) -> bool {
     for word in text.split(' ') {
-        if matches!(word, "OR" | "AND" | "NOT" | "Or" | "And" | "Not") {
+        if matches!(
+            word,
+            "OR" | "AND" | "NOT" | "Or" | "And" | "Not" | "and" | "not"
+        ) {
             return true;
         }
     }
