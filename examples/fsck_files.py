@@ -26,7 +26,7 @@ from typing import Iterator, NamedTuple, Optional
 
 from perkeep_archive import (
     DEEPEST, INCOMPLETE, Archive, Lacking, Notes, Part, is_ref, keyring_of, members_in, octets_in, octets_text,
-    parser_of, parts_in, run, schema_in, shown, total,
+    parser_of, parts_in, report, run, schema_in, shown, total,
 )
 
 
@@ -214,6 +214,9 @@ def main() -> int:
     seen = Seen(notes)
     check = Check(Archive(words.folder, seen.see), seen)
     notes.settle()
+    if not notes.keys:
+        why = f"{words.keyring} has no key" if words.keyring else f"{words.folder} has no keyring with a key"
+        report(f"fsck_files.py: no note is checked, since {shown(why)}: give one by --keyring FILE")
     standing = notes.attributes()
     if words.all:
         for ref, why in check.files.items():

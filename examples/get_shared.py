@@ -154,7 +154,7 @@ def main() -> int:
         raise Refused(str(why)) from None
     if entry.fault is not None or entry.kind not in ("file", "symlink", "directory"):
         raise Refused(str(entry.fault or f"{entry.ref} is no folder, file or link"))
-    restoring = Restoring(shared, False)
+    restoring = Restoring(shared, False, "give another PATH")
     try:
         restoring.restore(entry, place_of(entry, words.path))
     except OSError as why:

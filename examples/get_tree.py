@@ -67,10 +67,10 @@ class Target:
 
 
 class Restoring:
-    """A run that restores a tree."""
+    """A run that restores a tree. `instead` says what to do about a file that is there already."""
 
-    def __init__(self, archive: Archive, is_forced: bool):
-        self.archive, self.is_forced = archive, is_forced
+    def __init__(self, archive: Archive, is_forced: bool, instead: str = "--force replaces it"):
+        self.archive, self.is_forced, self.instead = archive, is_forced, instead
         self.left = 0
         umask = os.umask(0)
         os.umask(umask)
@@ -106,9 +106,10 @@ class Restoring:
 
     def try_entry(self, folder: Target, entry: Entry, name: bytes) -> Optional[Target]:
         """Restores an entry in a folder; answers the open folder that it is, if it is one. Tells what fails."""
+        if entry.fault is not None:
+            self.report(folder.path, f"one entry whose name is lost: {entry.fault}")
+            return None
         try:
-            if entry.fault is not None:
-                raise entry.fault
             folder.meet(name)
             return self.restore_entry(folder, entry, name)
         except (Lacking, Left, OSError) as why:
@@ -156,7 +157,7 @@ class Restoring:
         if stat.S_ISDIR(status.st_mode):
             raise Left("a folder is there")
         if not self.is_forced:
-            raise Left("it is there already; --force replaces it")
+            raise Left(f"it is there already; {self.instead}")
 
     def write(self, folder: Target, entry: Entry, temporary: bytes) -> None:
         """Makes a file or link under a name of its own, with all that it is to have."""
@@ -235,9 +236,19 @@ class Wanted:
         if is_ref(self.text) and not notes:
             return self.text
         if len(notes) != 1:
-            why = f"there are several: {', '.join(sorted(notes))}" if notes else "no key of the keyring has made it"
-            raise Refused(f"no tree {self.text}: {why}. TREE may be the ref of its note, too: notes.py prints each")
+            why = f": there are several: {', '.join(sorted(notes))}" if notes else self.others()
+            raise Refused(f"no tree {self.text}{why}. TREE may be the ref of its note, too: notes.py prints each")
         return self.content_of(*notes)
+
+    def others(self) -> str:
+        """What there is instead: the trees, by the names that put_tree.py was given."""
+        changes = [change for claim in self.notes.claims for change in claim.changes if change.attribute == "title"]
+        trees = sorted({change.value for change in changes if self.is_tree(change.note, change.value)})
+        return f", but {', '.join(trees)}" if trees else ": no key of the keyring has made one"
+
+    def is_tree(self, note: str, name: str) -> bool:
+        of_keys = (ref_of(tree_note(key, name)) for key in self.notes.keys.values())
+        return note in of_keys and note in self.notes.permanodes and not self.notes.is_deleted(note, self.moment)
 
     def content_of(self, note: str) -> str:
         attributes = self.notes.attributes(self.moment, {note})

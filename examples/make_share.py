@@ -4,10 +4,10 @@
     make_share.py 127.0.0.1:3179 sha224-.. --keyring ~/archive/keyring
     make_share.py inbox sha224-.. --keyring ~/archive/keyring
 
-WHERE is the HOST:PORT of a running server, which stores the share and the key's blob. It may also be an inbox: a folder
-without packs, made if it isn't there, which gets both for `perkeep push inbox HOST:PORT`. REF is the file or
-folder to share, as `put-file` or put_tree.py has printed it. It can't be a note, since no link leads from a note to its
-content.
+WHERE is the HOST:PORT of the archive's server, which stores the share and the key's blob. It may also be an inbox: a
+folder without packs, made if it isn't there, which gets both for `perkeep push inbox HOST:PORT`. The archive's own
+folder is no inbox. REF is the file or folder to share, as `put-file` or put_tree.py has printed it. It can't be a note,
+since no link leads from a note to its content.
 
 The share covers REF and all blobs to which links lead from it; with --alone only the blob of REF, so that no content of
 a file is shared. Two lines are printed: the ref of the share, and the path under which `perkeep serve-shares` serves it
@@ -26,9 +26,10 @@ import re
 import time
 
 from perkeep_archive import (
-    PACK_NAME, Key, Refused, Server, date_text, is_ref, parser_of, read_keyring, ref_of, run, schema_in,
+    PACK_NAME, Key, Refused, Server, date_text, is_ref, parser_of, read_keyring, ref_of, report, run, schema_in, shown,
 )
 
+NEW_FILE = os.O_WRONLY | os.O_CREAT | os.O_EXCL | os.O_CLOEXEC
 KINDS_WITHOUT_LINKS = {"permanode": "a note", "claim": "a claim on a note"}
 
 
@@ -71,15 +72,19 @@ def fill_inbox(folder: pathlib.Path, blobs: dict[str, bytes]) -> None:
     """Writes blobs as the only pack of a folder (docs/formats/packs.md)."""
     pack = b"".join(f"[{ref} {len(blob)}]".encode() + blob for ref, blob in blobs.items())
     try:
+        is_new = not folder.exists()
         folder.mkdir(mode=0o700, exist_ok=True)
         if any(PACK_NAME.fullmatch(name) for name in os.listdir(folder)):
-            raise Refused(f"{folder} has packs already: push it first, and remove them")
-        with open(folder / "pack-00000.blobs", "xb") as file:
+            where = "the HOST:PORT of the archive's server, or an inbox, which is a folder without packs"
+            raise Refused(f"{folder} has packs: WHERE is {where}")
+        with open(os.open(folder / "pack-00000.blobs", NEW_FILE, 0o600), "wb") as file:
             file.write(pack)
             file.flush()
             os.fsync(file.fileno())
     except OSError as why:
         raise Refused(f"{folder}: {why.strerror}") from None
+    if is_new:
+        report(f"make_share.py: the folder {shown(str(folder))} was made: push it to the archive's server")
 
 
 def main() -> int:

@@ -179,9 +179,14 @@ def read_keyring(path: pathlib.Path) -> dict[str, Key]:
 def keyring_of(folder: pathlib.Path, given: Optional[str], is_needed: bool = True) -> dict[str, Key]:
     """The given keyring, or that of a store's folder."""
     path = pathlib.Path(given) if given else folder / "keyring"
-    if given or path.exists():
+    try:
+        is_there = bool(given) or path.exists()
+        is_folder = is_there or folder.is_dir()
+    except OSError as why:
+        raise Refused(f"{folder}: {why.strerror}") from None
+    if is_there:
         return read_keyring(path)
-    if not folder.is_dir():
+    if not is_folder:
         raise Refused(f"{folder} is no folder")
     if is_needed:
         raise Refused(f"{folder} has no file keyring, without which no note counts: give one by --keyring FILE")
@@ -397,11 +402,11 @@ class Archive:
         record = self.records.get(ref)
         if record is None:
             raise Lacking(ref, self.fate(ref))
-        file = os.open(self.folder / record.pack, os.O_RDONLY)
         try:
-            blob = os.pread(file, record.size, record.at)
-        finally:
-            os.close(file)
+            with open(self.folder / record.pack, "rb", buffering=0) as file:
+                blob = os.pread(file.fileno(), record.size, record.at)
+        except OSError as why:
+            raise Lacking(ref, f"can't be read in {record.pack}: {why.strerror}") from None
         if not has_ref(blob, ref):
             raise Lacking(ref, f"was changed meanwhile in {record.pack} at {record.at}")
         return blob
@@ -718,11 +723,19 @@ class Server:
         try:
             answer = json.loads(reply)
         except ValueError:
-            raise Refused(f"what answers {status} at {self.address} is no perkeep serve: look at the port") from None
+            answer = None
+        if not isinstance(answer, dict) or answer.get("error") == "no route":
+            raise Refused(f"what answers {status} at {self.address} is no perkeep serve: look at the port")
         if status != 200:
-            why = {key: value for key, value in answer.items() if key != "received"}
-            raise Refused(f"the server at {self.address} refuses {target} by {status} {compact(why)}")
+            raise Refused(self.why_refused(target, status, answer))
         return answer
+
+    def why_refused(self, target: str, status: int, answer: dict) -> str:
+        if answer.get("error") == "disk":
+            fault = f"is full, or has failed ({status} disk): free some room there, and run this again"
+            return f"the disk of the server at {self.address} {fault}"
+        why = {key: value for key, value in answer.items() if key != "received"}
+        return f"the server at {self.address} refuses {target} by {status} {compact(why)}"
 
     def exchange(self, method: str, target: str, body: bytes, headers: dict) -> tuple[int, bytes]:
         """A reply's status and body. A request may be sent more than once: each has the same effect when repeated."""
@@ -816,6 +829,9 @@ def run(main: Callable[[], int]) -> None:
     except BrokenPipeError:
         # Nothing more can be printed, not even as Python ends.
         os.dup2(os.open(os.devnull, os.O_WRONLY), sys.stdout.fileno())
+        status = REFUSED
+    except OSError as why:
+        report(f"{pathlib.Path(sys.argv[0]).name}: {shown(str(why))}")
         status = REFUSED
     except KeyboardInterrupt:
         status = 130

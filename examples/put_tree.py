@@ -20,9 +20,15 @@ file, that of its note, and its path; for each that has gone `gone`, its note, a
 the end one for the tree. Standard error says what is left out: what can't be read, is no file, folder or link, or is
 changed while it is read.
 
+Left out as well, with a line and without status 1: folders that have packs (pack-NNNNN.blobs), such as the archive's
+own, and the keyring: the file given by --keyring, and files named `keyring` that have its key.
+
+If nothing is in PATH although TREE has files, nothing is stored, since a disk may not be mounted; with --empty TREE
+becomes empty.
+
 Not kept: owners, hard links (each name is a file of its own), extended attributes and holes. A file that was moved
-gets another note, and tags stay on the old one. Two machines take two TREEs, since each would take the other's files
-for gone. The folder mustn't hold the archive's own folder.
+gets another note, and tags stay on the old one. Use another TREE for each machine: otherwise each would consider the
+other's files gone.
 
 Status: 0 all is stored, 1 something was left out, 2 bad words, 3 it couldn't be done.
 """
@@ -42,7 +48,7 @@ import time
 from typing import BinaryIO, Callable, Iterator, NamedTuple, Optional
 
 from perkeep_archive import (
-    CHUNK, INCOMPLETE, LARGEST_SCHEMA, MOST_CHANGES, MOST_CHUNKS, MOST_PART_BYTES, MOST_PARTS, SECOND,
+    CHUNK, INCOMPLETE, LARGEST_SCHEMA, MOST_CHANGES, MOST_CHUNKS, MOST_PART_BYTES, MOST_PARTS, PACK_NAME, SECOND,
     Change, Key, Refused, Server, is_date, multi_claim, octets_field, octets_text, parser_of, part,
     read_keyring, ref_of, report, run, schema_blob, shown, static_sets, total_size, tree_note, unix_fields,
 )
@@ -86,6 +92,11 @@ class LeftOut:
         self.paths.add(path)
         self.report(path, why.strerror if isinstance(why, OSError) else why)
 
+    def add_private(self, path: bytes, why: str) -> None:
+        """Adds what is never stored, so that it doesn't count."""
+        self.paths.add(path)
+        self.say(path, why)
+
     def has(self, path: bytes) -> bool:
         """Whether nothing is stored of this path, or of a folder that it is in."""
         while path not in self.paths and path:
@@ -94,14 +105,35 @@ class LeftOut:
 
     def report(self, path: bytes, why: object) -> None:
         self.count += 1
+        self.say(path, why)
+
+    def say(self, path: bytes, why: object) -> None:
         report(f"left out: {shown(octets_text(path)) or '.'}: {why}")
 
 
-def walk(top: bytes, left_out: LeftOut) -> list[Found]:
+class Keyring:
+    """The file that has the key, which isn't stored, nor are files named `keyring` that have the key, too."""
+
+    def __init__(self, path: pathlib.Path, key: Key):
+        self.status, self.line = path.stat(), f"{key.name} {key.secret.hex()}\n".encode()
+
+    def is_at(self, path: bytes, status: os.stat_result) -> bool:
+        may_have_key = os.path.basename(path) == b"keyring" and stat.S_ISREG(status.st_mode)
+        return os.path.samestat(status, self.status) or may_have_key and self.is_copied(path)
+
+    def is_copied(self, path: bytes) -> bool:
+        try:
+            with open(path, "rb") as file:
+                return self.line in file
+        except OSError:
+            return False
+
+
+def walk(top: bytes, keyring: Keyring, left_out: LeftOut) -> list[Found]:
     """The folders, each of them before those in it, and with what is in it."""
     folders = [Found(b"", os.stat(top))]
     for folder in folders:
-        folder.entries = list(found_in(top, folder.path, left_out))
+        folder.entries = list(found_in(top, folder.path, keyring, left_out))
         folders += [one for one in folder.entries if one.kind == stat.S_IFDIR]
     for one in itertools.chain(folders[:1], *(folder.entries for folder in folders)):
         if not is_date(one.status.st_mtime_ns):
@@ -109,13 +141,16 @@ def walk(top: bytes, left_out: LeftOut) -> list[Found]:
     return folders
 
 
-def found_in(top: bytes, path: bytes, left_out: LeftOut) -> Iterator[Found]:
+def found_in(top: bytes, path: bytes, keyring: Keyring, left_out: LeftOut) -> Iterator[Found]:
     """What is in a folder, in the order of names."""
     try:
         with os.scandir(os.path.join(top, path)) as listing:
             entries = sorted(listing, key=lambda entry: entry.name)
     except OSError as why:
         left_out.add(path, why)
+        return
+    if any(PACK_NAME.fullmatch(os.fsdecode(entry.name)) and entry.is_file() for entry in entries):
+        left_out.add_private(path, "it has packs, as the folder of an archive")
         return
     above = path + b"/" if path else b""
     for entry in entries:
@@ -125,10 +160,12 @@ def found_in(top: bytes, path: bytes, left_out: LeftOut) -> Iterator[Found]:
         except OSError as why:
             left_out.add(one, why)
             continue
-        if found.kind in (stat.S_IFREG, stat.S_IFLNK, stat.S_IFDIR):
-            yield found
-        else:
+        if found.kind not in (stat.S_IFREG, stat.S_IFLNK, stat.S_IFDIR):
             left_out.add(one, "no file, folder or symbolic link")
+        elif keyring.is_at(entry.path, found.status):
+            left_out.add_private(one, "it is a keyring with the key")
+        else:
+            yield found
 
 
 # The cache
@@ -303,10 +340,12 @@ class Putting:
         self.permanodes: dict[bytes, bytes] = {}
         self.note = ref_of(tree_note(key, tree))
 
-    def run(self) -> None:
-        folders = walk(self.top, self.left_out)
+    def run(self, keyring: Keyring, may_be_empty: bool) -> None:
+        folders = walk(self.top, keyring, self.left_out)
         if b"" in self.left_out.paths:
-            raise Refused(f"{octets_text(self.top)} can't be read")
+            raise Refused(f"nothing of {octets_text(self.top)} can be stored")
+        if not (may_be_empty or folders[0].entries or self.left_out.paths):
+            self.check_empty()
         files = [one for folder in folders for one in folder.entries if one.kind == stat.S_IFREG]
         self.make_tree_note()
         self.store(folders, files)
@@ -314,6 +353,13 @@ class Putting:
         self.note_files(stored)
         self.note_gone({self.cache.files[one.path].note for one in stored})
         self.note_tree(folders[0].ref)
+
+    def check_empty(self) -> None:
+        """Refuses to store an empty folder in place of files."""
+        count = len(self.notes_below(b""))
+        if count:
+            what = f"nothing is in {octets_text(self.top)}, though the tree {self.tree} has {count} files"
+            raise Refused(f"{what}: is it mounted? --empty stores it as empty")
 
     # Blobs
 
@@ -430,7 +476,7 @@ class Putting:
         return (
             f"the keyring of the server has no key {self.key.name}, or another secret for it{deleted}. Nothing of the "
             "folder was stored. Give --keyring the archive's own keyring, or add the key's line to that and start the "
-            "server again"
+            "server again: the server reads its keyring only as it starts"
         )
 
     def permanode(self, path: bytes) -> bytes:
@@ -554,6 +600,7 @@ def main() -> int:
     parser.add_argument("--keyring", metavar="FILE", required=True, help="the keyring that has the key")
     parser.add_argument("--key", metavar="NAME", help="the key that signs; it may be left out where there is one")
     parser.add_argument("--cache", metavar="FILE", help="what is kept between runs, else a file in ~/.cache/perkeep")
+    parser.add_argument("--empty", action="store_true", help="stores PATH also if it is empty and TREE isn't")
     words = parser.parse_intermixed_args()
     if not is_tree_name(words.name):
         parser.error("TREE is a text without a slash")
@@ -568,7 +615,7 @@ def main() -> int:
     cache = Cache(pathlib.Path(words.cache) if words.cache else usual_cache(tree), tree)
     putting = Putting(server, key, words.name, top, cache)
     try:
-        putting.run()
+        putting.run(Keyring(pathlib.Path(words.keyring), key), words.empty)
     finally:
         cache.save()
     return INCOMPLETE if putting.left_out.count else 0

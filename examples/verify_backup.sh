@@ -7,8 +7,8 @@
 # list is kept in the file REFS, by default ~/.local/state/perkeep/refs. The first time it is the list of BACKUP's blobs,
 # so make the backup first. A damaged blob isn't found.
 #
-# If a folder has lost blobs the script prints how many, and its broken packs. Neither folder is changed. PERKEEP names
-# the program. Status: 0 nothing is lost, 1 something is, 2 bad words, or it couldn't be done.
+# If a folder has lost blobs the script prints how many, and its broken packs. Neither folder is changed. PERKEEP is the
+# program, if that isn't on the path. Status: 0 nothing is lost, 1 something is, 2 bad words, or it couldn't be done.
 set -eu -o pipefail
 export LC_ALL=C
 perkeep=${PERKEEP:-perkeep}
@@ -22,15 +22,22 @@ if [ $# -lt 2 ] || [ $# -gt 3 ]; then
 fi
 archive=$1 backup=$2
 kept=${3:-${XDG_STATE_HOME:-$HOME/.local/state}/perkeep/refs}
+
+# Says why it can't be done.
+refuse() {
+  echo "verify_backup.sh: $1" >&2
+  exit 2
+}
+
+command -v "$perkeep" >/dev/null || refuse "there is no program $perkeep: set PERKEEP to the path of perkeep"
 work=$(mktemp -d)
 trap 'rm -rf "$work"' EXIT
 
 # Lists all blobs of a folder. A missing folder, or one without packs, would read as an empty store.
 list() {
-  if ! compgen -G "$1/pack-*.blobs" >/dev/null; then
-    echo "there is no pack in $1" >&2
-    exit 2
-  fi
+  [ -d "$1" ] || refuse "$1 is no folder, or can't be reached"
+  [ -r "$1" ] && [ -x "$1" ] || refuse "$1 can't be read"
+  compgen -G "$1/pack-*.blobs" >/dev/null || refuse "$1 has no pack"
   "$perkeep" list "$1" --limit 4194304 || exit 2
 }
 

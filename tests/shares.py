@@ -338,8 +338,10 @@ def life_of_a_share(program):
         words = "--keyring", keyring, "--key", "jefe"
         share_ref, path = script("make_share.py", address, ref_of(folder), *words).split()
         compare("make_share.py", "path", target_of(ref_of(folder), share_ref), path)
-        alone, _ = script("make_share.py", inbox, ref_of(file), *words, "--alone").split()
+        alone = share_in_inbox(inbox, ref_of(file), *words, "--alone")
         program.check("push of the inbox", ["push", str(inbox), address], b"copied 1 already 1\n")
+        has_packs(store.path, ref_of(file), *words)
+        has_packs(inbox, ref_of(file), *words)
         refuses("make_share.py", address, ref_of(NODE), *words, text=f"{ref_of(NODE)} is a note, {NO_LINKS}")
         no_shares = f"{ref_of(folder)} isn't served: {NO_SHARES}"
         refuses("get_shared.py", f"http://{address}{path}", text=no_shares)
@@ -349,7 +351,9 @@ def life_of_a_share(program):
             script("get_shared.py", f"http://127.0.0.1:{shares.port}{path}", target)
             compare("what was got", "bytes", content, (target / "a file.bin").read_bytes())
             (target / "a file.bin").write_bytes(b"other")
-            script("get_shared.py", f"http://127.0.0.1:{shares.port}/share/{share_ref}", target, status=1)
+            again = ran("get_shared.py", f"http://127.0.0.1:{shares.port}/share/{share_ref}", target)
+            told = f"not restored: {target}/a file.bin: it is there already; give another PATH\n".encode()
+            compare("a file that was there", "status and errors", (1, told), (again.returncode, again.stderr))
             compare("a file that was there", "bytes", b"other", (target / "a file.bin").read_bytes())
             got = Exchange(shares.port, [get(ref_of(first), alone, ref_of(file))]).bytes()
             check(f"by the share of a file alone {got}", got.endswith(b'{"error":"share","rule":"not transitive"}'))
@@ -359,6 +363,24 @@ def life_of_a_share(program):
         check(f"by a share that was taken back {got}", got.endswith(b'{"error":"share","rule":"deleted"}'))
         text = f"{ref_of(folder)} isn't served: 403 deleted (the share was taken back)"
         refuses("get_shared.py", f"http://127.0.0.1:{shares.port}{path}", text=text)
+
+
+def share_in_inbox(inbox, target, *words):
+    """Makes a share in a folder that isn't there, which is said; answers its ref."""
+    done = ran("make_share.py", inbox, target, *words)
+    told = f"make_share.py: the folder {inbox} was made: push it to the archive's server\n".encode()
+    compare("make_share.py", "status and errors", (0, told), (done.returncode, done.stderr))
+    modes = [path.stat().st_mode & 0o777 for path in (inbox, inbox / "pack-00000.blobs")]
+    compare("an inbox", "the modes of the folder and of its pack", [0o700, 0o600], modes)
+    return done.stdout.decode().split()[0]
+
+
+def has_packs(folder, target, *words):
+    """A share isn't made in a folder that has packs, such as the archive itself, and nobody is told to remove them."""
+    before = {path.name: path.read_bytes() for path in folder.iterdir()}
+    where = "WHERE is the HOST:PORT of the archive's server, or an inbox, which is a folder without packs"
+    refuses("make_share.py", folder, target, *words, text=f"{folder} has packs: {where}")
+    compare("a folder that has packs", "files", before, {path.name: path.read_bytes() for path in folder.iterdir()})
 
 
 def words_of_no_server(program):

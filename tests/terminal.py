@@ -108,7 +108,7 @@ MARKED = [
     ((), 'title:"on', ENDS, 'title:"on', 9),
     ((), "tag:a OR tag:b", SMALL, "tag:a OR tag:b", 6),
     ((), "NOT tag:a", SMALL, "NOT tag:a", 0),
-    ((), "tag:a and tag:b", SMALL, "tag:a and tag:b", 6),
+    ((), "tag:a and tag:b", SMALL, "tag:a and tag:b", 7),
     ((), "Letters of 1998", NO_WORD, "Letters of 1998", 0),
     ((), "tag:é(", NO_LINE, "tag:é(", 5),
     (("--",), "- tag:a", NO_WORD, "- tag:a", 1),

@@ -52,18 +52,18 @@ MOST_CHANGES, LONGEST_CLAIM = 1_000, 1_048_576
 
 # Scripts
 
-def start(folder, script, *words):
-    """Starts a script with a cache in a folder."""
+def start(folder, script, *words, front=()):
+    """Starts a script with a cache in a folder; if there are words in front, by another program that it replaces."""
     settings = {**os.environ, "XDG_CACHE_HOME": str(folder), "PYTHONDONTWRITEBYTECODE": "1"}
-    line = [sys.executable, str(EXAMPLES / script), *map(os.fsdecode, words)]
+    line = [*front, sys.executable, str(EXAMPLES / script), *map(os.fsdecode, words)]
     streams = {"stdin": subprocess.DEVNULL, "stdout": subprocess.PIPE, "stderr": subprocess.PIPE}
     return subprocess.Popen(line, env=settings, **streams)
 
 
-def run(folder, script, *words, status=0, err=""):
+def run(folder, script, *words, status=0, err="", front=()):
     """Runs a script, which has to end so, and to tell something like this; answers the lines of its output."""
     what = f"{script} {words}"
-    process = start(folder, script, *words)
+    process = start(folder, script, *words, front=front)
     out, told = harness.finish(what, process, seconds=SECONDS)
     compare(f"{what}: {told}", "exit status", status, process.returncode)
     check(f"{what} tells {told}, and not {err}", re.fullmatch(err, told.decode(), re.DOTALL))
@@ -228,7 +228,7 @@ def at_dates(program):
         is_gone(what, bench, gone)
         shutil.rmtree(bench.folder)
         os.mkdir(bench.folder)
-        bench.put(server.port)
+        bench.put(server.port, "--empty")
         bench.comes_back(f"{what}: then", old, first)
         bench.comes_back(f"{what}: later", new, second)
         bench.comes_back(f"{what}: later, in another zone", new, second.replace("Z", "+00:00"))
@@ -405,7 +405,7 @@ def an_older_cache(program):
 # What is left out
 
 def left_out(program):
-    cases = (no_files, growing, unreadable_folder, left_out_and_gone, no_folder, no_key)
+    cases = (no_files, growing, left_out_and_gone, own_archive, nothing_there, no_folder, no_key, failed_disk)
     return [lambda one=one: one(program) for one in cases]
 
 
@@ -462,28 +462,6 @@ def growing_file(path):
         writer.join()
 
 
-def unreadable_folder(program):
-    """What is in a folder that can't be read isn't taken for gone."""
-    what, bench = "a folder that can't be read", Bench(program)
-    make(bench.folder, chance(what), 30)
-    deep = os.path.join(bench.folder, b"deep")
-    os.mkdir(deep)
-    write(os.path.join(deep, b"file"), b"deep")
-    note = ref_of(note_of(TREE, b"deep/file"))
-    with bench.serve() as server:
-        bench.put(server.port)
-        front = () if os.getuid() else ("setpriv", "--bounding-set", "-dac_override,-dac_read_search", "--")
-        if front and shutil.which("setpriv") is None:
-            return
-        os.chmod(deep, 0)
-        line = [*front, sys.executable, EXAMPLES / "put_tree.py", *bench.put_words(server.port)]
-        ran = subprocess.run(line, env={**os.environ, "XDG_CACHE_HOME": str(bench.cache)}, capture_output=True)
-        os.chmod(deep, 0o700)
-    told = b"left out: deep: Permission denied\n"
-    check(f"{what}: {ran.stderr}", ran.returncode == 1 and told in ran.stderr)
-    check(f"{what}: it is taken for gone", values(bench.archive(), note, "camliContent"))
-
-
 def left_out_and_gone(program):
     """What was in a folder that was left out once is taken for gone once the folder has gone."""
     what, bench = "left out, and gone", Bench(program)
@@ -503,6 +481,54 @@ def left_out_and_gone(program):
         compare(what, "lines", [f"gone {note} {TREE}/deep/file"], lines[:-1])
         bench.stores_nothing(what, server.port)
     is_noted(what, bench)
+
+
+def own_archive(program):
+    """A folder that has packs isn't stored, nor is the keyring, nor another that has the key: that isn't a failure."""
+    what, bench = "the archive in the folder", Bench(program)
+    archive, inbox = (os.path.join(bench.folder, name) for name in (b"archive", b"inbox"))
+    shutil.copytree(Store(program, {0: writing.pack(b"abc")}, OTHERS).path, os.fsdecode(archive))
+    os.mkdir(inbox)
+    write(os.path.join(inbox, b"keyring"), b"mine 00\n" + inputs.KEYRING)
+    os.link(bench.store.path / "keyring", os.path.join(bench.folder, b"ring"))
+    write(os.path.join(bench.folder, b"file"), b"file")
+    is_keyring, has_packs = "it is a keyring with the key", "it has packs, as the folder of an archive"
+    told = f"left out: ring: {is_keyring}\nleft out: archive: {has_packs}\nleft out: inbox/keyring: {is_keyring}\n"
+    with bench.serve() as server:
+        bench.put(server.port, err=told)
+        before = bench.store.files()
+        compare(what, "lines of another run", 1, len(bench.put(server.port, err=told)))
+        words = (f"{HOST}:{server.port}", archive, *bench.put_words(server.port)[2:])
+        told = f"left out: .: it has packs, .*put_tree.py: nothing of {os.fsdecode(archive)} can be stored\n"
+        run(bench.cache, "put_tree.py", *words, status=3, err=told)
+        check(f"{what}: another run stores something", before == bench.store.files())
+        compare(what, "what is restored", [b"", b"file", b"inbox"], sorted(bench.restored()))
+    secret = inputs.KEYRING.split()[1]
+    check(f"{what}: a secret is stored", not any(secret in blob for blob in bench.blobs().values()))
+
+
+def nothing_there(program):
+    """An empty folder, such as that of a disk that isn't mounted, isn't stored in place of files, unless that is asked
+    for."""
+    what, bench = "nothing there", Bench(program)
+    os.mkdir(bench.folder)
+    with bench.serve() as server:
+        bench.put(server.port)
+        for name in (b"one", b"two"):
+            write(os.path.join(bench.folder, name), name)
+        bench.put(server.port)
+        before, other = bench.store.files(), os.fsencode(program.new_path())
+        os.mkdir(other)
+        bench.folder, had = other, bench.folder
+        told = rf"put_tree\.py: nothing is in {os.fsdecode(other)}, though the tree {TREE} has 2 files: is it mounted\?"
+        bench.put(server.port, status=3, err=rf"{told} --empty stores it as empty\n")
+        check(f"{what}: something is stored", before == bench.store.files())
+        bench.folder = had
+        bench.stores_nothing(what, server.port)
+        bench.folder = other
+        lines = bench.put(server.port, "--empty")
+        compare(what, "files that are gone", 2, sum(line.startswith("gone ") for line in lines))
+        bench.stores_nothing(what, server.port)
 
 
 def no_folder(program):
@@ -525,6 +551,10 @@ def no_folder(program):
     with Stranger() as stranger:
         text = f"what answers 501 at {stranger.address} is no perkeep serve: look at the port"
         run(bench.cache, "put_tree.py", stranger.address, path, *usual, status=3, err=rf"put_tree\.py: {text}\n")
+    with ShareServer(program, path) as shares:
+        address = f"{HOST}:{shares.port}"
+        text = f"what answers 404 at {address} is no perkeep serve: look at the port"
+        run(bench.cache, "put_tree.py", address, path, *usual, status=3, err=rf"put_tree\.py: {text}\n")
     for name in ("", "a/b", os.fsdecode(b"\xff")):
         words = (f"{HOST}:{port}", path, "--name", name, "--keyring", path / "keyring")
         run(bench.cache, "put_tree.py", *words, status=2, err=".*TREE is a text without a slash\n")
@@ -552,6 +582,7 @@ def is_refused(what, bench, port, keyring, key, note):
     words = (f"{HOST}:{port}", bench.folder, "--name", TREE, "--keyring", keyring, "--key", key)
     for deleted in ("", f", or the note {note} was deleted"):
         told = rf"the keyring of the server has no key {key}, or another secret for it{deleted}\. Nothing of .*"
+        told += "the server reads its keyring only as it starts"
         lines = run(bench.cache, "put_tree.py", *words, status=3, err=rf"put_tree\.py: {told}\n")
         compare(what, "lines", [], lines)
 
@@ -567,6 +598,18 @@ def counts_again(what, bench, keyring):
     archive, note = reference.Archive(bench.blobs(), keys), ref_of(note_of(TREE, b"", "mine", b"\0"))
     for name, value in (("title", TREE), ("camliContent", Written(bench.folder, TREE).top)):
         compare(what, name, [value], values(archive, note, name))
+
+
+def failed_disk(program):
+    """A server whose disk takes nothing any more: that is told, with what to do."""
+    bench, keyring = Bench(program), program.new_path()
+    os.mkdir(bench.folder)
+    keyring.write_bytes(inputs.KEYRING)
+    with bench.serve() as server:
+        os.rename(bench.store.path, program.new_path())
+        words = (f"{HOST}:{server.port}", bench.folder, "--name", TREE, "--keyring", keyring, "--key", writing.NAME)
+        told = rf"put_tree\.py: the disk of the server at {HOST}:{server.port} is full, or has failed \(503 disk\): "
+        run(bench.cache, "put_tree.py", *words, status=3, err=told + "free some room there, and run this again\n")
 
 
 # Doors
@@ -786,7 +829,7 @@ def are_filled(program):
         bench.put(server.port)
         for name in os.listdir(bench.folder):
             os.unlink(os.path.join(bench.folder, name))
-        bench.put(server.port)
+        bench.put(server.port, "--empty")
     claims = [reference.fact_of(blob) for blob in bench.blobs().values() if b'"claimType":"multi"' in blob]
     claims.sort(key=lambda claim: claim.date)
     expected = [1, 999, 999, 999, 303, 1, 1000, 100, 1]
@@ -796,7 +839,7 @@ def are_filled(program):
 # Restoring what is hostile, damaged or there
 
 def restoring(program):
-    cases = (hostile, links_within, there_already, by_force, damaged, by_ref, bits, no_tree)
+    cases = (hostile, links_within, there_already, by_force, damaged, by_ref, bits, no_tree, lost_name)
     return [lambda one=one: one(program) for one in cases]
 
 
@@ -947,10 +990,16 @@ def bits(program):
 def no_tree(program):
     """What can't be done is told."""
     bench, _ = put_once(program)
+    with bench.serve() as server:
+        words = [*bench.put_words(server.port)]
+        words[words.index(TREE)] = "a second"
+        run(bench.cache, "put_tree.py", *words)
     store, nowhere = bench.store.path, program.new_path()
     chunk = next(ref for ref, blob in bench.blobs().items() if reference.fact_of(blob).kind == "Plain")
+    empty = Bench(program, {0: writing.pack(writing.key_blob())}).store.path
     lines = [
-        ((store, "other", nowhere), r"no tree other: no key of the keyring has made it\. TREE may be the ref of its note, .*"),
+        ((store, "other", nowhere), rf"no tree other, but a second, {TREE}\. TREE may be the ref of its note, .*"),
+        ((empty, "other", nowhere), r"no tree other: no key of the keyring has made one\. TREE may be the ref .*"),
         ((store, chunk, nowhere), rf"{chunk} is no schema blob"),
         ((store, inputs.ABSENT, nowhere), rf"{inputs.ABSENT} isn't there"),
         ((nowhere, TREE, nowhere), rf"{nowhere} is no folder"),
@@ -960,7 +1009,19 @@ def no_tree(program):
     for words, err in lines:
         run(bench.cache, "get_tree.py", *words, status=3, err=rf"get_tree\.py: {err}\n")
     check(f"{nowhere} is made", not nowhere.exists())
-    run(bench.cache, "get_tree.py", store, TREE, nowhere, "2026-01-01", status=2, err=r".*is no date: write it as .*\n")
+    for date in ("2026-01-01", ""):
+        run(bench.cache, "get_tree.py", store, TREE, nowhere, date, status=2, err=r".*is no date: write it as .*\n")
+    check(f"{nowhere} is made", not nowhere.exists())
+
+
+def lost_name(program):
+    """An entry whose blob is lost is told with its folder, of which all else is restored."""
+    files = [entry("file", name, EMPTY_PARTS) for name in (b"one", b"two")]
+    top = folder_of(b"top", *files)
+    bench, target = of_blobs(program, *top[1:]), program.new_path()
+    told = f"not restored: {target}: one entry whose name is lost: {ref_of(files[0])} isn't there\n"
+    run(bench.cache, "get_tree.py", bench.store.path, ref_of(top[-1]), target, status=1, err=told)
+    compare("a lost name", "what is restored", [target / "two"], list(target.iterdir()))
 
 
 # Notes
@@ -1030,6 +1091,67 @@ def by_moments(program):
             compare(f"{what}: at {moment}", "the note", told, json.loads(line))
 
 
+# What can't be read
+
+def unreadable(program):
+    """Folders and packs of others."""
+    if not os.getuid() and shutil.which("setpriv") is None:
+        raise harness.LeftOut("there is no setpriv here")
+    return [lambda one=one: one(program) for one in (unreadable_folder, locked, locked_backup)]
+
+
+@contextlib.contextmanager
+def closed(path):
+    """A folder or file that nobody may read; gives the words in front of a program that root starts."""
+    front = () if os.getuid() else ("setpriv", "--bounding-set", "-dac_override,-dac_read_search", "--")
+    os.chmod(path, 0)
+    try:
+        yield front
+    finally:
+        os.chmod(path, 0o700)
+
+
+def unreadable_folder(program):
+    """What is in a folder that can't be read isn't taken for gone."""
+    what, bench = "a folder that can't be read", Bench(program)
+    make(bench.folder, chance(what), 30)
+    deep = os.path.join(bench.folder, b"deep")
+    os.mkdir(deep)
+    write(os.path.join(deep, b"file"), b"deep")
+    note = ref_of(note_of(TREE, b"deep/file"))
+    with bench.serve() as server:
+        bench.put(server.port)
+        with closed(deep) as front:
+            told = "left out: deep: Permission denied\n"
+            run(bench.cache, "put_tree.py", *bench.put_words(server.port), status=1, err=told, front=front)
+    check(f"{what}: it is taken for gone", values(bench.archive(), note, "camliContent"))
+
+
+def locked(program):
+    """A folder or a pack that can't be read is told in one line."""
+    bench, nowhere = of_blobs(program, writing.key_blob()), program.new_path()
+    store, pack = bench.store.path, bench.store.path / "pack-00000.blobs"
+    lines = [("get_tree.py", store, TREE, nowhere), ("notes.py", store), ("fsck_files.py", store)]
+    for path in (store, pack):
+        for script, *words in lines:
+            with closed(path) as front:
+                told = rf"{script}: (the keyring )?{store}\S*: Permission denied\n"
+                run(bench.cache, script, *words, status=3, err=told, front=front)
+
+
+def locked_backup(program):
+    what, bench = "a backup that can't be read", Bench(program, {0: writing.pack(b"abc")})
+    archive, backup, refs = bench.store.path, program.new_path(), program.new_path()
+    shutil.copytree(archive, backup)
+    with closed(backup) as front:
+        got = shell(program, "verify_backup.sh", archive, backup, refs, front=front)
+    compare(what, "status and messages", (2, "", f"verify_backup.sh: {backup} can't be read\n"), got)
+    no_folder = "is no folder, or can't be reached"
+    for path, why in ((refs, no_folder), (archive / "keyring", no_folder), (bench.cache, "has no pack")):
+        got = shell(program, "verify_backup.sh", archive, path, refs)
+        compare(what, "status and messages", (2, "", f"verify_backup.sh: {path} {why}\n"), got)
+
+
 # What isn't whole
 
 def whole(program):
@@ -1044,7 +1166,8 @@ def whole(program):
         bench.put(server.port)
     blobs, refs = bench.blobs(), list(Written(bench.folder, TREE).blobs)
     faults = itertools.product(refs, ("lacking", "damaged", "copied"))
-    return [lambda: is_whole(bench)] + [lambda fault=fault: tells_fault(program, blobs, *fault) for fault in faults]
+    checks = [lambda: is_whole(bench), lambda: without_keyring(bench)]
+    return checks + [lambda fault=fault: tells_fault(program, blobs, *fault) for fault in faults]
 
 
 def is_whole(bench):
@@ -1054,6 +1177,16 @@ def is_whole(bench):
     files = Written(bench.folder, TREE).files
     named = [f"file {ref} {path_text('', os.path.basename(path))[1:]}" for path, ref in files.items()]
     compare(what, "what is told of all", (sorted(named), last), (sorted(lines), told))
+
+
+def without_keyring(bench):
+    """Without a keyring no note counts, which is told."""
+    store = Store(bench.program, reference.packs_of(bench.store.files())).path
+    told = rf"fsck_files\.py: no note is checked, since {store} has no keyring with a key: give one by --keyring FILE\n"
+    lines = run(bench.cache, "fsck_files.py", store, err=told)
+    compare("without a keyring", "what is told", ["5 files, 1 trees, 0 notes: 0 not whole"], lines)
+    last = run(bench.cache, "fsck_files.py", store, "--keyring", bench.store.path / "keyring")
+    compare("with one that is given", "what is told", ["5 files, 1 trees, 6 notes: 0 not whole"], last)
 
 
 def tells_fault(program, blobs, ref, how):
@@ -1097,8 +1230,23 @@ def faults_of(blobs):
 
 
 def verify(program):
-    """verify_backup.sh, over a backup and an archive that lose blobs."""
-    return [lambda: is_verified(program)]
+    """verify_backup.sh, over a backup and an archive that lose blobs; and where it, or perkeep-mirror, can't be run."""
+    return [lambda: is_verified(program), lambda: no_program(program)]
+
+
+def shell(program, script, *words, front=(), **settings):
+    """Runs a script of the shell; returns its status, output and errors."""
+    settings = {**os.environ, "PERKEEP": str(program.path), **settings}
+    ran = subprocess.run([*front, EXAMPLES / script, *words], env=settings, capture_output=True, timeout=SECONDS)
+    return ran.returncode, ran.stdout.decode(), ran.stderr.decode()
+
+
+def no_program(program):
+    nowhere, rest = str(program.new_path()), ("a", "b")
+    for script, status in (("verify_backup.sh", 2), ("perkeep-mirror", 127)):
+        got = shell(program, script, *rest, PERKEEP=nowhere)
+        told = f"{script}: there is no program {nowhere}: set PERKEEP to the path of perkeep\n"
+        compare(f"{script} without the program", "status and messages", (status, "", told), got)
 
 
 def is_verified(program):
@@ -1156,12 +1304,13 @@ def helps(program, name):
     for wanted in ("Status: 0", "3 it couldn't be done"):
         check(f"{name} --help doesn't have {wanted}", wanted in text)
     if name == "put_tree.py":
-        for wanted in ("owners, hard links", "extended attributes and holes", "another note", "two TREEs"):
-            check(f"{name} --help doesn't have {wanted}", wanted in text.replace("Two machines take two", "two"))
+        kept = ["owners, hard links", "extended attributes and holes", "another note", "another TREE for each"]
+        for wanted in [*kept, "folders that have packs", "the file given by --keyring", "with --empty"]:
+            check(f"{name} --help doesn't have {wanted}", wanted in text)
 
 
 GROUPS = [sources, page, notes, whole, restoring, changes, titles, caches, not_read, left_out, connections, kills]
-GROUPS += [many_notes, verify]
+GROUPS += [many_notes, verify, unreadable]
 
 if __name__ == "__main__":
     harness.main("trees.sh", GROUPS, [round_trip, large_folders])
