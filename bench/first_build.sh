@@ -13,6 +13,8 @@
 set -eu -o pipefail
 cd "$(dirname "$0")/.."
 folder=$(mktemp -d)
+# The tests run as another user, who has to find the gate's scratch folder in it.
+chmod 711 "$folder"
 trap 'kill %% 2>/dev/null || true; rm -rf "$folder"' EXIT
 TIMEFORMAT='%R %U %S'
 # The kit itself, beside which nothing may be kept yet.
