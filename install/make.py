@@ -14,6 +14,7 @@ about shares, and its table of files. docs/search.md provides the table of searc
 """
 
 import pathlib
+import posixpath
 import re
 import sys
 from typing import NamedTuple
@@ -101,7 +102,8 @@ def told_link(link):
     words, page = link[1], link[2].partition("#")[0]
     if not page:
         return words
-    return f"docs/{page}" if words == page else f"{words} (docs/{page})"
+    path = posixpath.normpath(f"docs/{page}")
+    return path if words in (page, path) else f"{words} ({path})"
 
 
 def plain(text):
@@ -144,6 +146,7 @@ def bold(text):
 
 
 def stressed(text):
+    text = re.sub(r"\*\*([^*]+)\*\*", r"\\fB\1\\fR", text)
     return re.sub(r"\*([^*]+)\*", r"\\fI\1\\fR", text)
 
 
