@@ -10,6 +10,7 @@ Written into the folder of this script:
 See docs/formats/packs.md, blobrefs.md, schema.md, keyring.md and answers.md.
 """
 
+import argparse
 import hashlib
 import hmac
 import pathlib
@@ -67,4 +68,5 @@ def main():
 
 
 if __name__ == "__main__":
+    argparse.ArgumentParser(description=__doc__, formatter_class=argparse.RawDescriptionHelpFormatter).parse_args()
     main()
