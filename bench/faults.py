@@ -7,7 +7,8 @@ import collections
 import pathlib
 import sys
 
-sys.path.insert(0, str(pathlib.Path(__file__).resolve().parent.parent / "tests"))
+TESTS = pathlib.Path(__file__).resolve().parent.parent / "tests"
+sys.path[:0] = [str(TESTS), str(TESTS / "lib")]
 
 import harness
 from command_rows import DISK, DONE, KEYRING, KNOWN, PEER, READ, WRITE, Trial, rows

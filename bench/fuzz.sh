@@ -3,7 +3,7 @@
 #
 #     bench/fuzz.sh [SECONDS [TARGET..]]
 #
-# SECONDS is the time of all targets together, by default an hour; the targets are those of tests/fuzzing.py. An input
+# SECONDS is the time of all targets together, by default an hour; the targets are those of tests/lib/fuzzing.py. An input
 # whose answer is of a new class is changed further. With WORST=1 the worst known inputs of each kind come first, of up
 # to 1 MiB each, over a store that is almost empty, and beside a thousand permanodes. SEED makes other choices: with the
 # same one, each number of a target is the same input again. An input that is answered wrongly, or takes more than 300

@@ -7,7 +7,7 @@ which is the program's start and its reading of the pack. Each is the best of th
 Peaks of memory are those of a whole run.
 
 Timed output goes to /dev/null. The replies are checked in a run before that: they have to be, byte for byte, the
-replies of tests/connections.py with the blobs from which the requests are made.
+replies of tests/lib/connections.py with the blobs from which the requests are made.
 """
 
 import os

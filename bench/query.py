@@ -23,7 +23,8 @@ from compare import MIB
 from store import peak
 from make_pack import KEYRING, LOAD, LOAD_SECRET, record, reference
 
-sys.path.insert(0, str(pathlib.Path(__file__).resolve().parent.parent / "tests"))
+TESTS = pathlib.Path(__file__).resolve().parent.parent / "tests"
+sys.path[:0] = [str(TESTS), str(TESTS / "lib")]
 
 from writing import claim, key_blob, permanode
 

@@ -10,6 +10,8 @@
 #     KEEP=1         keeps the folder in which the script works, and prints its path
 set -eu
 cd "$(dirname "${BASH_SOURCE[0]}")/.."
+# the modules that several scripts share
+export PYTHONPATH=$PWD/tests/lib
 
 # Ends the script as one failure, before any check was run.
 give_up() {

@@ -19,13 +19,13 @@ import harness
 import reference
 import tracing
 from harness import check, compare, compare_ending
-from inputs import ABSENT, KEYRING
+from inputs import ABSENT, EXAMPLE_BLOBS, KEYRING, OTHER_SECRET
 from peers import FalsePeer, plainly, sends
 from reference import pack_name, ref_of
 from serving import HOST, PORTS, is_listened_to
 from stores import NOTHING_FOUND, Store
 from writers import Locked
-from writing import file_blob, pack, part
+from writing import file_blob, keyring_line, pack, part
 
 # So many seconds each read of a pack is held up, and so many packs there are.
 HELD_UP, PACKS = 1.2, 6
@@ -209,7 +209,8 @@ def hints(program):
     checks = [lambda row=row: is_told(program, *row) for row in rows]
     checks += [lambda check=check: check(program) for check in (misfits, numbers, keyrings, queries, damaged_chunk)]
     checks.append(lambda: load_numbers(program))
-    return checks + [lambda check=check: check(program) for check in (folders, held, unread, unwritten, keyless, done)]
+    others = (folders, held, unread, unwritten, keyless, unfound, done)
+    return checks + [lambda check=check: check(program) for check in others]
 
 
 def is_told(program, words, status, text, before="", source=b""):
@@ -404,6 +405,21 @@ def keyless(program):
         got = told(program, store.words(command, *words))
         compare(command, "status, output and what is told", (0, NOTHING_FOUND, none), got)
     compare("get", "what is told", (0, b"abc", b""), told(program, store.words("get", ref_of(b"abc"))))
+
+
+def unfound(program):
+    """What a search says that finds nothing, as with another secret of the key."""
+    notes = {0: pack(*EXAMPLE_BLOBS)}
+    found = Store(program, notes, {"keyring": KEYRING})
+    other = Store(program, notes, {"keyring": keyring_line(secret=OTHER_SECRET)})
+    start = f"perkeep: nothing is found; if a note should be, its key must be in {other.path}/keyring"
+    end = f"and its pack in {other.path}: perkeep salvage {other.path} says what is damaged"
+    for command, words in (("search", ["--attr=tag", "--value=a"]), ("words", ["tag:a"])):
+        got = told(program, other.words(command, *words))
+        compare(command, "status, output and what is told", (0, NOTHING_FOUND, f"{start} {end}\n".encode()), got)
+        status, output, text = told(program, found.words(command, *words))
+        compare(command, "status and what is told of a note", (0, b""), (status, text))
+        compare(command, "whether a note is found", True, output != NOTHING_FOUND)
 
 
 def unwritten(program):

@@ -1,5 +1,6 @@
 -- How many times changes add a value that none of them takes.
-use Rattle.std.proofs.Common.{◌≡◌, ◌==◌, ℕ, length, suc, Bool, true, false, not, ◌&&◌, ◌||◌, cond, List, [], ◌∷◌, ◌++◌, Option, Some, None, refl, sym, ap, ◌∙◌}
+use Rattle.std.proofs.Common.{◌≡◌, ◌==◌, ℕ, length, suc, Bool, true, false, not, ◌&&◌, ◌||◌, cond, List, [], ◌∷◌}
+use Rattle.std.proofs.Common.{◌++◌, Option, Some, None, refl, sym, ap, ◌∙◌}
 use Rattle.std.proofs.lemmas.Bool.{and_parts, and_from, false≢true}
 use Rattle.std.proofs.lemmas.List.Folds.{list_any-append}
 use Rattle.std.proofs.lemmas.List.Sums.{fold-append}
@@ -20,7 +21,7 @@ module _ (name value : List ℕ) where
   abbrev told : Bool → ℕ → Option ℕ
   told b n = cond b None (Some n)
 
-  -- with more changes behind some of which none takes the value
+  -- with more changes after some, none of which takes the value
   pub added_on : (front back : List Change) (n m : ℕ) → Some m ≡ added_from name value n front
       → added_from name value n (front ++ back) ≡ added_from name value m back
   added_on front back n m h = by (taken front) refl h
@@ -31,9 +32,10 @@ module _ (name value : List ℕ) where
       by false is h =
           (λ i. told ((list_any-append (takes name value) front back ∙ ap (λ b. b || taken back) is) i)
           (fold-append (change_times name value) n front back i))
-          ∙ ap (λ k. told (taken back) (times_from name value k back)) (sym (same_Some m (times_from name value n front) h))
+          ∙ ap (λ k. told (taken back) (times_from name value k back))
+          (sym (same_Some m (times_from name value n front) h))
 
-  -- where one of those before takes it
+  -- if one of the earlier ones takes it
   pub taken_on : (front back : List Change) (n : ℕ) → None ≡ added_from name value n front
       → added_from name value n (front ++ back) ≡ None
   taken_on front back n h = by (taken front) refl h
@@ -73,7 +75,7 @@ module _ (name value : List ℕ) where
               (ap (λ b. length c.value == 0 || b) (other_way value c.value)
               ∙ ap (λ b. b && (length c.value == 0 || bytes_eq c.value value)) h ∙ e)
 
-  -- what is added, where that can be said
+  -- how many times it is added, if none takes it
   pub told_some : (cs : List Change) (n m : ℕ) → Some m ≡ added_from name value n cs
       → (taken cs ≡ false) × (m ≡ times_from name value n cs)
   told_some cs n m h = by (taken cs) h
@@ -96,12 +98,14 @@ module _ (name value : List ℕ) where
     where
       by : (act : Act) → act ≡ adds
           → (bytes_eq c.attr name && (is_end act c.value || bytes_eq c.value value)) ≡ true
-          → told ((not (is_addition act) && (bytes_eq c.attr name && (is_end act c.value || bytes_eq c.value value))) || false)
+          → told ((not (is_addition act) && (bytes_eq c.attr name && (is_end act c.value || bytes_eq c.value value)))
+          || false)
           (cond (bytes_eq name c.attr) (act_times act c.value value n) n) ≡ Some (suc n)
       by sets e h = absurd (let f : sets ≡ adds = e in cc f)
       by adds e h =
           let both = and_parts (bytes_eq c.attr name) (bytes_eq c.value value) h in
-          λ i. Some (cond ((other_way name c.attr ∙ both.0) i) (cond ((other_way value c.value ∙ both.1) i) (suc n) n) n)
+          λ i. Some (cond ((other_way name c.attr ∙ both.0) i)
+          (cond ((other_way value c.value ∙ both.1) i) (suc n) n) n)
       by removes e h = absurd (let f : removes ≡ adds = e in cc f)
 
   pub taken_one : (c : Change) → decides false name value c ≡ true → is_addition c.act ≡ false → (n : ℕ)

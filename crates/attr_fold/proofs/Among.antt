@@ -1,5 +1,6 @@
 -- The rows of a permanode stay right where one change more is written among others.
-use Rattle.std.proofs.Common.{◌≡◌, ℕ, Bool, true, false, not, ◌&&◌, ◌||◌, cond, List, [], ◌∷◌, ◌++◌, map, filter, Option, Some, None, refl, sym, ap, subst, ◌∙◌, ◌⊎◌, inl, inr, nat_lt}
+use Rattle.std.proofs.Common.{◌≡◌, ℕ, Bool, true, false, not, ◌&&◌, ◌||◌, cond, List, [], ◌∷◌, ◌++◌, map, filter}
+use Rattle.std.proofs.Common.{Option, Some, None, refl, sym, ap, subst, ◌∙◌, ◌⊎◌, inl, inr, nat_lt}
 use Rattle.std.proofs.Math.Bool.{and-false}
 use Rattle.std.proofs.lemmas.Bool.{and_parts, or_cases, false≢true, cases_Bool}
 use Rattle.std.proofs.lemmas.Cmp.{tied_itself}
@@ -23,7 +24,8 @@ use Rattle.index_rows.specs.Holders.{Holders, is_given, says_permanode, times_at
 use Rattle.index_rows.specs.States.{States}
 use Rattle.index_rows.specs.Values.{change_at, IsChange}
 use Rattle.index_rows.proofs.Orders.{ref_total, change_total, moment_total}
-use Rattle.attr_fold.specs.Following.{counted, counted_after, counted_before, holds_values, is_row, AreRight, IsFollowed, IsSettled}
+use Rattle.attr_fold.specs.Following.{counted, counted_after, counted_before, holds_values, is_row, AreRight}
+use Rattle.attr_fold.specs.Following.{IsFollowed, IsSettled}
 use Rattle.attr_fold.specs.Times.{times_after}
 use Rattle.attr_fold.proofs.Deciding.{beside_late}
 use Rattle.attr_fold.proofs.Dropping.{counted-append, none_counted_of, one_counted}
@@ -34,7 +36,8 @@ use Rattle.attr_fold.proofs.Walking.{Row, change_is}
 
 -- ---- the rows of an attribute that are right, among all of p
 
-module _ (p : List ℕ) (c : Change) (was now : List Change) (before after : Holders) (f : AreRight p c was now before after)
+module _ (p : List ℕ) (c : Change) (was now : List Change) (before after : Holders)
+    (f : AreRight p c was now before after)
   where
     still : (name value : List ℕ) → bytes_eq name c.attr ≡ false
         → times_at after (name, value, p) ≡ times_at before (name, value, p)
@@ -68,7 +71,7 @@ module _ (p : List ℕ) (c : Change) (was now : List Change) (before after : Hol
             (sym ((bytes_eq-Decides name c.attr).0 t)) own h
         by (inr out) = inl (ap (nat_lt 0) (sym (still name value out)) ∙ h)
 
--- the last change is one with none behind it
+-- the last change is one with none after it
 pub followed_is_settled : (p : List ℕ) (c : Change) (said : List Change) (before after : Holders)
     → IsFollowed p c said before after → IsSettled p c said [] before after
 followed_is_settled p c said before after f =
@@ -182,9 +185,11 @@ module _ (before : Changes) (p : List ℕ) (k : Moment) (fresh : contains_key be
       given_now name value h =
           ap (list_any (gives_it name value)) all_now
           ∙ list_any-append (gives_it name value) (changes_before now p k) (((p, k), tt) ∷ changes_after now p (Some k))
-          ∙ ap (λ (o : Option Change). list_any (gives_it name value) (changes_before now p k) || (passes (gives name value) o || list_any (gives_it name value) (changes_after now p (Some k))))
+          ∙ ap (λ (o : Option Change). list_any (gives_it name value) (changes_before now p k)
+          || (passes (gives name value) o || list_any (gives_it name value) (changes_after now p (Some k))))
           (change_is facts state p k is)
-          ∙ by (list_any (gives_it name value) (changes_before now p k)) (gives name value is.change) (list_any (gives_it name value) (changes_after now p (Some k))) h
+          ∙ by (list_any (gives_it name value) (changes_before now p k)) (gives name value is.change)
+          (list_any (gives_it name value) (changes_after now p (Some k))) h
         where
           by : (a b c : Bool) → b ≡ true → (a || (b || c)) ≡ true
           by true b c t = refl
@@ -195,7 +200,8 @@ module _ (before : Changes) (p : List ℕ) (k : Moment) (fresh : contains_key be
         (counted_rows : AllCounted holders) where
       -- a change that doesn't count changes nothing
       pub not_counted : row_deleted facts deletes Always k.1 ≡ true → IsHeldBut but facts state deletes now holders
-      not_counted gone = right_now before p k fresh facts state deletes but holders was counted_rows holders counted_rows
+      not_counted gone = right_now before p k fresh facts state deletes but holders was counted_rows holders
+          counted_rows
           (λ name value q h. refl)
           (λ name value h. h ∙ ap (λ cs. cond (holds_values facts state deletes p) (times_after name value cs) 0)
           (said_before ∙ sym (said_now ∙ ap (λ cs. front ++ (cs ++ back)) (none_counted_of facts deletes k gone))))
@@ -212,7 +218,8 @@ module _ (before : Changes) (p : List ℕ) (k : Moment) (fresh : contains_key be
         -- the rows of its own attribute are right with it, and the others of p stay
         pub settled_late : (after : Holders) → AllCounted after → IsSettled p is.change front back holders after
             → IsHeldBut but facts state deletes now after
-        settled_late after counted' f = right_now before p k fresh facts state deletes but holders was counted_rows after
+        settled_late after counted' f =
+            right_now before p k fresh facts state deletes but holders was counted_rows after
             counted'
             (λ name value q out. f.others name value q (ap (λ b. bytes_eq name is.change.attr && b) out
             ∙ and-false (bytes_eq name is.change.attr)))
@@ -222,7 +229,8 @@ module _ (before : Changes) (p : List ℕ) (k : Moment) (fresh : contains_key be
             ∙ alone_times (front ++ back) name value)
             ∙ sym (ap (λ cs. cond (holds_values facts state deletes p) (times_after name value cs) 0) with_it
             ∙ alone_times (front ++ is.change ∷ back) name value))
-            (λ name value h. elim (given_rows p is.change (front ++ back) (front ++ is.change ∷ back) holders after f name value h) [
+            (λ name value h. elim
+            (given_rows p is.change (front ++ back) (front ++ is.change ∷ back) holders after f name value h) [
               | inl old ↦ inl old
               | inr own ↦ inr (
                 (and_parts (says_permanode facts state p) (not (row_deleted facts deletes Always p)) holds).0,

@@ -1,5 +1,6 @@
 -- What one change among others does to the rows of its own attribute.
-use Rattle.std.proofs.Common.{◌≡◌, ◌+◌, ◌-◌, ◌==◌, ℕ, suc, Bool, true, false, not, ◌&&◌, ◌||◌, cond, List, [], ◌∷◌, ◌++◌, length, refl, sym}
+use Rattle.std.proofs.Common.{◌≡◌, ◌+◌, ◌-◌, ◌==◌, ℕ, suc, Bool, true, false, not, ◌&&◌, ◌||◌, cond, List, [], ◌∷◌}
+use Rattle.std.proofs.Common.{◌++◌, length, refl, sym}
 use Rattle.std.proofs.Common.{ap, subst, ◌∙◌, ◌⊎◌, inl, inr, append-nil, arith}
 use Rattle.std.proofs.lemmas.Bool.{or_left, false≢true, cases_Bool}
 use Rattle.std.proofs.lemmas.Slice.Eq.{bytes_eq-Decides}
@@ -42,13 +43,15 @@ module _ (p attr v on : List ℕ) (front back : List Change) (holders : Holders)
   with_is act value = times-among attr value front (this act) back
       ∙ ap (λ b. behind value (cond b (act_times act v value (before value)) (before value))) (own_bytes attr)
 
-  -- where a value is taken behind the change, nothing is to be done
+  -- if a later change takes the value, nothing is to be done
   same : (act : Act) (value : List ℕ) → list_any (takes attr value) back ≡ true → without value ≡ with_it act value
-  same act value t = without_is value ∙ taken_from attr value back t (before value) (act_times act v value (before value))
+  same act value t = without_is value
+      ∙ taken_from attr value back t (before value) (act_times act v value (before value))
       ∙ sym (with_is act value)
 
-  -- nor for other values than its own
-  beside : (act : Act) → is_end act v ≡ false → (value : List ℕ) → bytes_eq value v ≡ false → without value ≡ with_it act value
+  -- nor for values other than its own
+  beside : (act : Act) → is_end act v ≡ false → (value : List ℕ) → bytes_eq value v ≡ false
+      → without value ≡ with_it act value
   beside act one value other = without_is value ∙ ap (behind value) (by act one) ∙ sym (with_is act value)
     where
       by : (act : Act) → is_end act v ≡ false → before value ≡ act_times act v value (before value)
@@ -108,7 +111,7 @@ module _ (p attr v on : List ℕ) (front back : List Change) (holders : Holders)
     left : (n : ℕ) → behind v n ≡ n + behind v 0
     left n = left_from attr v back none n
 
-    -- an addition that nothing behind it takes away counts once more
+    -- an addition that no later change takes away counts once more
     one_more : with_it adds v ≡ suc (without v)
     one_more =
         let now = left (suc (before v)) in
@@ -134,7 +137,7 @@ module _ (p attr v on : List ℕ) (front back : List Change) (holders : Holders)
         by value was (inr other) =
             ap (λ b. cond b (suc (at v)) (at value)) other ∙ was ∙ beside adds refl value other
 
-    -- and once less where it is gone
+    -- and once less if it is gone
     gone_late : AreRight p (this adds) (front ++ this adds ∷ back) (front ++ back) holders
         (with_times holders (attr, v, p) (at v - 1))
     gone_late = record {
@@ -168,7 +171,7 @@ module _ (p attr v on : List ℕ) (front back : List Change) (holders : Holders)
       removed : with_it removes v ≡ behind v 0
       removed = with_is removes v ∙ (λ i. behind v (cond (one i) 0 (cond (own_bytes v i) 0 (before v))))
 
-      -- the removal of a value leaves the additions behind it
+      -- the removal of a value leaves the later additions
       pub removed_late : is_row holders (attr, v, p) ≡ true
           → IsSettled p (this removes) front back holders (with_times holders (attr, v, p) (behind v 0))
       removed_late there = record {

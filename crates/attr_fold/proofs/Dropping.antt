@@ -1,5 +1,7 @@
 -- The rows of an attribute's values, dropped by a walk back over the changes.
-use Rattle.std.proofs.Common.{◌≡◌, ◌≤◌, ◌+◌, ◌==◌, ℕ, Bool, true, false, not, ◌&&◌, ◌||◌, cond, List, [], ◌∷◌, ◌++◌, length, map, filter, Option, Some, None, Result, Ok, Err, OnOk, refl, sym, ap, subst, ◌∙◌, ◌⊎◌, inl, inr, is_some, nat_lt, zero, suc, arith, length-append}
+use Rattle.std.proofs.Common.{◌≡◌, ◌≤◌, ◌+◌, ◌==◌, ℕ, Bool, true, false, not, ◌&&◌, ◌||◌, cond, List, [], ◌∷◌, ◌++◌}
+use Rattle.std.proofs.Common.{length, map, filter, Option, Some, None, Result, Ok, Err, OnOk, refl, sym, ap, subst}
+use Rattle.std.proofs.Common.{◌∙◌, ◌⊎◌, inl, inr, is_some, nat_lt, zero, suc, arith, length-append}
 use Rattle.std.proofs.Math.Bool.{and-false}
 use Rattle.std.proofs.lemmas.Bool.{and_parts, or_left, false≢true, cases_Bool, cond-true, cond-false, lt-ltb}
 use Rattle.std.proofs.lemmas.List.{map-append}
@@ -29,7 +31,8 @@ use Rattle.index_rows.specs.declared.rows.Rows.{Rows}
 use Rattle.index_rows.specs.Values.{change_at, moment_counts, IsListed}
 use Rattle.index_rows.proofs.Orders.{change_total, change_same}
 use Rattle.index_rows.proofs.WalksBack.{all_passing, all_last}
-use Rattle.attr_fold.specs.Following.{counted, counted_before, is_end, is_row, AreFewer, AreGone, IsFollowed, IsTakenBack}
+use Rattle.attr_fold.specs.Following.{counted, counted_before, is_end, is_row, AreFewer, AreGone, IsFollowed}
+use Rattle.attr_fold.specs.Following.{IsTakenBack}
 use Rattle.attr_fold.specs.Times.{act_times, times_after}
 use Rattle.attr_fold.proofs.OneChange.{own_bytes, drop_beside, drop_own, drop_fewer, with_beside, with_given, with_own}
 use Rattle.attr_fold.proofs.HeldTimes.{no_row}
@@ -40,9 +43,10 @@ pub beside : (name value : List ℕ) (c : Change) (cs : List Change) → bytes_e
     → has_after name value (cs ++ c ∷ []) ≡ has_after name value cs
 beside name value c cs out =
     ap (list_any (bytes_eq value)) (fold-append (change_values name) [] cs (c ∷ []))
-    ∙ ap (list_any (bytes_eq value)) (cond-false (bytes_eq name c.attr) (left_by c.act c.value (values_after name cs)) (values_after name cs) out)
+    ∙ ap (list_any (bytes_eq value))
+    (cond-false (bytes_eq name c.attr) (left_by c.act c.value (values_after name cs)) (values_after name cs) out)
 
--- a row with a smaller number is there only where the one with the greater is
+-- if there is a row with the smaller number, there is one with the greater
 row_less : (n m : ℕ) → n ≤ m → nat_lt 0 n ≡ true → nat_lt 0 m ≡ true
 row_less zero m le t = absurd (false≢true t)
 row_less (suc n) zero le t = absurd (omega (arith, le))
@@ -185,11 +189,13 @@ module _ (facts : Facts) (deletes : Deletes) (changes : Changes) (attr p : List 
   pub one_back : (at before : Moment) → changes_before changes p at ≡ changes_before changes p before ++ ((p, before), tt) ∷ []
       → (old new : Holders) (done : Bool) → IsLeft facts deletes changes attr p moment at old → AreFewer attr p old new
       → IsTakenBack attr p (counted facts deletes (before ∷ [])) done new
-      → (value : List ℕ) → is_row new (attr, value, p) ≡ true → has_after attr value (counted_before facts deletes changes p moment) ≡ true
+      → (value : List ℕ) → is_row new (attr, value, p) ≡ true
+      → has_after attr value (counted_before facts deletes changes p moment) ≡ true
       → (done ≡ false) × (has_after attr value (counted_before facts deletes changes p before) ≡ true)
   one_back at before h old new done left fewer back value t u =
       back value (counted_before facts deletes changes p before) t
-      (ap (has_after attr value) (sym (counted_front facts deletes changes p at before h)) ∙ left value (row_less (times_at new (attr, value, p)) (times_at old (attr, value, p)) (fewer.fewer value) t) u)
+      (ap (has_after attr value) (sym (counted_front facts deletes changes p at before h))
+      ∙ left value (row_less (times_at new (attr, value, p)) (times_at old (attr, value, p)) (fewer.fewer value) t) u)
 
   -- at the end of the walk
   pub gone_at_last : (at : Moment) (holders : Holders) → changes_before changes p at ≡ [] → IsLeft facts deletes changes attr p moment at holders
@@ -201,7 +207,8 @@ module _ (facts : Facts) (deletes : Deletes) (changes : Changes) (attr p : List 
       by false u = u
 
   pub gone_at_end : (holders : Holders) (done : Bool) → done ≡ true
-      → ((value : List ℕ) → is_row holders (attr, value, p) ≡ true → has_after attr value (counted_before facts deletes changes p moment) ≡ true → done ≡ false)
+      → ((value : List ℕ) → is_row holders (attr, value, p) ≡ true
+      → has_after attr value (counted_before facts deletes changes p moment) ≡ true → done ≡ false)
       → AreGone attr p (counted_before facts deletes changes p moment) holders
   gone_at_end holders done is ends value t = by (has_after attr value (counted_before facts deletes changes p moment)) refl
     where
@@ -226,10 +233,12 @@ fewer_before changes p k = go (entries changes)
 -- ---- all of an attribute's values dropped
 
 module _ (p attr v on : List ℕ) (said : List Change) (old mid : Holders) (fewer : AreFewer attr p old mid) (gone : AreGone attr p said mid) where
-  nothing : (value : List ℕ) → times_at old (attr, value, p) ≡ times_after attr value said → times_at mid (attr, value, p) ≡ 0
+  nothing : (value : List ℕ) → times_at old (attr, value, p) ≡ times_after attr value said
+      → times_at mid (attr, value, p) ≡ 0
   nothing value h = by (cases_Bool (is_row mid (attr, value, p)))
     where
-      by : (is_row mid (attr, value, p) ≡ true) ⊎ (is_row mid (attr, value, p) ≡ false) → times_at mid (attr, value, p) ≡ 0
+      by : (is_row mid (attr, value, p) ≡ true) ⊎ (is_row mid (attr, value, p) ≡ false)
+          → times_at mid (attr, value, p) ≡ 0
       by (inl t) =
           let none = no_row (times_after attr value said) (sym (has_by_times attr value said) ∙ gone value t) in
           let le = fewer.fewer value in
@@ -239,9 +248,11 @@ module _ (p attr v on : List ℕ) (said : List Change) (old mid : Holders) (fewe
   abbrev this : Act → Change
   this act = record { on = on; act = act; attr = attr; value = v }
 
-  last_is : (act : Act) (value : List ℕ) → times_after attr value (said ++ this act ∷ []) ≡ act_times act v value (times_after attr value said)
+  last_is : (act : Act) (value : List ℕ) → times_after attr value (said ++ this act ∷ [])
+      ≡ act_times act v value (times_after attr value said)
   last_is act value = times-last attr value said (this act)
-      ∙ ap (λ b. cond b (act_times act v value (times_after attr value said)) (times_after attr value said)) (own_bytes attr)
+      ∙ ap (λ b. cond b (act_times act v value (times_after attr value said)) (times_after attr value said))
+      (own_bytes attr)
 
   -- a row that is there now was there before, or is that of the value itself
   still : (value : List ℕ) → is_row mid (attr, value, p) ≡ true → is_row old (attr, value, p) ≡ true
@@ -251,11 +262,13 @@ module _ (p attr v on : List ℕ) (said : List Change) (old mid : Holders) (fewe
   pub set_alone : IsFollowed p (this sets) said old (with_times mid (attr, v, p) 1)
   set_alone = record {
     others = λ name value q out. with_beside p attr v mid 1 name value q out ∙ fewer.others name value q out;
-    own = λ value h. with_own p attr v mid 1 value ∙ ap (λ n. cond (bytes_eq value v) 1 n) (nothing value h) ∙ sym (last_is sets value);
+    own = λ value h. with_own p attr v mid 1 value ∙ ap (λ n. cond (bytes_eq value v) 1 n) (nothing value h)
+        ∙ sym (last_is sets value);
     given = λ value t. by value (is_row mid (attr, value, p)) refl (with_given p attr v mid 1 value t);
   }
     where
-      by : (value : List ℕ) (b : Bool) → is_row mid (attr, value, p) ≡ b → (b || (bytes_eq attr attr && bytes_eq value v)) ≡ true
+      by : (value : List ℕ) (b : Bool) → is_row mid (attr, value, p) ≡ b
+          → (b || (bytes_eq attr attr && bytes_eq value v)) ≡ true
           → (is_row old (attr, value, p) || (bytes_eq attr attr && bytes_eq value v)) ≡ true
       by value true is t = or_left (is_row old (attr, value, p)) _ (still value is)
       by value false is t = ap (λ b. is_row old (attr, value, p) || b) t ∙ or_true (is_row old (attr, value, p))

@@ -1,5 +1,7 @@
--- The rows of a permanode stay right where a claim that adds a value was deleted, or is no longer.
-use Rattle.std.proofs.Common.{◌≡◌, ◌≤◌, ◌+◌, ◌*◌, length, length-append, arith, ℕ, Bool, true, false, not, ◌&&◌, cond, List, [], ◌∷◌, ◌++◌, map, filter, Some, None, refl, sym, ap, subst, ◌∙◌, ◌⊎◌, inl, inr, is_some, Option}
+-- The rows of a permanode stay right if a claim that adds a value is deleted, or is no longer deleted.
+use Rattle.std.proofs.Common.{◌≡◌, ◌≤◌, ◌+◌, ◌*◌, length, length-append, arith, ℕ, Bool, true, false, not, ◌&&◌, cond}
+use Rattle.std.proofs.Common.{List, [], ◌∷◌, ◌++◌, map, filter, Some, None, refl, sym, ap, subst, ◌∙◌, ◌⊎◌, inl, inr}
+use Rattle.std.proofs.Common.{is_some, Option}
 use Rattle.std.proofs.Math.Bool.{and-false}
 use Rattle.std.proofs.lemmas.Bool.{and_parts, false≢true, cases_Bool}
 use Rattle.std.proofs.lemmas.Cmp.{tied_itself}
@@ -22,7 +24,8 @@ use Rattle.index_rows.specs.States.{States}
 use Rattle.index_rows.specs.Values.{change_at, IsChange}
 use Rattle.index_rows.proofs.Counting.{contains-remove}
 use Rattle.index_rows.proofs.Orders.{change_total, change_same, moment_total}
-use Rattle.attr_fold.specs.Following.{counted, counted_after, counted_before, holds_values, is_row, AreRight, IsFlipped, IsTurned}
+use Rattle.attr_fold.specs.Following.{counted, counted_after, counted_before, holds_values, is_row, AreRight}
+use Rattle.attr_fold.specs.Following.{IsFlipped, IsTurned}
 use Rattle.attr_fold.specs.Times.{times_after}
 use Rattle.attr_fold.specs.Refolded.{refold_steps}
 use Rattle.attr_fold.proofs.Among.{all_now, given_now, given_rows, right_rows, said_now}
@@ -32,7 +35,8 @@ use Rattle.attr_fold.proofs.HeldTimes.{right_after, row_times}
 use Rattle.attr_fold.proofs.Walking.{Row, change_is}
 
 -- a row taken out and put back
-put_back : (changes : Changes) (k : ChangeKey) → contains_key changes k ≡ true → changes ≡ insert (remove changes k) k tt
+put_back : (changes : Changes) (k : ChangeKey) → contains_key changes k ≡ true
+    → changes ≡ insert (remove changes k) k tt
 put_back changes k there = same_map change_total change_same _ _ (λ q. by q (cases_Bool (eq_by_cmp change_cmp q k))
     ∙ sym (get-insert change_total (remove changes k) k tt q
     ∙ ap (cond (eq_by_cmp change_cmp q k) (Some tt)) (get-remove change_total changes k q)))
@@ -45,7 +49,8 @@ put_back changes k there = same_map change_total change_same _ _ (λ q. by q (ca
         at (Some u) h = refl
 
     by : (q : ChangeKey) → (eq_by_cmp change_cmp q k ≡ true) ⊎ (eq_by_cmp change_cmp q k ≡ false)
-        → get changes q ≡ cond (eq_by_cmp change_cmp q k) (Some tt) (cond (eq_by_cmp change_cmp q k) None (get changes q))
+        → get changes q ≡ cond (eq_by_cmp change_cmp q k) (Some tt)
+        (cond (eq_by_cmp change_cmp q k) None (get changes q))
     by q (inl t) = ap (get changes) (change_same q k (is_Equal (change_cmp q k) t)) ∙ here
         ∙ sym (ap (λ b. cond b (Some tt) (cond b None (get changes q))) t)
     by q (inr f) = sym (ap (λ b. cond b (Some tt) (cond b None (get changes q))) f)
@@ -67,7 +72,7 @@ module _ (facts : Facts) (state : States) (changes : Changes) (p : List ℕ) whe
       by true = omega arith
       by false = omega arith
 
-  -- each of the changes behind one is less than all
+  -- the changes after one are fewer than all
   pub whole_steps : (deletes : Deletes) → holds_values facts state deletes p ≡ true → (k : Moment)
       → contains_key changes (p, k) ≡ true
       → 7 + 3 * length (changes_after changes p (Some k)) ≤ refold_steps facts state changes p
@@ -136,7 +141,7 @@ module _ (facts : Facts) (state : States) (changes : Changes) (before after : De
         | inr apart ↦ apart
       ]
 
-  -- a change before it, or behind it, is another one
+  -- a change before or after it is another one
   not_it : (e : Row) (r : Bool) → r ≡ is_lt (moment_cmp k k) → (eq_by_cmp change_cmp e.0 (p, k) ≡ true → r ≡ true)
       → eq_by_cmp change_cmp e.0 (p, k) ≡ false
   not_it e r is lt = elim (cases_Bool (eq_by_cmp change_cmp e.0 (p, k))) [
@@ -245,6 +250,7 @@ module _ (facts : Facts) (state : States) (changes : Changes) (before after : De
             (λ name value out. beside_late name value is.change front back out) f
         settled_rows false h f =
             right_both (front ++ back) (front ++ is.change ∷ back)
-            (said_before ∙ ap (λ cs. front ++ (cs ++ back)) (none_counted_of facts before k (flip.own ∙ ap not (sym h))))
+            (said_before
+            ∙ ap (λ cs. front ++ (cs ++ back)) (none_counted_of facts before k (flip.own ∙ ap not (sym h))))
             (said_is after ∙ ap (λ cs. front ++ (cs ++ back)) (counts after (sym h)))
             (λ name value out. sym (beside_late name value is.change front back out)) f

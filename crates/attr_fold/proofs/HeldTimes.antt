@@ -1,5 +1,6 @@
--- The rows of what holds, by their numbers.
-use Rattle.std.proofs.Common.{◌≡◌, ◌≤◌, ℕ, zero, suc, Bool, true, false, ◌&&◌, cond, List, Option, Some, None, refl, sym, ap, subst, ◌∙◌, ◌⊎◌, inl, inr, is_some, nat_lt, unwrap_or, arith}
+-- The rows of the values that permanodes have, by their numbers.
+use Rattle.std.proofs.Common.{◌≡◌, ◌≤◌, ℕ, zero, suc, Bool, true, false, ◌&&◌, cond, List, Option, Some, None, refl}
+use Rattle.std.proofs.Common.{sym, ap, subst, ◌∙◌, ◌⊎◌, inl, inr, is_some, nat_lt, unwrap_or, arith}
 use Rattle.std.proofs.lemmas.Bool.{and_parts, cond-true, false≢true, cases_Bool, lt-ltb}
 use Rattle.std.proofs.lemmas.Slice.Eq.{bytes_eq-Decides}
 use Rattle.std.specs.List.{list_any}
@@ -21,10 +22,11 @@ pub no_row : (n : ℕ) → nat_lt 0 n ≡ false → n ≡ 0
 no_row zero h = refl
 no_row (suc n) h = absurd (false≢true (sym h ∙ lt-ltb 0 (suc n) (omega arith)))
 
--- how many times p holds the value of the attribute
+-- how many times p has the value of the attribute
 abbrev pub row_times : Facts → States → Deletes → Changes → List ℕ → List ℕ → List ℕ → ℕ
 row_times facts state deletes changes name value p =
-    cond (holds_values facts state deletes p) (number (bytes_eq value) (row_values facts deletes changes Always p name)) 0
+    cond (holds_values facts state deletes p)
+    (number (bytes_eq value) (row_values facts deletes changes Always p name)) 0
 
 module _ (facts : Facts) (state : States) (deletes : Deletes) (changes : Changes) (name value p : List ℕ) where
   abbrev times : ℕ
@@ -69,7 +71,7 @@ module _ (facts : Facts) (state : States) (deletes : Deletes) (changes : Changes
               let here = number_of_row m (name, value, p) n e in
               omega (arith, le, here, is))
 
--- rows that are right for p, where those of others stay
+-- rows that are right for p, if those of others don't change
 module _ (facts : Facts) (state : States) (deletes deletes' : Deletes) (changes changes' : Changes) (p : List ℕ)
     (but : List (List ℕ)) (before after : Holders) (was : IsHeldBut but facts state deletes changes before)
     (counted : AllCounted before) (counted' : AllCounted after)

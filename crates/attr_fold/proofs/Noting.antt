@@ -1,5 +1,7 @@
 -- What one change more does to the turns.
-use Rattle.std.proofs.Common.{◌≡◌, ◌≤◌, ◌==◌, ℕ, suc, Bool, true, false, not, ◌&&◌, ◌||◌, cond, List, [], ◌∷◌, ◌++◌, map, filter, length, Option, Some, None, refl, sym, ap, subst, ◌∙◌, inl, inr, is_some, unwrap_or, nat_lt, arith, Ordering}
+use Rattle.std.proofs.Common.{◌≡◌, ◌≤◌, ◌==◌, ℕ, suc, Bool, true, false, not, ◌&&◌, ◌||◌, cond, List, [], ◌∷◌, ◌++◌}
+use Rattle.std.proofs.Common.{map, filter, length, Option, Some, None, refl, sym, ap, subst, ◌∙◌, inl, inr, is_some}
+use Rattle.std.proofs.Common.{unwrap_or, nat_lt, arith, Ordering}
 use Rattle.std.proofs.Math.Bool.{or-false, or-true, and-true}
 use Rattle.std.proofs.lemmas.Bool.{false≢true, or_cases, and_parts, not-true, lt-ltb, le-ltb}
 use Rattle.std.proofs.lemmas.List.{append-nil}
@@ -41,7 +43,7 @@ same_key p name value a v =
     ∙ (λ i. bytes_eq name a && (bytes_eq value v && (bytes_eq-Decides p p).1 refl i))
     ∙ ap (λ b. bytes_eq name a && b) (and-true (bytes_eq value v))
 
--- what is at a key, or else d, once another is put
+-- what is under a key, or else d, after another is put
 at-insert : {K X : Type 0} {R : K → K → Ordering} (o : IsTotalOrder R) (d : X) (m : FinMap R X) (k : K) (t : X) (q : K)
     → unwrap_or (get (insert m k t) q) d ≡ cond (eq_by_cmp R q k) t (unwrap_or (get m q) d)
 at-insert {K} {X} {R} o d m k t q = ap (λ (o : Option X). unwrap_or o d) (get-insert o m k t q) ∙ by (eq_by_cmp R q k)
@@ -68,7 +70,8 @@ no_turn m k h = by (get m k) h
 given-known : (m : ValueTurns) (k q : HolderKey) → given_at (known m k) q ≡ given_at m q
 given-known m k q = by (contains_key m k) refl
   where
-    at : contains_key m k ≡ false → (b : Bool) → eq_by_cmp holder_cmp q k ≡ b → cond b (0, 0) (given_at m q) ≡ given_at m q
+    at : contains_key m k ≡ false → (b : Bool) → eq_by_cmp holder_cmp q k ≡ b
+        → cond b (0, 0) (given_at m q) ≡ given_at m q
     at h true e = sym (ap (given_at m) (holder_same q k (is_Equal (holder_cmp q k) e)) ∙ no_turn m k h)
     at h false e = refl
 
@@ -146,7 +149,8 @@ module _ (p : List ℕ) (cs : List (Change × Bool)) (turns : Turns) (n : ℕ) (
 
     uncounted : (act : Act) (name value : List ℕ)
         → times_after name value (counting (cs ++ (one act, false) ∷ [])) ≡ had name value
-    uncounted act name value = ap (times_after name value) (counting-append cs (one act) false ∙ append-nil (counting cs))
+    uncounted act name value =
+        ap (times_after name value) (counting-append cs (one act) false ∙ append-nil (counting cs))
 
     -- what a removal leaves, of all values or of one
     abbrev removal : Bool → Turns
@@ -179,7 +183,8 @@ module _ (p : List ℕ) (cs : List (Change × Bool)) (turns : Turns) (n : ℕ) (
             → by_turn (cond s n (since name)) (cond (s && t) (suc n, 1) (last name value))
             ≡ cond s (cond t 1 0) (had name value)
         by true true h = ap (λ b. cond b 1 0) (lt-ltb n (suc n) (omega arith))
-        by true false h = ap (λ b. cond b (last name value).1 0) (le-ltb n (last name value).0 (is.given (name, value, p)))
+        by true false h = ap (λ b. cond b (last name value).1 0)
+            (le-ltb n (last name value).0 (is.given (name, value, p)))
         by false t h = h
     there sets false name value =
         ap (by_turn (since name)) (given-known turns.given key (name, value, p)) ∙ is.there name value
@@ -207,7 +212,8 @@ module _ (p : List ℕ) (cs : List (Change × Bool)) (turns : Turns) (n : ℕ) (
         all false h = h
 
         alone : (s t : Bool) → by_turn (since name) (last name value) ≡ had name value
-            → by_turn (since name) (cond (s && t) (0, 0) (last name value)) ≡ cond s (cond t 0 (had name value)) (had name value)
+            → by_turn (since name) (cond (s && t) (0, 0) (last name value))
+            ≡ cond s (cond t 0 (had name value)) (had name value)
         alone true true h = none_left (nat_lt (since name) 0)
         alone true false h = h
         alone false t h = h
@@ -392,6 +398,7 @@ tells_none p turns no_given no_emptied = record {
       (unwrap_or (none_turn turns.given no_given (name, value, p) i) (0, 0)).1 0;
   known = λ name value h. absurd (false≢true h);
   own = λ k h. absurd (false≢true (sym (ap is_some (none_turn turns.given no_given k)) ∙ h));
-  given = λ k. subst (λ (o : Option (ℕ × ℕ)). (unwrap_or o (0, 0)).0 ≤ 0) (sym (none_turn turns.given no_given k)) (omega arith);
+  given = λ k. subst (λ (o : Option (ℕ × ℕ)). (unwrap_or o (0, 0)).0 ≤ 0) (sym (none_turn turns.given no_given k))
+      (omega arith);
   emptied = λ name. subst (λ o. unwrap_or o 0 ≤ 0) (sym (none_turn turns.emptied no_emptied name)) (omega arith);
 }

@@ -1,5 +1,6 @@
--- What is written does to the rows of one attribute.
-use Rattle.std.proofs.Common.{◌≡◌, ◌≤◌, ℕ, Bool, true, false, ◌&&◌, ◌||◌, cond, List, refl, sym, ap, ◌∙◌, ◌⊎◌, inl, inr, nat_lt, arith}
+-- The effect of what is written on the rows of one attribute.
+use Rattle.std.proofs.Common.{◌≡◌, ◌≤◌, ℕ, Bool, true, false, ◌&&◌, ◌||◌, cond, List, refl, sym, ap, ◌∙◌, ◌⊎◌, inl}
+use Rattle.std.proofs.Common.{inr, nat_lt, arith}
 use Rattle.std.proofs.lemmas.Bool.{and_from, or_left, or_right, false≢true, cases_Bool}
 use Rattle.std.proofs.lemmas.Slice.Eq.{bytes_eq-Decides}
 use Rattle.std.specs.Ordering.{eq_by_cmp}
@@ -52,7 +53,8 @@ module _ (p attr v : List ℕ) where
         ≡ cond (bytes_eq value v) 0 (times_at holders (attr, value, p))
     drop_own = with_own 0
 
-    pub drop_fewer : (value : List ℕ) → times_at (remove holders key) (attr, value, p) ≤ times_at holders (attr, value, p)
+    pub drop_fewer : (value : List ℕ) → times_at (remove holders key) (attr, value, p)
+        ≤ times_at holders (attr, value, p)
     drop_fewer value = let e = drop_own value in by (bytes_eq value v) e
       where
         by : (b : Bool) → times_at (remove holders key) (attr, value, p) ≡ cond b 0 (times_at holders (attr, value, p))
@@ -72,7 +74,7 @@ module _ (p attr v : List ℕ) where
         by (inr other) = or_left (is_row holders (attr, value, p)) _
             (ap (nat_lt 0) (sym (with_own n value ∙ ap (λ b. cond b n (times_at holders (attr, value, p))) other)) ∙ t)
 
-    -- and where the value itself had one, it was there before
+    -- and if the value itself had one, it was there before
     pub with_less : (n : ℕ) → (nat_lt 0 n ≡ true → is_row holders key ≡ true) → (value : List ℕ)
         → is_row (with_times holders key n) (attr, value, p) ≡ true → is_row holders (attr, value, p) ≡ true
     with_less n less value t = by (cases_Bool (bytes_eq value v))

@@ -1,5 +1,7 @@
 -- The turns behind the moments of a permanode tell what it holds.
-use Rattle.std.proofs.Common.{◌≡◌, ◌<◌, ◌+◌, ℕ, zero, suc, Bool, true, false, not, ◌&&◌, ◌||◌, cond, List, [], ◌∷◌, ◌++◌, map, filter, take, length, Option, Some, None, refl, sym, ap, subst, ◌∙◌, ◌⊎◌, inl, inr, is_some, get_or, nat_lt, option_map, unwrap_or, arith, add-one}
+use Rattle.std.proofs.Common.{◌≡◌, ◌<◌, ◌+◌, ℕ, zero, suc, Bool, true, false, not, ◌&&◌, ◌||◌, cond, List, [], ◌∷◌}
+use Rattle.std.proofs.Common.{◌++◌, map, filter, take, length, Option, Some, None, refl, sym, ap, subst, ◌∙◌, ◌⊎◌}
+use Rattle.std.proofs.Common.{inl, inr, is_some, get_or, nat_lt, option_map, unwrap_or, arith, add-one}
 use Rattle.std.proofs.lemmas.Bool.{false≢true, cond-true, cond-false, cases_Bool, and_parts}
 use Rattle.std.proofs.lemmas.List.Elements.{filter_map-append}
 use Rattle.std.proofs.lemmas.Option.{same_Some}
@@ -245,7 +247,8 @@ module _ (facts : Facts) (deletes : Deletes) where
 
           module _ (own : (name value : List ℕ) → times_at now (name, value, p) ≡ times name value) where
             pub own_held : (name value : List ℕ) → contains_key now (name, value, p) ≡ holds name value
-            own_held name value = held_by_times facts state deletes changes name value p now counted_now (own name value)
+            own_held name value =
+                held_by_times facts state deletes changes name value p now counted_now (own name value)
 
             pub held_after : (but : List (List ℕ)) → IsHeldBut (p ∷ but) facts state deletes changes before
                 → IsHeldBut but facts state deletes changes now

@@ -17,7 +17,8 @@ use Rattle.index_rows.specs.Values.{change_at}
 use Rattle.index_rows.specs.Pairs.{number}
 use Rattle.index_rows.proofs.Orders.{holder_same}
 use Rattle.index_rows.proofs.Counting.{number_whole, number-remove}
-use Rattle.attr_fold.specs.Turns.{ValueTurns, known, times_there, noted, change_noted, moment_noted, all_moments, standing}
+use Rattle.attr_fold.specs.Turns.{ValueTurns, known, times_there, noted, change_noted, moment_noted, all_moments}
+use Rattle.attr_fold.specs.Turns.{standing}
 use Rattle.attr_fold.specs.Refolded.{refold_steps}
 use Rattle.attr_fold.specs.declared.turns.Turns.{Turns}
 
@@ -82,7 +83,8 @@ size_none m is =
     let c = len-empty holder_cmp (ℕ × ℕ) in
     omega (arith, a, b, c)
 
-pub size_less : (m m' : ValueTurns) (k : HolderKey) (n : ℕ × ℕ) → get m k ≡ Some n → m' ≡ remove m k → size m ≡ 1 + size m'
+pub size_less : (m m' : ValueTurns) (k : HolderKey) (n : ℕ × ℕ) → get m k ≡ Some n → m' ≡ remove m k
+    → size m ≡ 1 + size m'
 size_less m m' k n found taken = number-remove holder_total holder_same (λ (e : HolderKey × (ℕ × ℕ)). true) m k n found
     ∙ ap (λ z. 1 + size z) (sym taken)
 

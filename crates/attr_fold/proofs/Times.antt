@@ -1,5 +1,6 @@
--- How many times a value stands after some changes.
-use Rattle.std.proofs.Common.{◌≡◌, ◌+◌, ◌==◌, ℕ, suc, Bool, true, false, not, ◌&&◌, ◌||◌, cond, List, [], ◌∷◌, ◌++◌, filter, fold, length, refl, sym, ap, ◌∙◌, inl, inr, nat_lt, arith}
+-- How many times a value is there after some changes.
+use Rattle.std.proofs.Common.{◌≡◌, ◌+◌, ◌==◌, ℕ, suc, Bool, true, false, not, ◌&&◌, ◌||◌, cond, List, [], ◌∷◌, ◌++◌}
+use Rattle.std.proofs.Common.{filter, fold, length, refl, sym, ap, ◌∙◌, inl, inr, nat_lt, arith}
 use Rattle.std.proofs.lemmas.Bool.{and_parts, and_from, or_cases, or_left, or_right, false≢true, lt-ltb}
 use Rattle.std.proofs.lemmas.List.Sums.{fold-append}
 use Rattle.std.proofs.lemmas.Slice.Eq.{bytes_eq-Decides}
@@ -128,7 +129,7 @@ module _ (name value : List ℕ) where
   pub times_is : (cs : List Change) → times_after name value cs ≡ times_from name value 0 cs
   times_is cs = from_is cs []
 
-  -- a value is there where its number isn't 0
+  -- a value is there exactly if its number isn't 0
   pub has_by_times : (cs : List Change) → has_after name value cs ≡ nat_lt 0 (times_after name value cs)
   has_by_times cs = any_number (bytes_eq value) (values_after name cs)
 
@@ -156,7 +157,8 @@ module _ (name value : List ℕ) where
 
   -- ---- what takes a value, and what leaves it
 
-  one_taken : (c : Change) → takes name value c ≡ true → (n m : ℕ) → change_times name value n c ≡ change_times name value m c
+  one_taken : (c : Change) → takes name value c ≡ true → (n m : ℕ)
+      → change_times name value n c ≡ change_times name value m c
   one_taken c t n m =
       let parts = and_parts (not (is_addition c.act)) (decides false name value c) t in
       let own = and_parts (bytes_eq c.attr name) (is_end c.act c.value || bytes_eq c.value value) parts.1 in
@@ -199,7 +201,7 @@ module _ (name value : List ℕ) where
           (ap (λ b. length c.value == 0 || b) (other_way value c.value)
           ∙ ap (λ b. b && (length c.value == 0 || bytes_eq c.value value)) h ∙ e)
 
-  -- where one takes it, it makes no difference how many times it was there
+  -- if one takes it, it makes no difference how many times it was there
   pub taken_from : (cs : List Change) → list_any (takes name value) cs ≡ true → (n m : ℕ)
       → times_from name value n cs ≡ times_from name value m cs
   taken_from [] t n m = absurd (false≢true t)
@@ -208,7 +210,7 @@ module _ (name value : List ℕ) where
     | inr more ↦ taken_from cs more (change_times name value n c) (change_times name value m c)
   ]
 
-  -- where none does, those are added that add it
+  -- if none does, those are added that add it
   pub left_from : (cs : List Change) → list_any (takes name value) cs ≡ false → (n : ℕ)
       → times_from name value n cs ≡ n + times_from name value 0 cs
   left_from [] f n = omega arith
@@ -221,7 +223,7 @@ module _ (name value : List ℕ) where
       = left_from cs parts.1 (change_times name value 0 c) in
       omega (arith, one, now, was)
 
-  -- what leaves none of the values takes each
+  -- what leaves none of the values takes each of them
   all_take : (v : List ℕ) (c : Change) → decides true name v c ≡ true → takes name value c ≡ true
   all_take v c t =
       let parts = and_parts (bytes_eq c.attr name) (is_end c.act c.value || false) t in

@@ -1,5 +1,6 @@
 -- Rows written one after another.
-use Rattle.std.proofs.Common.{◌≡◌, ℕ, ◌<◌, Bool, true, false, not, ◌&&◌, cond, List, None, Some, refl, sym, ap, ◌∙◌, is_some, unwrap_or, arith, ◌⊎◌, inl, inr}
+use Rattle.std.proofs.Common.{◌≡◌, ℕ, ◌<◌, Bool, true, false, not, ◌&&◌, cond, List, None, Some, refl, sym, ap, ◌∙◌}
+use Rattle.std.proofs.Common.{is_some, unwrap_or, arith, ◌⊎◌, inl, inr}
 use Rattle.std.proofs.Math.Bool.{and-true}
 use Rattle.std.proofs.lemmas.Bool.{cond-true, false≢true, cases_Bool}
 use Rattle.std.proofs.lemmas.Slice.Eq.{bytes_eq-Decides}

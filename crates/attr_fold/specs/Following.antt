@@ -1,5 +1,6 @@
 -- The effect of one more change on the rows of a permanode.
-use Rattle.std.specs.Prelude.{◌≡◌, ◌≤◌, ℕ, ◌+◌, ◌*◌, ◌&&◌, ◌||◌, ◌==◌, Bool, true, false, not, List, [], ◌∷◌, ◌++◌, length}
+use Rattle.std.specs.Prelude.{◌≡◌, ◌≤◌, ℕ, ◌+◌, ◌*◌, ◌&&◌, ◌||◌, ◌==◌, Bool, true, false, not, List, [], ◌∷◌, ◌++◌}
+use Rattle.std.specs.Prelude.{length}
 use Rattle.std.specs.Prelude.{map, filter, nat_lt, Option, Some, None, if◌then◌else◌}
 use Rattle.std.specs.List.{filter_map, list_any}
 use Rattle.std.specs.Str.{bytes_eq}
@@ -116,8 +117,8 @@ abbrev pub IsTurned : Bool → List ℕ → Change → List Change → List Chan
 IsTurned true p c front back before after = AreRight p c (front ++ c ∷ back) (front ++ back) before after
 IsTurned false p c front back before after = IsSettled p c front back before after
 
--- the claim of a moment was deleted by the earlier delete claims and isn't by the later ones, or the other way round; no
--- deletion of another change's claim changed, and none of a permanode
+-- the claim of a moment was deleted by the earlier delete claims and isn't by the later ones, or the other way round;
+-- no deletion of another change's claim changed, and none of a permanode
 pub record IsFlipped (facts : Facts) (state : States) (changes : Changes) (before after : Deletes) (p : List ℕ)
     (k : Moment) : Type 0 where
   pub own : row_deleted facts before Always k.1 ≡ not (row_deleted facts after Always k.1)

@@ -32,8 +32,8 @@ turn_at turns k = unwrap_or (get turns k) 0
 abbrev pub given_at : ValueTurns → HolderKey → ℕ × ℕ
 given_at turns k = unwrap_or (get turns k) (0, 0)
 
--- how many times a value is there that was given at this turn, and was there this many times then: 0 if all values of its
--- attribute were removed at no earlier turn
+-- how many times a value is there that was given at this turn, and was there this many times then: 0 if all values of
+-- its attribute were removed at no earlier turn
 abbrev pub times_by : AttributeTurns → List ℕ → ℕ × ℕ → ℕ
 times_by emptied name turn = if nat_lt (turn_at emptied name) turn.0 then turn.1 else 0
 

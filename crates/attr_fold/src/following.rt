@@ -9,7 +9,8 @@ ghost use Rattle.index_rows.specs.Holders.{IsHeldBut};
 ghost use Rattle.index_rows.specs.Removals.{AreRemovals};
 ghost use Rattle.index_rows.specs.Values.{change_at, IsChange, IsListed};
 ghost use Rattle.attr_fold.specs.Following.{counted, counted_after, counted_before, follow_steps, holds_values, is_end};
-ghost use Rattle.attr_fold.specs.Following.{taking_steps, AreFewer, AreGone, IsFollowed, IsOneMore, IsSettled, IsTakenBack};
+ghost use Rattle.attr_fold.specs.Following.{taking_steps, AreFewer, AreGone, IsFollowed, IsOneMore, IsSettled};
+ghost use Rattle.attr_fold.specs.Following.{IsTakenBack};
 
 use crate::late::follow_late;
 use crate::refolding::standing;

@@ -1,5 +1,6 @@
 //! The rows of the values that a permanode has, after a new change that is earlier than others.
-ghost use Rattle.std.specs.Prelude.{◌≡◌, ◌≤◌, ◌+◌, ◌*◌, ◌∷◌, [], ℕ, List, length, Some, None, suc, true, false, IfOk, OnOk, not};
+ghost use Rattle.std.specs.Prelude.{◌≡◌, ◌≤◌, ◌+◌, ◌*◌, ◌∷◌, [], ℕ, List, length, Some, None, suc, true, false, IfOk};
+ghost use Rattle.std.specs.Prelude.{OnOk, not};
 ghost use Rattle.std.specs.Prelude.{if◌then◌else◌};
 ghost use Rattle.std.specs.List.{list_any};
 ghost use Rattle.schema_fact.specs.Changes.{change_seen};

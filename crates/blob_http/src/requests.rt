@@ -23,7 +23,7 @@ use blob_upload::Service;
 use blobref::NoMemory;
 use edge_base::Source;
 use home_places::Home;
-use http_exchange::{BodyFault, Ended, MOST_BODY, check_length, closes_early, gather, head_says};
+use http_exchange::{BodyFault, Ended, MAX_BODY, check_length, closes_early, gather, head_says};
 use http_wire::{Head, Wire};
 use std::sync::Wait;
 
@@ -107,7 +107,7 @@ fn reply_to_operation<H: Home, S: Source, R: Wait>(
     ensures fault { IsErrOf result Ended.ReadFault → FaultsRose (S.faults source.old) (S.faults source.new) }
     ensures later { S.faults source.old ≤ S.faults source.new }
 {
-    match check_length(MOST_BODY, &head.framing) {
+    match check_length(MAX_BODY, &head.framing) {
         Ok(()) => {}
         Err(refusal) => {
             return Ok(reply_early(service, pass, head, refused(refusal)));
@@ -161,7 +161,7 @@ fn reply_to_stop<H: Home, R: Wait>(
         BodyFault::Cut { at } => return Err(Ended::Cut { at }),
         BodyFault::ReadFault => return Err(Ended::ReadFault),
         BodyFault::Memory => return Ok(out_of_memory(service.home, pass)),
-        BodyFault::Long => Refusal::TooLong { limit: MOST_BODY },
+        BodyFault::Long => Refusal::TooLong { limit: MAX_BODY },
         BodyFault::Broken => Refusal::BadLength,
     };
     Ok(reply_along(service, pass, Ok(refused(refusal)), true))

@@ -5,7 +5,7 @@ ghost use Rattle.blob_routes.specs.Before.{boundary_in, upload_early};
 use answer_text::Refusal;
 use http_exchange::check_length;
 use http_wire::Framing;
-use multipart_read::{MOST_BYTES, boundary_of};
+use multipart_read::{MAX_BYTES, boundary_of};
 
 fn boundary_in(content_type: Option<&[u8]>) -> Option<&[u8]>
     ensures { option_copied result ≡ boundary_in (option_copied content_type.entry) }
@@ -28,7 +28,7 @@ pub fn boundary_of_upload<'a>(
     let Some(boundary) = boundary_in(content_type) else {
         return Err(Refusal::BadMultipart { at: 0 });
     };
-    match check_length(MOST_BYTES, framing) {
+    match check_length(MAX_BYTES, framing) {
         Ok(()) => Ok(boundary),
         Err(refusal) => Err(refusal),
     }

@@ -15,7 +15,7 @@ use std::alloc::Global;
 use std::borrow::CowStr;
 
 /// The most refs of a page.
-pub const MOST_PAGE: usize = 1000;
+pub const MAX_PAGE: usize = 1000;
 
 /// A page of the refs: the first `limit` of those after a ref, or of all.
 #[derive(Clone, Copy)]
@@ -45,11 +45,11 @@ fn limit_of(found: Option<CowStr<'_>>) -> Result<usize, Refusal>
     ensures err { IfErr result (λ refusal. limit_of (option_map cow_str_bytes found.entry) ≡ Err refusal) }
 {
     let Some(text) = found else {
-        return Ok(MOST_PAGE);
+        return Ok(MAX_PAGE);
     };
     match number_in(text.as_str()) {
         None | Some(0) => Err(Refusal::BadNumber),
-        Some(n) => Ok(MOST_PAGE.min(n as usize)),
+        Some(n) => Ok(MAX_PAGE.min(n as usize)),
     }
 }
 

@@ -16,7 +16,7 @@ use std::alloc::Global;
 use std::borrow::CowStr;
 
 /// The most refs that may be asked after at once.
-pub const MOST_REFS: usize = 1000;
+pub const MAX_REFS: usize = 1000;
 
 fn is_missing(place: &AskedRef) -> bool
     ensures { result ≡ is_missing place.now }
@@ -118,6 +118,6 @@ pub fn refs_asked(
     if !is_version(first_value(alloc, text, b"camliversion")?) {
         return Err(AskFault::Refused(Refusal::BadVersion));
     }
-    let places = places_of(alloc, text, MOST_REFS + 1)?;
-    refs_at(alloc, before_missing(&places), MOST_REFS)
+    let places = places_of(alloc, text, MAX_REFS + 1)?;
+    refs_at(alloc, before_missing(&places), MAX_REFS)
 }

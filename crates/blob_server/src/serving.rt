@@ -23,11 +23,11 @@ use top_frame::Status;
 /// Serves so many connections over a home, and indexes what arrives meanwhile. First the first desk's pass is settled;
 /// where that is refused nothing else is done. Then the desks serve, each in a thread of its own. Those with a listener
 /// are workers: each takes one of the connections that are left, accepts it and serves it (`docs/http.md`), until none
-/// is left or an accept fails. The others are indexers, and go on until every worker has ended. Each of them asks a copy
-/// of the gate.
+/// is left or an accept fails. The others are indexers, and go on until every worker has ended. Each of them asks a
+/// copy of the gate.
 ///
-/// At `Disk`, `Damaged` and `NoMemory` that first settling was refused, `NoMemory` also since the pass has no turn left.
-/// At `ListenerFault` an accept failed; the desks say of which listeners. It ends with no other status.
+/// At `Disk`, `Damaged` and `NoMemory` that first settling was refused, `NoMemory` also since the pass has no turn
+/// left. At `ListenerFault` an accept failed; the desks say of which listeners. It ends with no other status.
 ///
 /// At `Done` the listeners gave so many connections together, unless the count of one stands at the last value of its
 /// type. A failed accept ends its own worker alone, and takes one connection with it; where another worker goes on, all

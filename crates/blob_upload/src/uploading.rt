@@ -15,7 +15,7 @@ use blobref::Listing;
 use edge_base::Source;
 use home_places::Home;
 use http_wire::{Body, Wire, WireEnd};
-use multipart_read::{MOST_BYTES, Parts};
+use multipart_read::{MAX_BYTES, Parts};
 use std::alloc::{AllocError, Global};
 use std::sync::Wait;
 
@@ -57,7 +57,7 @@ fn take_piece<H: Home, R: Wait>(
     ensures short { OnOk result (reading.new.taken ≤ most_bytes) }
     ensures taken { OnOk result (reading.new.taken ≡ reading.old.taken + length piece.now) }
 {
-    let within = piece.len().min((MOST_BYTES - reading.taken) as usize);
+    let within = piece.len().min((MAX_BYTES - reading.taken) as usize);
     match feed(
         service,
         pass,
@@ -70,7 +70,7 @@ fn take_piece<H: Home, R: Wait>(
         Err(end) => return Err(end),
     }
     if within < piece.len() {
-        return Err(UploadEnd::Refused(Refusal::TooLong { limit: MOST_BYTES }));
+        return Err(UploadEnd::Refused(Refusal::TooLong { limit: MAX_BYTES }));
     }
     reading.taken += within as u64;
     Ok(())

@@ -94,7 +94,8 @@ module _ (accepts : Accepts) (facts : Facts) (state : States) (waiters : Waiters
           ∙ sym (ap (λ b. ((b && says_genuine state p) && not (row_deleted facts deletes Always p))
           && list_any (bytes_eq value) (row_values facts deletes changes Always p name))
           (ap (passes (λ (fact : Fact). is_permanode fact.kind)) (none facts no_facts p)));
-      times = λ name value p n h e. absurd (false≢true (sym (lacks holders no_holders (name, value, p)) ∙ ap is_some e));
+      times = λ name value p n h e.
+          absurd (false≢true (sym (lacks holders no_holders (name, value, p)) ∙ ap is_some e));
       permanode = λ name value p h. no_row holders no_holders (name, value, p) h;
       given = λ name value p h. no_row holders no_holders (name, value, p) h;
     };

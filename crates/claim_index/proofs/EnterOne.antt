@@ -47,7 +47,8 @@ front_then xs ys zs a b = (a.0 ++ b.0, sym (append_assoc xs a.0 b.0) ∙ ap (λ 
 pub front_length : (xs ys : List (List ℕ)) → IsFront xs ys → length xs ≤ length ys
 front_length xs ys a = let l = length-append xs a.0 in let e : length (xs ++ a.0) ≡ length ys = ap (λ (zs : List (List ℕ)). length zs) a.1 in omega (arith, l, e)
 
-pub front_in : (xs ys : List (List ℕ)) → IsFront xs ys → (y : List ℕ) → list_any (bytes_eq y) xs ≡ true → list_any (bytes_eq y) ys ≡ true
+pub front_in : (xs ys : List (List ℕ)) → IsFront xs ys → (y : List ℕ) → list_any (bytes_eq y) xs ≡ true
+    → list_any (bytes_eq y) ys ≡ true
 front_in xs ys a y t = ap (list_any (bytes_eq y)) (sym a.1) ∙ list_any-append (bytes_eq y) xs a.0 ∙ left _ t
 
 module _ (facts : Facts) (p q : List ℕ → Bool) (more : (y : List ℕ) → p y ≡ true → q y ≡ true) where
@@ -102,7 +103,8 @@ no_concern state y (Claim signed date (Delete target)) h = by (says_genuine stat
 no_concern state y (Claim signed date (Multi changes)) h = absurd (false≢true h)
 no_concern state y (Unread name) h = absurd (false≢true h)
 
-pub no_one : (state : States) (y : List ℕ) (o : Option Fact) → passes (λ fact. is_delete fact.kind) o ≡ true → fact_concerns state y o ≡ []
+pub no_one : (state : States) (y : List ℕ) (o : Option Fact) → passes (λ fact. is_delete fact.kind) o ≡ true
+    → fact_concerns state y o ≡ []
 no_one state y None h = absurd (false≢true h)
 no_one state y (Some fact) h = no_concern state y fact.kind h
 
@@ -162,7 +164,8 @@ module _ (facts : Facts) (accepts : Accepts) (state : States) (says : (y : List 
   abbrev end : List ℕ
   end = chain_end facts accepts d
 
-  pub one_turned : (p y : List ℕ) → list_any (bytes_eq y) (targets_of facts accepts d) ≡ true → list_any (bytes_eq p) (concerned_by facts state y) ≡ true
+  pub one_turned : (p y : List ℕ) → list_any (bytes_eq y) (targets_of facts accepts d) ≡ true
+      → list_any (bytes_eq p) (concerned_by facts state y) ≡ true
       → list_any (bytes_eq p) (may_concern facts (is_genuine facts accepts) (end ∷ [])) ≡ true
   one_turned p y t h = by (end_or facts (is_genuine_delete facts accepts) y (len facts) (target_in facts d) d t)
     where

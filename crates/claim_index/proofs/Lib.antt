@@ -38,3 +38,4 @@ mod Alone
 mod Settleable
 mod FinishTicks
 pub mod Distinct
+pub mod LoneTicks

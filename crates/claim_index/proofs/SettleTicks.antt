@@ -1,6 +1,7 @@
 -- The steps of entering a single delete claim, and what it adds, if the last ref whose deletion changed may be settled.
 use Rattle.std.proofs.Common.{◌≡◌, ◌≤◌, ◌+◌, ◌*◌, ◌||◌, ◌++◌, ◌∙◌, inl, inr, ℕ, Bool, true, false, cond, List, []}
-use Rattle.std.proofs.Common.{◌∷◌, length, flat_map, map, Option, Some, None, refl, sym, ap, subst, arith, length-append}
+use Rattle.std.proofs.Common.{◌∷◌, length, flat_map, map, Option, Some, None, refl, sym, ap, subst, arith}
+use Rattle.std.proofs.Common.{length-append}
 use Rattle.std.proofs.lemmas.Bool.{false≢true}
 use Rattle.std.proofs.lemmas.List.Sums.{sum_by-cons}
 use Rattle.std.proofs.lemmas.Slice.Eq.{bytes_eq-Decides}

@@ -4,3 +4,4 @@ pub mod Halfway
 pub mod Indexed
 pub mod Costs
 pub mod Following
+pub mod Additions

@@ -4,6 +4,7 @@ ghost use Rattle.schema_fact.specs.Changes.{changes_of};
 ghost use Rattle.claim_index.specs.Following.{change_by, kind_change, only_change, CanBeFollowed, IsFollowed};
 ghost use Rattle.claim_index.specs.Following.{is_addition, kind_addition, CanBeSettled, IsFolded, IsNumbered, IsSeen};
 ghost use Rattle.claim_index.specs.Following.{IsTaken};
+ghost use Rattle.claim_index.specs.Additions.{IsFree};
 ghost use Rattle.index_rows.specs.Counted.{IsCounted};
 ghost use Rattle.index_rows.specs.Values.{IsListed};
 
@@ -39,6 +40,10 @@ pub(crate) fn take_changes<L: Ledger>(
     ensures ticks { alone ≡ false → steps.new ≤ steps.old + 2 }
     ensures more_ticks { (n : ℕ) → IsNumbered rows.old.facts.ordered rows.old.changes x.now n
         → steps.new ≤ steps.old + 10 + 4 * n }
+    ensures same { alone ≡ true → IsFree rows.old.facts.ordered rows.old.removals x.now
+        → OnOk result (concerned.new ≡ concerned.old) }
+    ensures few_ticks { alone ≡ true → IsFree rows.old.facts.ordered rows.old.removals x.now
+        → steps.new ≤ steps.old + 9 }
 {
     if !alone {
         return concern(rows, x, concerned, steps);
@@ -67,6 +72,8 @@ fn follow_claim<L: Ledger>(
     ensures left { IfOk result (λ done. done ≡ false → rows.new.holders ≡ rows.old.holders) }
     ensures ticks { (n : ℕ) → IsNumbered rows.old.facts.ordered rows.old.changes x.now n
         → steps.new ≤ steps.old + 8 + 4 * n }
+    ensures done { IsFree rows.old.facts.ordered rows.old.removals x.now → IfOk result (λ done. done ≡ true) }
+    ensures few_ticks { IsFree rows.old.facts.ordered rows.old.removals x.now → steps.new ≤ steps.old + 9 }
 {
     let Some(change) = change_by(&rows.facts.ordered, x, steps) else {
         return Ok(false);

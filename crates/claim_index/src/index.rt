@@ -4,6 +4,7 @@ ghost use Rattle.std.specs.FinMap as finite;
 ghost use Rattle.schema_fact.specs.Validity.{IsValid};
 ghost use Rattle.claim_model.specs.Facts.{AreValid};
 ghost use Rattle.index_rows.specs.Touched.{touched};
+ghost use Rattle.claim_index.specs.Additions.{AddsAlone};
 ghost use Rattle.claim_index.specs.Indexed.{Inserts, IsPut, IsSame, with_all};
 
 use crate::moving::{put_in_order, renew, settle};
@@ -136,6 +137,9 @@ impl<V: Verifier> Index<V> {
     ///
     /// If the index isn't stale, it takes at most 16 (1 + n) steps, whatever it returns, for n entries of `touched`
     /// in `index_rows/specs/Touched.antt`.
+    ///
+    /// A claim that adds one value takes at most 25, however many changes its permanode has, if no fact depends on its
+    /// ref and no later change may take the value away (`AddsAlone` in `specs/Additions.antt`).
     pub fn insert<L: Ledger>(
         &mut self,
         number: u64,
@@ -152,6 +156,9 @@ impl<V: Verifier> Index<V> {
         ensures keys { self.new.keys ≡ self.old.keys }
         ensures ticks { self.old.stale ≡ false → steps.new ≤ steps.old
             + 16 * (1 + length (touched self.old.facts (V.accepts self.old.keys) r.now fact)) }
+        ensures few_ticks { self.old.stale ≡ false
+            → AddsAlone (finite.insert self.old.facts r.now fact) (V.accepts self.old.keys) r.now fact
+            → steps.new ≤ steps.old + 25 }
     {
         if self.holds(number) {
             self.refresh(steps)?;
@@ -186,7 +193,7 @@ impl<V: Verifier> Index<V> {
     /// the next insert or place makes the tables again.
     ///
     /// It does what `insert` does, and moves a row. If the index isn't stale, it takes at most as many steps: 16
-    /// (1 + n).
+    /// (1 + n). Where `insert` takes at most 25 it takes at most 27.
     pub fn place<L: Ledger>(&mut self, made: Made, steps: &mut Steps<L>)
         requires valid { IsValid made.2 }
         requires alone { finite.contains_key self.old.numbers made.0 ≡ false
@@ -199,6 +206,9 @@ impl<V: Verifier> Index<V> {
         ensures keys { self.new.keys ≡ self.old.keys }
         ensures ticks { self.old.stale ≡ false → steps.new ≤ steps.old
             + 16 * (1 + length (touched self.old.facts (V.accepts self.old.keys) made.1 made.2)) }
+        ensures few_ticks { self.old.stale ≡ false
+            → AddsAlone (finite.insert self.old.facts made.1 made.2) (V.accepts self.old.keys) made.1 made.2
+            → steps.new ≤ steps.old + 27 }
     {
         if self.holds(made.number()) {
             let _renewed = self.refresh(steps);

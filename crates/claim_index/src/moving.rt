@@ -5,6 +5,7 @@ ghost use Rattle.schema_fact.specs.Validity.{IsValid};
 ghost use Rattle.index_rows.specs.Loose.{numbers_of};
 ghost use Rattle.index_rows.specs.Touched.{touched_in};
 ghost use Rattle.index_rows.specs.Waiting.{arrived};
+ghost use Rattle.claim_index.specs.Additions.{IsAddedAlone};
 ghost use Rattle.claim_index.specs.Halfway.{all_in_order, facts_in, HasOneMore, IsSettled};
 ghost use Rattle.claim_index.specs.Numbers.{has_room, with_numbers};
 
@@ -38,6 +39,8 @@ pub(crate) fn settle<V: Verifier, L: Ledger>(
     ensures ticks { stale ≡ false → steps.new ≤ steps.old + 3 * length (numbers_of rows.old.facts.loose)
         + 12 + 16 * length (touched_in (arrived (facts_in rows.old.facts) rows.old.state) (facts_in rows.old.facts)
         (V.accepts keys.now) r.now) }
+    ensures few_ticks { stale ≡ false → IsAddedAlone (facts_in rows.old.facts) (V.accepts keys.now) r.now
+        → steps.new ≤ steps.old + 3 * length (numbers_of rows.old.facts.loose) + 23 }
 {
     move_all(alloc, &mut rows.facts, numbers, steps)?;
     take_up(alloc, rows, keys, stale, r, steps)

@@ -4,6 +4,7 @@ ghost use Rattle.std.specs.Prelude.{false};
 ghost use Rattle.std.specs.FinMap.{contains_key};
 ghost use Rattle.index_look.specs.Walk.{entries_after};
 ghost use Rattle.index_rows.specs.Touched.{touched_in};
+ghost use Rattle.claim_index.specs.Additions.{IsAddedAlone};
 ghost use Rattle.claim_index.specs.Halfway.{taken, HasOneMore, IsHalfway, IsNext, IsTakenTo, Rests};
 
 use crate::finishing::finish;
@@ -31,6 +32,8 @@ pub(crate) fn take_up<V: Verifier, L: Ledger>(
     ensures rest { OnOk result (Rests (V.accepts keys.now) rows.new) }
     ensures ticks { stale ≡ false → steps.new ≤ steps.old
         + 12 + 16 * length (touched_in (taken rows.old) rows.old.facts.ordered (V.accepts keys.now) r.now) }
+    ensures few_ticks { stale ≡ false → IsAddedAlone rows.old.facts.ordered (V.accepts keys.now) r.now
+        → steps.new ≤ steps.old + 23 }
 {
     if stale {
         return rebuild(alloc, rows, keys, steps);

@@ -7,6 +7,7 @@ ghost use Rattle.pending_deps.specs.Arriving.{IsNew};
 ghost use Rattle.claim_index.specs.Costs.{look_steps, freed, taking_steps, AddsFor, AreTaken};
 ghost use Rattle.claim_index.specs.Halfway.{IsHalfway, CanBeJudged, IsNextToJudge};
 ghost use Rattle.claim_index.specs.Following.{AreFew, AreFewOn};
+ghost use Rattle.claim_index.specs.Additions.{IsAddedAlone, IsLastToJudge, IsNoWork};
 
 use crate::following::take_changes;
 use crate::judging::{Judged, judge};
@@ -73,6 +74,11 @@ pub(crate) fn take_last<V: Verifier, L: Ledger>(
         (freed rows.old.facts.ordered rows.old.state r.now) n
         → steps.new ≤ steps.old
         + taking_steps rows.old.facts.ordered (V.accepts keys.now) rows.old.state r.now + 8 + 4 * n }
+    ensures idle { IsAddedAlone rows.old.facts.ordered (V.accepts keys.now) r.now
+        → IsNoWork work.old.deletes work.old.concerned
+        → OnOk result (IsNoWork work.new.deletes work.new.concerned) }
+    ensures few_ticks { IsAddedAlone rows.old.facts.ordered (V.accepts keys.now) r.now
+        → steps.new ≤ steps.old + 23 }
 {
     let order = arrive(alloc, rows, r, steps)?;
     let refs = order.as_slice();
@@ -137,6 +143,13 @@ fn judge_one<V: Verifier, L: Ledger>(
         → CanBeJudged (x.now ∷ []) rows.old → AreTaken rows.old
         → (n : ℕ) → AreFew rows.old.facts.ordered (V.accepts keys.now) x.now n
         → steps.new ≤ steps.old + look_steps rows.old.facts.ordered (V.accepts keys.now) x.now + 8 + 4 * n }
+    ensures idle { alone ≡ true
+        → IsLastToJudge (V.accepts keys.now) x.now work.old.deletes work.old.concerned rows.old
+        → IsNoWork work.old.deletes work.old.concerned
+        → OnOk result (IsNoWork work.new.deletes work.new.concerned) }
+    ensures few_ticks { alone ≡ true
+        → IsLastToJudge (V.accepts keys.now) x.now work.old.deletes work.old.concerned rows.old
+        → steps.new ≤ steps.old + 17 }
 {
     match judge(rows, keys, x, steps)? {
         Judged::Nothing => Ok(()),

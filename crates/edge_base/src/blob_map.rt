@@ -66,8 +66,8 @@ impl BlobMap {
         self.blobs.remove(r).is_some()
     }
 
-    /// The refs from a start on with their bytes, ascending; all of them from `Bound::Unbounded` on. It takes no memory,
-    /// and a whole walk costs as much as there are refs in it.
+    /// The refs from a start on with their bytes, ascending; all of them from `Bound::Unbounded` on. It takes no
+    /// memory, and a whole walk costs as much as there are refs in it.
     pub fn range_from(&self, start: Bound<Ref>) -> Range<'_, Ref, Octets>
         ensures between { result ≡ entries_between ref_cmp start Unbounded (finite.entries self.now) }
         ensures runs { ShowsInOrder (deref_pair {K = Ref} {X = Octets}) }

@@ -6,8 +6,8 @@ use edge_os::Screen;
 use edge_tcp::{PeerIn, PeerOut, peer_ends};
 use peer_http::{Dialer, OnDemandPeer};
 
-/// The server at an address, `HOST:PORT`, as a peer. It takes its memory, some 235 KiB, and looks for the server, at its
-/// first call; how that one is reached is told at [`peer_ends`]. All else is proved, at [`OnDemandPeer`].
+/// The server at an address, `HOST:PORT`, as a peer. It takes its memory, some 235 KiB, and looks for the server, at
+/// its first call; how that one is reached is told at [`peer_ends`]. All else is proved, at [`OnDemandPeer`].
 pub type DialedPeer<'a> = OnDemandPeer<AddressDialer<'a>>;
 
 /// Gives the ends of [`peer_ends`], for the server at an address. It stays as it is.
@@ -30,8 +30,8 @@ impl<'a> Dialer for AddressDialer<'a> {
     }
 }
 
-/// The peer at an address, which nobody has asked so far. Nothing is done. For how long it is waited for is shown on the
-/// screen.
+/// The peer at an address, which nobody has asked so far. Nothing is done. For how long it is waited for is shown on
+/// the screen.
 pub fn peer_at<'a>(rt: &'a HostRuntime, screen: &'a Screen<'a>, addr: &'a str) -> DialedPeer<'a>
     ensures unconnected { result.link ≡ None }
     ensures unfailed { result.faults ≡ 0 }

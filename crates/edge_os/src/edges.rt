@@ -50,6 +50,13 @@ impl<W> WriteSink<W> {
     {
         WriteSink { writer, faults: 0 }
     }
+
+    /// The writer.
+    pub fn writer(&self) -> &W
+        ensures { result.now ≡ self.now.writer }
+    {
+        &self.writer
+    }
 }
 
 impl<W: Write> Sink for WriteSink<W> {

@@ -1,5 +1,5 @@
-//! Standard input and standard output, which are waited for also where another program has left them so that their calls
-//! don't wait, and what a person at a terminal is shown of them.
+//! Standard input and standard output, which are waited for also where another program has left them so that their
+//! calls don't wait, and what a person at a terminal is shown of them.
 ghost use Rattle.std.specs.Prelude.{◌≡◌};
 ghost use Rattle.std.specs.Io.{ReadsAtMost, WritesAtMost};
 
@@ -87,6 +87,13 @@ pub struct ShownOut<'a> {
     // Whether it is a terminal.
     is_on_screen: bool,
     tally: Tally<'a>,
+}
+
+impl<'a> ShownOut<'a> {
+    /// How many bytes were written so far.
+    pub fn written(&self) -> u64 {
+        self.tally.bytes()
+    }
 }
 
 impl<'a> Write for ShownOut<'a> {

@@ -29,6 +29,11 @@ impl<'a> Tally<'a> {
         }
     }
 
+    /// How many bytes went by so far.
+    pub(crate) fn bytes(&self) -> u64 {
+        self.bytes
+    }
+
     /// So many bytes more went by, where the call has given a number.
     pub(crate) fn add(&mut self, done: &io::Result<usize>) {
         let Ok(count) = done else {

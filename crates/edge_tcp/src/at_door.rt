@@ -26,8 +26,8 @@ enum Stands {
 }
 
 /// A reader behind a door: it hands nothing on before its first head was looked at ([`admission_of`]), and then what is
-/// heard of the connection, behind which it ends. It takes 16 KiB at its first read; where it can't have them, that read
-/// fails. A read that fails leaves what has come so far as it is.
+/// heard of the connection, behind which it ends. It takes 16 KiB at its first read; where it can't have them, that
+/// read fails. A read that fails leaves what has come so far as it is.
 #[derive(Drop)]
 pub struct AtDoor<R> {
     door: Door,
@@ -128,8 +128,8 @@ impl<R: Ear> Read for AtDoor<R> {
     }
 }
 
-// What becomes of a connection that begins with these bytes. A head ends with a line, so nothing is found where what came
-// behind so many bytes ends none.
+// What becomes of a connection that begins with these bytes. A head ends with a line, so nothing is found where what
+// came behind so many bytes ends none.
 fn found_in(door: Door, bytes: &[u8], before: usize) -> Option<Admission> {
     let came = bytes.get(before..)?;
     if came.contains(&b'\n') || bytes.len() >= MAX_HEAD {

@@ -53,10 +53,10 @@ struct Shared {
     allowance: Allowance,
 }
 
-/// A socket that is read. A read fails once the client was waited for too long. Where it is dropped the client is told that
-/// nothing more comes, and what that one still says is read, for a second at most: a socket that is closed over bytes that
-/// nobody read takes the last reply from the one who sent them. A client that wasn't let in was told nothing, and isn't
-/// waited for.
+/// A socket that is read. A read fails once the client was waited for too long. Where it is dropped the client is told
+/// that nothing more comes, and what that one still says is read, for a second at most: a socket that is closed over
+/// bytes that nobody read takes the last reply from the one who sent them. A client that wasn't let in was told
+/// nothing, and isn't waited for.
 pub struct ReadHalf<'a> {
     rt: &'a HostRuntime,
     shared: Arc<Shared, Global>,
@@ -86,7 +86,7 @@ impl<'a> Read for ReadHalf<'a> {
             &shared.stream,
             &mut self.patience,
             &shared.allowance,
-            Watch::none(),
+            Watch::new(),
             buf,
         )
     }
@@ -130,7 +130,7 @@ impl<'a> WriteHalf<'a> {
         WriteHalf {
             rt,
             shared,
-            progress: Progress::none(),
+            progress: Progress::new(),
         }
     }
 }

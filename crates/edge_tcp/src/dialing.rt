@@ -7,9 +7,9 @@ use std::time::{Duration, Instant};
 // How many seconds connecting may take, over all addresses of a host.
 const MAX: u64 = 10;
 
-/// A connection to an address, `HOST:PORT`, that is set up. The addresses of the host are tried in turn, each for its share
-/// of what is left of ten seconds: as long as the system looks for them isn't counted. It fails where none answers in time,
-/// and where the text is no such address.
+/// A connection to an address, `HOST:PORT`, that is set up. The addresses of the host are tried in turn, each for its
+/// share of what is left of ten seconds: as long as the system looks for them isn't counted. It fails where none
+/// answers in time, and where the text is no such address.
 pub(crate) fn dial(rt: &HostRuntime, addr: &str) -> io::Result<TcpStream> {
     let found = addr.to_socket_addrs(rt)?;
     let begun = Instant::now(rt)?;

@@ -1,6 +1,6 @@
 //! Sockets as sources, sinks and listeners, and how long their other ends are waited for (`docs/server.md`,
-//! `docs/sync.md`). They tell nothing of the bytes, and count their failures; what the system does is trusted. Who gets in
-//! is decided by [`http_admission::admission_of`].
+//! `docs/sync.md`). They tell nothing of the bytes, and count their failures; what the system does is trusted. Who gets
+//! in is decided by [`http_admission::admission_of`].
 #![tactic(auto)]
 
 mod at_door;

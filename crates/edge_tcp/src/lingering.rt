@@ -4,7 +4,7 @@ use std::net::{Shutdown, TcpStream};
 use std::time::{Duration, Instant};
 
 // For how many milliseconds an end is waited for.
-const LONGEST: u64 = 1_000;
+const MAX_LINGER: u64 = 1_000;
 
 // How often what comes is read at most: as often as something comes in that time.
 const READS: u64 = u64::MAX;
@@ -20,8 +20,10 @@ pub(crate) fn linger(rt: &HostRuntime, stream: &TcpStream) {
     };
     let mut buf = [0u8; 16_384];
     for _ in 0..READS {
-        let took = begun.elapsed(rt).unwrap_or(Duration::from_millis(LONGEST));
-        let left = Duration::from_millis(LONGEST).saturating_sub(took);
+        let took = begun
+            .elapsed(rt)
+            .unwrap_or(Duration::from_millis(MAX_LINGER));
+        let left = Duration::from_millis(MAX_LINGER).saturating_sub(took);
         if left.is_zero()
             || stream.set_read_timeout(Some(left)).is_err()
             || !goes_on(stream, &mut buf)

@@ -17,14 +17,14 @@ use std::time::Duration;
 // How often a connection is asked for at most: as often as one went before it was accepted.
 const TRIES: u64 = u64::MAX;
 
-// How often it is asked for while the system has no room for one, and how many milliseconds are waited after each time: ten
-// seconds in all.
+// How often it is asked for while the system has no room for one, and how many milliseconds are waited after each time:
+// ten seconds in all.
 const MAX_REFUSALS: u32 = 100;
 
 const PAUSE: u64 = 100;
 
-// The system's numbers for: no memory; no room for an open file in it, or in this program; a fault of the protocol, which
-// the connection alone is to blame for; no room for a socket's buffers.
+// The system's numbers for: no memory; no room for an open file in it, or in this program; a fault of the protocol,
+// which the connection alone is to blame for; no room for a socket's buffers.
 const OUT_OF_MEMORY: i32 = 12;
 
 const TOO_MANY_FILES_OF_ALL: i32 = 23;
@@ -35,9 +35,9 @@ const PROTOCOL_FAULT: i32 = 71;
 
 const NO_BUFFERS: i32 = 105;
 
-/// A socket that listens, lent to one who accepts at a door. What a client whose connection was accepted is waited for is told at
-/// [`TcpIn`] and [`TcpOut`]. Where the system has no room for another connection it is asked for ten seconds, and then that
-/// is a failure; a connection that can't be set up is closed, and the next one accepted.
+/// A socket that listens, lent to one who accepts at a door. What a client whose connection was accepted is waited for
+/// is told at [`TcpIn`] and [`TcpOut`]. Where the system has no room for another connection it is asked for ten
+/// seconds, and then that is a failure; a connection that can't be set up is closed, and the next one accepted.
 #[derive(Drop)]
 pub struct TcpListenerOn<'a> {
     rt: &'a HostRuntime,

@@ -12,8 +12,9 @@ const MAX_FOR_HEAD_OF_ANYONE: u64 = 2;
 // How many seconds anyone is waited for in all, where others wait until the connection has ended.
 const MAX_FOR_ANYONE: u64 = 300;
 
-// How many seconds a reply may take to begin: by a server that may be reading its store, or that a long request may still
-// be on its way to; and over another connection, by a server whose workers may all be with clients that say nothing.
+// How many seconds a reply may take to begin: by a server that may be reading its store, or that a long request may
+// still be on its way to; and over another connection, by a server whose workers may all be with clients that say
+// nothing.
 const MAX_FOR_SLOW_REPLY: u64 = 600;
 
 const MAX_FOR_REPLY: u64 = 150;
@@ -70,7 +71,7 @@ impl Patience {
 
     /// With a message, whether or not something of it has come.
     pub(crate) fn within_a_message() -> Patience {
-        Patience::Message(Progress::none())
+        Patience::Message(Progress::new())
     }
 
     /// For how long it was waited so far.
@@ -81,8 +82,8 @@ impl Patience {
         }
     }
 
-    /// Whether the next call is to be timed by a clock. Where nothing was waited for so far it counts as a whole pause, or
-    /// as no wait, so that a client that is never waited for costs no look at the clock.
+    /// Whether the next call is to be timed by a clock. Where nothing was waited for so far it counts as a whole pause,
+    /// or as no wait, so that a client that is never waited for costs no look at the clock.
     pub(crate) fn needs_clock(&self) -> bool {
         match self {
             Patience::FirstHead { .. } => true,
@@ -117,7 +118,7 @@ pub(crate) struct Progress {
 
 impl Progress {
     /// Before anything was waited for.
-    pub(crate) fn none() -> Progress {
+    pub(crate) fn new() -> Progress {
         Progress {
             waited: Duration::from_secs(0),
             bytes: 0,
@@ -134,7 +135,7 @@ impl Progress {
     pub(crate) fn after(self, took: Duration, went: usize) -> Option<Progress> {
         let bytes = self.bytes.saturating_add(went as u64);
         if bytes >= ENOUGH {
-            return Some(Progress::none());
+            return Some(Progress::new());
         }
         let waited = within(self.waited, took, MAX)?;
         Some(Progress { waited, bytes })

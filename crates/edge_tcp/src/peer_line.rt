@@ -24,15 +24,16 @@ const MAX_IDLE: u64 = 20;
 // A request of more bytes than these may still be on its way for long, once it was written.
 const MAX_AT_ONCE: usize = 65_536;
 
-/// Both ends of the connections to a peer at an address, `HOST:PORT`. Nothing is looked up and no connection made before
-/// the first call. It fails for want of memory alone.
+/// Both ends of the connections to a peer at an address, `HOST:PORT`. Nothing is looked up and no connection made
+/// before the first call. It fails for want of memory alone.
 ///
-/// A request is all that is written between two reads. It goes over a new connection where there is none so far, where the
-/// peer has ended the last one, and where that one stood idle for over 20 seconds. A new one is connected within ten
-/// seconds. The first byte of the first reply of all, and of one to a request of more than 65,536 bytes, is waited for ten
-/// minutes, and that of the first reply of each later connection 150 seconds. Then, and for any other reply, it is waited
-/// 60 seconds at a time for 1,024 bytes at least, as it is waited for room for a request's. Once no connection could be
-/// made, or a call has failed, each call fails. For how long a reply is waited for is shown on the screen.
+/// A request is all that is written between two reads. It goes over a new connection where there is none so far, where
+/// the end of the last one was read, and where that one stood idle for over 20 seconds. A new one is connected within
+/// ten seconds. The first byte of the first reply of all, and of one to a request of more than 65,536 bytes, is waited
+/// for ten minutes, and that of the first reply of each later connection 150 seconds. Then, and for any other reply, it
+/// is waited 60 seconds at a time for 1,024 bytes at least, as it is waited for room for a request's. Once no
+/// connection could be made, or a call has failed, each call fails. For how long a reply is waited for is shown on the
+/// screen.
 pub fn peer_ends<'a>(
     rt: &'a HostRuntime,
     screen: &'a Screen<'a>,
@@ -179,7 +180,7 @@ impl<'a> PeerLine<'a> {
         self.stands = Stands::Open(Connection {
             stream,
             patience: first_patience(self.has_replied),
-            progress: Progress::none(),
+            progress: Progress::new(),
             allowance: Allowance::endless(),
             has_replied: false,
             is_asked: false,
@@ -231,7 +232,7 @@ impl Connection {
             if self.has_replied {
                 self.patience = Patience::within_a_message();
             }
-            self.progress = Progress::none();
+            self.progress = Progress::new();
         }
         let done = tell(rt, &self.stream, &mut self.progress, &self.allowance, bytes);
         if let Ok(count) = &done {

@@ -7,8 +7,8 @@ use std::io::{self, ErrorKind, Read, Write};
 use std::net::TcpStream;
 use std::time::{Duration, Instant};
 
-// For how many seconds the system waits at a time, for bytes or for room. A write of which it took a part in that time is
-// no failure, and begins anew with the rest.
+// For how many seconds the system waits at a time, for bytes or for room. A write of which it took a part in that time
+// is no failure, and begins anew with the rest.
 const PAUSE: u64 = 1;
 
 // How often a call is made at most: as often as patience lasts.
@@ -26,7 +26,7 @@ pub(crate) struct Watch<'a> {
 
 impl<'a> Watch<'a> {
     /// Nobody.
-    pub(crate) fn none() -> Watch<'a> {
+    pub(crate) fn new() -> Watch<'a> {
         Watch { shown: None }
     }
 
@@ -90,7 +90,8 @@ pub(crate) fn hear(
     Err(io::Error::from(ErrorKind::TimedOut))
 }
 
-/// Writes from the front of the bytes. It fails once too few were taken for too long, or nothing is left of the allowance.
+/// Writes from the front of the bytes. It fails once too few were taken for too long, or nothing is left of the
+/// allowance.
 pub(crate) fn tell(
     rt: &HostRuntime,
     stream: &TcpStream,
@@ -130,7 +131,8 @@ fn clock(rt: &HostRuntime, is_needed: bool) -> io::Result<Option<Instant>> {
     }
 }
 
-// For how long a call waited. Where the clock wasn't read before it, that is a pause where the call gave up, and else none.
+// For how long a call waited. Where the clock wasn't read before it, that is a pause where the call gave up, and else
+// none.
 fn took(rt: &HostRuntime, begun: Option<Instant>, gave_up: bool) -> io::Result<Duration> {
     match begun {
         Some(begun) => begun.elapsed(rt),

@@ -1,6 +1,7 @@
 -- Facts of which no ref stands twice make the same map, whether each is inserted behind those before it or behind those
 -- after it.
-use Rattle.std.proofs.Common.{◌≡◌, ℕ, zero, suc, ◌+◌, ◌<◌, ◌≤◌, ◌&&◌, Bool, true, false, not, ◌⊎◌, inl, inr, Some, None}
+use Rattle.std.proofs.Common.{◌≡◌, ℕ, zero, suc, ◌+◌, ◌-◌, ◌<◌, ◌≤◌, ◌&&◌, Bool, true, false, not, ◌⊎◌, inl, inr, Some}
+use Rattle.std.proofs.Common.{None}
 use Rattle.std.proofs.Common.{is_some, List, [], ◌∷◌, ◌++◌, take, drop, length, slice_get, refl, sym, ap, subst, ◌∙◌}
 use Rattle.std.proofs.Common.{arith}
 use Rattle.std.proofs.lemmas.Bool.{cond-false, cases_Bool}
@@ -21,6 +22,9 @@ use Rattle.claim_index.specs.Numbers.{NumberSet}
 use Rattle.claim_model.specs.Facts.{Entry, Facts, AreDistinct, AreValid}
 use Rattle.schema_fact.specs.Validity.{IsValid}
 use Rattle.fact_lines.specs.Blobs.{Blob, with_blobs, with_blob}
+use Rattle.fact_lines.specs.Load.{place_at}
+use Rattle.fact_lines.specs.declared.load.Order.{Order}
+use Rattle.fact_lines.specs.declared.load.Order.TheVariants.{Forward, Backward}
 use Rattle.fact_lines.proofs.Gathering.{same_ref, drop_next, distinct_more, valid_more}
 
 -- ---- gathered facts
@@ -107,12 +111,17 @@ Adds es i old new = (e : Entry) → slice_get es i ≡ Some e → new ≡ insert
 abbrev pub Lacks : List Entry → ℕ → Facts → Type 0
 Lacks es i facts = (e : Entry) → slice_get es i ≡ Some e → contains_key facts e.0 ≡ false
 
+-- those that were inserted before a turn
+abbrev pub part_of : Order → ℕ → List Entry → List Entry
+part_of Forward turn es = take turn es
+part_of Backward turn es = drop (length es - turn) es
+
 module _ (es : List Entry) (distinct : AreDistinct es) where
-  pub lacks_forward : (i : ℕ) (facts : Facts) → facts ≡ from_entries (take i es) → Lacks es i facts
+  lacks_forward : (i : ℕ) (facts : Facts) → facts ≡ from_entries (take i es) → Lacks es i facts
   lacks_forward i facts is e at =
       ap (λ (m : Facts). contains_key m e.0) is ∙ not_there (take i es) e.0 (lacking_before es i e distinct at)
 
-  pub goes_forward : (i : ℕ) (old new : Facts) → i < length es → old ≡ from_entries (take i es) → Adds es i old new
+  goes_forward : (i : ℕ) (old new : Facts) → i < length es → old ≡ from_entries (take i es) → Adds es i old new
       → new ≡ from_entries (take (i + 1) es)
   goes_forward i old new within is adds =
       let here = entry_at es i within in
@@ -121,13 +130,13 @@ module _ (es : List Entry) (distinct : AreDistinct es) where
       (lacking_before es i here.0 distinct here.1))
       ∙ ap (from_entries {R = ref_cmp}) (sym (take_next es i here.0 here.1))
 
-  pub lacks_backward : (i n : ℕ) (facts : Facts) → i + 1 ≡ n → facts ≡ from_entries (drop n es) → Lacks es i facts
+  lacks_backward : (i n : ℕ) (facts : Facts) → i + 1 ≡ n → facts ≡ from_entries (drop n es) → Lacks es i facts
   lacks_backward i n facts next is e at =
       ap (λ (m : Facts). contains_key m e.0) is
       ∙ not_there (drop n es) e.0 (subst (λ k. find ref_cmp e.0 (drop k es) ≡ None) next
       (lacking_behind es i e distinct at))
 
-  pub goes_backward : (i n : ℕ) (old new : Facts) → i < length es → i + 1 ≡ n → old ≡ from_entries (drop n es)
+  goes_backward : (i n : ℕ) (old new : Facts) → i < length es → i + 1 ≡ n → old ≡ from_entries (drop n es)
       → Adds es i old new
       → new ≡ from_entries (drop i es)
   goes_backward i n old new within next is adds =
@@ -136,18 +145,37 @@ module _ (es : List Entry) (distinct : AreDistinct es) where
       (is ∙ ap (λ k. from_entries {R = ref_cmp} (drop k es)) (sym next))
       ∙ ap (from_entries {R = ref_cmp}) (sym (drop_next es i here.0 here.1))
 
-pub all_forward : (es : List Entry) (n : ℕ) (facts : Facts) → n ≡ length es → facts ≡ from_entries (take n es)
-    → facts ≡ from_entries es
-all_forward es n facts whole is = is ∙ ap (from_entries {R = ref_cmp}) (take_all n es (omega (arith, whole)))
+  pub lacks : (order : Order) (count turn place : ℕ) (facts : Facts) → count ≡ length es → turn < count
+      → place ≡ place_at order count turn → facts ≡ from_entries (part_of order turn es) → Lacks es place facts
+  lacks Forward count turn place facts len less is before =
+      subst (λ p. Lacks es p facts) (sym is) (lacks_forward turn facts before)
+  lacks Backward count turn place facts len less is before =
+      let here : count - 1 - turn ≡ length es - (turn + 1) = omega (arith, len, less) in
+      subst (λ p. Lacks es p facts) (sym (is ∙ here))
+      (lacks_backward (length es - (turn + 1)) (length es - turn) facts (omega (arith, len, less)) before)
 
-pub none_backward : (es : List Entry) (n : ℕ) (facts : Facts) → n ≡ length es → facts ≡ empty
-    → facts ≡ from_entries (drop n es)
-none_backward es n facts whole is =
-    is ∙ sym (ap (from_entries {R = ref_cmp}) (drop_all n es (omega (arith, whole))))
+  pub goes : (order : Order) (count turn place : ℕ) (old new : Facts) → count ≡ length es → turn < count
+      → place ≡ place_at order count turn → old ≡ from_entries (part_of order turn es) → Adds es place old new
+      → new ≡ from_entries (part_of order (turn + 1) es)
+  goes Forward count turn place old new len less is before adds =
+      goes_forward turn old new (omega (arith, len, less)) before (subst (λ p. Adds es p old new) is adds)
+  goes Backward count turn place old new len less is before adds =
+      let here : count - 1 - turn ≡ length es - (turn + 1) = omega (arith, len, less) in
+      goes_backward (length es - (turn + 1)) (length es - turn) old new (omega (arith, len, less))
+      (omega (arith, len, less)) before (subst (λ p. Adds es p old new) (is ∙ here) adds)
 
-pub all_backward : (es : List Entry) (n : ℕ) (facts : Facts) → n ≡ 0 → facts ≡ from_entries (drop n es)
-    → facts ≡ from_entries es
-all_backward es n facts none is = is ∙ ap (λ k. from_entries {R = ref_cmp} (drop k es)) none
+pub none_yet : (order : Order) (es : List Entry) (facts : Facts) → facts ≡ empty
+    → facts ≡ from_entries (part_of order 0 es)
+none_yet Forward es facts is = is
+none_yet Backward es facts is =
+    is ∙ sym (ap (from_entries {R = ref_cmp}) (drop_all (length es - 0) es (omega arith)))
+
+pub all_of : (order : Order) (es : List Entry) (n : ℕ) (facts : Facts) → n ≡ length es
+    → facts ≡ from_entries (part_of order n es) → facts ≡ from_entries es
+all_of Forward es n facts whole is = is ∙ ap (from_entries {R = ref_cmp}) (take_all n es (omega (arith, whole)))
+all_of Backward es n facts whole is =
+    let none : length es - n ≡ 0 = omega (arith, whole) in
+    is ∙ ap (λ k. from_entries {R = ref_cmp} (drop k es)) none
 
 -- ---- the numbers of those that are left
 
@@ -167,15 +195,27 @@ lacks_other s more i n is differ lacks =
     other (inl t) = absurd (differ (nat_cmp-IsAntisymmetric n i (is_Equal (nat_cmp n i) t)))
     other (inr f) = f
 
-pub numbers_left : (s more : NumberSet) (i top : ℕ) → i + 1 ≡ top → more ≡ insert s i tt
-    → ((n : ℕ) → n < top → contains_key s n ≡ false) → (n : ℕ) → n < i → contains_key more n ≡ false
-numbers_left s more i top next is below n less =
-    lacks_other s more i n is (λ same. omega (arith, less, same)) (below n (omega (arith, less, next)))
+-- the places from this turn on
+abbrev pub NoneFrom : Order → ℕ → ℕ → NumberSet → Type 0
+NoneFrom order count turn s =
+    (t : ℕ) → turn ≤ t → t < count → contains_key s (place_at order count t) ≡ false
 
-pub numbers_ahead : (s more : NumberSet) (i : ℕ) → more ≡ insert s i tt → ((n : ℕ) → i ≤ n → contains_key s n ≡ false)
-    → (n : ℕ) → i + 1 ≤ n → contains_key more n ≡ false
-numbers_ahead s more i is above n less =
-    lacks_other s more i n is (λ same. omega (arith, less, same)) (above n (omega (arith, less)))
+-- two turns have two places
+differ : (order : Order) (count turn t : ℕ) → turn + 1 ≤ t → t < count
+    → place_at order count t ≡ place_at order count turn → ⊥
+differ Forward count turn t later within same = omega (arith, later, same)
+differ Backward count turn t later within same = omega (arith, later, within, same)
+
+pub none_at : (order : Order) (count turn place : ℕ) (s : NumberSet) → turn < count
+    → place ≡ place_at order count turn → NoneFrom order count turn s → contains_key s place ≡ false
+none_at order count turn place s less is none =
+    subst (λ p. contains_key s p ≡ false) (sym is) (none turn (omega arith) less)
+
+pub none_after : (order : Order) (count turn place : ℕ) (s more : NumberSet) → place ≡ place_at order count turn
+    → more ≡ insert s place tt → NoneFrom order count turn s → NoneFrom order count (turn + 1) more
+none_after order count turn place s more is noted none t later within =
+    lacks_other s more place (place_at order count t) noted
+    (λ same. differ order count turn t later within (same ∙ is)) (none t (omega (arith, later)) within)
 
 -- ---- gathered facts, as the function gives them
 

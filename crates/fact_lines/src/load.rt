@@ -5,7 +5,7 @@ ghost use Rattle.schema_date.specs.declared.date.When.TheVariants.{Always};
 ghost use Rattle.claim_model.specs.Deleted.{live_permanodes};
 ghost use Rattle.claim_model.specs.Facts.{AreDistinct, AreValid, Entry};
 ghost use Rattle.search_eval.specs.Answer.{answer};
-ghost use Rattle.fact_lines.specs.Load.{load_facts, load_text, order_line, tagged};
+ghost use Rattle.fact_lines.specs.Load.{load_facts, load_text, order_line, order_name, place_at, tagged};
 
 use crate::blobs::facts_of;
 use answer_text::search_text;
@@ -23,6 +23,15 @@ use search_query::Query;
 use std::alloc::Global;
 use std::marker::Brand;
 use std::sync::ledger::{Blank, Ledger};
+
+// The order in which facts are inserted.
+#[derive(Clone, Copy)]
+pub(crate) enum Order {
+    // The order of the list.
+    Forward,
+    // The reverse.
+    Backward,
+}
 
 /// The lines about the blobs of a generated store (`docs/formats/generated.md`), inserted in their order and in reverse
 /// order: a line for each order. The blobs are made (`schema_write::load_blobs`), and dropped after their facts are
@@ -67,15 +76,16 @@ fn order_lines<V: Verifier>(
         ++ order_line (codes "backward") count (from_entries facts.now) (V.accepts keys.now)) }
 {
     let mut text = Vec::new(alloc);
-    push_forward(alloc, &mut text, count, facts, keys)?;
-    push_backward(alloc, &mut text, count, facts, keys)?;
+    push_order(alloc, &mut text, Order::Forward, count, facts, keys)?;
+    push_order(alloc, &mut text, Order::Backward, count, facts, keys)?;
     Ok(Octets::from_vec(text))
 }
 
-// Writes the line of an index into which the facts were inserted in their order.
-fn push_forward<V: Verifier>(
+// Writes the line of an index into which the facts were inserted in an order.
+fn push_order<V: Verifier>(
     alloc: Global,
     text: &mut Vec<u8>,
+    order: Order,
     count: u64,
     facts: &FactList,
     keys: &V,
@@ -83,33 +93,26 @@ fn push_forward<V: Verifier>(
     requires distinct { AreDistinct facts.now }
     requires valid { AreValid facts.now }
     ensures { OnOk result (text.new.items
-        ≡ text.old.items ++ order_line (codes "forward") count (from_entries facts.now) (V.accepts keys.now)) }
+        ≡ text.old.items ++ order_line (order_name order) count (from_entries facts.now) (V.accepts keys.now)) }
 {
-    let index = forward::<_, Brand>(alloc, facts, keys, Blank::new(1))?;
-    push_order_line(alloc, text, "forward", count, &index)
+    let index = inserted::<_, Brand>(alloc, order, facts, keys, Blank::new(1))?;
+    push_order_line(alloc, text, order_name(order), count, &index)
 }
 
-// Writes that of an index into which they were inserted in reverse order.
-fn push_backward<V: Verifier>(
-    alloc: Global,
-    text: &mut Vec<u8>,
-    count: u64,
-    facts: &FactList,
-    keys: &V,
-) -> Result<(), NoMemory>
-    requires distinct { AreDistinct facts.now }
-    requires valid { AreValid facts.now }
-    ensures { OnOk result (text.new.items
-        ≡ text.old.items ++ order_line (codes "backward") count (from_entries facts.now) (V.accepts keys.now)) }
+fn order_name(order: Order) -> &'static str
+    ensures { result.now ≡ order_name order }
 {
-    let index = backward::<_, Brand>(alloc, facts, keys, Blank::new(1))?;
-    push_order_line(alloc, text, "backward", count, &index)
+    match order {
+        Order::Forward => "forward",
+        Order::Backward => "backward",
+    }
 }
 
-// An index into which the facts were inserted in their order. The steps are counted in the blank ledger, which nobody
+// An index into which the facts were inserted in an order. The steps are counted in the blank ledger, which nobody
 // reads.
-fn forward<V: Verifier, L: Ledger>(
+fn inserted<V: Verifier, L: Ledger>(
     alloc: Global,
+    order: Order,
     facts: &FactList,
     keys: V,
     blank: Blank,
@@ -126,35 +129,23 @@ where
 {
     let mut steps = Steps::<L>::start(blank);
     let mut index = Index::fresh(alloc, keys);
-    for i in 0..facts.len() {
+    let count = facts.len();
+    for turn in 0..count {
+        let i = place_at(order, count, turn);
         insert(alloc, &mut index, facts, i, &mut steps)?;
     }
     Ok(index)
 }
 
-// An index into which they were inserted in reverse order.
-fn backward<V: Verifier, L: Ledger>(
-    alloc: Global,
-    facts: &FactList,
-    keys: V,
-    blank: Blank,
-) -> Result<Index<V>, NoMemory>
-where
-    V: Drop,
-    requires distinct { AreDistinct facts.now }
-    requires valid { AreValid facts.now }
-    requires name { blank.name ≡ L.name }
-    requires parts { blank.parts ≡ L.parts }
-    requires some { 0 < blank.parts }
-    ensures facts { IfOk result (λ index. index.facts ≡ from_entries facts.now) }
-    ensures keys { IfOk result (λ index. index.keys ≡ keys) }
+// The place of the fact that is inserted at a turn, of so many.
+fn place_at(order: Order, count: usize, turn: usize) -> usize
+    requires { turn < count }
+    ensures { result ≡ place_at order count turn }
 {
-    let mut steps = Steps::<L>::start(blank);
-    let mut index = Index::fresh(alloc, keys);
-    for i in (0..facts.len()).rev() {
-        insert(alloc, &mut index, facts, i, &mut steps)?;
+    match order {
+        Order::Forward => turn,
+        Order::Backward => count - 1 - turn,
     }
-    Ok(index)
 }
 
 // Inserts the fact at a place, whose number isn't there yet.

@@ -15,8 +15,8 @@ use std::marker::Brand;
 use std::mem::forget;
 use std::sync::ledger::{Blank, Ledger};
 
-/// The answer to a query over the first fact of each ref (`docs/search.md`). It takes the time of making an index of the
-/// facts (`Index::of`), and then that of a search. `NoMemory` comes only where no memory is left.
+/// The answer to a query over the first fact of each ref (`docs/search.md`). It takes the time of making an index of
+/// the facts (`Index::of`), and then that of a search. `NoMemory` comes only where no memory is left.
 pub fn answer_over<V: Verifier>(
     alloc: Global,
     facts: FactList,

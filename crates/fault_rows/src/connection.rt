@@ -16,8 +16,8 @@ use std::sync::Wait;
 // Asks for all refs.
 const LISTING: &[u8] = b"GET /camli/enumerate-blobs HTTP/1.1\r\n\r\n";
 
-/// Serves a connection over an empty home, and then once more, without a call that fails. Answers whether one failed. The
-/// home is given up as it is, and its memory with the process.
+/// Serves a connection over an empty home, and then once more, without a call that fails. Answers whether one failed.
+/// The home is given up as it is, and its memory with the process.
 pub(crate) fn tell_connection<W: Wait>(
     alloc: Global,
     wait: &W,

@@ -12,8 +12,8 @@ use schema_json::fact;
 use std::alloc::Global;
 use std::sync::ledger::Ledger;
 
-/// Inserts the blobs of a pack, one by one, and one for which there was no memory once more; and tells after each try what
-/// the index answers to the queries, which are the lines of standard input.
+/// Inserts the blobs of a pack, one by one, and one for which there was no memory once more; and tells after each try
+/// what the index answers to the queries, which are the lines of standard input.
 pub(crate) fn tell_inserted<L: Ledger>(
     rt: &HostRuntime,
     index: &mut Index<&Keyring>,

@@ -33,10 +33,10 @@ impl Gate for Open {
     fn wait_at<R: Wait>(&mut self, _rt: &R, _place: GatePlace) {}
 }
 
-/// Serves connections by a worker for each pack, which has an empty home, and to which each of the pack's blobs comes as
-/// the stream of a connection; and then once more, over what there is, without a call that fails. A worker ends by a
-/// failed call in any case, once no connection is left to it. Answers whether the first one ended before. The workers are
-/// given up as they are, and their memory with the process.
+/// Serves connections by a worker for each pack, which has an empty home, and to which each of the pack's blobs comes
+/// as the stream of a connection; and then once more, over what there is, without a call that fails. A worker ends by a
+/// failed call in any case, once no connection is left to it. Answers whether the first one ended before. The workers
+/// are given up as they are, and their memory with the process.
 pub(crate) fn tell_workers<R: Threads + Wait + Sync>(
     alloc: Global,
     rt: &R,

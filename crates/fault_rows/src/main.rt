@@ -2,37 +2,38 @@
 //! clock and dice in memory, one of whose calls fails, or whose disk stops and crashes. It judges nothing:
 //! `tests/fault_rows.sh`, `bench/stops.sh` and `bench/memory.sh` compare what it prints with what has to come.
 //!
-//! `fault_rows fails OBJECT FROM UNTIL WORLD WORD..` prints a line of a run of the words in which no call fails, and then
-//! one for each of the calls FROM, .. of the object (`disk`, `peer`, `second`, `source`, `sink`, `clock`, `dice` or
-//! `listener`), before UNTIL, of a run in which that call fails; until a run doesn't make it.
+//! `fault_rows fails OBJECT FROM UNTIL WORLD WORD..` prints a line of a run of the words in which no call fails, and
+//! then one for each of the calls FROM, .. of the object (`disk`, `peer`, `second`, `source`, `sink`, `clock`, `dice`
+//! or `listener`), before UNTIL, of a run in which that call fails; until a run doesn't make it.
 //!
-//! `fault_rows stops CHOICE SECOND WORLD WORD..` prints a line for each of the calls 0, .. of the disk, of a run in which
-//! that call and all later ones fail, after which the disk crashes by the choice of that number; the last one is of a run
-//! that makes no such call. Where SECOND is a number, what the crash left crashes by that choice too: at once in the
-//! lines printed first, and once a listing has opened the store in those after them.
+//! `fault_rows stops CHOICE SECOND WORLD WORD..` prints a line for each of the calls 0, .. of the disk, of a run in
+//! which that call and all later ones fail, after which the disk crashes by the choice of that number; the last one is
+//! of a run that makes no such call. Where SECOND is a number, what the crash left crashes by that choice too: at once
+//! in the lines printed first, and once a listing has opened the store in those after them.
 //!
-//! Standard input is what the words read. WORLD is a folder, whose files say what there is before: the packs of the disk
-//! with the numbers 0 to 3, each in the file of its name; `peer` and `second`, packs with the blobs of the peer and of
-//! the second one, which a mirror has; and `keyring`. What isn't there is empty. The clock stands at
+//! Standard input is what the words read. WORLD is a folder, whose files say what there is before: the packs of the
+//! disk with the numbers 0 to 3, each in the file of its name; `peer` and `second`, packs with the blobs of the peer
+//! and of the second one, which a mirror has; and `keyring`. What isn't there is empty. The clock stands at
 //! 2020-01-02T00:00:00Z, and the dice are those of `docs/formats`. Where the only word is `connection`, a connection is
-//! served over a home of one actor that is empty, and reads the source. Where it is `workers`, each of the four packs has
-//! a worker, with such a home and a listener that gives it a connection for each blob of the pack, which is the
+//! served over a home of one actor that is empty, and reads the source. Where it is `workers`, each of the four packs
+//! has a worker, with such a home and a listener that gives it a connection for each blob of the pack, which is the
 //! connection's stream; the listener that fails is the first one's.
 //!
 //! A line has the number of the call that fails, or `-`; how the run ended, by its exit status or by the name of the
-//! connection's end; what it wrote, in hexadecimal digits after `=`; the ref of what there is then, after the crash; and
-//! the same three of a second run over what there is, in which no call fails. What there is are the lines that `list`
-//! prints of the disk, and then those that it would print of the peers' blobs; or what a connection is answered that asks
-//! for all refs, of each worker in turn. For what workers write stands a byte of each, 1 where an accept failed.
+//! connection's end; what it wrote, in hexadecimal digits after `=`; the ref of what there is then, after the crash;
+//! and the same three of a second run over what there is, in which no call fails. What there is are the lines that
+//! `list` prints of the disk, and then those that it would print of the peers' blobs; or what a connection is answered
+//! that asks for all refs, of each worker in turn. For what workers write stands a byte of each, 1 where an accept
+//! failed.
 //!
 //! `fault_rows stale WORLD` places the blobs of pack 0 in an index, one by one. Before each of the last two, which has
-//! brought its memory, `placed` is printed; once a byte came on standard input it is placed, and `stale` is printed, where
-//! the index is stale then, or `quick`. Then each line of standard input is a query, and two lines are printed for it,
-//! the answer by that index, and the one by an index that keeps nothing but facts.
+//! brought its memory, `placed` is printed; once a byte came on standard input it is placed, and `stale` is printed,
+//! where the index is stale then, or `quick`. Then each line of standard input is a query, and two lines are printed
+//! for it, the answer by that index, and the one by an index that keeps nothing but facts.
 //!
-//! `fault_rows inserts WORLD` inserts the blobs of pack 0 into an index, one by one, and one for which there was no memory
-//! once more. After each try it prints `inserted`, or `refused`, and how many blobs the index has then, and a line with
-//! its answer to each query, which are the lines of standard input.
+//! `fault_rows inserts WORLD` inserts the blobs of pack 0 into an index, one by one, and one for which there was no
+//! memory once more. After each try it prints `inserted`, or `refused`, and how many blobs the index has then, and a
+//! line with its answer to each query, which are the lines of standard input.
 //!
 //! It is no part of the archive's program. It ends with that program's exit statuses.
 #![tactic(auto)]

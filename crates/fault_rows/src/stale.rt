@@ -24,10 +24,10 @@ use std::sync::ledger::Ledger;
 const LATE: usize = 2;
 
 // More facts than that aren't placed.
-const MOST: u64 = 1 << 32;
+const MAX_NUMBER: u64 = 1 << 32;
 
-/// Places the blobs of a pack in an index, one by one, the last two of them each once a byte came on standard input; then
-/// it answers the queries on the lines that follow there, and so does an index that keeps nothing but facts.
+/// Places the blobs of a pack in an index, one by one, the last two of them each once a byte came on standard input;
+/// then it answers the queries on the lines that follow there, and so does an index that keeps nothing but facts.
 pub(crate) fn tell_placed<L: Ledger>(
     rt: &HostRuntime,
     index: &mut Index<&Keyring>,
@@ -69,7 +69,7 @@ fn place_now<L: Ledger>(
     steps: &mut Steps<L>,
 ) -> Result<(), NoMemory> {
     let number = index.len();
-    if !index.stands(&place.r, steps) && number < MOST {
+    if !index.stands(&place.r, steps) && number < MAX_NUMBER {
         let said = fact(alloc, blob_at(pack, place))?;
         let made = Made::make(alloc, number, &place.r, said)?;
         index.place(made, steps);
@@ -86,7 +86,7 @@ fn place_late<L: Ledger>(
     steps: &mut Steps<L>,
 ) -> Result<(), Fault> {
     let number = index.len();
-    if index.stands(&place.r, steps) || number >= MOST {
+    if index.stands(&place.r, steps) || number >= MAX_NUMBER {
         return Err(Fault::Words);
     }
     let said = fact(rt.alloc(), blob_at(pack, place))?;

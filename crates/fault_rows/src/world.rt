@@ -80,8 +80,8 @@ fn tell_failed(
     Ok(has_failed)
 }
 
-/// Runs the words over what there is before, on a disk that stops at a call and crashes then, and once more over what the
-/// crash left. Answers whether the disk stopped.
+/// Runs the words over what there is before, on a disk that stops at a call and crashes then, and once more over what
+/// the crash left. Answers whether the disk stopped.
 pub(crate) fn tell_stop(
     alloc: Global,
     given: &Given,

@@ -7,8 +7,8 @@ pub fn blobs_in_order()
     ensures { BlobsInOrder }
 {}
 
-/// Where no two blobs share a ref, each blob is held once all are kept, and the bytes of the file that they make are all
-/// those of its source, of any name and length that `write_file` takes.
+/// Where no two blobs share a ref, each blob is held once all are kept, and the bytes of the file that they make are
+/// all those of its source, of any name and length that `write_file` takes.
 pub fn written_is_source()
     ensures held { KeptAreHeld }
     ensures source { WrittenIsSource }

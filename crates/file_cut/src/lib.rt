@@ -11,4 +11,4 @@ mod writing;
 pub use fault::CutFault;
 pub use laws::{blobs_in_order, written_is_source};
 pub use pieces::read_piece;
-pub use writing::{LONGEST_FILE, LONGEST_NAME, write_file};
+pub use writing::{MAX_FILE, MAX_NAME, write_file};

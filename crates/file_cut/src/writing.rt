@@ -23,10 +23,10 @@ const CHUNK: usize = 1_048_576;
 const RUN: usize = 4_096;
 
 /// The most bytes of a file (`docs/files.md`).
-pub const LONGEST_FILE: u64 = 17_592_186_044_416;
+pub const MAX_FILE: u64 = 17_592_186_044_416;
 
 /// The most bytes of a file's name (`docs/files.md`).
-pub const LONGEST_NAME: usize = 4_096;
+pub const MAX_NAME: usize = 4_096;
 
 /// Cuts a source into the blobs of a file of this name, puts them as they are read (`docs/files.md`), and answers the
 /// ref of the file's own blob, which is the last one.
@@ -54,7 +54,7 @@ pub fn write_file<S: Source, B: Shelf>(
     ensures named { longest_name < length name.now → result ≡ Err (fault.NameTooLong (length name.now)) }
     ensures later { S.faults source.old ≤ S.faults source.new }
 {
-    if name.len() > LONGEST_NAME {
+    if name.len() > MAX_NAME {
         return Err(CutFault::NameTooLong {
             len: name.len() as u64,
         });
@@ -63,7 +63,7 @@ pub fn write_file<S: Source, B: Shelf>(
         return Err(CutFault::NoMemory);
     };
     let buf = space.as_mut_slice();
-    write_cut(alloc, name, source, shelf, buf, CHUNK, RUN, LONGEST_FILE)
+    write_cut(alloc, name, source, shelf, buf, CHUNK, RUN, MAX_FILE)
 }
 
 // So many zero bytes.
@@ -73,8 +73,8 @@ fn zeros(alloc: Global, len: usize) -> Result<Vec<u8>, AllocError>
     vec![in alloc; 0; len]
 }
 
-// Writes a file with chunks of such a size, of which the buffer has room for eight, runs of so many, and at most so many
-// bytes.
+// Writes a file with chunks of such a size, of which the buffer has room for eight, runs of so many, and at most so
+// many bytes.
 fn write_cut<S: Source, B: Shelf>(
     alloc: Global,
     name: &str,

@@ -16,7 +16,7 @@ use schema_fact::{Origin, Part};
 use std::alloc::Global;
 
 // How deep trees may nest within a file.
-const DEEPEST: u32 = 63;
+const MAX_DEPTH: u32 = 63;
 
 /// Writes a file's bytes to the sink, part by part, and answers their number (`docs/files.md`).
 ///
@@ -45,7 +45,7 @@ pub fn read_file<B: PartShelf, K: Sink>(
 {
     let parts = open_file(alloc, shelf, r)?;
     let size = total_size(parts.as_slice());
-    read_parts(alloc, shelf, sink, parts.as_slice(), 0, size, DEEPEST)?;
+    read_parts(alloc, shelf, sink, parts.as_slice(), 0, size, MAX_DEPTH)?;
     Ok(size)
 }
 

@@ -50,10 +50,10 @@ impl Access {
 /// that isn't there is a disk without packs.
 ///
 /// What an append that failed has left is cut off at once, as well as may be, and the file of a pack that was made here
-/// and never synced goes with it; its number stays taken. Where the disk is dropped the same is done with what was added
-/// and not synced, while the folder is still locked: so nobody takes for durable what only seems to stand. Nothing is
-/// made, opened or called durable where the path no longer leads to the folder, or to the pack's file. A screen is shown
-/// that the folder isn't there or was made, that its lock is waited for, and how far a long opening is.
+/// and never synced goes with it; its number stays taken. Where the disk is dropped the same is done with what was
+/// added and not synced, while the folder is still locked: so nobody takes for durable what only seems to stand.
+/// Nothing is made, opened or called durable where the path no longer leads to the folder, or to the pack's file. A
+/// screen is shown that the folder isn't there or was made, that its lock is waited for, and how far a long opening is.
 pub struct FolderDisk<'a> {
     rt: &'a HostRuntime,
     screen: &'a Screen<'a>,

@@ -22,7 +22,7 @@ pub fn open_regular(rt: &HostRuntime, how: &OpenOptions, path: &str) -> io::Resu
 }
 
 // How many packs are open for reading at most.
-const MOST_OPEN: usize = 64;
+const MAX_OPEN: usize = 64;
 
 /// The packs that were read. Their files stay open, until there are 64 and another one is read.
 #[derive(Drop)]
@@ -44,7 +44,7 @@ impl OpenPacks {
     /// Opens the file of a pack.
     pub(crate) fn open(&mut self, rt: &HostRuntime, number: u32, path: &str) -> io::Result<()> {
         let file = open_regular(rt, File::options().read(true), path)?;
-        if self.open.len() >= MOST_OPEN {
+        if self.open.len() >= MAX_OPEN {
             self.open.pop_first();
         }
         self.open.insert(number, file)?;
@@ -222,8 +222,8 @@ impl UnsyncedPacks {
         }
     }
 
-    /// The pack couldn't be synced: it is cut back to what was synced of it, and removed where it was made here, was never
-    /// synced and holds nothing then, as well as may be.
+    /// The pack couldn't be synced: it is cut back to what was synced of it, and removed where it was made here, was
+    /// never synced and holds nothing then, as well as may be.
     pub(crate) fn take_back(&mut self, rt: &HostRuntime, number: u32) {
         for pack in &mut self.packs {
             if pack.number == number && pack.added > 0 {

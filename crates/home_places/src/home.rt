@@ -22,8 +22,8 @@ pub enum Indexed {
 
 /// A store with its index, which several passes share (`docs/core.md`).
 ///
-/// A pass is seen as two histories, that of the store and that of the index, with the turns that it drew of each. It can
-/// be spent, where no turn is left to draw: such a call is refused with `NoMemory` and changes nothing else.
+/// A pass is seen as two histories, that of the store and that of the index, with the turns that it drew of each. It
+/// can be spent, where no turn is left to draw: such a call is refused with `NoMemory` and changes nothing else.
 pub trait Home {
     /// What one actor holds of the home.
     type Pass;

@@ -3,8 +3,8 @@ ghost use Rattle.std.specs.Prelude.{◌≡◌, ◌≤◌, ◌+◌, ◌∷◌, �
 
 use blobref::NoMemory;
 
-/// Where the entries of answered requests go, in their order. It needn't keep them: `tells` relates it to each list that
-/// it may stand for.
+/// Where the entries of answered requests go, in their order. It needn't keep them: `tells` relates it to each list
+/// that it may stand for.
 pub trait AnswerLog<E> {
     /// It stands for this list, oldest entry first.
     ghost tells: { Self → List E → Type 0 };

@@ -7,7 +7,7 @@ use answer_text::Refusal;
 use http_wire::{Framing, Head, Wire};
 
 /// The most bytes of a body that is read as a whole.
-pub const MOST_BODY: u64 = 1_048_576;
+pub const MAX_BODY: u64 = 1_048_576;
 
 // How many bytes a head says that the body has. One in chunks says nothing.
 fn announced(framing: &Framing) -> u64

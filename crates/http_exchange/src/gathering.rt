@@ -6,7 +6,7 @@ ghost use Rattle.http_wire.specs.Wires.{body_of, BodyEnds};
 ghost use Rattle.http_wire.specs.declared.body.Body.{Body};
 ghost use Rattle.http_exchange.specs.Gathering.{Gathers, CanStop, StopSpec};
 
-use crate::before_body::MOST_BODY;
+use crate::before_body::MAX_BODY;
 use blobref::Octets;
 use edge_base::Source;
 use http_wire::{Framing, Wire, WireEnd};
@@ -68,7 +68,7 @@ fn gather_on<S: Source>(alloc: Global, wire: &mut Wire, source: &mut S) -> Resul
         if n == 0 {
             return Ok(Octets::from_vec(bytes));
         }
-        if n > MOST_BODY as usize - bytes.len() {
+        if n > MAX_BODY as usize - bytes.len() {
             return Err(BodyFault::Long);
         }
         let Ok(()) = bytes.extend_from_slice(&buf[..n]) else {

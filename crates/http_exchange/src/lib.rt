@@ -11,7 +11,7 @@ mod replies;
 mod reply_heads;
 
 pub use answer_log::{AnswerLog, NoLog};
-pub use before_body::{MOST_BODY, check_length, closes_early, content_type};
+pub use before_body::{MAX_BODY, check_length, closes_early, content_type};
 pub use ended::{Ended, head_says};
 pub use gathering::{BodyFault, gather};
 pub use laws::phrases;

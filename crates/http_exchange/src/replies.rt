@@ -76,7 +76,7 @@ fn memory_reply() -> &'static [u8]
 }
 
 // At most so many bytes of a body are copied behind their head, so that the reply is written by one call of the system.
-const MOST_COPIED: usize = 16_384;
+const MAX_COPIED: usize = 16_384;
 
 /// Writes the reply, a short one by one call of the sink. For want of memory a short one may take two.
 pub fn write_reply<K: Sink>(alloc: Global, sink: &mut K, reply: &Reply) -> Result<(), Failed>
@@ -111,7 +111,7 @@ fn write_parts<K: Sink>(alloc: Global, sink: &mut K, head: &[u8], body: &[u8]) -
 fn joined(alloc: Global, head: &[u8], body: &[u8]) -> Option<Octets>
     ensures { IfSome result (λ text. text ≡ head.now ++ body.now) }
 {
-    if body.len() > MOST_COPIED {
+    if body.len() > MAX_COPIED {
         return None;
     }
     let mut text = Vec::from_slice(alloc, head).ok()?;

@@ -54,6 +54,7 @@ fn one_more(buf: &[u8], found: Values, value: Span) -> Values
     ensures { (before : List (List ℕ)) → AreValues buf.now before found
         → AreValues buf.now (before ++ span_bytes buf.now value ∷ []) result }
 {
+    // The contract of the call says that a slice's length is a `usize`.
     let _len = buf.len();
     match found {
         Values::Nothing => Values::One(value),

@@ -1,7 +1,9 @@
 //! What the text of a head says.
-ghost use Rattle.std.specs.Prelude.{◌≡◌, ◌<◌, ◌≤◌, ◌+◌, ℕ, [], List, length, map, take, All, codes, option_map, if◌then◌else◌, Some, None};
+ghost use Rattle.std.specs.Prelude.{◌≡◌, ◌<◌, ◌≤◌, ◌+◌, ℕ, [], List, length, map, take, All, codes, option_map};
+ghost use Rattle.std.specs.Prelude.{if◌then◌else◌, Some, None};
 ghost use Rattle.httparse.specs.Grammar.{RequestHead, ReadsRequest};
-ghost use Rattle.httparse.specs.Spans.{header_bytes, span_bytes, IsWithin, IsHeaderWithin, IsRequestWithin, IsRequestAt};
+ghost use Rattle.httparse.specs.Spans.{header_bytes, span_bytes, IsWithin, IsHeaderWithin, IsRequestWithin};
+ghost use Rattle.httparse.specs.Spans.{IsRequestAt};
 ghost use Rattle.http_wire.specs.Heads.{HeadSpec, framing_of, length_in, same_text, values, IsPieceOf, IsFirstOf};
 
 use crate::closing::closes_at;
@@ -48,6 +50,7 @@ fn piece_at(text: &[u8], span: Span) -> Piece
     requires { IsWithin (length text.now) span }
     ensures { IsPieceOf text.now result (span_bytes text.now span) }
 {
+    // The contract of the call says that a slice's length is a `usize`.
     let _len = text.len();
     Piece {
         start: span.start,

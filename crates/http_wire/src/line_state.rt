@@ -1,74 +1,36 @@
-//! Where a reader of lines stands.
+//! Where a reader of lines is.
 ghost use Rattle.std.specs.Prelude.{◌≡◌};
 ghost use Rattle.http_wire.specs.Lines.{step};
 
-/// Where a reader stands that looks for the end of some lines.
+/// Where a reader is that looks for the end of some lines.
 #[derive(Clone, Copy, PartialEq, Eq)]
 pub enum LineState {
     /// At the start of a line, with no line before it that isn't empty.
     Start,
-    /// Behind one carriage return, with no line before it that isn't empty.
+    /// After one carriage return, with no line before it that isn't empty.
     StartReturn,
     /// In a line that isn't empty, with more lines to come.
     Line,
     /// At the start of a line that may be the empty one.
     Next,
-    /// Behind one carriage return of a line that may be the empty one.
+    /// After one carriage return of a line that may be the empty one.
     NextReturn,
     /// In the last line, whatever it holds.
     Last,
 }
 
-/// Where the reader stands after a byte, or None where that byte was the last.
+/// Where the reader is after a byte, or None if that byte was the last.
 pub fn step(place: LineState, byte: u8) -> Option<LineState>
     ensures { result ≡ step place byte }
 {
-    match place {
-        LineState::Start => {
-            if byte == 10 {
-                Some(LineState::Start)
-            } else if byte == 13 {
-                Some(LineState::StartReturn)
-            } else {
-                Some(LineState::Line)
-            }
-        }
-        LineState::StartReturn => {
-            if byte == 10 {
-                Some(LineState::Start)
-            } else {
-                Some(LineState::Line)
-            }
-        }
-        LineState::Line => {
-            if byte == 10 {
-                Some(LineState::Next)
-            } else {
-                Some(LineState::Line)
-            }
-        }
-        LineState::Next => {
-            if byte == 10 {
-                None
-            } else if byte == 13 {
-                Some(LineState::NextReturn)
-            } else {
-                Some(LineState::Line)
-            }
-        }
-        LineState::NextReturn => {
-            if byte == 10 {
-                None
-            } else {
-                Some(LineState::Line)
-            }
-        }
-        LineState::Last => {
-            if byte == 10 {
-                None
-            } else {
-                Some(LineState::Last)
-            }
-        }
+    match (place, byte) {
+        (LineState::Start, b'\n') => Some(LineState::Start),
+        (LineState::Start, b'\r') => Some(LineState::StartReturn),
+        (LineState::StartReturn, b'\n') => Some(LineState::Start),
+        (LineState::Line, b'\n') => Some(LineState::Next),
+        (LineState::Next, b'\r') => Some(LineState::NextReturn),
+        (LineState::Next | LineState::NextReturn | LineState::Last, b'\n') => None,
+        (LineState::Last, _) => Some(LineState::Last),
+        _ => Some(LineState::Line),
     }
 }

@@ -9,7 +9,7 @@ ghost use Rattle.histories.specs.Indexes.{inserts};
 ghost use Rattle.histories.specs.IndexCalls.{TakeSpec, InsertSpec, ReturnSpec, LackingSpec};
 ghost use Rattle.home_places.specs.Searches.{SearchSpec};
 ghost use Rattle.work_numbers.specs.Telling.{take_entry, insert_entry, return_entry};
-ghost use Rattle.index_history.specs.Telling.{IndexTells};
+ghost use Rattle.index_history.specs.Represents.{IndexRepresents};
 
 use crate::uncounted::add;
 use blobref::{NoMemory, Ref, RefList};
@@ -23,11 +23,11 @@ use std::alloc::Global;
 use work_numbers::WorkNumbers;
 
 // An index never has so many facts.
-const MOST: u64 = 1 << 60;
+const MAX_FACTS: u64 = 1 << 60;
 
 /// An index of facts, with the numbers that were inserted and those in hand: the value for which a lock gives out
-/// turns. For each history that the index may stand for (`IndexTells`), a contract says what the call returns over it,
-/// and that afterwards the index stands for it with the call's entry.
+/// turns. For each history that the index may represent (`IndexRepresents`), a contract says what the call returns over
+/// it, and that afterwards the index represents it with the call's entry.
 #[derive(Drop)]
 pub struct WorkIndex<V: Verifier> {
     alloc: Global,
@@ -43,7 +43,7 @@ impl<V: Verifier> WorkIndex<V> {
     pub fn fresh(alloc: Global, keys: V) -> WorkIndex<V>
     where
         V: Drop,
-        ensures kept { IndexTells result [] }
+        ensures kept { IndexRepresents result [] }
         ensures keys { result.index.keys ≡ keys }
     {
         WorkIndex {
@@ -55,9 +55,9 @@ impl<V: Verifier> WorkIndex<V> {
 
     /// Takes a number in hand, as `WorkNumbers::take` does.
     pub fn take(&mut self, arrivals: u64) -> Result<Option<u64>, NoMemory>
-        ensures kept { (h : List (Stamped IndexEvent)) (turn : ℕ) → IndexTells self.old h
-            → IndexTells self.new (h ++ stamped turn (take_entry result)) }
-        ensures says { (h : List (Stamped IndexEvent)) → IndexTells self.old h
+        ensures kept { (h : List (Stamped IndexEvent)) (turn : ℕ) → IndexRepresents self.old h
+            → IndexRepresents self.new (h ++ stamped turn (take_entry result)) }
+        ensures says { (h : List (Stamped IndexEvent)) → IndexRepresents self.old h
             → TakeSpec arrivals (events h) result (take_entry result) }
         ensures keys { self.new.index.keys ≡ self.old.index.keys }
     {
@@ -74,9 +74,9 @@ impl<V: Verifier> WorkIndex<V> {
     /// It costs what `Index::place` does, and a few look-ups.
     pub fn insert(&mut self, number: u64, r: &Ref, fact: Fact) -> Result<Inserted, NoMemory>
         requires valid { IsValid fact }
-        ensures kept { (h : List (Stamped IndexEvent)) (turn : ℕ) → IndexTells self.old h
-            → IndexTells self.new (h ++ stamped turn (insert_entry number r.now fact result)) }
-        ensures says { (h : List (Stamped IndexEvent)) → IndexTells self.old h
+        ensures kept { (h : List (Stamped IndexEvent)) (turn : ℕ) → IndexRepresents self.old h
+            → IndexRepresents self.new (h ++ stamped turn (insert_entry number r.now fact result)) }
+        ensures says { (h : List (Stamped IndexEvent)) → IndexRepresents self.old h
             → InsertSpec number r.now fact (events h) result (insert_entry number r.now fact result) }
         ensures keys { self.new.index.keys ≡ self.old.index.keys }
     {
@@ -90,9 +90,9 @@ impl<V: Verifier> WorkIndex<V> {
 
     /// Gives a number back, and returns whether it was in hand. If it wasn't, nothing changes. It takes no memory.
     pub fn give_back(&mut self, number: u64) -> bool
-        ensures kept { (h : List (Stamped IndexEvent)) (turn : ℕ) → IndexTells self.old h
-            → IndexTells self.new (h ++ stamped turn (return_entry result number)) }
-        ensures says { (h : List (Stamped IndexEvent)) → IndexTells self.old h
+        ensures kept { (h : List (Stamped IndexEvent)) (turn : ℕ) → IndexRepresents self.old h
+            → IndexRepresents self.new (h ++ stamped turn (return_entry result number)) }
+        ensures says { (h : List (Stamped IndexEvent)) → IndexRepresents self.old h
             → ReturnSpec number (events h) (return_entry result number) }
         ensures keys { self.new.index.keys ≡ self.old.index.keys }
     {
@@ -102,9 +102,9 @@ impl<V: Verifier> WorkIndex<V> {
     /// The least number below a bound that isn't inserted, in hand or not; `None` exactly if each is. It takes the
     /// time of `WorkNumbers::lacking`.
     pub fn lacking(&mut self, below: u64) -> Option<u64>
-        ensures kept { (h : List (Stamped IndexEvent)) (turn : ℕ) → IndexTells self.old h
-            → IndexTells self.new (h ++ stamped turn None) }
-        ensures says { (h : List (Stamped IndexEvent)) → IndexTells self.old h
+        ensures kept { (h : List (Stamped IndexEvent)) (turn : ℕ) → IndexRepresents self.old h
+            → IndexRepresents self.new (h ++ stamped turn None) }
+        ensures says { (h : List (Stamped IndexEvent)) → IndexRepresents self.old h
             → LackingSpec below (events h) result None }
         ensures keys { self.new.index.keys ≡ self.old.index.keys }
     {
@@ -113,7 +113,7 @@ impl<V: Verifier> WorkIndex<V> {
 
     /// How many numbers were inserted. It takes no time.
     pub fn len(&self) -> u64
-        ensures { (h : List (Stamped IndexEvent)) → IndexTells self.now h → result ≡ length (inserts h) }
+        ensures { (h : List (Stamped IndexEvent)) → IndexRepresents self.now h → result ≡ length (inserts h) }
     {
         self.work.len()
     }
@@ -121,7 +121,7 @@ impl<V: Verifier> WorkIndex<V> {
     /// The refs that answer a query (`docs/search.md`), over exactly the facts inserted. `NoMemory` comes only if no
     /// memory is left. It costs what `search_eval::answer` does.
     pub fn search(&self, query: &Query) -> Result<RefList, NoMemory>
-        ensures { (h : List (Stamped IndexEvent)) → IndexTells self.now h
+        ensures { (h : List (Stamped IndexEvent)) → IndexRepresents self.now h
             → SearchSpec (V.accepts self.now.index.keys) query.now (inserts h) result }
     {
         answer_of(self.alloc, &self.index, query)
@@ -131,13 +131,13 @@ impl<V: Verifier> WorkIndex<V> {
     fn insert_made(&mut self, made: Made) -> Result<Inserted, NoMemory>
         requires valid { IsValid made.2 }
         requires fresh { contains_key self.old.work.numbers made.0 ≡ false }
-        ensures kept { (h : List (Stamped IndexEvent)) (turn : ℕ) → IndexTells self.old h
-            → IndexTells self.new (h ++ stamped turn (insert_entry made.0 made.1 made.2 result)) }
-        ensures says { (h : List (Stamped IndexEvent)) → IndexTells self.old h
+        ensures kept { (h : List (Stamped IndexEvent)) (turn : ℕ) → IndexRepresents self.old h
+            → IndexRepresents self.new (h ++ stamped turn (insert_entry made.0 made.1 made.2 result)) }
+        ensures says { (h : List (Stamped IndexEvent)) → IndexRepresents self.old h
             → InsertSpec made.0 made.1 made.2 (events h) result (insert_entry made.0 made.1 made.2 result) }
         ensures keys { self.new.index.keys ≡ self.old.index.keys }
     {
-        if self.index.len() >= MOST {
+        if self.index.len() >= MAX_FACTS {
             return Err(NoMemory);
         }
         self.work.note(made.number())?;

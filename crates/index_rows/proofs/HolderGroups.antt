@@ -1,5 +1,6 @@
 -- The rows of an attribute and a value stand side by side.
-use Rattle.std.proofs.Common.{◌≡◌, ◌≤◌, ℕ, Bool, true, false, ◌&&◌, cond, List, [], ◌∷◌, filter, map, Option, None, Some, refl, sym, ap, subst, ◌∙◌, ◌⊎◌, inl, inr, Ordering, is_some, unwrap_or}
+use Rattle.std.proofs.Common.{◌≡◌, ◌≤◌, ℕ, Bool, true, false, ◌&&◌, cond, List, [], ◌∷◌, filter, map, Option, None}
+use Rattle.std.proofs.Common.{Some, refl, sym, ap, subst, ◌∙◌, ◌⊎◌, inl, inr, Ordering, is_some, unwrap_or}
 use Rattle.std.proofs.lemmas.Bool.{cases_Bool, false≢true, and_parts}
 use Rattle.std.proofs.lemmas.Cmp.{tied_itself}
 use Rattle.std.proofs.lemmas.List.Kept.{IsStrictlySortedBy-filter}
@@ -21,7 +22,8 @@ use Rattle.index_look.proofs.Keys.{entries_held}
 use Rattle.index_rows.specs.Holders.{HolderKey, Holders, holder_cmp, holder_total, is_of, rows_holding}
 use Rattle.index_rows.specs.Holders.{AllCounted, AllOfRefs}
 use Rattle.index_rows.proofs.Orders.{ref_total, ref_same, holder_same}
-use Rattle.index_rows.proofs.Groups.{filter_same, filter-filter, filter_none, filter_passing, from_range_all, all_more, all_keys, lt_le}
+use Rattle.index_rows.proofs.Groups.{filter_same, filter-filter, filter_none, filter_passing, from_range_all}
+use Rattle.index_rows.proofs.Groups.{all_more, all_keys, lt_le}
 
 abbrev Row : Type 0
 Row = HolderKey × ℕ

@@ -23,3 +23,5 @@ pub mod Sums
 pub mod LooseFacts
 pub mod LooseOrder
 pub mod HolderTimes
+pub mod Fronts
+pub mod Until

@@ -1,5 +1,6 @@
 -- Rows under permanodes and moments: which claim changes what, in the order in which changes count.
-use Rattle.std.specs.Prelude.{◌≡◌, ℕ, ◌&&◌, Bool, true, false, List, map, filter, Option, Some, None, ℤ, negsuc}
+use Rattle.std.specs.Prelude.{◌≡◌, ℕ, ◌&&◌, Bool, true, false, List, [], ◌∷◌, ◌++◌, map, filter, Option, Some, None}
+use Rattle.std.specs.Prelude.{ℤ, negsuc}
 use Rattle.std.specs.Str.{bytes_eq}
 use Rattle.std.specs.Ordering.{is_lt, ordering_then}
 use Rattle.std.specs.declared.cmp.Ordering.{Ordering}
@@ -9,7 +10,9 @@ use Rattle.std.specs.FinMap.{FinMap, entries, contains_key}
 use Rattle.std.specs.BTreeMap.Range.{is_from_start}
 use Rattle.std.specs.Coded.{Coded, code_by, coded_ℕ, coded_ℤ, coded_list, coded×}
 use Rattle.blobref.specs.Blobref.{ref_cmp, least_ref}
+use Rattle.schema_date.specs.declared.date.When.{When}
 use Rattle.claim_model.specs.Claims.{Moment, moment_cmp}
+use Rattle.claim_model.specs.Deleted.{counts_at}
 
 -- a permanode, and a moment: the date of a claim, its ref, the place of a change in it
 abbrev pub ChangeKey : Type 0
@@ -65,6 +68,19 @@ changes_before m p k = filter (λ e. bytes_eq p e.0.0 && is_lt (moment_cmp e.0.1
 
 abbrev pub changes_below : Changes → ChangeKey → List (ChangeKey × Unit {0})
 changes_below m k = filter (λ e. is_lt (change_cmp e.0 k)) (entries m)
+
+-- whether a key is of p, and its moment is dated at or before that time
+abbrev pub is_until : When → List ℕ → ChangeKey → Bool
+is_until when p k = bytes_eq p k.0 && counts_at when k.1.0
+
+-- the moments of p that are dated at or before that time, in their order
+abbrev pub moments_until : Changes → When → List ℕ → List Moment
+moments_until m when p = map (λ e. e.0.1) (filter (λ e. is_until when p e.0) (entries m))
+
+-- the moments of p up to one; none up to none
+abbrev pub moments_to : Changes → List ℕ → Option Moment → List Moment
+moments_to m p None = []
+moments_to m p (Some k) = map (λ e. e.0.1) (changes_before m p k) ++ k ∷ []
 
 -- a moment is determined by its parts
 abbrev pub moment_code : Coded Moment

@@ -1,12 +1,15 @@
 //! Which claims change a permanode, and when.
-ghost use Rattle.std.specs.Prelude.{◌≡◌, ◌+◌, ◌∷◌, ◌++◌, [], Some, OnOk, OnErr, IfSome, IfNone, option_copied};
+ghost use Rattle.std.specs.Prelude.{◌≡◌, ◌≤◌, ◌+◌, ◌∷◌, ◌++◌, [], length, Some, IfOk, OnOk, OnErr, IfSome, IfNone};
+ghost use Rattle.std.specs.Prelude.{option_copied};
 ghost use Rattle.std.specs.FinMap as finite;
 ghost use Rattle.index_rows.specs.Changes.{changes_above, changes_after, changes_before, changes_below, changes_from};
-ghost use Rattle.index_rows.specs.Changes.{changes_start, AllFromFirst, IsFromFirst};
+ghost use Rattle.index_rows.specs.Changes.{changes_start, is_until, moments_to, moments_until, AllFromFirst};
+ghost use Rattle.index_rows.specs.Changes.{IsFromFirst};
+ghost use Rattle.claim_model.specs.Deleted.{counts_at};
 
 use blobref::{NoMemory, Ref};
 use edge_base::Steps;
-use schema_date::Date;
+use schema_date::{Date, When};
 use std::alloc::Global;
 use std::collections::BTreeSet;
 use std::marker::Model;
@@ -67,6 +70,52 @@ impl ChangeRows {
         let moment = moment_of(date, claim, place);
         self.rows.insert((*p, moment))?;
         Ok(())
+    }
+
+    /// The moments of p that are dated at or before that time, in their order. It looks up the first one and takes a
+    /// step for each. `NoMemory` comes only if no memory is left for the list.
+    pub fn until<L: Ledger>(
+        &self,
+        alloc: Global,
+        p: &Ref,
+        when: &When,
+        steps: &mut Steps<L>,
+    ) -> Result<Vec<Moment>, NoMemory>
+        ensures moments { IfOk result (λ moments. moments.items ≡ moments_until self.now when.now p.now) }
+        ensures ticks { steps.new ≤ steps.old + 1 + length (moments_until self.now when.now p.now) }
+    {
+        let mut moments = Vec::new(alloc);
+        steps.tick();
+        for key in self.rows.range((changes_start(p, None), Bound::Unbounded)) {
+            if !is_until(key, p, when) {
+                break;
+            }
+            steps.tick();
+            push(&mut moments, &key.1)?;
+        }
+        Ok(moments)
+    }
+
+    /// The last of these moments; `None` exactly if there is none. It looks up the first one and takes a step for each.
+    pub fn last_until<L: Ledger>(
+        &self,
+        p: &Ref,
+        when: &When,
+        steps: &mut Steps<L>,
+    ) -> Option<Moment>
+        ensures last { moments_until self.now when.now p.now ≡ moments_to self.now p.now result }
+        ensures ticks { steps.new ≤ steps.old + 1 + length (moments_until self.now when.now p.now) }
+    {
+        let mut last = None;
+        steps.tick();
+        for key in self.rows.range((changes_start(p, None), Bound::Unbounded)) {
+            if !is_until(key, p, when) {
+                break;
+            }
+            steps.tick();
+            last = Some(key.1);
+        }
+        last
     }
 
     /// The first moment of p after `after`, or the first of all if `after` is `None`; `None` exactly if there is none.
@@ -153,6 +202,30 @@ impl ChangeRows {
             None => None,
         }
     }
+}
+
+// Whether a key is of p, and its moment is dated at or before that time.
+fn is_until(key: &(Ref, Moment), p: &Ref, when: &When) -> bool
+    ensures { result ≡ is_until when.now p.now key.now }
+{
+    *p == key.0 && counts_at(when, &key.1)
+}
+
+// Whether the claim of a moment counts at that time.
+fn counts_at(when: &When, moment: &Moment) -> bool
+    ensures { result ≡ counts_at when.now moment.now.0 }
+{
+    match when {
+        When::Always => true,
+        When::At(now) => !(now.ns() < moment.0),
+    }
+}
+
+fn push(moments: &mut Vec<Moment>, moment: &Moment) -> Result<(), NoMemory>
+    ensures { OnOk result (moments.new.items ≡ moments.old.items ++ moment.now ∷ []) }
+{
+    moments.push(*moment)?;
+    Ok(())
 }
 
 pub(crate) fn moment_of(date: &Date, claim: &Ref, place: u32) -> Moment

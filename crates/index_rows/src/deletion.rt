@@ -18,7 +18,7 @@ use std::sync::ledger::Ledger;
 pub fn deleted_at<L: Ledger>(rows: &Rows, r: &Ref, when: &When, steps: &mut Steps<L>) -> bool
     requires { Ringless rows.now.facts.ordered rows.now.deletes }
     ensures deleted { result ≡ row_deleted rows.now.facts.ordered rows.now.deletes when.now r.now }
-    ensures ticks { steps.new ≤ steps.old + 4 + 6 * tree_rows rows.now.facts.ordered rows.now.deletes r.now }
+    ensures ticks { steps.new ≤ steps.old + 3 + 6 * tree_rows rows.now.facts.ordered rows.now.deletes r.now }
 {
     if !can_be_deleted_at(&rows.facts.ordered, r, steps) {
         return false;

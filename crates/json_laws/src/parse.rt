@@ -7,8 +7,8 @@ use blobref::NoMemory;
 use serde_json::Value;
 use std::alloc::Global;
 
-/// The one JSON value that the bytes are, as `serde_json` reads it (`docs/formats/schema.md`): None for bytes that aren't
-/// UTF-8, or that aren't one JSON text.
+/// The one JSON value that the bytes are, as `serde_json` reads it (`docs/formats/schema.md`): None for bytes that
+/// aren't UTF-8, or that aren't one JSON text.
 pub fn json_in(alloc: Global, bytes: &[u8]) -> Result<Option<Value>, NoMemory>
     ensures { IfOk result (λ value. option_map view value ≡ json_in bytes.now) }
 {

@@ -44,8 +44,8 @@ fn push_fault(alloc: Global, fault: WordsFault, lines: &mut Vec<u8>) -> Result<(
     Ok(())
 }
 
-// For each line of the input, which is a query as JSON, a line: the search words that ask its constraint, `none` where no
-// words do, or `no query`.
+// For each line of the input, which is a query as JSON, a line: the search words that ask its constraint, `none` where
+// no words do, or `no query`.
 pub(crate) fn written_lines(alloc: Global, input: &str) -> Result<Vec<u8>, NoMemory> {
     let mut lines = Vec::new(alloc);
     for line in input.split('\n') {

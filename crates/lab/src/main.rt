@@ -1,20 +1,20 @@
 //! The yardsticks of `bench/`, in one program: `lab WORD` measures what the word names over standard input, and
-//! prints one line. `lab WORD KEYRING ATTRIBUTE VALUE` asks an index by the keys of the keyring, whose text is the word,
-//! for the holders of the value.
+//! prints one line. `lab WORD KEYRING ATTRIBUTE VALUE` asks an index by the keys of the keyring, whose text is the
+//! word, for the holders of the value.
 //!
 //! `lab orders KEYRING ATTRIBUTE VALUE DATE ORDER..` makes indexes of the blobs of the pack on standard input in the
 //! orders that are given, each a word of letters: `a` is the first blob of the pack, and what isn't named doesn't come.
 //! For each order it prints what three indexes tell, the first of which takes the blobs one by one, as does the second,
-//! to which each brings its memory, and the third all at once: that it is stale, where it is, their first permanode, the
-//! values of each permanode at the date, and the holders of the value. A date that is none stands for all dates.
+//! to which each brings its memory, and the third all at once: that it is stale, where it is, their first permanode,
+//! the values of each permanode at the date, and the holders of the value. A date that is none stands for all dates.
 //!
 //! `lab http PACK KEYRING PIECE` answers the requests on standard input over the blobs of the file PACK, by the keys of
-//! the file KEYRING: the requests are handed on at most PIECE bytes at a time, or as many as are asked for where that is
-//! 0.
+//! the file KEYRING: the requests are handed on at most PIECE bytes at a time, or as many as are asked for where that
+//! is 0.
 //!
-//! `lab words` reads lines of search words from standard input, and prints for each the query that it asks, or why it asks
-//! none. `lab words-of` reads queries, each a line, and prints for each the line of search words that asks its constraint,
-//! or that none does.
+//! `lab words` reads lines of search words from standard input, and prints for each the query that it asks, or why it
+//! asks none. `lab words-of` reads queries, each a line, and prints for each the line of search words that asks its
+//! constraint, or that none does.
 //!
 //! It is no part of the archive's program. It ends with that program's exit statuses.
 #![tactic(auto)]

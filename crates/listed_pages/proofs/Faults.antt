@@ -6,7 +6,8 @@ use Rattle.peer_base.specs.declared.peer.PeerFault.{PeerFault}
 use Rattle.peer_base.specs.declared.peer.PeerFault.TheVariants as fault
 use Rattle.listed_pages.specs.Causes.{ListFault}
 
-pub list_fault : (told : Option Blobs) (before now : ℕ) (T : Type 0) (e : PeerFault) → ListCause {T = T} told before now (Err e) → ListFault told before now e
+pub list_fault : (told : Option Blobs) (before now : ℕ) (T : Type 0) (e : PeerFault) → ListCause {T = T} told before now
+    (Err e) → ListFault told before now e
 list_fault told before now T fault.Failed w = w
 list_fault told before now T fault.BadReply w = w
 list_fault told before now T (fault.Refused status) w = w

@@ -1,5 +1,6 @@
 -- The refs of a peer, listed page by page.
-use Rattle.std.specs.Prelude.{◌≡◌, ◌⊎◌, ℕ, Bool, true, false, not, List, [], ◌∷◌, ◌++◌, filter, Option, None, Some, IfSome, Ok, Err}
+use Rattle.std.specs.Prelude.{◌≡◌, ◌⊎◌, ℕ, Bool, true, false, not, List, [], ◌∷◌, ◌++◌, filter, Option, None, Some}
+use Rattle.std.specs.Prelude.{IfSome, Ok, Err}
 use Rattle.blobref.specs.Blobref.{is_after}
 use Rattle.peer_base.specs.Order.{refs_of, last_ref, is_among}
 use Rattle.peer_base.specs.declared.peer.Peer.{Ghosts}
@@ -24,14 +25,17 @@ abbrev pub IsPartOf : List (List ℕ) → List (List ℕ) → Type 0
 IsPartOf all some = (test : List ℕ → Bool) × (some ≡ filter test all)
 
 module _ {A : Type 0} (g : Ghosts A) where
-  -- The chain of pages that a peer listed, from a state of it and what follows a ref on: each call asks for a thousand refs after the last one
-  -- of the page before, and begins as the call before it ended. It leads to the last call's state and the last page's last ref.
+  -- The chain of pages that a peer listed, from a state of it and what follows a ref on: each call asks for a thousand
+  -- refs after the last one of the page before, and begins as the call before it ended. It leads to the last call's
+  -- state and the last page's last ref.
   abbrev pub Lists : A → Option (List ℕ) → List Page → A → Option (List ℕ) → Type 0
   Lists old after [] new end = (new ≡ old) × (end ≡ after)
   Lists old after (page ∷ more) new end =
-      (now : A) × (last : List ℕ) × g.lists old after 1000 (Ok page) now × (last_ref page ≡ Some last) × Lists now (Some last) more new end
+      (now : A) × (last : List ℕ) × g.lists old after 1000 (Ok page) now × (last_ref page ≡ Some last)
+      × Lists now (Some last) more new end
 
-  -- it listed what follows a ref up to another one: a chain of pages, and a page after it that is empty or reaches that ref
+  -- it listed what follows a ref up to another one: a chain of pages, and a page after it that is empty or reaches that
+  -- ref
   pub record ListsUpTo (old : A) (after : Option (List ℕ)) (reach : List ℕ) (pages : List Page) (new : A) : Type 0 where
     pub front : List Page
     pub page : Page

@@ -1,5 +1,6 @@
 //! Which refs of a page a peer lacks.
-ghost use Rattle.std.specs.Prelude.{◌≡◌, ◌≤◌, [], ℕ, List, false, not, filter, Some, None, Err, IfOk, IfErr, OnOk, option_copied};
+ghost use Rattle.std.specs.Prelude.{◌≡◌, ◌≤◌, [], ℕ, List, false, not, filter, Some, None, Err, IfOk, IfErr, OnOk};
+ghost use Rattle.std.specs.Prelude.{option_copied};
 ghost use Rattle.std.specs.Option.{ForSome};
 ghost use Rattle.std.specs.FinMap.{contains_key};
 ghost use Rattle.peer_base.specs.Blobs.{IsPage};
@@ -13,11 +14,12 @@ use blobref::{Listing, Ref};
 use peer_base::{Peer, PeerFault};
 use std::alloc::Global;
 
-/// The refs of a page that another peer doesn't list, in their order: those that it lacks, where it tells what it holds.
+/// The refs of a page that another peer doesn't list, in their order: those that it lacks, where it tells what it
+/// holds.
 ///
-/// `after` is the ref that the page follows, and `last` the page's last one. The target is asked for pages of 1,000 refs
-/// after that ref, one after the other, up to `last`. A fault is what one of these calls answered, or want of memory.
-/// Nothing is put. It takes the memory of a page and of the refs, and the time of one walk over both.
+/// `after` is the ref that the page follows, and `last` the page's last one. The target is asked for pages of 1,000
+/// refs after that ref, one after the other, up to `last`. A fault is what one of these calls answered, or want of
+/// memory. Nothing is put. It takes the memory of a page and of the refs, and the time of one walk over both.
 pub fn lacking_of<B: Peer>(
     alloc: Global,
     target: &mut B,
@@ -49,9 +51,8 @@ pub fn lacking_of<B: Peer>(
     };
     let mut end = last_ref(held.as_slice());
     'pages: loop {
-        let r = match end {
-            Some(r) => r,
-            None => return Ok(refs),
+        let Some(r) = end else {
+            return Ok(refs);
         };
         refs = others(alloc, refs.as_slice(), held.as_slice())?;
         if reaches(&r, last) {
@@ -65,7 +66,8 @@ pub fn lacking_of<B: Peer>(
     }
 }
 
-/// Asks a peer for its first page of 1,000 refs, unless it was asked before. A fault is what it answered. Nothing is put.
+/// Asks a peer for its first page of 1,000 refs, unless it was asked before. A fault is what it answered. Nothing is
+/// put.
 pub fn ask_once<B: Peer>(target: &mut B, asked: bool) -> Result<(), PeerFault>
     ensures once { OnOk result (AsksOnce B.Peer asked target.old target.new) }
     ensures stopped { IfErr result (λ e. (asked ≡ false) × B.lists target.old None 1000 (Err e) target.new) }

@@ -1,5 +1,6 @@
 //! Pages of refs.
-ghost use Rattle.std.specs.Prelude.{◌≡◌, ◌≤◌, ◌++◌, true, not, T, IfOk, IfSome, OnOk, filter, take_while, length, drop, Some, if◌then◌else◌};
+ghost use Rattle.std.specs.Prelude.{◌≡◌, ◌≤◌, ◌++◌, true, not, T, IfOk, IfSome, OnOk, filter, take_while, length, drop};
+ghost use Rattle.std.specs.Prelude.{Some, if◌then◌else◌};
 ghost use Rattle.std.specs.FinMap.{is_sorted};
 ghost use Rattle.std.specs.List.Sorted.{IsStrictlySortedBy};
 ghost use Rattle.blobref.specs.Blobref.{is_blobref, is_after, ref_cmp};

@@ -12,6 +12,6 @@ mod steps;
 
 pub use events::{PartEvent, PartEvents, PartFault};
 pub use laws::{bodies_and_parts, bodies_and_pieces, marks_and_texts, parameters_and_texts};
-pub use limits::MOST_BYTES;
+pub use limits::MAX_BYTES;
 pub use parameters::boundary_of;
 pub use reader::Parts;

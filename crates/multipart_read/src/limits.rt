@@ -1,7 +1,7 @@
 //! The limits of a body and of its parts (`docs/formats/multipart.md`).
 
 /// The most bytes that a body may have. `Parts` doesn't look at it: whoever feeds it does.
-pub const MOST_BYTES: u64 = 17_000_000_000;
+pub const MAX_BYTES: u64 = 17_000_000_000;
 
 /// The most bytes of a preamble, with the CR LF that is thought before the body.
 pub(crate) const MAX_BEFORE: u64 = 4_098;

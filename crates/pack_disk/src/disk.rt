@@ -33,8 +33,8 @@ pub trait Disk {
     /// How often a call has failed.
     ghost faults: { Self → ℕ };
 
-    /// What a call of `packs` is: the disk before it, the number that it began from, the one that it found, and the disk
-    /// after it.
+    /// What a call of `packs` is: the disk before it, the number that it began from, the one that it found, and the
+    /// disk after it.
     ghost finds: { Self → ℕ → Option ℕ → Self → Type 0 };
 
     /// What a call of `size` is: the disk before it, the pack, how many bytes that has, and the disk after it.

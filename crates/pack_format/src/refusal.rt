@@ -8,9 +8,9 @@ use blob_checks::ref_like;
 use blobref::Ref;
 use edge_base::PutFault;
 
-/// Why these bytes can't be put under a said ref, whatever the store holds, if they can't: `TooBig` where there are more
-/// than 16,777,216 of them, and else `BadDigest` where their ref, under the digest that the said one names, isn't the
-/// said one. It hashes the bytes.
+/// Why these bytes can't be put under a said ref, whatever the store holds, if they can't: `TooBig` where there are
+/// more than 16,777,216 of them, and else `BadDigest` where their ref, under the digest that the said one names, isn't
+/// the said one. It hashes the bytes.
 pub fn put_refusal(said: &Ref, bytes: &[u8]) -> Option<PutFault>
     ensures refused { result ≡ put_refused said.now bytes.now }
     ensures own { result ≡ None → IsOwnRef said.now bytes.now }

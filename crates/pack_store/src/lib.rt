@@ -25,7 +25,7 @@ pub use limits::Limits;
 pub use onlooker::{Nobody, Onlooker};
 pub use opened_laws::puts_last;
 pub use opening::OpenFault;
-pub use reading::Found;
+pub use reading::UncheckedBlob;
 pub use rows::{Current, Row};
 pub use shelf::content_stands;
 pub use store::Store;

@@ -27,8 +27,8 @@ pub(crate) struct Taken {
     pub(crate) size: u64,
 }
 
-// Takes up what a pack holds, and reads at most so many bytes at once. It takes memory for the record at hand and for two
-// pieces, of which one is read and one is kept behind the record.
+// Takes up what a pack holds, and reads at most so many bytes at once. It takes memory for the record at hand and for
+// two pieces, of which one is read and one is kept behind the record.
 pub(crate) fn take_pieces<D: Disk, T: Taker>(
     alloc: Global,
     disk: &mut D,
@@ -134,6 +134,7 @@ fn feed<T: Taker>(scanner: &mut Scanner, piece: &[u8], taker: &mut T) -> Result<
 fn octets(piece: &[u8])
     ensures { AreBytes piece.now }
 {
+    // The contract of a call on the slice says that its items are bytes.
     let _count = piece.len();
 }
 

@@ -17,17 +17,17 @@ use edge_base::GetFault;
 use pack_disk::Disk;
 use std::alloc::Global;
 
-/// A blob as it was read: its ref, and the bytes that stand in its place. Whether they have this ref isn't known yet, so
-/// that the digest can be taken where the store isn't needed any more.
+/// A blob as it was read: its ref, and the bytes that stand in its place. Whether they have this ref isn't known yet,
+/// so that the digest can be taken where the store isn't needed any more.
 #[derive(Drop)]
-pub struct Found {
+pub struct UncheckedBlob {
     pub r: Ref,
     pub bytes: Octets,
 }
 
-impl Found {
-    /// The blob, where the bytes have its ref. Elsewhere they were changed: `Damaged` tells the ref that they have, under
-    /// the same digest. It takes the digest of the bytes.
+impl UncheckedBlob {
+    /// The blob, where the bytes have its ref. Elsewhere they were changed: `Damaged` tells the ref that they have,
+    /// under the same digest. It takes the digest of the bytes.
     pub fn checked(self) -> Result<(Ref, Octets), GetFault>
         ensures { result ≡ checked self }
     {
@@ -84,10 +84,10 @@ impl<D: Disk> Store<D> {
     }
 
     /// The blob under a ref, as it stands in its place, and `None` exactly where the ref hasn't arrived. Its digest
-    /// isn't looked at: `Found::checked` does that. It has at most as many bytes as the blob; where the disk tells its
-    /// packs they are the arrival's. `Disk` comes only where the disk's count of faults rose, and `Damaged` never.
-    /// Nothing is changed, whatever is answered.
-    pub fn find(&mut self, r: &Ref) -> Result<Option<Found>, GetFault>
+    /// isn't looked at: `UncheckedBlob::checked` does that. It has at most as many bytes as the blob; where the disk
+    /// tells its packs they are the arrival's. `Disk` comes only where the disk's count of faults rose, and `Damaged`
+    /// never. Nothing is changed, whatever is answered.
+    pub fn find(&mut self, r: &Ref) -> Result<Option<UncheckedBlob>, GetFault>
         ensures none { (result ≡ Ok None) ↔ (number_of r.now self.old.rows ≡ None) }
         ensures placed { IfOk result (λ found. IfSome found (IsFound (entry_of r.now self.old.rows))) }
         ensures bytes { IfOk result (λ found. ForSome (D.packs self.old.disk)
@@ -108,7 +108,7 @@ impl<D: Disk> Store<D> {
 
     /// The arrival of a number, from 0, as it stands in its place, and `None` exactly where the number is at or above
     /// the count. Else as `find`.
-    pub fn find_number(&mut self, number: u64) -> Result<Option<Found>, GetFault>
+    pub fn find_number(&mut self, number: u64) -> Result<Option<UncheckedBlob>, GetFault>
         ensures none { (result ≡ Ok None) ↔ (count self.old ≤ number) }
         ensures placed { IfOk result (λ found. IfSome found (IsFound (entry_at number self.old.rows))) }
         ensures bytes { IfOk result (λ found. ForSome (D.packs self.old.disk)
@@ -150,7 +150,7 @@ impl<D: Disk> Store<D> {
     }
 
     // The arrival of a number that there is, as it stands in its place.
-    fn found(&mut self, number: u64) -> Result<Found, GetFault>
+    fn found(&mut self, number: u64) -> Result<UncheckedBlob, GetFault>
         requires { number < count self.old }
         ensures placed { IfOk result (IsFound (entry_at number self.old.rows)) }
         ensures bytes { IfOk result (λ b. ForSome (D.packs self.old.disk)
@@ -167,7 +167,7 @@ impl<D: Disk> Store<D> {
 }
 
 // A blob, as it stands in its place.
-fn found_row<D: Disk>(alloc: Global, disk: &mut D, row: &Row) -> Result<Found, GetFault>
+fn found_row<D: Disk>(alloc: Global, disk: &mut D, row: &Row) -> Result<UncheckedBlob, GetFault>
     requires kept { ForSome (D.packs disk.old) (λ held. IsKept held (D.images disk.old) row.now) }
     ensures placed { IfOk result (IsFound (Some (row.now.r, row.now.size))) }
     ensures bytes { IfOk result (λ b. ForSome (D.packs disk.old) (λ held. (b.r, b.bytes) ≡ arrival_of held row.now)) }
@@ -178,7 +178,7 @@ fn found_row<D: Disk>(alloc: Global, disk: &mut D, row: &Row) -> Result<Found, G
     ensures later { D.faults disk.old ≤ D.faults disk.new }
 {
     let bytes = read_place(alloc, disk, row)?;
-    Ok(Found {
+    Ok(UncheckedBlob {
         r: row.r,
         bytes: Octets::from_vec(bytes),
     })

@@ -79,12 +79,13 @@ impl<D: Disk> Store<D> {
     }
 
     /// Each arrival is of some bytes, at most 16,777,216 of them, under their own ref and with their number as its
-    /// size, and no two have the same ref. Every image of the disk holds each. Where the disk tells its packs, the bytes are those that it has
-    /// there, and no pack has the next number or a greater one. The current pack is the last one, and clean in every
-    /// image.
+    /// size, and no two have the same ref. Every image of the disk holds each. Where the disk tells its packs, the
+    /// bytes are those that it has there, and no pack has the next number or a greater one. The current pack is the
+    /// last one, and clean in every image.
     pub fn arrivals_are_held(&self)
         ensures { AreHeld D.Disk self.now }
     {
+        // Reading a field brings the invariant of the store, which says this.
         let _rows = &self.rows;
     }
 

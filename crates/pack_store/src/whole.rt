@@ -22,10 +22,10 @@ pub struct PackScan {
     pub size: u64,
 }
 
-/// Reads a pack in pieces and salvages it (`docs/formats/packs.md`). Nothing is synced and nothing is changed: whatever is
-/// answered, no moment of the disk passes. What is answered is the scan of some bytes, and where the disk tells its
-/// packs, of exactly those that it tells. `Disk` comes only where the disk's count of faults rose. Beside what is found it
-/// takes memory for one record and one piece, and time as a scan does.
+/// Reads a pack in pieces and salvages it (`docs/formats/packs.md`). Nothing is synced and nothing is changed: whatever
+/// is answered, no moment of the disk passes. What is answered is the scan of some bytes, and where the disk tells its
+/// packs, of exactly those that it tells. `Disk` comes only where the disk's count of faults rose. Beside what is found
+/// it takes memory for one record and one piece, and time as a scan does.
 pub fn scan_pack<D: Disk>(alloc: Global, disk: &mut D, pack: u32) -> Result<PackScan, OpenFault>
     requires there { ForSome (D.packs disk.old) (λ held. IsSome (get held pack)) }
     ensures scanned { IfOk result (IsScan (D.packs disk.old) pack) }

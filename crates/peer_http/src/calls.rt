@@ -16,10 +16,10 @@ use peer_base::PeerFault;
 use peer_requests::{fetch_request, list_request, upload_request};
 
 /// The most bytes of the body of a reply to `fetch`.
-const MOST_BLOB: usize = 16_777_216;
+const MAX_BLOB: usize = 16_777_216;
 
 /// The most bytes of the body of another reply.
-const MOST_TEXT: usize = 1_048_576;
+const MAX_TEXT: usize = 1_048_576;
 
 /// Asks for a page. The buffer is for the request.
 pub(crate) fn list<S: Source, K: Sink>(
@@ -36,7 +36,7 @@ pub(crate) fn list<S: Source, K: Sink>(
         ≤ both (S.faults link.new.source) (K.faults link.new.sink) }
 {
     list_request(request, after, limit)?;
-    let reply = match link.ask(request.as_slice(), MOST_TEXT) {
+    let reply = match link.ask(request.as_slice(), MAX_TEXT) {
         Ok(reply) => reply,
         Err(fault) => return Err(peer_fault(fault)),
     };
@@ -58,7 +58,7 @@ pub(crate) fn fetch<S: Source, K: Sink>(
         ≤ both (S.faults link.new.source) (K.faults link.new.sink) }
 {
     fetch_request(request, r)?;
-    let reply = match link.ask(request.as_slice(), MOST_BLOB) {
+    let reply = match link.ask(request.as_slice(), MAX_BLOB) {
         Ok(reply) => reply,
         Err(fault) => return Err(peer_fault(fault)),
     };
@@ -80,7 +80,7 @@ pub(crate) fn put<S: Source, K: Sink>(
         ≤ both (S.faults link.new.source) (K.faults link.new.sink) }
 {
     upload_request(link.alloc(), request, r, bytes)?;
-    let reply = match link.ask(request.as_slice(), MOST_TEXT) {
+    let reply = match link.ask(request.as_slice(), MAX_TEXT) {
         Ok(reply) => reply,
         Err(fault) => return Err(peer_fault(fault)),
     };

@@ -13,9 +13,9 @@ use peer_base::{Peer, PeerFault};
 use std::alloc::Global;
 use std::marker::Model;
 
-/// A peer over HTTP that gets its ends from a dialer (`docs/sync.md`). It takes these, and the memory of a [`WirePeer`],
-/// at its first call, and keeps them. A contract sees the dialer, the connection, where there is one so far, and how
-/// many calls have failed.
+/// A peer over HTTP that gets its ends from a dialer (`docs/sync.md`). It takes these, and the memory of a
+/// [`WirePeer`], at its first call, and keeps them. A contract sees the dialer, the connection, where there is one so
+/// far, and how many calls have failed.
 #[derive(Drop)]
 pub struct OnDemandPeer<D: Dialer> {
     alloc: Global,
@@ -83,9 +83,9 @@ impl<D: Dialer> OnDemandPeer<D> {
     }
 }
 
-/// Each call is one of a [`WirePeer`] over the ends that it has. Where it has none so far it takes new ones; if there is
-/// no memory for them the call answers `NoMemory`, has asked nothing, and the next one tries again. Each `Failed`, which
-/// is a fault of an end, and nothing else, counts one. It doesn't tell what it holds, and never is full.
+/// Each call is one of a [`WirePeer`] over the ends that it has. Where it has none so far it takes new ones; if there
+/// is no memory for them the call answers `NoMemory`, has asked nothing, and the next one tries again. Each `Failed`,
+/// which is a fault of an end, and nothing else, counts one. It doesn't tell what it holds, and never is full.
 impl<D: Dialer> Peer for OnDemandPeer<D> {
     ghost content = { λ p. None };
 

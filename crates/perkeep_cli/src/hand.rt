@@ -11,7 +11,7 @@ use std::random::RandomSource;
 use std::time::{Duration, SystemTime, UNIX_EPOCH};
 
 // The last nanosecond of the year 9999, from 1970-01-01T00:00:00Z on.
-const GREATEST: i128 = 253_402_300_799_999_999_999;
+const MAX_TIME: i128 = 253_402_300_799_999_999_999;
 
 /// The system's clock. A time before 1970 or after 9999 is a failure, and so is one that can't be told.
 #[derive(Drop)]
@@ -54,7 +54,7 @@ fn moment_after(duration: Duration) -> Option<i128>
     ensures some { IfSome result (λ time. time ≡ pos (as_nanos duration)) }
 {
     let time = i128::try_from(duration.as_nanos()).ok()?;
-    if time <= GREATEST { Some(time) } else { None }
+    if time <= MAX_TIME { Some(time) } else { None }
 }
 
 /// The random bytes of the system's generator.

@@ -6,12 +6,12 @@ use edge_base::{ReadAllError, read_all};
 use edge_os::again::uninterrupted;
 use edge_os::{ReadSource, Screen};
 use folder_disk::open_regular;
-use perkeep_hints::BadKeyring;
+use perkeep_hints::{BadKeyring, no_note_text};
 use perkeep_top::Status;
 use std::fs::{self, File};
 use std::io::{self, ErrorKind};
 
-const LONGEST_KEYRING: usize = 1_048_576;
+const MAX_KEYRING: usize = 1_048_576;
 
 /// The keyring of a folder: of its file `keyring`, or empty where there is no such name, or no such folder.
 pub(crate) fn read_keyring(
@@ -35,7 +35,7 @@ pub(crate) fn read_keyring(
         Err(_) => return Err(Ending::of_keyring(BadKeyring::Unreadable)),
     };
     let mut source = ReadSource::new(file);
-    let text = read_all(rt.alloc(), &mut source, LONGEST_KEYRING).map_err(unread)?;
+    let text = read_all(rt.alloc(), &mut source, MAX_KEYRING).map_err(unread)?;
     Keyring::read(rt.alloc(), &text).map_err(unusable)
 }
 
@@ -61,6 +61,16 @@ pub(crate) fn tell_of_no_keyring(
 ) {
     if screen.is_shown() && !folder.is_empty() && !has_keyring(rt, folder) {
         screen.tell(format_args!("perkeep: {folder}/keyring isn't there, so no {sought} is found"));
+    }
+}
+
+/// Tells a person of a folder with a keyring in which no note was found what may be wrong with it.
+pub(crate) fn tell_of_no_note(rt: &HostRuntime, screen: &Screen<'_>, folder: &str) {
+    if !screen.is_shown() || !has_keyring(rt, folder) {
+        return;
+    }
+    if let Some(text) = no_note_text(rt.alloc(), folder) {
+        screen.tell(format_args!("perkeep: {text}"));
     }
 }
 

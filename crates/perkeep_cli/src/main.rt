@@ -19,7 +19,7 @@ use crate::console::Console;
 use crate::ending::Ending;
 use crate::hand::{SystemClock, SystemDice};
 use crate::hints::tell_of_peer;
-use crate::keys::{read_keyring, tell_of_no_keyring};
+use crate::keys::{read_keyring, tell_of_no_keyring, tell_of_no_note};
 use crate::mirroring::mirror;
 use crate::serving::serve;
 use crate::sharing::serve_folder_shares;
@@ -30,7 +30,7 @@ use blobref::{NoMemory, Text};
 use edge_dial::peer_at;
 use edge_os::{standard_input, standard_output};
 use folder_disk::{Access, FolderDisk};
-use perkeep_hints::seeks_notes;
+use perkeep_hints::{found_no_note, seeks_notes};
 use perkeep_top::{Status, run};
 use perkeep_words::{Line, mirror_words, places, serve_words, share_words};
 use std::alloc::Global;
@@ -83,9 +83,20 @@ fn ending_of<R: Threads + Wait + Sync>(
         Ok(None) => {}
         Err(NoMemory) => return Ending::of(Status::NoMemory),
     }
-    let Some(line) = Line::read(words) else {
-        return Ending::of(Status::BadWords);
-    };
+    match Line::read(words) {
+        Some(line) => command(rt, console, words, named, &line),
+        None => Ending::of(Status::BadWords),
+    }
+}
+
+// Runs a command that is no server.
+fn command(
+    rt: &HostRuntime,
+    console: &Console<'_>,
+    words: &[Text],
+    named: Named<'_>,
+    line: &Line<'_>,
+) -> Ending {
     let screen = console.screen();
     let keys = match read_keyring(rt, screen, named.folder) {
         Ok(keys) => keys,
@@ -95,7 +106,7 @@ fn ending_of<R: Threads + Wait + Sync>(
     if seeks_notes(words) {
         tell_of_no_keyring(rt, screen, named.folder, "note");
     }
-    let access = Access::of(&line);
+    let access = Access::of(line);
     let disk = FolderDisk::new(rt, screen, console.trouble(), named.folder, access);
     let peer = peer_at(rt, screen, named.address);
     let mut peer = ShownPeer::alone(screen, named.address, peer);
@@ -114,6 +125,9 @@ fn ending_of<R: Threads + Wait + Sync>(
         &mut clock,
         &mut dice,
     );
+    if matches!(status, Status::Done) && found_no_note(words, sink.writer().written()) {
+        tell_of_no_note(rt, screen, named.folder);
+    }
     Ending::of(status)
 }
 

@@ -12,9 +12,10 @@ const IDLE_PAUSE: u64 = 10;
 const FAULT_PAUSE: u64 = 100;
 
 // How many pauses an indexer makes at most while blobs go on to come: a quarter of a second.
-const MOST_PAUSES: u32 = 25;
+const MAX_PAUSES: u32 = 25;
 
-// How many steps an indexer makes before it looks whether blobs come meanwhile, and how many make it give way to uploads.
+// How many steps an indexer makes before it looks whether blobs come meanwhile, and how many make it give way to
+// uploads.
 const STEPS: u32 = 64;
 
 const MANY: u64 = 8;
@@ -56,7 +57,7 @@ impl<'a> Pauses<'a> {
     // Pauses once, and then on while blobs come.
     fn give_way(&mut self) {
         self.look();
-        'pauses: for _ in 0..MOST_PAUSES {
+        'pauses: for _ in 0..MAX_PAUSES {
             self.pause(IDLE_PAUSE);
             if self.look() == 0 {
                 return;

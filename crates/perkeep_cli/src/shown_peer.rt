@@ -5,8 +5,8 @@ use edge_os::Screen;
 use peer_base::{Peer, PeerFault};
 
 /// The server at an address. It is shown how far the copying from it or to it is; and of one of a round whose turn it
-/// is, as it is asked for its first page, which is once in each half of a round: first as it is copied from, and then as
-/// it is copied to.
+/// is, as it is asked for its first page, which is once in each half of a round: first as it is copied from, and then
+/// as it is copied to.
 #[derive(Drop)]
 pub(crate) struct ShownPeer<'a, P> {
     screen: &'a Screen<'a>,

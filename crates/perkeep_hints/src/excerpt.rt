@@ -41,8 +41,8 @@ fn has_loose_text(words: &[Text]) -> bool {
         && (positions.saturating_sub(values) > 2 || words.iter().any(dashed))
 }
 
-/// What is around the place where the search words of a line go wrong, by the status; None where they don't, and where no
-/// memory is left.
+/// What is around the place where the search words of a line go wrong, by the status; None where they don't, and where
+/// no memory is left.
 pub fn excerpt_of(alloc: Global, status: &Status, words: &[Text]) -> Option<Excerpt> {
     match status {
         Status::BadInput(InputFault::Words(WordsFault::Bad { at })) => {

@@ -1,5 +1,5 @@
-//! What a person at a terminal is told of how the program ended: texts, by the status, the words and what was seen of the
-//! folder (`docs/commands.md`, "On a terminal").
+//! What a person at a terminal is told of how the program ended: texts, by the status, the words and what was seen of
+//! the folder (`docs/commands.md`, "On a terminal").
 #![tactic(auto)]
 
 mod bad_keyring;
@@ -17,4 +17,4 @@ pub use bad_keyring::BadKeyring;
 pub use blame::{Seen, blamed, keyring_text};
 pub use excerpt::{Excerpt, excerpt_of};
 pub use fixed::fixed_hint;
-pub use seeking::seeks_notes;
+pub use seeking::{found_no_note, no_note_text, seeks_notes};

@@ -7,20 +7,20 @@ use perkeep_words::CommandName;
 use std::alloc::Global;
 
 /// The greatest port.
-pub(crate) const PORT_MAX: u64 = 65_535;
+pub(crate) const MAX_PORT: u64 = 65_535;
 
-const THREADS_MAX: u64 = 64;
+const MAX_THREADS: u64 = 64;
 
 // The options of `serve`, each of them a number from 1 on, with the greatest.
 const SERVE_NUMBERS: &[(&str, u64)] = &[
-    ("port", PORT_MAX),
-    ("workers", THREADS_MAX),
-    ("indexers", THREADS_MAX),
+    ("port", MAX_PORT),
+    ("workers", MAX_THREADS),
+    ("indexers", MAX_THREADS),
     ("connections", u64::MAX),
 ];
 
 // Those of `serve-shares`.
-const SHARE_NUMBERS: &[(&str, u64)] = &[("port", PORT_MAX), ("connections", u64::MAX)];
+const SHARE_NUMBERS: &[(&str, u64)] = &[("port", MAX_PORT), ("connections", u64::MAX)];
 
 /// Why words are no line. There are none of them where one isn't UTF-8.
 pub(crate) fn words_text(alloc: Global, words: &[Text]) -> Option<String> {

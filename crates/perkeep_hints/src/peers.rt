@@ -1,5 +1,5 @@
 //! Why a server couldn't be used.
-use crate::misfits::PORT_MAX;
+use crate::misfits::MAX_PORT;
 use crate::options::is_number;
 use blobref::Text;
 use perkeep_words::places;
@@ -60,7 +60,7 @@ pub(crate) fn address_in(words: &[Text]) -> Option<&str> {
 
 fn is_address(text: &str) -> bool {
     match text.rsplit_once(':') {
-        Some((host, port)) => is_host(host) && is_number(port, PORT_MAX),
+        Some((host, port)) => is_host(host) && is_number(port, MAX_PORT),
         None => false,
     }
 }

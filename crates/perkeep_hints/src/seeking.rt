@@ -1,5 +1,9 @@
-//! Which commands find nothing without a keyring.
+//! Which commands search for notes, and what is said where they find none.
 use blobref::Text;
+use std::alloc::Global;
+
+// How long the answer without a blob is, with its line feed (`docs/formats/answers.md`).
+const EMPTY_ANSWER: u64 = 13;
 
 /// Whether the words are those of a command that searches a store for notes.
 pub fn seeks_notes(words: &[Text]) -> bool {
@@ -7,4 +11,18 @@ pub fn seeks_notes(words: &[Text]) -> bool {
         Some(command) => matches!(command.as_str(), "search" | "words" | "query"),
         None => false,
     }
+}
+
+/// Whether a command that has succeeded, and has written so many bytes, searched for notes and found none.
+pub fn found_no_note(words: &[Text], written: u64) -> bool {
+    seeks_notes(words) && written == EMPTY_ANSWER
+}
+
+/// What may be wrong with a folder in which no note is found, where one should be.
+pub fn no_note_text(alloc: Global, folder: &str) -> Option<String> {
+    format!(in alloc;
+        "nothing is found; if a note should be, its key must be in {folder}/keyring and its pack in {folder}: \
+        perkeep salvage {folder} says what is damaged"
+    )
+    .ok()
 }

@@ -7,13 +7,14 @@ ghost use Rattle.perkeep_words.specs.Kinds.{number_within};
 ghost use Rattle.perkeep_words.specs.Parts.{start, parts_from};
 ghost use Rattle.perkeep_words.specs.Forms.{position_at, text_of};
 ghost use Rattle.perkeep_words.specs.Table.{writes_of};
-ghost use Rattle.perkeep_words.specs.Reading.{line_of, search_words_in, command_at, command_in, change_at, ref_of, number_of, when_of, NeedsAt, NeedsOption, ReadingsAgree};
+ghost use Rattle.perkeep_words.specs.Reading.{line_of, search_words_in, command_at, command_in, change_at, ref_of};
+ghost use Rattle.perkeep_words.specs.Reading.{number_of, when_of, NeedsAt, NeedsOption, ReadingsAgree};
 ghost use Rattle.perkeep_words.specs.declared.kinds.TextKind.TheVariants.{Blobref, Name, Key, Number};
 
 use crate::change::Change;
 use crate::forms::{nth, position};
 use crate::kinds::{TextFault, number_within};
-use crate::table::{COUNT_MAX, CommandName, LIMIT_MAX, START_MAX};
+use crate::table::{CommandName, MAX_COUNT, MAX_LIMIT, MAX_START};
 use crate::words::{BlobCount, NonEmptyWord, Word};
 use blobref::{Ref, Text};
 use claim_verify::KeyName;
@@ -213,45 +214,44 @@ impl<'a> Line<'a> {
 fn command_at<'a>(line: &RightLine<'a>) -> Command<'a>
     ensures { result ≡ command_at line.now.0 line.now.1 }
 {
-    let dir = line.word(0);
     match line.name() {
-        CommandName::Put => Command::Put { dir },
+        CommandName::Put => Command::Put { dir: line.dir() },
         CommandName::Get => Command::Get {
-            dir,
+            dir: line.dir(),
             r: line.blobref(1),
         },
         CommandName::Stat => Command::Stat {
-            dir,
+            dir: line.dir(),
             r: line.blobref(1),
         },
         CommandName::List => Command::List {
-            dir,
+            dir: line.dir(),
             after: line.ref_option("after"),
-            limit: line.number_option("limit", 1, LIMIT_MAX, DEFAULT_LIMIT),
+            limit: line.number_option("limit", 1, MAX_LIMIT, DEFAULT_LIMIT),
         },
         CommandName::Search => Command::Search {
-            dir,
+            dir: line.dir(),
             attr: line.filled_option("attr"),
             value: line.word_option("value"),
             at: line.when("at"),
         },
         CommandName::Words => Command::Words {
-            dir,
+            dir: line.dir(),
             text: line.word(1),
             at: line.when("at"),
         },
-        CommandName::Query => Command::Query { dir },
-        CommandName::Salvage => Command::Salvage { dir },
+        CommandName::Query => Command::Query { dir: line.dir() },
+        CommandName::Salvage => Command::Salvage { dir: line.dir() },
         CommandName::SearchPack => Command::SearchPack {
             attr: line.filled(0),
             value: line.word(1),
         },
         CommandName::Permanode => Command::Permanode {
-            dir,
+            dir: line.dir(),
             key: line.key_option("key"),
         },
         CommandName::Claim => Command::Claim {
-            dir,
+            dir: line.dir(),
             kind: line.change(1),
             r: line.blobref(2),
             attr: line.filled(3),
@@ -259,33 +259,33 @@ fn command_at<'a>(line: &RightLine<'a>) -> Command<'a>
             key: line.key_option("key"),
         },
         CommandName::Multi => Command::Multi {
-            dir,
+            dir: line.dir(),
             key: line.key_option("key"),
         },
         CommandName::Delete => Command::Delete {
-            dir,
+            dir: line.dir(),
             r: line.blobref(1),
             key: line.key_option("key"),
         },
         CommandName::PutFile => Command::PutFile {
-            dir,
+            dir: line.dir(),
             name: line.word(1),
         },
         CommandName::GetFile => Command::GetFile {
-            dir,
+            dir: line.dir(),
             r: line.blobref(1),
         },
         CommandName::Push => Command::Push {
-            dir,
+            dir: line.dir(),
             addr: line.word(1),
         },
         CommandName::Pull => Command::Pull {
-            dir,
+            dir: line.dir(),
             addr: line.word(1),
         },
         CommandName::Load => Command::Load {
-            count: BlobCount::of(line.number(0, 1, COUNT_MAX)),
-            start: line.number(1, 0, START_MAX),
+            count: BlobCount::of(line.number(0, 1, MAX_COUNT)),
+            start: line.number(1, 0, MAX_START),
         },
     }
 }
@@ -295,6 +295,13 @@ impl<'a> RightLine<'a> {
         ensures { result ≡ self.now.0 }
     {
         self.name
+    }
+
+    // DIR, of a line that has it.
+    fn dir(&self) -> Word<'a>
+        ensures { result ≡ position_at 0 self.now.1 }
+    {
+        self.word(0)
     }
 
     // The position at a place, and the empty text where it is left out.

@@ -10,9 +10,9 @@ use crate::reading::number_option;
 use blobref::Text;
 
 /// The greatest port.
-pub(crate) const PORT_MAX: u64 = 65_535;
+pub(crate) const MAX_PORT: u64 = 65_535;
 
-const THREADS_MAX: u64 = 64;
+const MAX_THREADS: u64 = 64;
 
 const DEFAULT_WORKERS: u64 = 8;
 
@@ -21,17 +21,17 @@ const DEFAULT_INDEXERS: u64 = 2;
 const OPTIONS: &[OptionForm] = &[
     OptionForm {
         name: "port",
-        kind: TextKind::Number(1, PORT_MAX),
+        kind: TextKind::Number(1, MAX_PORT),
         needed: true,
     },
     OptionForm {
         name: "workers",
-        kind: TextKind::Number(1, THREADS_MAX),
+        kind: TextKind::Number(1, MAX_THREADS),
         needed: false,
     },
     OptionForm {
         name: "indexers",
-        kind: TextKind::Number(1, THREADS_MAX),
+        kind: TextKind::Number(1, MAX_THREADS),
         needed: false,
     },
     OptionForm {
@@ -93,11 +93,11 @@ fn plan_in(behind: &[Text]) -> Option<ServePlan>
     ensures plan { result ≡ plan_in (parts_from start behind.now) }
     ensures range { IfSome result IsInRange }
 {
-    let port = number_within(1, PORT_MAX, nth(behind, Some("port"), 0)?)?;
+    let port = number_within(1, MAX_PORT, nth(behind, Some("port"), 0)?)?;
     Some(ServePlan {
         port: port as u16,
-        workers: number_option(behind, "workers", 1, THREADS_MAX, DEFAULT_WORKERS) as usize,
-        indexers: number_option(behind, "indexers", 1, THREADS_MAX, DEFAULT_INDEXERS) as usize,
+        workers: number_option(behind, "workers", 1, MAX_THREADS, DEFAULT_WORKERS) as usize,
+        indexers: number_option(behind, "indexers", 1, MAX_THREADS, DEFAULT_INDEXERS) as usize,
         connections: number_option(behind, "connections", 1, u64::MAX, u64::MAX),
     })
 }

@@ -7,13 +7,13 @@ ghost use Rattle.perkeep_words.specs.Sharing.{share_form, share_plan_in, is_shar
 use crate::forms::{Form, OptionForm, nth};
 use crate::kinds::{TextKind, number_within};
 use crate::reading::number_option;
-use crate::serving::PORT_MAX;
+use crate::serving::MAX_PORT;
 use blobref::Text;
 
 const OPTIONS: &[OptionForm] = &[
     OptionForm {
         name: "port",
-        kind: TextKind::Number(1, PORT_MAX),
+        kind: TextKind::Number(1, MAX_PORT),
         needed: true,
     },
     OptionForm {
@@ -71,7 +71,7 @@ fn share_plan_in(behind: &[Text]) -> Option<SharePlan>
     ensures plan { result ≡ share_plan_in (parts_from start behind.now) }
     ensures range { IfSome result IsSharePlan }
 {
-    let port = number_within(1, PORT_MAX, nth(behind, Some("port"), 0)?)?;
+    let port = number_within(1, MAX_PORT, nth(behind, Some("port"), 0)?)?;
     Some(SharePlan {
         port: port as u16,
         connections: number_option(behind, "connections", 1, u64::MAX, u64::MAX),

@@ -52,13 +52,13 @@ const COMMANDS: [CommandName; 18] = [
 ];
 
 /// The greatest number of refs that a line of `list` asks for.
-pub const LIMIT_MAX: u64 = 4_194_304;
+pub const MAX_LIMIT: u64 = 4_194_304;
 
 /// The greatest number of blobs that a line of `load` asks for.
-pub const COUNT_MAX: u64 = 100_000;
+pub const MAX_COUNT: u64 = 100_000;
 
 /// The greatest start that a line of `load` names.
-pub const START_MAX: u64 = u64::MAX;
+pub const MAX_START: u64 = u64::MAX;
 
 const LIST_OPTIONS: &[OptionForm] = &[
     OptionForm {
@@ -68,7 +68,7 @@ const LIST_OPTIONS: &[OptionForm] = &[
     },
     OptionForm {
         name: "limit",
-        kind: TextKind::Number(1, LIMIT_MAX),
+        kind: TextKind::Number(1, MAX_LIMIT),
         needed: false,
     },
 ];
@@ -152,8 +152,8 @@ impl CommandName {
             CommandName::Load => plain(
                 "load",
                 &[
-                    TextKind::Number(1, COUNT_MAX),
-                    TextKind::Number(0, START_MAX),
+                    TextKind::Number(1, MAX_COUNT),
+                    TextKind::Number(0, MAX_START),
                 ],
             ),
         }

@@ -19,7 +19,7 @@ use search_query::{Constraint, Query, Sort};
 use serde_json::Value;
 use std::alloc::Global;
 
-const DEEPEST: u32 = 32;
+const MAX_DEPTH: u32 = 32;
 
 // The query whose constraint is there.
 fn query_of(
@@ -75,6 +75,6 @@ pub fn read(alloc: Global, text: &[u8]) -> Result<Query, QueryFault>
 {
     match json_in(alloc, text)? {
         None => Err(QueryFault::NotJson),
-        Some(value) => within(alloc, &value, "", DEEPEST),
+        Some(value) => within(alloc, &value, "", MAX_DEPTH),
     }
 }

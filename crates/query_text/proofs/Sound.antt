@@ -1,5 +1,6 @@
 -- What is written reads as JSON, as the value that it was written for.
-use Rattle.std.proofs.Common.{◌≡◌, ◌+◌, ◌*◌, ◌≤◌, ◌++◌, ℕ, zero, suc, ℤ, max, Bool, List, [], ◌∷◌, codes, decimal, Option, Some, None, IfSome, option_map, refl, sym, subst, arith}
+use Rattle.std.proofs.Common.{◌≡◌, ◌+◌, ◌*◌, ◌≤◌, ◌++◌, ℕ, zero, suc, ℤ, max, Bool, List, [], ◌∷◌, codes, decimal}
+use Rattle.std.proofs.Common.{Option, Some, None, IfSome, option_map, refl, sym, subst, arith}
 use Rattle.std.specs.Str.{IsUtf8}
 use Rattle.std.proofs.lemmas.Fmt.{IsAscii-decimal}
 use Rattle.std.proofs.lemmas.Str.{IsUtf8-from_ascii}
@@ -19,11 +20,17 @@ use Rattle.search_query.specs.declared.query.Kin.{Kin}
 use Rattle.search_query.specs.declared.query.Kin.TheVariants.{Parent, Child}
 use Rattle.search_query.specs.declared.query.Sort.{Sort}
 use Rattle.search_query.specs.declared.query.Sort.TheVariants.{Ref, Mod, ModDown}
-use Rattle.search_query.specs.Mirror.{Asked, not_asked, asked, Joined, no_logical, logical, Tested, no_permanode, permanode, Related, no_relation, relation}
+use Rattle.search_query.specs.Mirror.{Asked, not_asked, asked, Joined, no_logical, logical, Tested, no_permanode}
+use Rattle.search_query.specs.Mirror.{permanode, Related, no_relation, relation}
 use Rattle.search_query.specs.View.{Question}
 use Rattle.search_query.specs.Valid.{nests, joined_nests, tested_nests, related_nests}
-use Rattle.query_text.specs.Text.{Field, Spelling, SpellsDates, pairs_of, present, object_item, text_item, number_item, truth_item, date_item, op_name, kin_name, sort_name, int_test_fields, int_test_item, text_test_fields, text_test_item, file_test_fields, file_test_item, constraint_fields, logical_fields, permanode_fields, relation_fields, asked_item, joined_item, tested_item, related_item, question_fields, date_of}
-use Rattle.query_text.specs.Laws.{IsWhole, HasText, HoldsInt, HoldsText, HoldsFile, Holds, HoldsJoined, HoldsTested, HoldsRelated, HoldsQuestion}
+use Rattle.query_text.specs.Text.{Field, Spelling, SpellsDates, pairs_of, present, object_item, text_item, number_item}
+use Rattle.query_text.specs.Text.{truth_item, date_item, op_name, kin_name, sort_name, int_test_fields, int_test_item}
+use Rattle.query_text.specs.Text.{text_test_fields, text_test_item, file_test_fields, file_test_item, constraint_fields}
+use Rattle.query_text.specs.Text.{logical_fields, permanode_fields, relation_fields, asked_item, joined_item}
+use Rattle.query_text.specs.Text.{tested_item, related_item, question_fields, date_of}
+use Rattle.query_text.specs.Laws.{IsWhole, HasText, HoldsInt, HoldsText, HoldsFile, Holds, HoldsJoined, HoldsTested}
+use Rattle.query_text.specs.Laws.{HoldsRelated, HoldsQuestion}
 
 -- a text that reads as its value where arrays and objects may nest this deep
 abbrev pub IsSound : ℕ → Item → Type 0
@@ -33,7 +40,8 @@ abbrev pub AreSound : ℕ → List Field → Type 0
 AreSound n [] = Unit {0}
 AreSound n (f ∷ fs) = IsUtf8 f.0 × IfSome f.1 (IsSound n) × AreSound n fs
 
-values_step : (n : ℕ) (key : List ℕ) (o : Option Item) (ps : List Pair) → IfSome o (IsSound n) → ValuesReadWithin n ps → ValuesReadWithin n (pairs_of key o ++ ps)
+values_step : (n : ℕ) (key : List ℕ) (o : Option Item) (ps : List Pair) → IfSome o (IsSound n) → ValuesReadWithin n ps
+    → ValuesReadWithin n (pairs_of key o ++ ps)
 values_step n key None ps h e = e
 values_step n key (Some item) ps h e = (h.0, e)
 
@@ -41,7 +49,8 @@ pub values_read : (n : ℕ) (fs : List Field) → AreSound n fs → ValuesReadWi
 values_read n [] h = tt
 values_read n (f ∷ fs) h = values_step n f.0 f.1 (present fs) h.1 (values_read n fs h.2)
 
-utf8_step : (n : ℕ) (key : List ℕ) (o : Option Item) (ps : List Pair) → IsUtf8 key → IfSome o (IsSound n) → PairsAreUtf8 ps → PairsAreUtf8 (pairs_of key o ++ ps)
+utf8_step : (n : ℕ) (key : List ℕ) (o : Option Item) (ps : List Pair) → IsUtf8 key → IfSome o (IsSound n)
+    → PairsAreUtf8 ps → PairsAreUtf8 (pairs_of key o ++ ps)
 utf8_step n key None ps k h e = e
 utf8_step n key (Some item) ps k h e = (k, h.1, e)
 
@@ -64,7 +73,8 @@ sound_truth : (n : ℕ) (b : Bool) → IsSound n (truth_item b)
 sound_truth n b = (read_truth n b, truth_utf8 b)
 
 sound_date : (n : ℕ) (spell : Spelling) → SpellsDates spell → (z : ℤ) → HasText z → IsSound n (date_item spell z)
-sound_date n spell spells z h = subst (λ t. IsSound n (text_item t)) (sym (spells z h.0 h.1)) (sound_text n h.0 (date_utf8 z h.0 h.1))
+sound_date n spell spells z h = subst (λ t. IsSound n (text_item t)) (sym (spells z h.0 h.1))
+    (sound_text n h.0 (date_utf8 z h.0 h.1))
 
 sound_op : (n : ℕ) (op : Op) → IsSound n (text_item (op_name op))
 sound_op n And = sound_text n (codes "and") (IsUtf8-are_ascii (codes "and") refl)
@@ -81,12 +91,14 @@ sound_sort n Ref = sound_text n (codes "blobref") (IsUtf8-are_ascii (codes "blob
 sound_sort n Mod = sound_text n (codes "mod") (IsUtf8-are_ascii (codes "mod") refl)
 sound_sort n ModDown = sound_text n (codes "-mod") (IsUtf8-are_ascii (codes "-mod") refl)
 
-where_present : {A : Type 0} (n : ℕ) (P : A → Type 0) (item : A → Item) → ((a : A) → P a → IsSound n (item a)) → (x : Option A) → IfSome x P
+where_present : {A : Type 0} (n : ℕ) (P : A → Type 0) (item : A → Item) → ((a : A) → P a → IsSound n (item a))
+    → (x : Option A) → IfSome x P
     → IfSome (option_map item x) (IsSound n)
 where_present n P item good None h = tt
 where_present n P item good (Some a) h = good a h
 
-each : {A : Type 0} (n : ℕ) (item : A → Item) → ((a : A) → IsSound n (item a)) → (x : Option A) → IfSome (option_map item x) (IsSound n)
+each : {A : Type 0} (n : ℕ) (item : A → Item) → ((a : A) → IsSound n (item a)) → (x : Option A)
+    → IfSome (option_map item x) (IsSound n)
 each n item good None = tt
 each n item good (Some a) = good a
 
@@ -131,7 +143,8 @@ sound_text_test n t h = sound_object (suc n) (text_test_fields t) (
   ),
 )
 
-text_tests : (n : ℕ) (x : Option TextTest) → IfSome x HoldsText → IfSome (option_map text_test_item x) (IsSound (suc (suc n)))
+text_tests : (n : ℕ) (x : Option TextTest) → IfSome x HoldsText → IfSome (option_map text_test_item x)
+    (IsSound (suc (suc n)))
 text_tests n = where_present (suc (suc n)) HoldsText text_test_item (sound_text_test n)
 
 sound_file_test : (n : ℕ) (t : FileTest) → HoldsFile t → IsSound (suc (suc (suc n))) (file_test_item t)
@@ -141,7 +154,8 @@ sound_file_test n t h = sound_object (suc (suc n)) (file_test_fields t) (
   (IsUtf8-are_ascii (codes "fileSize") refl, int_tests (suc n) t.file_size h.1, tt),
 )
 
-file_tests : (n : ℕ) (x : Option FileTest) → IfSome x HoldsFile → IfSome (option_map file_test_item x) (IsSound (suc (suc (suc n))))
+file_tests : (n : ℕ) (x : Option FileTest) → IfSome x HoldsFile → IfSome (option_map file_test_item x)
+    (IsSound (suc (suc (suc n))))
 file_tests n = where_present (suc (suc (suc n))) HoldsFile file_test_item (sound_file_test n)
 
 -- ---- constraints
@@ -183,7 +197,12 @@ mutual
                 (
                   IsUtf8-are_ascii (codes "file") refl,
                   file_tests (3 * n + k) leaves.file h.1.3,
-                  (IsUtf8-are_ascii (codes "permanode") refl, sound_tested n k spell spells t h.2 (right_within _ _ n within), tt),
+                  (
+                    IsUtf8-are_ascii (codes "permanode") refl,
+                    sound_tested n k spell spells t h.2
+                        (right_within _ _ n within),
+                    tt,
+                  ),
                 ),
               ),
             ),
@@ -201,8 +220,14 @@ mutual
         each m (λ o. text_item (op_name o)) (sound_op m) op,
         (
           IsUtf8-are_ascii (codes "a") refl,
-          at_level _ m (asked_item spell a) (omega arith) (sound_asked n (suc k) spell spells a h.0 (left_within _ _ n deep)),
-          (IsUtf8-are_ascii (codes "b") refl, at_level _ m (asked_item spell b) (omega arith) (sound_asked n (suc k) spell spells b h.1 (right_within _ _ n deep)), tt),
+          at_level _ m (asked_item spell a) (omega arith) (sound_asked n (suc k) spell spells a h.0
+              (left_within _ _ n deep)),
+          (
+            IsUtf8-are_ascii (codes "b") refl,
+            at_level _ m (asked_item spell b) (omega arith)
+                (sound_asked n (suc k) spell spells b h.1 (right_within _ _ n deep)),
+            tt,
+          ),
         ),
       )
 
@@ -225,11 +250,17 @@ mutual
               text_tests (3 * n + k) leaves.value_matches h.0.3,
               (
                 IsUtf8-are_ascii (codes "valueInSet") refl,
-                at_level _ m (asked_item spell in_set) (omega arith) (sound_asked n (suc k) spell spells in_set h.1 (left_within _ _ n deep)),
+                at_level _ m (asked_item spell in_set) (omega arith) (sound_asked n (suc k) spell spells in_set h.1
+                    (left_within _ _ n deep)),
                 (
                   IsUtf8-are_ascii (codes "numValue") refl,
                   int_tests (suc (3 * n + k)) leaves.num_value h.0.4,
-                  (IsUtf8-are_ascii (codes "relation") refl, sound_related n k spell spells related h.2 (right_within _ _ n deep), tt),
+                  (
+                    IsUtf8-are_ascii (codes "relation") refl,
+                    sound_related n k spell spells related h.2
+                        (right_within _ _ n deep),
+                    tt,
+                  ),
                 ),
               ),
             ),
@@ -237,7 +268,8 @@ mutual
         ),
       )
 
-  sound_related : (n k : ℕ) (spell : Spelling) → SpellsDates spell → (r : Related) → HoldsRelated r → related_nests r ≤ n
+  sound_related : (n k : ℕ) (spell : Spelling) → SpellsDates spell → (r : Related) → HoldsRelated r
+      → related_nests r ≤ n
       → IfSome (related_item spell r) (IsSound (suc (suc (3 * n + k))))
   sound_related n k spell spells no_relation h deep = tt
   sound_related n k spell spells (relation kin any all) h deep =
@@ -256,7 +288,8 @@ less_than_whole : (n : ℕ) → n ≤ 1000000 → IsWhole n
 less_than_whole n h = omega arith
 
 -- the text of a query
-pub sound_question : (n k : ℕ) (spell : Spelling) → SpellsDates spell → (q : Question) → HoldsQuestion q → q.limit ≤ 1000000 → nests q.constraint ≤ n
+pub sound_question : (n k : ℕ) (spell : Spelling) → SpellsDates spell → (q : Question) → HoldsQuestion q
+    → q.limit ≤ 1000000 → nests q.constraint ≤ n
     → AreSound (suc (3 * n + k)) (question_fields spell q)
 sound_question n k spell spells q h most deep =
     let m = suc (3 * n + k) in (
@@ -268,7 +301,12 @@ sound_question n k spell spells q h most deep =
         (
           IsUtf8-are_ascii (codes "sort") refl,
           sound_sort m q.sort,
-          (IsUtf8-are_ascii (codes "at") refl, where_present m HasText (date_item spell) (sound_date m spell spells) (date_of q.at) h.1, tt),
+          (
+            IsUtf8-are_ascii (codes "at") refl,
+            where_present m HasText (date_item spell) (sound_date m spell spells)
+                (date_of q.at) h.1,
+            tt,
+          ),
         ),
       ),
     )

@@ -10,9 +10,10 @@ use edge_base::BlobMap;
 use std::alloc::Global;
 
 /// The most bytes that a blob may have.
-const LONGEST_BLOB: usize = 16_777_216;
+const MAX_BLOB: usize = 16_777_216;
 
-/// Keeps copies of these blobs in their order, each where its ref isn't there. Where there is no memory nothing changes.
+/// Keeps copies of these blobs in their order, each where its ref isn't there. Where there is no memory nothing
+/// changes.
 pub(crate) fn give(
     alloc: Global,
     held: &mut BlobMap,
@@ -86,7 +87,7 @@ fn drop_all(held: &mut BlobMap, refs: &[Ref])
 pub(crate) fn is_valid(r: &Ref, bytes: &[u8]) -> bool
     ensures { result ≡ is_valid (r.now, bytes.now) }
 {
-    r.like(bytes) == *r && bytes.len() <= LONGEST_BLOB
+    r.like(bytes) == *r && bytes.len() <= MAX_BLOB
 }
 
 /// Copies of those that a store takes under their refs.

@@ -1,34 +1,42 @@
--- The walk over the changes of a permanode, and what it leaves.
-use Rattle.std.proofs.Common.{◌≡◌, ◌+◌, ℕ, Bool, true, false, not, ◌&&◌, cond, List, [], ◌∷◌, map, filter, fold, Option}
-use Rattle.std.proofs.Common.{Some, None, refl, sym, ap, ◌∙◌, ℤ, option_map, option_and_then, int_lt}
-use Rattle.std.proofs.Common.{Ordering, IfSome}
-use Rattle.std.proofs.lemmas.Bool.{cond-true, cond-false, false≢true, and_parts, not-false}
-use Rattle.std.proofs.lemmas.Cmp.{int_cmp_total, alike_right}
+-- The walks over the changes of a permanode, and what they leave.
+use Rattle.std.proofs.Common.{◌≡◌, ◌<◌, ◌+◌, ℕ, zero, suc, get_or, Bool, true, false, not, ◌&&◌, cond, List, [], ◌∷◌}
+use Rattle.std.proofs.Common.{◌++◌, map, filter, fold}
+use Rattle.std.proofs.Common.{Option, Some, None, IfSome, IfNone, is_some, length, refl, sym, ap, subst, ◌∙◌, ℤ}
+use Rattle.std.proofs.Common.{option_and_then, arith}
+use Rattle.std.proofs.Math.Bool.{and-false}
+use Rattle.std.proofs.lemmas.List.{append-nil}
+use Rattle.std.proofs.lemmas.Bool.{and_parts, cond-true, cond-false}
+use Rattle.std.proofs.lemmas.List.Elements.{filter-append}
 use Rattle.std.proofs.lemmas.List.Sums.{sum_by-cons}
-use Rattle.std.specs.Ordering.{is_lt, is_gt, int_cmp, nat_cmp, ordering_then}
-use Rattle.std.specs.declared.cmp.Ordering.TheVariants.{Less, Equal, Greater}
-use Rattle.std.specs.List.{filter_map, cons_option, last_or, sum_by, AllByRecursion}
+use Rattle.std.specs.List.{filter_map, cons_option, last_or, list_any, sum_by, AllByRecursion}
+use Rattle.std.proofs.lemmas.Slice.Eq.{bytes_eq-Decides}
+use Rattle.std.specs.Ordering.{is_lt}
 use Rattle.std.specs.Str.{bytes_eq}
-use Rattle.std.specs.FinMap.{get, entries}
-use Rattle.blobref.specs.Blobref.{ref_cmp, is_after}
+use Rattle.std.specs.FinMap.{get, entries, contains_key}
+use Rattle.blobref.specs.Blobref.{is_after}
 use Rattle.schema_date.specs.declared.date.When.{When}
-use Rattle.schema_date.specs.declared.date.When.TheVariants.{Always, At}
 use Rattle.schema_fact.specs.declared.kinds.Fact.{Fact}
 use Rattle.schema_fact.specs.declared.changes.Change.{Change}
-use Rattle.claim_model.specs.Facts.{Facts, Entry}
+use Rattle.claim_model.specs.Facts.{Facts, Entry, passes}
 use Rattle.claim_model.specs.Changes.{change_values}
 use Rattle.claim_model.specs.Claims.{Moment, moment_cmp}
-use Rattle.claim_model.specs.Deleted.{counts_at}
+use Rattle.claim_model.specs.Deleted.{can_be_deleted, counts_at}
 use Rattle.index_look.specs.Claims.{values_with}
 use Rattle.index_look.specs.Walk.{entries_after}
 use Rattle.index_look.proofs.Entries.{entries_had}
-use Rattle.index_rows.specs.Changes.{Changes, ChangeKey, changes_after}
-use Rattle.index_rows.specs.Deletes.{Deletes, row_deleted}
+use Rattle.index_look.proofs.Keys.{entries_held}
+use Rattle.index_rows.specs.Changes.{Changes, ChangeKey, changes_after, changes_before, is_until, moments_to}
+use Rattle.index_rows.specs.Changes.{moments_until}
+use Rattle.index_rows.specs.Deletes.{Deletes, Ringless, is_live, row_deleted}
+use Rattle.index_rows.specs.Pairs.{group_after}
 use Rattle.index_rows.specs.States.{States}
-use Rattle.index_rows.specs.Values.{change_at, moment_counts, IsChange}
+use Rattle.index_rows.specs.Values.{change_at, moment_counts, row_last_change, IsChange}
+use Rattle.index_rows.proofs.Deleting.{row_deleted_is}
 use Rattle.index_rows.proofs.DeletionEnds.{all_filter}
-use Rattle.index_rows.proofs.Groups.{filter_passing}
-use Rattle.row_answers.specs.Moments.{moments_after, moment_values, last_with, claim_date}
+use Rattle.index_rows.proofs.Groups.{filter-filter}
+use Rattle.index_rows.proofs.Orders.{change_total, change_same}
+use Rattle.index_rows.proofs.WalksBack.{all_last, all_passing}
+use Rattle.row_answers.specs.Moments.{moment_values, claim_date}
 
 -- ---- over facts
 
@@ -42,87 +50,152 @@ walk_had facts o r fact rest h =
     ≡ true)) ((r, fact) ∷ rest) = rw h at all in
     here.0.0
 
--- ---- over the changes of a permanode
+-- ---- over lists
+
+-- what holds of all holds of the one at a place
+pub one_of : {A : Type 0} (P : A → Type 0) (xs : List A) (i : ℕ) (d : A) → i < length xs → AllByRecursion P xs
+    → P (get_or xs i d)
+one_of P [] i d less h = absurd (omega (arith, less))
+one_of P (x ∷ xs) zero d less h = h.0
+one_of P (x ∷ xs) (suc i) d less h = one_of P xs i d (omega (arith, less)) h.1
+
+-- ---- a claim without delete claims
+
+pub none_deletes : (facts : Facts) (deletes : Deletes) → Ringless facts deletes → (when : When) (x : List ℕ)
+    → group_after deletes x None ≡ [] → row_deleted facts deletes when x ≡ false
+none_deletes facts deletes ringless when x h =
+    row_deleted_is facts deletes ringless when x
+    ∙ ap (λ es. passes (λ fact. can_be_deleted fact.kind) (get facts x)
+    && list_any (is_live when (row_deleted facts deletes when)) es) h
+    ∙ and-false (passes (λ fact. can_be_deleted fact.kind) (get facts x))
+
+-- ---- the moments up to a time
 
 abbrev Row : Type 0
 Row = ChangeKey × Unit {0}
 
--- ---- the moments that are dated at or before a time
-
-lt_Less : (a b : ℤ) → int_lt a b ≡ true → int_cmp a b ≡ Less
-lt_Less a b h = cond-true (int_lt a b) Less (cond (int_lt b a) Greater Equal) h
-
-Less_lt : (a b : ℤ) → int_cmp a b ≡ Less → int_lt a b ≡ true
-Less_lt a b h = by (int_lt a b) (int_lt b a) h
-  where
-    by : (x y : Bool) → cond x Less (cond y Greater Equal) ≡ Less → x ≡ true
-    by true y e = refl
-    by false true e = absurd (let f : Greater ≡ Less = e in cc f)
-    by false false e = absurd (let f : Equal ≡ Less = e in cc f)
-
--- what is dated after a time has no earlier date behind it
-dated_on : (when : When) (a b : ℤ) → counts_at when a ≡ false → (r : Ordering) → int_cmp a b ≡ r → is_gt r ≡ false
-    → counts_at when b ≡ false
-dated_on Always a b h r is le = absurd (false≢true (sym h))
-dated_on (At now) a b h r is le = ap not (Less_lt now b (by r is le))
-  where
-    first : int_cmp now a ≡ Less
-    first = lt_Less now a (not-false (int_lt now a) h)
-
-    by : (r : Ordering) → int_cmp a b ≡ r → is_gt r ≡ false → int_cmp now b ≡ Less
-    by Less e le = int_cmp_total.trans now a b first e
-    by Equal e le = sym (alike_right int_cmp_total a b now e) ∙ first
-    by Greater e le = absurd (false≢true (sym le))
-
--- of two moments in order the later one isn't dated before
-in_order : (k j : Moment) → is_lt (moment_cmp k j) ≡ true → is_gt (int_cmp k.0 j.0) ≡ false
-in_order k j h = by (int_cmp k.0 j.0) h
-  where
-    by : (r : Ordering) → is_lt (ordering_then r (ordering_then (ref_cmp k.1 j.1) (nat_cmp k.2 j.2))) ≡ true
-        → is_gt r ≡ false
-    by Less h = refl
-    by Equal h = refl
-    by Greater h = absurd (false≢true h)
-
 module _ (changes : Changes) (when : When) (p : List ℕ) where
-  abbrev counted : Moment → Bool
-  counted k = counts_at when k.0
+  -- they are those of all moments that are dated so
+  pub until_is : moments_until changes when p
+      ≡ filter (λ k. counts_at when k.0) (map (λ e. e.0.1) (changes_after changes p None))
+  until_is = each (entries changes)
+    where
+      each : (es : List Row) → map (λ (e : Row). e.0.1) (filter (λ (e : Row). is_until when p e.0) es)
+          ≡ filter (λ (k : Moment). counts_at when k.0)
+          (map (λ (e : Row). e.0.1) (filter (λ (e : Row). bytes_eq p e.0.0 && true) es))
+      each [] = refl
+      each (e ∷ es) = by (bytes_eq p e.0.0) (each es)
+        where
+          these : List Row
+          these = filter (λ (d : Row). is_until when p d.0) es
 
-  abbrev moments : List Row → List Moment
-  moments es = filter counted (map (λ (e : Row). e.0.1) es)
+          all : List Row
+          all = filter (λ (d : Row). bytes_eq p d.0.0 && true) es
 
-  none_counted : (P : Row → Type 0) → ((e : Row) → P e → counted e.0.1 ≡ false) → (es : List Row) → AllByRecursion P es
-      → moments es ≡ []
-  none_counted P f [] h = refl
-  none_counted P f (e ∷ es) h = cond-false (counted e.0.1) (e.0.1 ∷ moments es) (moments es) (f e h.0)
-      ∙ none_counted P f es h.1
+          one : (c : Bool) → map (λ (d : Row). d.0.1) these
+              ≡ filter (λ (k : Moment). counts_at when k.0) (map (λ (d : Row). d.0.1) all)
+              → map (λ (d : Row). d.0.1) (cond c (e ∷ these) these)
+              ≡ cond c (e.0.1 ∷ filter (λ (k : Moment). counts_at when k.0) (map (λ (d : Row). d.0.1) all))
+              (filter (λ (k : Moment). counts_at when k.0) (map (λ (d : Row). d.0.1) all))
+          one true h = ap (λ ks. e.0.1 ∷ ks) h
+          one false h = h
 
-  module _ (after : Option Moment) where
-    pub moment_next : (k : Moment) → changes_after changes p after ≡ ((p, k), tt) ∷ changes_after changes p (Some k)
-        → true ≡ counts_at when k.0
-        → moments_after changes when p after ≡ k ∷ moments_after changes when p (Some k)
-    moment_next k h t =
-        ap moments h ∙ cond-true (counted k) (k ∷ moments_after changes when p (Some k))
-        (moments_after changes when p (Some k)) (sym t)
+          by : (b : Bool) → map (λ (d : Row). d.0.1) these
+              ≡ filter (λ (k : Moment). counts_at when k.0) (map (λ (d : Row). d.0.1) all)
+              → map (λ (d : Row). d.0.1) (cond (b && counts_at when e.0.1.0) (e ∷ these) these)
+              ≡ filter (λ (k : Moment). counts_at when k.0) (map (λ (d : Row). d.0.1) (cond (b && true) (e ∷ all) all))
+          by true h = one (counts_at when e.0.1.0) h
+          by false h = h
 
-    -- behind a moment that is dated after the time there is none that counts
-    pub moment_ends : (k : Moment) → changes_after changes p after ≡ ((p, k), tt) ∷ changes_after changes p (Some k)
-        → false ≡ counts_at when k.0
-        → moments_after changes when p after ≡ []
-    moment_ends k h f =
-        ap moments h ∙ cond-false (counted k) (k ∷ moments_after changes when p (Some k))
-        (moments_after changes when p (Some k)) (sym f)
-        ∙ none_counted (λ e. (bytes_eq p e.0.0 && is_lt (moment_cmp k e.0.1)) ≡ true) later
-        (changes_after changes p (Some k))
-        (filter_passing (λ (e : Row). bytes_eq p e.0.0 && is_lt (moment_cmp k e.0.1)) (entries changes))
+  -- each of them has a row
+  pub until_rows : AllByRecursion (λ k. contains_key changes (p, k) ≡ true) (moments_until changes when p)
+  until_rows = each (filter (λ (e : Row). is_until when p e.0) (entries changes))
+      (all_filter (λ (e : Row). get changes e.0 ≡ Some e.1) (λ (e : Row). is_until when p e.0) (entries changes)
+      (entries_held change_total change_same changes))
+    where
+      each : (es : List Row)
+          → AllByRecursion (λ (e : Row). (get changes e.0 ≡ Some e.1) × (is_until when p e.0 ≡ true)) es
+          → AllByRecursion (λ (k : Moment). contains_key changes (p, k) ≡ true) (map (λ (e : Row). e.0.1) es)
+      each [] h = tt
+      each (e ∷ es) h =
+          let of_p = (and_parts (bytes_eq p e.0.0) (counts_at when e.0.1.0) h.0.1).0 in (
+            ap (λ (q : List ℕ). contains_key changes (q, e.0.1)) ((bytes_eq-Decides p e.0.0).0 of_p)
+                ∙ ap is_some h.0.0,
+            each es h.1,
+          )
+
+  pub last_row : (o : Option Moment) → moments_until changes when p ≡ moments_to changes p o
+      → IfSome o (λ k. contains_key changes (p, k) ≡ true)
+  last_row None h = tt
+  last_row (Some k) h = all_last (λ j. contains_key changes (p, j) ≡ true)
+      (map (λ (e : Row). e.0.1) (changes_before changes p k)) k
+      (subst (AllByRecursion (λ j. contains_key changes (p, j) ≡ true)) h until_rows)
+
+-- ---- back from the last of them
+
+module _ (changes : Changes) (p : List ℕ) where
+  map-append : (xs : List Row) (x : Row)
+      → map (λ (e : Row). e.0.1) (xs ++ x ∷ []) ≡ map (λ (e : Row). e.0.1) xs ++ x.0.1 ∷ []
+  map-append [] x = refl
+  map-append (y ∷ ys) x = ap (λ ms. y.0.1 ∷ ms) (map-append ys x)
+
+  -- those before one are those up to the one before
+  pub before_is : (k : Moment) (o : Option Moment)
+      → IfSome o (λ j. changes_before changes p k ≡ changes_before changes p j ++ ((p, j), tt) ∷ [])
+      → IfNone o (changes_before changes p k ≡ [])
+      → map (λ e. e.0.1) (changes_before changes p k) ≡ moments_to changes p o
+  before_is k None some none = ap (map (λ (e : Row). e.0.1)) none
+  before_is k (Some j) some none = ap (map (λ (e : Row). e.0.1)) some
+      ∙ map-append (changes_before changes p j) ((p, j), tt)
+
+  -- and the one before has a row
+  pub before_row : (k : Moment) (o : Option Moment)
+      → IfSome o (λ j. changes_before changes p k ≡ changes_before changes p j ++ ((p, j), tt) ∷ [])
+      → IfSome o (λ j. contains_key changes (p, j) ≡ true)
+  before_row k None some = tt
+  before_row k (Some j) some = ap is_some
+      (all_last (λ (e : Row). get changes e.0 ≡ Some e.1) (changes_before changes p j) ((p, j), tt)
+      (subst (AllByRecursion (λ (e : Row). get changes e.0 ≡ Some e.1)) some
+      (all_passing (λ (e : Row). get changes e.0 ≡ Some e.1)
+      (λ (e : Row). bytes_eq p e.0.0 && is_lt (moment_cmp e.0.1 k)) (entries changes)
+      (entries_held change_total change_same changes))))
+
+  module _ (facts : Facts) (deletes : Deletes) (when : When) where
+    abbrev pub stays : Moment → Bool
+    stays k = not (row_deleted facts deletes when k.1)
+
+    -- the date of the last moment up to one whose claim isn't deleted
+    abbrev pub last_date : Option Moment → Option ℤ
+    last_date o = last_or None (map (λ k. k.0) (filter stays (moments_to changes p o)))
+
+    -- from the last one of all on it is that of the last change
+    pub first_date : (o : Option Moment) → moments_until changes when p ≡ moments_to changes p o
+        → last_date o ≡ row_last_change facts deletes changes when p
+    first_date o h = ap (λ ks. last_or None (map (λ (k : Moment). k.0) ks))
+        (ap (filter stays) (sym h ∙ until_is changes when p)
+        ∙ filter-filter stays (λ (k : Moment). counts_at when k.0)
+        (map (λ (e : Row). e.0.1) (changes_after changes p None)))
+
+    -- if its claim is deleted, it is that of the one before
+    pub date_before : (k : Moment) (o : Option Moment)
+        → map (λ e. e.0.1) (changes_before changes p k) ≡ moments_to changes p o
+        → row_deleted facts deletes when k.1 ≡ true → last_date (Some k) ≡ last_date o
+    date_before k o h gone = ap (λ ks. last_or None (map (λ (k : Moment). k.0) ks))
+        (filter-append stays (map (λ (e : Row). e.0.1) (changes_before changes p k)) (k ∷ [])
+        ∙ (λ i. filter stays (h i) ++ cond (not (gone i)) (k ∷ []) [])
+        ∙ append-nil (filter stays (moments_to changes p o)))
+
+    -- and else its own
+    pub date_here : (k : Moment) → row_deleted facts deletes when k.1 ≡ false → last_date (Some k) ≡ Some k.0
+    date_here k not_gone = ap (λ ks. last_or None (map (λ (k : Moment). k.0) ks))
+        (filter-append stays (map (λ (e : Row). e.0.1) (changes_before changes p k)) (k ∷ [])
+        ∙ (λ i. filter stays (map (λ (e : Row). e.0.1) (changes_before changes p k))
+        ++ cond (not (not_gone i)) (k ∷ []) []))
+        ∙ last_of None (filter stays (map (λ (e : Row). e.0.1) (changes_before changes p k)))
       where
-        later : (e : Row) → (bytes_eq p e.0.0 && is_lt (moment_cmp k e.0.1)) ≡ true → counted e.0.1 ≡ false
-        later e t =
-            let both = and_parts (bytes_eq p e.0.0) (is_lt (moment_cmp k e.0.1)) t in
-            dated_on when k.0 e.0.1.0 (sym f) (int_cmp k.0 e.0.1.0) refl (in_order k e.0.1 both.1)
-
-    pub moment_none : changes_after changes p after ≡ [] → moments_after changes when p after ≡ []
-    moment_none h = ap moments h
+        last_of : (o : Option ℤ) (ks : List Moment) → last_or o (map (λ (j : Moment). j.0) (ks ++ k ∷ [])) ≡ Some k.0
+        last_of o [] = refl
+        last_of o (j ∷ js) = last_of (Some j.0) js
 
 -- ---- the date of a moment
 
@@ -130,10 +203,7 @@ module _ (facts : Facts) (state : States) (p : List ℕ) (k : Moment) (is : IsCh
   pub date_is : option_and_then (λ (fact : Fact). claim_date fact.kind) (get facts k.1) ≡ Some k.0
   date_is = ap (option_and_then (λ (fact : Fact). claim_date fact.kind)) is.found ∙ ap claim_date is.says
 
--- ---- all of the walk
-
-abbrev pub last_date : Option Moment → Option ℤ
-last_date o = option_map (λ k. k.0) o
+-- ---- forward over them
 
 module _ (facts : Facts) (deletes : Deletes) (when : When) where
   abbrev gone : Moment → Bool
@@ -184,45 +254,14 @@ module _ (facts : Facts) (deletes : Deletes) (when : When) where
           ∙ ap (λ ms. fold (change_values name) found (filter_map (change_at facts) ms))
           (sym (cond-true (not (gone k)) (k ∷ left) left (ap not is)))
 
-  -- and the last moment that it comes to is the last that counts
-  pub last_folded : (found : Option Moment) (ks : List Moment)
-      → last_date (fold (last_with facts deletes when) found (filter (λ k. counts_at when k.0) ks))
-      ≡ last_or (last_date found) (map (λ (k : Moment). k.0) (filter stands ks))
-  last_folded found [] = refl
-  last_folded found (k ∷ ks) = by (counts_at when k.0) (gone k) refl (λ o. last_folded o ks)
-    where
-      rest : List Moment
-      rest = filter (λ k. counts_at when k.0) ks
-
-      left : List Moment
-      left = filter stands ks
-
-      by : (c g : Bool) → gone k ≡ g
-          → ((o : Option Moment)
-          → last_date (fold (last_with facts deletes when) o rest)
-          ≡ last_or (last_date o) (map (λ (k : Moment). k.0) left))
-          → last_date (fold (last_with facts deletes when) found (cond c (k ∷ rest) rest))
-          ≡ last_or (last_date found) (map (λ (k : Moment). k.0) (cond (c && not (gone k)) (k ∷ left) left))
-      by false g is more = more found
-      by true true is more =
-          ap (λ o. last_date (fold (last_with facts deletes when) o rest)) (cond-true (gone k) found (Some k) is)
-          ∙ more found
-          ∙ ap (λ ms. last_or (last_date found) (map (λ (k : Moment). k.0) ms))
-          (sym (cond-false (not (gone k)) (k ∷ left) left (ap not is)))
-      by true false is more =
-          ap (λ o. last_date (fold (last_with facts deletes when) o rest)) (cond-false (gone k) found (Some k) is)
-          ∙ more (Some k)
-          ∙ ap (λ ms. last_or (last_date found) (map (λ (k : Moment). k.0) ms))
-          (sym (cond-true (not (gone k)) (k ∷ left) left (ap not is)))
-
 -- ---- the steps of the moments that are still to come
 
-pub sum_rest : (cost : Moment → ℕ) (before rest : List Moment) (k : Moment) → before ≡ k ∷ rest
-    → sum_by cost before ≡ cost k + sum_by cost rest
-sum_rest cost before rest k is = ap (sum_by cost) is ∙ sum_by-cons cost k rest
-
--- what holds of the moment before and of this one holds of either
-pub either_moment : (P : Moment → Type 0) (b : Bool) (found : Option Moment) (k : Moment) → IfSome found P → P k
-    → IfSome (cond b found (Some k)) P
-either_moment P true found k before this = before
-either_moment P false found k before this = this
+module _ {A : Type 0} (cost less : A → ℕ) (one_less : (x : A) → cost x ≡ 1 + less x) where
+  pub sum_less : (xs : List A) → sum_by cost xs ≡ length xs + sum_by less xs
+  sum_less [] = refl
+  sum_less (x ∷ xs) =
+      let one = sum_by-cons cost x xs in
+      let other = sum_by-cons less x xs in
+      let first = one_less x in
+      let more = sum_less xs in
+      omega (arith, one, other, first, more)

@@ -1,29 +1,19 @@
 -- The moments of the changes of a permanode, one after another.
-use Rattle.std.specs.Prelude.{ℕ, ◌+◌, ◌*◌, List, map, filter, Option, Some, None, ℤ, if◌then◌else◌}
+use Rattle.std.specs.Prelude.{ℕ, ◌+◌, ◌*◌, List, Option, Some, None, ℤ, if◌then◌else◌}
 use Rattle.schema_date.specs.declared.date.When.{When}
 use Rattle.schema_fact.specs.declared.kinds.Kind.{Kind}
 use Rattle.schema_fact.specs.declared.kinds.Kind.TheVariants.{Plain, Key, File, Bytes, Directory, StaticSet, Permanode}
 use Rattle.schema_fact.specs.declared.kinds.Kind.TheVariants.{Claim, Unread}
 use Rattle.claim_model.specs.Facts.{Facts}
 use Rattle.claim_model.specs.Claims.{Moment}
-use Rattle.claim_model.specs.Deleted.{counts_at}
 use Rattle.index_look.specs.Claims.{values_with}
-use Rattle.index_rows.specs.Changes.{Changes, changes_after}
 use Rattle.index_rows.specs.Deletes.{Deletes, row_deleted, tree_rows}
 use Rattle.index_rows.specs.Values.{change_at}
-
--- the moments of p after one, or all, that are dated at or before that time
-abbrev pub moments_after : Changes → When → List ℕ → Option Moment → List Moment
-moments_after changes when p after = filter (λ k. counts_at when k.0) (map (λ e. e.0.1) (changes_after changes p after))
 
 -- the values after the change of a moment, unless its claim is deleted at that time
 abbrev pub moment_values : Facts → Deletes → When → List ℕ → List (List ℕ) → Moment → List (List ℕ)
 moment_values facts deletes when name found k =
     if row_deleted facts deletes when k.1 then found else values_with name found (change_at facts k)
-
--- the later moment, unless its claim is deleted at that time
-abbrev pub last_with : Facts → Deletes → When → Option Moment → Moment → Option Moment
-last_with facts deletes when found k = if row_deleted facts deletes when k.1 then found else Some k
 
 -- at most as many steps as a moment takes: one to reach it, one to look up its change, and those to find whether its
 -- claim is deleted

@@ -1,12 +1,12 @@
 //! The values of an attribute, and the date of the last change.
-ghost use Rattle.std.specs.Prelude.{◌≡◌, ◌≤◌, ◌+◌, ◌*◌, None, IfOk, OnOk, map, option_and_then};
+ghost use Rattle.std.specs.Prelude.{◌≡◌, ◌≤◌, ◌+◌, ◌*◌, IfOk, OnOk, map, option_and_then};
 ghost use Rattle.std.specs.List.{sum_by};
 ghost use Rattle.std.specs.FinMap.{get};
-ghost use Rattle.index_rows.specs.Deletes.{tree_rows, Ringless};
+ghost use Rattle.index_rows.specs.Changes.{moments_until};
+ghost use Rattle.index_rows.specs.Deletes.{row_deleted, tree_rows, Ringless};
 ghost use Rattle.index_rows.specs.Values.{row_values, row_last_change, IsChange, IsListed};
-ghost use Rattle.row_answers.specs.Moments.{claim_date, last_with, moment_steps, moment_values, moments_after};
+ghost use Rattle.row_answers.specs.Moments.{claim_date, moment_steps, moment_values};
 
-use crate::moments::next_moment;
 use blobref::{NoMemory, Ref, Text, TextList};
 use edge_base::Steps;
 use index_look::values::{apply_place, copied};
@@ -20,7 +20,7 @@ use std::sync::ledger::Ledger;
 /// Each row of `deletes` must be that of a ready delete claim, and each row of `changes` that of a change of a genuine
 /// claim. `NoMemory` comes only if no memory is left. It walks over the changes up to that time, and checks for each
 /// whether its claim is deleted: at most 1 step, and for each change 6, and 6 for each row of a delete claim on its
-/// claim, on these, and so on.
+/// claim, on these, and so on. For a claim without delete claims it is one look-up.
 pub fn fold_at<L: Ledger>(
     alloc: Global,
     rows: &Rows,
@@ -34,13 +34,12 @@ pub fn fold_at<L: Ledger>(
     ensures values { IfOk result (λ texts.
         texts ≡ row_values rows.now.facts.ordered rows.now.deletes rows.now.changes when.now p.now attr.now) }
     ensures ticks { steps.new ≤ steps.old + 1 + sum_by (moment_steps rows.now.facts.ordered rows.now.deletes)
-        (moments_after rows.now.changes when.now p.now None) }
+        (moments_until rows.now.changes when.now p.now) }
 {
+    let moments = rows.changes.until(alloc, p, when, steps)?;
     let mut found = Vec::new(alloc);
-    let mut last = None;
-    'walk: while let Some(moment) = next_moment(&rows.changes, p, last.as_ref(), when, steps) {
-        apply_moment(rows, &mut found, p, &moment, attr, when, steps)?;
-        last = Some(moment);
+    for moment in &moments {
+        apply_moment(rows, &mut found, p, moment, attr, when, steps)?;
     }
     copied(alloc, &found)
 }
@@ -62,16 +61,29 @@ fn apply_moment<'a, L: Ledger>(
         (map (λ t. t.now) found.old.items) moment.now) }
     ensures ticks { steps.new ≤ steps.old + 5 + 6 * tree_rows rows.now.facts.ordered rows.now.deletes moment.now.1 }
 {
-    if deleted_at(rows, &moment.1, when, steps) {
+    if is_out(rows, &moment.1, when, steps) {
         return Ok(());
     }
     let place = moment.2 as usize;
     apply_place(&rows.facts.ordered, found, &moment.1, place, attr, steps)
 }
 
+// Whether a claim is deleted at that time. If no delete claim on it has a row, that is one look-up.
+fn is_out<L: Ledger>(rows: &Rows, claim: &Ref, when: &When, steps: &mut Steps<L>) -> bool
+    requires { Ringless rows.now.facts.ordered rows.now.deletes }
+    ensures out { result ≡ row_deleted rows.now.facts.ordered rows.now.deletes when.now claim.now }
+    ensures ticks { steps.new ≤ steps.old + 4 + 6 * tree_rows rows.now.facts.ordered rows.now.deletes claim.now }
+{
+    match rows.deletes.next_of(claim, None, steps) {
+        Some(_) => deleted_at(rows, claim, when, steps),
+        None => false,
+    }
+}
+
 /// The date of the last change of a permanode that counts at that time, by the rows of its changes; `None` exactly
-/// if none counts. The rows of `deletes` and `changes` must be as for `fold_at`. It takes one step more than that, and
-/// no memory.
+/// if none counts. The rows of `deletes` and `changes` must be as for `fold_at`. It walks over the changes up to that
+/// time, and then back to the last one whose claim isn't deleted. It takes at most one step more than `fold_at`, and no
+/// memory.
 pub fn last_change_at<L: Ledger>(
     rows: &Rows,
     p: &Ref,
@@ -82,37 +94,16 @@ pub fn last_change_at<L: Ledger>(
     requires listed { IsListed rows.now.facts.ordered rows.now.state rows.now.changes }
     ensures change { result ≡ row_last_change rows.now.facts.ordered rows.now.deletes rows.now.changes when.now p.now }
     ensures ticks { steps.new ≤ steps.old + 2 + sum_by (moment_steps rows.now.facts.ordered rows.now.deletes)
-        (moments_after rows.now.changes when.now p.now None) }
+        (moments_until rows.now.changes when.now p.now) }
 {
-    let mut found = None;
-    let mut last = None;
-    'walk: while let Some(moment) = next_moment(&rows.changes, p, last.as_ref(), when, steps) {
-        found = last_with(rows, found, &moment, when, steps);
-        last = Some(moment);
+    let mut next = rows.changes.last_until(p, when, steps);
+    'back: while let Some(moment) = next {
+        if !is_out(rows, &moment.1, when, steps) {
+            return date_at(rows, &moment.1, steps);
+        }
+        next = rows.changes.prev_of(p, &moment, steps);
     }
-    match found {
-        Some(moment) => date_at(rows, &moment.1, steps),
-        None => None,
-    }
-}
-
-// The later moment, unless its claim is deleted at that time.
-fn last_with<L: Ledger>(
-    rows: &Rows,
-    found: Option<Moment>,
-    moment: &Moment,
-    when: &When,
-    steps: &mut Steps<L>,
-) -> Option<Moment>
-    requires { Ringless rows.now.facts.ordered rows.now.deletes }
-    ensures later { result ≡ last_with rows.now.facts.ordered rows.now.deletes when.now found moment.now }
-    ensures ticks { steps.new ≤ steps.old + 4 + 6 * tree_rows rows.now.facts.ordered rows.now.deletes moment.now.1 }
-{
-    if deleted_at(rows, &moment.1, when, steps) {
-        found
-    } else {
-        Some(*moment)
-    }
+    None
 }
 
 // The date of the claim of a ref.

@@ -3,7 +3,6 @@
 
 mod answers;
 mod folding;
-mod moments;
 mod said;
 
 pub use answers::{

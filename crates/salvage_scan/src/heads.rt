@@ -3,7 +3,7 @@ ghost use Rattle.std.specs.Prelude.{◌≡◌, ◌≤◌, ◌==◌, ◌&&◌, �
 ghost use Rattle.pack_format.specs.Reading.{header_at};
 ghost use Rattle.salvage_scan.specs.JunkRuns.{IsJunkTo, may_begin};
 
-use pack_format::{HEADER_MAX, HeaderAt, read_header};
+use pack_format::{HeaderAt, MAX_HEADER, read_header};
 
 /// The header with which the bytes begin. It is called in two places, and the reader is inlined into it alone.
 #[inline(never)]
@@ -13,14 +13,14 @@ pub(crate) fn next_header(bytes: &[u8]) -> HeaderAt
     read_header(bytes)
 }
 
-/// The first place from one on at which a header may begin, or that fewer than 156 bytes are left at. Every byte before it
-/// is junk, whatever follows the bytes.
+/// The first place from one on at which a header may begin, or that fewer than 156 bytes are left at. Every byte before
+/// it is junk, whatever follows the bytes.
 pub(crate) fn past_junk(bytes: &[u8], at: usize) -> usize
     requires { at ≤ length bytes.now }
     ensures { IsJunkTo bytes.now at result }
 {
     let mut at = at;
-    'junk: while bytes.len() - at >= HEADER_MAX
+    'junk: while bytes.len() - at >= MAX_HEADER
         && !may_begin(bytes[at], bytes[at + 1], bytes[at + 2], bytes[at + 3])
     {
         at += 1;

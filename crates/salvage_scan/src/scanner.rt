@@ -1,6 +1,8 @@
 //! Goes through a pack that comes in pieces.
-ghost use Rattle.std.specs.Prelude.{◌≡◌, ◌+◌, ◌≤◌, ◌<◌, ◌^◌, ◌++◌, [], length, drop, true, false, All, IfOk, OnOk, OnErr};
-ghost use Rattle.salvage_scan.specs.Pieces.{fresh, fed, is_open, ScanRun, Waits, Tells, Ends, LiesNear, Keeps, IsKept, LiesKept, kept_at, longest_piece};
+ghost use Rattle.std.specs.Prelude.{◌≡◌, ◌+◌, ◌≤◌, ◌<◌, ◌^◌, ◌++◌, [], length, drop, true, false, All, IfOk, OnOk};
+ghost use Rattle.std.specs.Prelude.{OnErr};
+ghost use Rattle.salvage_scan.specs.Pieces.{fresh, fed, is_open, ScanRun, Waits, Tells, Ends, LiesNear, Keeps, IsKept};
+ghost use Rattle.salvage_scan.specs.Pieces.{LiesKept, kept_at, longest_piece};
 
 use crate::ahead::BYTES;
 use crate::found::{Clean, Found, FoundList};
@@ -15,9 +17,9 @@ const PIECE: usize = 65_536;
 // The longest record that is short.
 const SHORT: usize = 8_192;
 
-/// Scans a pack that is fed in pieces (`docs/formats/packs.md`). What it tells doesn't depend on how the pack is cut. It
-/// holds back the bytes of one record or deleted record with its header at most, which are 16,777,372, and keeps those
-/// of what it told until the next call: so it never has more than these and one piece.
+/// Scans a pack that is fed in pieces (`docs/formats/packs.md`). What it tells doesn't depend on how the pack is cut.
+/// It holds back the bytes of one record or deleted record with its header at most, which are 16,777,372, and keeps
+/// those of what it told until the next call: so it never has more than these and one piece.
 #[derive(Drop)]
 pub struct Scanner {
     alloc: Global,
@@ -62,8 +64,8 @@ impl Scanner {
     /// begins at most 16,777,372 bytes before the place at which the piece begins. The bytes of each are kept until the
     /// next call (`bytes`). After `NoMemory` every call answers it. The pieces must have fewer than 2^64 bytes in all.
     ///
-    /// Each byte is copied at most twice, and a blob is hashed once it is whole, as `scan` does. Memory is taken for one
-    /// record and one piece.
+    /// Each byte is copied at most twice, and a blob is hashed once it is whole, as `scan` does. Memory is taken for
+    /// one record and one piece.
     pub fn feed(&mut self, piece: &[u8]) -> Result<FoundList, NoMemory>
         requires { fed self.old + length piece.now < 2 ^ 64 }
         ensures tells { IfOk result (λ told. Tells self.old piece.now told self.new) }
@@ -77,9 +79,9 @@ impl Scanner {
         self.step(piece, false)
     }
 
-    /// The end of the pack: what else was found, each beginning at most 16,777,372 bytes before the end, and whether the
-    /// pack is clean. The bytes of what was found are kept (`bytes`), and nothing waits any more. `NoMemory` comes also
-    /// where an earlier call has answered it.
+    /// The end of the pack: what else was found, each beginning at most 16,777,372 bytes before the end, and whether
+    /// the pack is clean. The bytes of what was found are kept (`bytes`), and nothing waits any more. `NoMemory` comes
+    /// also where an earlier call has answered it.
     pub fn finish(&mut self) -> Result<(FoundList, Clean), NoMemory>
         ensures ends { IfOk result (Ends self.old) }
         ensures near { IfOk result (λ told. All (LiesNear (fed self.old) (fed self.old)) told.0) }
@@ -89,6 +91,7 @@ impl Scanner {
         ensures spent { OnErr result (self.new.spent ≡ true) }
         ensures again { IfOk result (λ told. self.old.spent ≡ false) }
     {
+        // Reading a field brings the scanner's invariant.
         let _kept = &self.kept;
         let found = self.step(&[], true)?;
         Ok((found, self.clean))
@@ -105,8 +108,8 @@ impl Scanner {
     }
 
     /// How many bytes the next piece should have at most: more where what waits is a record of some length, so that
-    /// several whole ones come together and are hashed several at a time. It is a hint: what is told is the same whatever
-    /// the pieces are.
+    /// several whole ones come together and are hashed several at a time. It is a hint: what is told is the same
+    /// whatever the pieces are.
     pub fn room(&self) -> usize
         ensures some { 0 < result }
         ensures most { result ≤ longest_piece }

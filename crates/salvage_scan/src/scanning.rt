@@ -1,5 +1,6 @@
 //! Goes through a pack once.
-ghost use Rattle.std.specs.Prelude.{◌≡◌, ◌+◌, ◌≤◌, ◌<◌, ◌^◌, [], length, drop, map, nat_le, slice_index, slice_index_or, All, IfOk, Some};
+ghost use Rattle.std.specs.Prelude.{◌≡◌, ◌+◌, ◌≤◌, ◌<◌, ◌^◌, [], length, drop, map, nat_le, slice_index};
+ghost use Rattle.std.specs.Prelude.{slice_index_or, All, IfOk, Some};
 ghost use Rattle.salvage_scan.specs.Salvage.{salvage, broken};
 ghost use Rattle.salvage_scan.specs.Scan.{place_of, clean_of, joined, LiesIn};
 ghost use Rattle.salvage_scan.specs.Pieces.{seen, undecided, ScanRun, Waits};
@@ -10,7 +11,7 @@ use crate::found::{Clean, Found, FoundList};
 use crate::heads::{next_header, past_junk};
 use blob_checks::ref_like;
 use blobref::{NoMemory, Ref};
-use pack_format::{HEADER_MAX, HeaderAt};
+use pack_format::{HeaderAt, MAX_HEADER};
 use std::alloc::Global;
 
 /// The blobs of a pack in order, by the four cases of docs/formats/packs.md, and whether it is clean. Each finding lies
@@ -163,8 +164,8 @@ fn front_at(bytes: &[u8], last: bool) -> FrontAt
             }
         }
         HeaderAt::Missing => {
-            if bytes.len() < HEADER_MAX {
-                undecided(last, HEADER_MAX)
+            if bytes.len() < MAX_HEADER {
+                undecided(last, MAX_HEADER)
             } else {
                 FrontAt::Junk
             }

@@ -12,7 +12,7 @@ use schema_fact::{Change, ChangeList, push_change};
 use serde_json::Value;
 use std::alloc::Global;
 
-const MOST_CHANGES: usize = 1_000;
+const MAX_CHANGES: usize = 1_000;
 
 /// The changes of which the text is a JSON list (`docs/formats/schema.md`); `None` exactly where it is no list of 1 to
 /// 1,000 changes. The only error is want of memory.
@@ -45,7 +45,7 @@ pub(crate) fn change_list_of(alloc: Global, items: &[Value]) -> Result<Option<Ch
 fn is_change_count(n: usize) -> bool
     ensures { result ≡ is_change_count n }
 {
-    1 <= n && n <= MOST_CHANGES
+    1 <= n && n <= MAX_CHANGES
 }
 
 fn changes_in(alloc: Global, items: &[Value]) -> Result<Option<ChangeList>, NoMemory>

@@ -10,7 +10,7 @@ use schema_fact::{Origin, Part, PartList};
 use serde_json::Value;
 use std::alloc::Global;
 
-const GREATEST_LENGTH: u64 = 281_474_976_710_656;
+const MAX_LENGTH: u64 = 281_474_976_710_656;
 
 // The part list under `parts`.
 pub(crate) fn part_list_of(alloc: Global, object: &Value) -> Result<Option<PartList>, NoMemory>
@@ -62,7 +62,7 @@ fn push(parts: &mut PartList, part: Part) -> Result<(), NoMemory>
 fn are_short(parts: &[Part]) -> bool
     ensures { result ≡ is_length (total_size parts.now) }
 {
-    let mut left = GREATEST_LENGTH;
+    let mut left = MAX_LENGTH;
     for part in parts {
         if part.size > left {
             return false;
@@ -88,7 +88,7 @@ fn part_in(value: &Value) -> Option<Part>
 fn length_in(found: Option<u64>) -> Option<u64>
     ensures { result ≡ length_in found }
 {
-    found.filter(|length| *length <= GREATEST_LENGTH)
+    found.filter(|length| *length <= MAX_LENGTH)
 }
 
 // At most one of the two keys may stand.

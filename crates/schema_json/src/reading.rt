@@ -1,8 +1,10 @@
 //! What blobs say.
 ghost use Rattle.std.specs.Prelude.{◌≡◌, IfOk};
 ghost use Rattle.serde_json.specs.View.{view};
-ghost use Rattle.schema_json.specs.Facts.{fact_of, kind_of, schema_kind, file_kind, bytes_kind, directory_kind, set_kind, key_in};
-ghost use Rattle.schema_json.specs.Reading.{signed_of, payload_kind, signed_first, unsigned_kind, unsigned_object, unsigned_in};
+ghost use Rattle.schema_json.specs.Facts.{fact_of, kind_of, schema_kind, file_kind, bytes_kind, directory_kind};
+ghost use Rattle.schema_json.specs.Facts.{set_kind, key_in};
+ghost use Rattle.schema_json.specs.Reading.{signed_of, payload_kind, signed_first, unsigned_kind, unsigned_object};
+ghost use Rattle.schema_json.specs.Reading.{unsigned_in};
 ghost use Rattle.schema_fact.specs.Validity.{IsValid};
 
 use crate::claims::claim_of;
@@ -16,7 +18,7 @@ use schema_fact::{Fact, Kind, Signed};
 use serde_json::Value;
 use std::alloc::Global;
 
-const LONGEST_SCHEMA: usize = 1_048_576;
+const MAX_SCHEMA: usize = 1_048_576;
 
 /// What the blob of these bytes says (`docs/formats/schema.md`). The fact is valid: its part list, if it has one,
 /// meets the limits on offsets, sizes and their sum. The only error is want of memory.
@@ -51,7 +53,7 @@ fn key_in(bytes: &[u8]) -> Option<KeyName>
 fn schema_kind(alloc: Global, bytes: &[u8]) -> Result<Kind, NoMemory>
     ensures { IfOk result (λ kind. kind ≡ schema_kind bytes.now) }
 {
-    if bytes.len() > LONGEST_SCHEMA {
+    if bytes.len() > MAX_SCHEMA {
         return Ok(Kind::Plain);
     }
     if !begins_object(bytes) {

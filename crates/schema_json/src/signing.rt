@@ -56,8 +56,8 @@ fn object_of(alloc: Global, payload: &[u8]) -> Result<Option<Value>, NoMemory>
     json_in(alloc, &text)
 }
 
-// The signature of the object that the rest of a blob is with a brace before it. It is read as JSON only where it hasn't
-// the form in which signatures are written.
+// The signature of the object that the rest of a blob is with a brace before it. It is read as JSON only where it
+// hasn't the form in which signatures are written.
 fn signature_after(alloc: Global, rest: &[u8]) -> Result<Option<[u8; 32]>, NoMemory>
     ensures { IfOk result (λ sig. sig ≡ signature_after rest.now) }
 {

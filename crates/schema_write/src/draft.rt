@@ -11,7 +11,7 @@ use json_laws::{Leaf, write_payload};
 use std::alloc::Global;
 use thiserror::Error;
 
-const LONGEST_SCHEMA: u64 = 1_048_576;
+const MAX_SCHEMA: u64 = 1_048_576;
 
 /// Why a schema blob wasn't written (`docs/formats/schema.md`).
 #[derive(Clone, Copy, Debug, PartialEq, Eq, Error)]
@@ -41,7 +41,7 @@ pub(crate) fn fitting(bytes: Vec<u8>, more: u64) -> Result<Octets, DraftFault>
         (IsFault (length bytes.items + more)) }
 {
     let len = bytes.len() as u64 + more;
-    if len > LONGEST_SCHEMA {
+    if len > MAX_SCHEMA {
         return Err(DraftFault::TooLong { len });
     }
     Ok(Octets::from_vec(bytes))

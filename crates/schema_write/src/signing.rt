@@ -1,15 +1,17 @@
 //! Keys, and what they sign: permanodes and claims.
-ghost use Rattle.std.specs.Prelude.{◌≡◌, ◌≤◌, ◌+◌, ◌∷◌, [], codes, length, IfOk, IfErr, OnOk};
+ghost use Rattle.std.specs.Prelude.{◌≡◌, ◌≤◌, ◌<◌, ◌+◌, ◌∷◌, [], codes, length, IfOk, IfErr, OnOk};
 ghost use Rattle.schema_fact.specs.declared.kinds.Kind.TheVariants.{Key, Permanode, Claim};
 ghost use Rattle.schema_json.specs.Facts.{key_blob};
 ghost use Rattle.json_laws.specs.Written.{payload_text};
-ghost use Rattle.schema_write.specs.Blobs.{permanode_payload, claim_payload, signed, start_pairs, change_pairs, value_pairs, text_pair};
+ghost use Rattle.schema_write.specs.Blobs.{permanode_payload, claim_payload, signed, start_pairs, change_pairs};
+ghost use Rattle.schema_write.specs.Blobs.{value_pairs, text_pair};
 ghost use Rattle.schema_write.specs.Drafts.{IsClaimFault, with_pairs};
-ghost use Rattle.schema_write.specs.Laws.{Says, SaysSigned, HasAttribute, MayBeSaid, IsClaimPayload, longest_schema, signature_length};
+ghost use Rattle.schema_write.specs.Laws.{Says, SaysSigned, HasAttribute, IsChange, MayBeSaid, IsClaimPayload, longest_schema};
+ghost use Rattle.schema_write.specs.Laws.{signature_length};
 
 use crate::changes::several;
 use crate::draft::{DraftFault, as_text, fitting, push_pairs, ref_text};
-use blobref::{NoMemory, Octets, Ref};
+use blobref::{NoMemory, Octets, Ref, Text};
 use claim_verify::KeyName;
 use json_laws::{Leaf, write_payload};
 use schema_date::Date;
@@ -99,24 +101,10 @@ pub(crate) fn what_payload(
 {
     match what {
         What::Set { on, attr, value } => {
-            let payload = claim_start(alloc, signer, date, "set-attribute")?;
-            valued(
-                alloc,
-                payload,
-                ref_text(&on.spell()),
-                attr.as_str(),
-                value.as_str(),
-            )
+            with_value(alloc, signer, date, "set-attribute", on, attr, value)
         }
         What::Add { on, attr, value } => {
-            let payload = claim_start(alloc, signer, date, "add-attribute")?;
-            valued(
-                alloc,
-                payload,
-                ref_text(&on.spell()),
-                attr.as_str(),
-                value.as_str(),
-            )
+            with_value(alloc, signer, date, "add-attribute", on, attr, value)
         }
         What::Del { on, attr, value } => {
             let payload = claim_start(alloc, signer, date, "del-attribute")?;
@@ -137,6 +125,31 @@ pub(crate) fn what_payload(
             several(alloc, payload, changes.as_slice())
         }
     }
+}
+
+// The payload of a claim of one change with a value.
+fn with_value(
+    alloc: Global,
+    signer: &str,
+    date: &str,
+    claim_type: &str,
+    on: &Ref,
+    attr: &Text,
+    value: &Text,
+) -> Result<Vec<u8>, NoMemory>
+    ensures text { IfOk result (λ all. all.items
+        ≡ with_pairs (payload_text (start_pairs signer.now date.now claim_type.now))
+        (change_pairs on.now attr.now (text_pair (codes "value") value.now ∷ []))) }
+    ensures form { OnOk result (0 < length attr.now → IsChange on.now attr.now value.now) }
+{
+    let payload = claim_start(alloc, signer, date, claim_type)?;
+    valued(
+        alloc,
+        payload,
+        ref_text(&on.spell()),
+        attr.as_str(),
+        value.as_str(),
+    )
 }
 
 // The pairs that each claim begins with.

@@ -18,7 +18,7 @@ use crate::replies::{ReplyText, absent, denied, fetched_reply, refused};
 use answer_text::Refusal;
 use blobref::{NoMemory, Ref, RefList};
 use edge_base::{Shelf, Source};
-use http_exchange::{BodyFault, Ended, MOST_BODY, check_length, closes_early, gather, head_says};
+use http_exchange::{BodyFault, Ended, MAX_BODY, check_length, closes_early, gather, head_says};
 use http_wire::{Head, Wire};
 use share_gate::{ShareGate, Verdict};
 use std::alloc::Global;
@@ -91,7 +91,7 @@ fn first_of(wire: &Wire, head: &Head) -> Result<Ref, Refusal>
     ensures { result ≡ first_of wire.now.head head.now }
 {
     let r = ref_of_head(wire, head)?;
-    check_length(MOST_BODY, &head.framing)?;
+    check_length(MAX_BODY, &head.framing)?;
     Ok(r)
 }
 
@@ -104,7 +104,7 @@ fn reply_to_stop(alloc: Global, fault: BodyFault) -> Result<Response, Ended>
         BodyFault::Cut { at } => return Err(Ended::Cut { at }),
         BodyFault::ReadFault => return Err(Ended::ReadFault),
         BodyFault::Memory => return Ok(respond(ReplyText::Memory, true)),
-        BodyFault::Long => Refusal::TooLong { limit: MOST_BODY },
+        BodyFault::Long => Refusal::TooLong { limit: MAX_BODY },
         BodyFault::Broken => Refusal::BadLength,
     };
     Ok(refuse(alloc, &refusal, true))

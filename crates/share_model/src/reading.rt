@@ -14,14 +14,14 @@ use serde_json::Value;
 use std::alloc::Global;
 
 /// A schema blob has at most this many bytes (`docs/formats/schema.md`).
-const LONGEST_SCHEMA: usize = 1_048_576;
+const MAX_SCHEMA: usize = 1_048_576;
 
 /// The share that the blob of these bytes is, and `None` exactly where it is none (`docs/shares.md`, "Shares"). The
 /// only error is want of memory. It takes the time of reading the payload as JSON, and none of a blob that is too long.
 pub fn share_in(alloc: Global, bytes: &[u8]) -> Result<Option<Share>, NoMemory>
     ensures { IfOk result (λ found. found ≡ share_in bytes.now) }
 {
-    if bytes.len() > LONGEST_SCHEMA {
+    if bytes.len() > MAX_SCHEMA {
         return Ok(None);
     }
     signed_share_in(alloc, bytes)

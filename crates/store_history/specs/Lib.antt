@@ -1,4 +1,4 @@
-pub mod Telling
+pub mod Represents
 pub mod Beginning
 pub mod Finding
 pub mod Once

@@ -1,10 +1,11 @@
 -- Blobs of several numbers are read in one turn, and their digests are checked after it (docs/server.md).
-use Rattle.std.specs.Prelude.{◌≡◌, ℕ, ◌+◌, ◌<◌, List, [], ◌∷◌, length, slice_get, slice_index_or, Bool, true, All, Option, Some, None, Result, Ok, Err}
+use Rattle.std.specs.Prelude.{◌≡◌, ℕ, ◌+◌, ◌<◌, List, [], ◌∷◌, length, slice_get, slice_index_or, Bool, true, All}
+use Rattle.std.specs.Prelude.{Option, Some, None, Result, Ok, Err}
 use Rattle.std.specs.Option.{ForSome, option_map}
 use Rattle.blobref.specs.Blobref.{IsOwnRef}
 use Rattle.edge_base.specs.declared.answers.GetFault.{GetFault}
 use Rattle.pack_disk.specs.declared.disk.Disk.{Ghosts}
-use Rattle.pack_store.specs.declared.reading.Found.{Found}
+use Rattle.pack_store.specs.declared.reading.UncheckedBlob.{UncheckedBlob}
 use Rattle.pack_store.specs.Archive.{Archive}
 use Rattle.pack_store.specs.Reading.{entry_at}
 use Rattle.pack_store.specs.Rows.{arrivals_in}
@@ -15,7 +16,7 @@ abbrev pub AllFrom : (ℕ → Blob → Type 0) → ℕ → List Blob → Type 0
 AllFrom P n blobs = (i : ℕ) (d : Blob) → i < length blobs → P (n + i) (slice_index_or blobs i d)
 
 -- the first of the blobs that were read, as it was found
-abbrev pub first_in : Result (List Blob) GetFault → Result (Option Found) GetFault
+abbrev pub first_in : Result (List Blob) GetFault → Result (Option UncheckedBlob) GetFault
 first_in (Ok []) = Ok None
 first_in (Ok (b ∷ bs)) = Ok (Some (record { r = b.0; bytes = b.1 }))
 first_in (Err f) = Err f

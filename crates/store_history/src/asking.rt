@@ -3,7 +3,7 @@ ghost use Rattle.std.specs.Prelude.{◌≡◌, [], ◌∷◌, ◌++◌, List, �
 ghost use Rattle.std.specs.List.{filter_map};
 ghost use Rattle.pack_store.specs.Reading.{entry_of};
 ghost use Rattle.histories.specs.StoreCalls.{CountSpec, ListSpec, StatSpec, each_once};
-ghost use Rattle.store_history.specs.Telling.{AddsNone};
+ghost use Rattle.store_history.specs.Represents.{AddsNone};
 ghost use Rattle.store_history.specs.Once.{HasSame};
 
 use blobref::{Listing, NoMemory, Ref, RefList};
@@ -14,7 +14,7 @@ use std::collections::BTreeSet;
 
 /// How many blobs arrived.
 pub fn count<D: Disk>(store: &Store<D>) -> u64
-    ensures tells { (made : ℕ) → AddsNone D.Disk made store.now (λ before entry. CountSpec before result entry) }
+    ensures adds { (made : ℕ) → AddsNone D.Disk made store.now (λ before entry. CountSpec before result entry) }
 {
     store.count()
 }
@@ -26,7 +26,7 @@ pub fn list<D: Disk>(
     after: Option<&Ref>,
     limit: usize,
 ) -> Result<Listing, NoMemory>
-    ensures tells { (made : ℕ) → AddsNone D.Disk made store.now
+    ensures adds { (made : ℕ) → AddsNone D.Disk made store.now
         (λ before entry. ListSpec (option_copied after.entry) limit before result entry) }
 {
     store.list(after, limit)
@@ -35,7 +35,7 @@ pub fn list<D: Disk>(
 /// Those of the refs under which a blob arrived, in their order, each with the size of its blob in bytes. For the refs
 /// of a request without their repeats, as `once` returns them, this is the answer to the request.
 pub fn stat<D: Disk>(alloc: Global, store: &Store<D>, refs: &RefList) -> Result<Listing, NoMemory>
-    ensures tells { (made : ℕ) (asked : List (List ℕ)) → refs.now ≡ each_once [] asked
+    ensures adds { (made : ℕ) (asked : List (List ℕ)) → refs.now ≡ each_once [] asked
         → AddsNone D.Disk made store.now (λ before entry. StatSpec asked before result entry) }
 {
     let mut found = Listing::empty(alloc);

@@ -1,21 +1,21 @@
 //! Reads blobs in a turn. Their digests are taken after it, so that no other turn waits for them.
 ghost use Rattle.std.specs.Prelude.{◌≡◌, ℕ};
 ghost use Rattle.histories.specs.StoreCalls.{GetSpec, ArrivalSpec};
-ghost use Rattle.store_history.specs.Telling.{limits_of, is_told, AddsEntry};
+ghost use Rattle.store_history.specs.Represents.{limits_of, is_told, AddsEntry};
 ghost use Rattle.store_history.specs.Finding.{find_entry, checked_get, checked_arrival};
 
 use blobref::{Octets, Ref};
 use edge_base::GetFault;
 use pack_disk::Disk;
-use pack_store::{Found, Store};
+use pack_store::{Store, UncheckedBlob};
 
 /// The blob under a ref; `None` exactly if none arrived. The final answer is what `check` returns for it. The bytes
 /// that were read decide whether the entry is a Damage. If it isn't, it is a Fault exactly if the disk's count rose in
 /// the call, whatever is returned; `Disk` comes only with it.
-pub fn find<D: Disk>(store: &mut Store<D>, r: &Ref) -> Result<Option<Found>, GetFault>
+pub fn find<D: Disk>(store: &mut Store<D>, r: &Ref) -> Result<Option<UncheckedBlob>, GetFault>
     ensures limits { limits_of store.new ≡ limits_of store.old }
     ensures told { is_told D.Disk store.new ≡ is_told D.Disk store.old }
-    ensures tells { (made : ℕ) → AddsEntry D.Disk made store.old store.new
+    ensures adds { (made : ℕ) → AddsEntry D.Disk made store.old store.new
         (find_entry result (D.faults store.old.disk) (D.faults store.new.disk))
         (λ before entry. GetSpec (is_told D.Disk store.old) r.now before (checked_get result) entry) }
 {
@@ -24,10 +24,13 @@ pub fn find<D: Disk>(store: &mut Store<D>, r: &Ref) -> Result<Option<Found>, Get
 
 /// The blob of a number, counted from 0; `None` exactly if no more than that many arrived. The final answer is what
 /// `check_arrival` returns for it; otherwise as `find`.
-pub fn find_number<D: Disk>(store: &mut Store<D>, number: u64) -> Result<Option<Found>, GetFault>
+pub fn find_number<D: Disk>(
+    store: &mut Store<D>,
+    number: u64,
+) -> Result<Option<UncheckedBlob>, GetFault>
     ensures limits { limits_of store.new ≡ limits_of store.old }
     ensures told { is_told D.Disk store.new ≡ is_told D.Disk store.old }
-    ensures tells { (made : ℕ) → AddsEntry D.Disk made store.old store.new
+    ensures adds { (made : ℕ) → AddsEntry D.Disk made store.old store.new
         (find_entry result (D.faults store.old.disk) (D.faults store.new.disk))
         (λ before entry. ArrivalSpec (is_told D.Disk store.old) number before (checked_arrival result) entry) }
 {
@@ -35,7 +38,7 @@ pub fn find_number<D: Disk>(store: &mut Store<D>, number: u64) -> Result<Option<
 }
 
 /// The bytes that were found. `Damaged` comes exactly if they have another ref. It takes their digest.
-pub fn check(found: Result<Option<Found>, GetFault>) -> Result<Option<Octets>, GetFault>
+pub fn check(found: Result<Option<UncheckedBlob>, GetFault>) -> Result<Option<Octets>, GetFault>
     ensures { result ≡ checked_get found }
 {
     let Some(found) = found? else {
@@ -47,7 +50,7 @@ pub fn check(found: Result<Option<Found>, GetFault>) -> Result<Option<Octets>, G
 
 /// The ref and the bytes that were found. `Damaged` comes exactly if they have another ref. It takes their digest.
 pub fn check_arrival(
-    found: Result<Option<Found>, GetFault>,
+    found: Result<Option<UncheckedBlob>, GetFault>,
 ) -> Result<Option<(Ref, Octets)>, GetFault>
     ensures { result ≡ checked_arrival found }
 {

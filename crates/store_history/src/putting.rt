@@ -4,7 +4,7 @@ ghost use Rattle.blobref.specs.Blobref.{IsOwnRef};
 ghost use Rattle.pack_store.specs.Archive.{count};
 ghost use Rattle.pack_store.specs.Putting.{early_answer_own, Answers};
 ghost use Rattle.histories.specs.StoreCalls.{PutSpec};
-ghost use Rattle.store_history.specs.Telling.{limits_of, is_told, put_entry, AddsEntry};
+ghost use Rattle.store_history.specs.Represents.{limits_of, is_told, put_entry, AddsEntry};
 
 use blobref::Ref;
 use edge_base::{Put, PutFault};
@@ -20,7 +20,7 @@ pub fn put<D: Disk>(store: &mut Store<D>, r: &Ref, bytes: &[u8]) -> Result<Put, 
     ensures answer { Answers (early_answer_own store.old r.now (length bytes.now)) (count store.old) result }
     ensures limits { limits_of store.new ≡ limits_of store.old }
     ensures told { is_told D.Disk store.new ≡ is_told D.Disk store.old }
-    ensures tells { (made : ℕ) → AddsEntry D.Disk made store.old store.new
+    ensures adds { (made : ℕ) → AddsEntry D.Disk made store.old store.new
         (put_entry r.now bytes.now result (D.faults store.old.disk) (D.faults store.new.disk))
         (λ before entry. PutSpec (limits_of store.old) r.now bytes.now before result entry) }
 {

@@ -1,11 +1,12 @@
 //! Reads the blobs of several numbers in one turn. Their digests are taken after it, together.
-ghost use Rattle.std.specs.Prelude.{◌≡◌, ◌≤◌, ◌<◌, ℕ, [], ◌∷◌, All, IfErr, IfOk, IfSome, Ok, Some, true, drop, length, take};
+ghost use Rattle.std.specs.Prelude.{◌≡◌, ◌≤◌, ◌<◌, ℕ, [], ◌∷◌, All, IfErr, IfOk, IfSome, Ok, Some, true, drop, length};
+ghost use Rattle.std.specs.Prelude.{take};
 ghost use Rattle.edge_base.specs.declared.answers.GetFault.TheVariants.{NoMemory};
 ghost use Rattle.blob_checks.specs.Checks.{IsNamed};
 ghost use Rattle.pack_store.specs.Archive.{count};
 ghost use Rattle.pack_store.specs.Reading.{StaysStill};
 ghost use Rattle.histories.specs.StoreCalls.{ArrivalSpec};
-ghost use Rattle.store_history.specs.Telling.{limits_of, is_told, AddsEntry};
+ghost use Rattle.store_history.specs.Represents.{limits_of, is_told, AddsEntry};
 ghost use Rattle.store_history.specs.Finding.{find_entry, checked_arrival};
 ghost use Rattle.store_history.specs.Together.{AllFrom, AreOwn, IsReadAt, StandsAt, first_in};
 
@@ -14,7 +15,7 @@ use blob_checks::{BYTES, has_lanes, own_count};
 use blobref::{BlobList, Octets, Ref};
 use edge_base::GetFault;
 use pack_disk::Disk;
-use pack_store::{Found, Store};
+use pack_store::{Store, UncheckedBlob};
 use std::alloc::Global;
 use std::collections::VecDeque;
 
@@ -32,7 +33,7 @@ pub fn find_numbers<D: Disk>(
 ) -> Result<BlobList, GetFault>
     ensures limits { limits_of store.new ≡ limits_of store.old }
     ensures told { is_told D.Disk store.new ≡ is_told D.Disk store.old }
-    ensures tells { (made : ℕ) → AddsEntry D.Disk made store.old store.new
+    ensures adds { (made : ℕ) → AddsEntry D.Disk made store.old store.new
         (find_entry (first_in result) (D.faults store.old.disk) (D.faults store.new.disk))
         (λ before entry. ArrivalSpec (is_told D.Disk store.old) number before (checked_arrival (first_in result)) entry
         × IfOk result (AllFrom (IsReadAt (is_told D.Disk store.old) before) number)) }
@@ -48,7 +49,7 @@ pub fn find_numbers<D: Disk>(
 fn with_next<D: Disk>(
     alloc: Global,
     store: &mut Store<D>,
-    found: Found,
+    found: UncheckedBlob,
     number: u64,
     most: u64,
 ) -> Result<BlobList, GetFault>
@@ -60,7 +61,7 @@ fn with_next<D: Disk>(
     ensures stays { StaysStill D.Disk store.old store.new }
     ensures later { D.faults store.old.disk ≤ D.faults store.new.disk }
 {
-    let Found { r, bytes } = found;
+    let UncheckedBlob { r, bytes } = found;
     let size = bytes.as_slice().len() as u64;
     let most = if has_lanes(&r) { most } else { 1 };
     let mut blobs = BlobList::empty(alloc);
@@ -112,7 +113,7 @@ fn read_fitting<D: Disk>(store: &mut Store<D>, number: u64, room: u64) -> Option
     }
 }
 
-fn has_room(found: &Found, room: u64) -> bool {
+fn has_room(found: &UncheckedBlob, room: u64) -> bool {
     has_lanes(&found.r) && found.bytes.as_slice().len() as u64 <= room
 }
 
@@ -167,5 +168,5 @@ fn answered(blob: (Ref, Octets), is_own: bool) -> Result<Option<(Ref, Octets)>, 
         return Ok(Some(blob));
     }
     let (r, bytes) = blob;
-    check_arrival(Ok(Some(Found { r, bytes })))
+    check_arrival(Ok(Some(UncheckedBlob { r, bytes })))
 }

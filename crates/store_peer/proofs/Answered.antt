@@ -1,5 +1,6 @@
 -- What the calls of a store as a peer answer.
-use Rattle.std.proofs.Common.{◌≡◌, ◌↔◌, inl, ℕ, ◌≤◌, ◌<◌, List, Bool, true, false, nat_lt, Option, None, Some, Result, Ok, Err, IfOk, IfErr, OnOk, OnErr, if◌then◌else◌, refl, sym, subst, ◌∙◌, ap, arith}
+use Rattle.std.proofs.Common.{◌≡◌, ◌↔◌, inl, ℕ, ◌≤◌, ◌<◌, List, Bool, true, false, nat_lt, Option, None, Some, Result}
+use Rattle.std.proofs.Common.{Ok, Err, IfOk, IfErr, OnOk, OnErr, if◌then◌else◌, refl, sym, subst, ◌∙◌, ap, arith}
 use Rattle.std.proofs.lemmas.Bool.{ltb-true}
 use Rattle.std.specs.FinMap.{get}
 use Rattle.std.specs.Option.{ForSome, option_map, option_or}
@@ -14,7 +15,7 @@ use Rattle.edge_base.specs.declared.answers.PutFault.{PutFault}
 use Rattle.edge_base.specs.declared.answers.PutFault.TheVariants as putting
 use Rattle.pack_format.specs.Header.{max_size}
 use Rattle.pack_disk.specs.declared.disk.Disk.{Ghosts}
-use Rattle.pack_store.specs.declared.reading.Found.{Found}
+use Rattle.pack_store.specs.declared.reading.UncheckedBlob.{UncheckedBlob}
 use Rattle.pack_store.specs.Archive.{Archive, count, greatest, is_full}
 use Rattle.pack_store.specs.Finding.{IsFound, checked}
 use Rattle.pack_store.specs.Putting.{early_answer_own, Answers}
@@ -48,29 +49,34 @@ asked_ref r rows q size e = go (size_of r rows) e
 
 module _ {D : Type 0} (g : Ghosts D) (s t new : Archive D) (is : s ≡ t) (r : List ℕ) (still : StaysStill g s new) where
   -- what `find` says of an answer
-  abbrev NoneIs : Result (Option Found) GetFault → Type 0
+  abbrev NoneIs : Result (Option UncheckedBlob) GetFault → Type 0
   NoneIs answer = (answer ≡ Ok None) ↔ (number_of r s.rows ≡ None)
 
   here : (answer : Result (Option (List ℕ)) PeerFault) → FetchesBlob g s r answer new → FetchesBlob g t r answer new
   here answer = subst (λ (x : Archive D). FetchesBlob g x r answer new) is
 
-  not_none : {A : Type 0} (answer : Result (Option Found) GetFault) → NoneIs answer → (answer ≡ Ok None → ⊥) → (other : Result (Option A) GetFault) → (other ≡ Ok None → ⊥) → (other ≡ Ok None) ↔ (number_of r s.rows ≡ None)
+  not_none : {A : Type 0} (answer : Result (Option UncheckedBlob) GetFault) → NoneIs answer → (answer ≡ Ok None → ⊥)
+      → (other : Result (Option A) GetFault) → (other ≡ Ok None → ⊥) → (other ≡ Ok None) ↔ (number_of r s.rows ≡ None)
   not_none answer none never other differs = ((λ e. absurd (differs e)), (λ e. absurd (never (none.1 e))))
 
-  no_damage : (e : GetFault) → IsDamage {T = Option Found} None (g.packs s.disk) (Err e) → IsDamage {T = Option (List ℕ)} (entry_of r s.rows) (g.packs s.disk) (Err e)
+  no_damage : (e : GetFault) → IsDamage {T = Option UncheckedBlob} None (g.packs s.disk) (Err e)
+      → IsDamage {T = Option (List ℕ)} (entry_of r s.rows) (g.packs s.disk) (Err e)
   no_damage fault.Disk damage = tt
   no_damage (fault.Damaged want is) damage = absurd (cc damage.asked_for)
   no_damage fault.NoMemory damage = tt
 
-  failed_so : (e : GetFault) → (◌≡◌ {A = Result (Option Found) GetFault} (Err e) (Err fault.Disk) → FaultsRose (g.faults s.disk) (g.faults new.disk))
-      → ◌≡◌ {A = Result (Option (List ℕ)) GetFault} (Err e) (Err fault.Disk) → FaultsRose (g.faults s.disk) (g.faults new.disk)
+  failed_so : (e : GetFault) → (◌≡◌ {A = Result (Option UncheckedBlob) GetFault} (Err e) (Err fault.Disk)
+      → FaultsRose (g.faults s.disk) (g.faults new.disk))
+      → ◌≡◌ {A = Result (Option (List ℕ)) GetFault} (Err e) (Err fault.Disk) → FaultsRose (g.faults s.disk)
+      (g.faults new.disk)
   failed_so fault.Disk rose e = rose refl
   failed_so (fault.Damaged want is) rose e = absurd (cc e)
   failed_so fault.NoMemory rose e = absurd (cc e)
 
   -- the disk failed, or no memory was left
-  pub not_found : (e : GetFault) → NoneIs (Err e) → IsDamage {T = Option Found} None (g.packs s.disk) (Err e)
-      → (◌≡◌ {A = Result (Option Found) GetFault} (Err e) (Err fault.Disk) → FaultsRose (g.faults s.disk) (g.faults new.disk)) → FetchesBlob g t r (Err (get_fault e)) new
+  pub not_found : (e : GetFault) → NoneIs (Err e) → IsDamage {T = Option UncheckedBlob} None (g.packs s.disk) (Err e)
+      → (◌≡◌ {A = Result (Option UncheckedBlob) GetFault} (Err e) (Err fault.Disk) → FaultsRose (g.faults s.disk)
+      (g.faults new.disk)) → FetchesBlob g t r (Err (get_fault e)) new
   not_found e none damage failed = here (Err (get_fault e)) (record {
     told = Err e;
     answers = refl;
@@ -99,7 +105,7 @@ module _ {D : Type 0} (g : Ghosts D) (s t new : Archive D) (is : s ≡ t) (r : L
     };
   })
 
-  module _ (b : Found) (none : NoneIs (Ok (Some b))) (placed : IsFound (entry_of r s.rows) b) where
+  module _ (b : UncheckedBlob) (none : NoneIs (Ok (Some b))) (placed : IsFound (entry_of r s.rows) b) where
     no_failure : (e : GetFault) → checked b ≡ Err e → e ≡ fault.Disk → ⊥
     no_failure e answered failed = go (is_own_ref b.r b.bytes) answered
       where
@@ -111,7 +117,8 @@ module _ {D : Type 0} (g : Ghosts D) (s t new : Archive D) (is : s ≡ t) (r : L
         go false is = cc (is, failed)
 
     -- bytes of another ref were read
-    pub changed : ForSome (g.packs s.disk) (λ held. IsOwnRef b.r b.bytes) → (e : GetFault) → checked b ≡ Err e → FetchesBlob g t r (Err (get_fault e)) new
+    pub changed : ForSome (g.packs s.disk) (λ held. IsOwnRef b.r b.bytes) → (e : GetFault) → checked b ≡ Err e
+        → FetchesBlob g t r (Err (get_fault e)) new
     changed own e answered =
         let asked = entry_of r s.rows in
         let told = g.packs s.disk in
@@ -122,17 +129,21 @@ module _ {D : Type 0} (g : Ghosts D) (s t new : Archive D) (is : s ≡ t) (r : L
             none = not_none (Ok (Some b)) none (λ e. cc e) (Err e) (λ e. cc e);
             named = tt;
             found = tt;
-            damaged = damage_passed (List ℕ × List ℕ) (Option (List ℕ)) asked told (Err e) e refl (subst (IsDamage asked told) answered (checked_damage asked told b placed own));
+            damaged = damage_passed (List ℕ × List ℕ) (Option (List ℕ)) asked told (Err e) e refl
+                (subst (IsDamage asked told) answered (checked_damage asked told b placed own));
             failed = λ same. absurd (no_failure e answered (err_same e fault.Disk same));
             stays = still;
           };
         })
 
     -- the blob itself
-    pub whole : (a : List ℕ × List ℕ) → checked b ≡ Ok a → ForSome (content_of g s) (λ held. Some a.1 ≡ get held r) → FetchesBlob g t r (Ok (Some a.1)) new
+    pub whole : (a : List ℕ × List ℕ) → checked b ≡ Ok a → ForSome (content_of g s) (λ held. Some a.1 ≡ get held r)
+        → FetchesBlob g t r (Ok (Some a.1)) new
     whole a answered found =
-        let passed : (a ≡ (b.r, b.bytes)) × IsOwnRef a.0 a.1 = subst (λ (x : Result (List ℕ × List ℕ) GetFault). IfOk x (λ a. (a ≡ (b.r, b.bytes)) × IsOwnRef a.0 a.1)) answered (checked_named b) in
-        let named : a.0 ≡ r = ap (λ (x : List ℕ × List ℕ). x.0) passed.0 ∙ asked_ref r s.rows b.r placed.size placed.asked_for in
+        let passed : (a ≡ (b.r, b.bytes)) × IsOwnRef a.0 a.1 = subst (λ (x : Result (List ℕ × List ℕ) GetFault). IfOk x
+        (λ a. (a ≡ (b.r, b.bytes)) × IsOwnRef a.0 a.1)) answered (checked_named b) in
+        let named : a.0 ≡ r = ap (λ (x : List ℕ × List ℕ). x.0) passed.0 ∙ asked_ref r s.rows b.r placed.size
+        placed.asked_for in
         here (Ok (Some a.1)) (record {
           told = Ok (Some a.1);
           answers = refl;
@@ -147,17 +158,21 @@ module _ {D : Type 0} (g : Ghosts D) (s t new : Archive D) (is : s ≡ t) (r : L
         })
 
 -- a blob that is said to be damaged is the one that was asked for
-pub damaged_ref : {D : Type 0} (g : Ghosts D) (a b : Archive D) (r want is : List ℕ) → FetchesBlob g a r (Err (peer_fault.Damaged want is)) b → r ≡ want
+pub damaged_ref : {D : Type 0} (g : Ghosts D) (a b : Archive D) (r want is : List ℕ) → FetchesBlob g a r
+    (Err (peer_fault.Damaged want is)) b → r ≡ want
 damaged_ref g a b r want is call = go call.told call.answers call.fetches.damaged
   where
-    go : (told : Result (Option (List ℕ)) GetFault) → Err (peer_fault.Damaged want is) ≡ fetch_answer told → IsDamage (entry_of r a.rows) (g.packs a.disk) told → r ≡ want
+    go : (told : Result (Option (List ℕ)) GetFault) → Err (peer_fault.Damaged want is) ≡ fetch_answer told
+        → IsDamage (entry_of r a.rows) (g.packs a.disk) told → r ≡ want
     go (Ok found) same damage = absurd (cc same)
     go (Err fault.Disk) same damage = absurd (cc same)
     go (Err fault.NoMemory) same damage = absurd (cc same)
-    go (Err (fault.Damaged said other)) same damage = sym (asked_ref r a.rows said damage.size damage.asked_for) ∙ wanted
+    go (Err (fault.Damaged said other)) same damage = sym (asked_ref r a.rows said damage.size damage.asked_for)
+        ∙ wanted
       where
         wanted : said ≡ want
-        wanted = let faults : ◌≡◌ {A = PeerFault} (peer_fault.Damaged want is) (peer_fault.Damaged said other) = cc same in cc faults
+        wanted = let faults : ◌≡◌ {A = PeerFault} (peer_fault.Damaged want is) (peer_fault.Damaged said other) =
+            cc same in cc faults
 
 -- ---- puts
 
@@ -165,11 +180,13 @@ fault_same : (a b : PutFault) → ◌≡◌ {A = Result Put PutFault} (Err a) (E
 fault_same a b e = cc e
 
 -- an answer to a blob of no more than so many bytes is a peer's
-pub of_peer : {D : Type 0} (s : Archive D) (r : List ℕ) (size : ℕ) → size ≤ max_size → (f : PutFault) → Answers (early_answer_own s r size) (count s) (Err f) → IsOfPeer f
+pub of_peer : {D : Type 0} (s : Archive D) (r : List ℕ) (size : ℕ) → size ≤ max_size → (f : PutFault)
+    → Answers (early_answer_own s r size) (count s) (Err f) → IsOfPeer f
 of_peer s r size small f a = go (nat_lt max_size size) refl a
   where
     known : (o : Option ℕ) (full : Bool) (count greatest : ℕ) (f : PutFault)
-        → Answers (option_or (option_map (λ (n : ℕ). Ok (put.Already n)) o) (if full then Some (Err (putting.Full count greatest)) else None)) count (Err f) → IsOfPeer f
+        → Answers (option_or (option_map (λ (n : ℕ). Ok (put.Already n)) o)
+        (if full then Some (Err (putting.Full count greatest)) else None)) count (Err f) → IsOfPeer f
     known (Some n) full count greatest f a = cc a
     known None true count greatest f a = subst IsOfPeer (sym (fault_same f (putting.Full count greatest) a)) tt
     known None false count greatest putting.Disk a = tt
@@ -179,11 +196,15 @@ of_peer s r size small f a = go (nat_lt max_size size) refl a
     known None false count greatest (putting.BadDigest said is) a = a
 
     go : (big : Bool) → nat_lt max_size size ≡ big
-        → Answers (if big then Some (Err (putting.TooBig size)) else option_or (option_map (λ (n : ℕ). Ok (put.Already n)) (number_of r s.rows)) (if is_full s then Some (Err (putting.Full (count s) (greatest s))) else None)) (count s) (Err f) → IsOfPeer f
+        → Answers (if big then Some (Err (putting.TooBig size)) else option_or
+        (option_map (λ (n : ℕ). Ok (put.Already n)) (number_of r s.rows))
+        (if is_full s then Some (Err (putting.Full (count s) (greatest s))) else None)) (count s) (Err f)
+        → IsOfPeer f
     go true is a = let long : max_size < size = ltb-true max_size size is in absurd (omega (arith, long, small))
     go false is a = known (number_of r s.rows) (is_full s) (count s) (greatest s) f a
 
-pub are_of_peer : {D : Type 0} (s : Archive D) (r : List ℕ) (size : ℕ) → size ≤ max_size → (told : Result Put PutFault) → Answers (early_answer_own s r size) (count s) told → IfErr told IsOfPeer
+pub are_of_peer : {D : Type 0} (s : Archive D) (r : List ℕ) (size : ℕ) → size ≤ max_size → (told : Result Put PutFault)
+    → Answers (early_answer_own s r size) (count s) told → IfErr told IsOfPeer
 are_of_peer s r size small (Ok done) a = tt
 are_of_peer s r size small (Err f) a = of_peer s r size small f a
 
@@ -192,11 +213,15 @@ put_keeps P (Ok done) p = p
 put_keeps P (Err f) p = tt
 
 -- what is left where nothing changes but at the blob
-pub put_leaves : (puts : List Blob → Type 0) (fills : ℕ → ℕ → Type 0) (before now : Option Blobs) (faults faults_now : ℕ) (blob : Blob) (told : Result Put PutFault) → IfErr told IsOfPeer
-    → OnErr told (now ≡ before) → KeepLeaves puts fills faults faults_now blob told → PutLeaves {T = Unit {0}} puts fills before now faults faults_now blob (put_answer told)
+pub put_leaves : (puts : List Blob → Type 0) (fills : ℕ → ℕ → Type 0) (before now : Option Blobs)
+    (faults faults_now : ℕ) (blob : Blob) (told : Result Put PutFault) → IfErr told IsOfPeer
+    → OnErr told (now ≡ before) → KeepLeaves puts fills faults faults_now blob told
+    → PutLeaves {T = Unit {0}} puts fills before now faults faults_now blob (put_answer told)
 put_leaves puts fills before now faults faults_now blob (Ok done) of_peer same w = w
 put_leaves puts fills before now faults faults_now blob (Err (putting.TooBig size)) of_peer same w = absurd of_peer
-put_leaves puts fills before now faults faults_now blob (Err (putting.BadDigest said is)) of_peer same w = absurd of_peer
-put_leaves puts fills before now faults faults_now blob (Err (putting.Full blobs pack)) of_peer same w = (w.0, same, w.1)
+put_leaves puts fills before now faults faults_now blob (Err (putting.BadDigest said is)) of_peer same w =
+    absurd of_peer
+put_leaves puts fills before now faults faults_now blob (Err (putting.Full blobs pack)) of_peer same w =
+    (w.0, same, w.1)
 put_leaves puts fills before now faults faults_now blob (Err putting.Disk) of_peer same w = w
 put_leaves puts fills before now faults faults_now blob (Err putting.NoMemory) of_peer same w = inl (w, same)

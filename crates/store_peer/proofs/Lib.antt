@@ -1,4 +1,4 @@
-mod Contents
+pub mod Contents
 mod Counts
 pub mod Answered
 pub mod Listed

@@ -76,6 +76,7 @@ impl<D: Disk> Peer for StorePeer<D> {
 
     fn blobs_are_small(&self) {
         self.store.arrivals_are_held();
+        // The contract of `count` says that it is a `u64`.
         let _count = self.store.count();
     }
 

@@ -11,8 +11,8 @@ fn spells(text: &str, digest: [u8; 28]) -> bool {
     Ref::from_digest(digest).spell().as_slice() == text.as_bytes()
 }
 
-// The examples of the standard and the empty message: the fifth takes the lane of one that has ended, and the last two are
-// ended alone.
+// The examples of the standard and the empty message: the fifth takes the lane of one that has ended, and the last two
+// are ended alone.
 #[test]
 fn digests_of_the_standards_examples(rt: HostRuntime) {
     let blocks: &[u8] = b"abcdbcdecdefdefgefghfghighijhijkijkljklmklmnlmnomnopnopq";

@@ -1,5 +1,5 @@
-//! Tests of names, digests and small values, of sources and sinks, of packs, disks and stores, and of generated stores. What is
-//! tested here stands in the crates below.
+//! Tests of names, digests and small values, of sources and sinks, of packs, disks and stores, and of generated stores.
+//! What is tested here stands in the crates below.
 #![tactic(auto)]
 
 #[cfg(test)]

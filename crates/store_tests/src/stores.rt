@@ -136,8 +136,8 @@ fn false_refs_are_refused(rt: HostRuntime) -> Result<(), Fail> {
     Ok(())
 }
 
-// `abc` is stored under either name, once under each. What is refused carries the ref of the bytes under the digest that
-// was said.
+// `abc` is stored under either name, once under each. What is refused carries the ref of the bytes under the digest
+// that was said.
 #[test]
 fn both_names_of_a_blob(rt: HostRuntime) -> Result<(), Fail> {
     let alloc = rt.alloc();

@@ -19,8 +19,8 @@ abbrev pub FirstIs : (Blob → Type 0) → List Blob → Type 0
 FirstIs P [] = ⊥
 FirstIs P (blob ∷ more) = P blob
 
--- The peer that is copied to didn't list, or didn't take a blob. `fills` says whether it has no room for a blob, with so many blobs and a
--- last pack of that number, and the blobs are those that were still to be copied.
+-- The peer that is copied to didn't list, or didn't take a blob. `fills` says whether it has no room for a blob, with
+-- so many blobs and a last pack of that number, and the blobs are those that were still to be copied.
 abbrev pub TargetFault : Option Blobs → (Blob → ℕ → ℕ → Type 0) → (before now : ℕ) → List Blob → PeerFault → Type 0
 TargetFault told fills before now rest fault.Failed = FaultsRose before now
 TargetFault told fills before now rest fault.BadReply = told ≡ None

@@ -47,7 +47,8 @@ module _ {A B : Type 0} (g : Ghosts A) (h : Ghosts B) where
       SourceFault (g.content source) (g.faults source) (g.faults source_now) e × SourceAnswered g source source_now e
   StopCause source source_now old new rest (Target e) =
       TargetFault (h.content old) (h.fills new) (h.faults old) (h.faults new) rest e × TargetAnswered h old new e
-  StopCause source source_now old new rest (Gone r) = (g.content source ≡ None) × Fetched g source source_now r (Ok None)
+  StopCause source source_now old new rest (Gone r) = (g.content source ≡ None) × Fetched g source source_now r
+      (Ok None)
 
   -- these blobs were copied, the next one was tried if any is told, and it stopped
   pub record Stopped (source source_now : A) (old new : B) (gone next : List Blob) (e : SyncFault) : Type 0 where
@@ -59,7 +60,8 @@ module _ {A B : Type 0} (g : Ghosts A) (h : Ghosts B) where
   -- ---- the blobs of some refs
 
   abbrev pub CopiesRefs : A → A → B → B → List (List ℕ) → Type 0
-  CopiesRefs source source_now old new refs = (gone : List Blob) × (refs_of gone ≡ refs) × Copies source old new gone × CopiesEach g h source old gone source_now new
+  CopiesRefs source source_now old new refs = (gone : List Blob) × (refs_of gone ≡ refs) × Copies source old new gone
+      × CopiesEach g h source old gone source_now new
 
   pub record CopiesFront (source source_now : A) (old new : B) (refs : List (List ℕ)) (e : SyncFault) : Type 0 where
     pub gone : List Blob
@@ -74,21 +76,26 @@ module _ {A B : Type 0} (g : Ghosts A) (h : Ghosts B) where
 
   -- ---- the blobs of a page that the target lacks
 
-  pub record CopiesPage (source source_now : A) (old new : B) (after : Option (List ℕ)) (last : List ℕ) (page : Page) (count : ℕ) : Type 0 where
+  pub record CopiesPage (source source_now : A) (old new : B) (after : Option (List ℕ)) (last : List ℕ) (page : Page)
+      (count : ℕ) : Type 0 where
     pub gone : List Blob
     pub copies : Copies source old new gone
     pub count_is : count ≡ length gone
     pub are : ForSome (h.content old) (λ held. refs_of gone ≡ filter (λ r. not (contains_key held r)) (refs_of page))
     pub beside : List Page
-    pub takes : TakesPage g h source source_now old new after last (record { page = page; beside = beside; gone = gone })
+    pub takes : TakesPage g h source source_now old new after last
+        (record { page = page; beside = beside; gone = gone })
 
   -- where the page was listed by a call before it
-  pub record CopiesSome (source source_now : A) (old new : B) (after : Option (List ℕ)) (last : List ℕ) (page : Page) (e : SyncFault) : Type 0 where
+  pub record CopiesSome (source source_now : A) (old new : B) (after : Option (List ℕ)) (last : List ℕ) (page : Page)
+      (e : SyncFault) : Type 0 where
     pub gone : List Blob
     pub next : List Blob
     pub stopped : Stopped source source_now old new gone next e
-    pub are : ForSome (h.content old) (λ held. (rest : List (List ℕ)) × (filter (λ r. not (contains_key held r)) (refs_of page) ≡ refs_of (gone ++ next) ++ rest))
+    pub are : ForSome (h.content old) (λ held. (rest : List (List ℕ))
+        × (filter (λ r. not (contains_key held r)) (refs_of page) ≡ refs_of (gone ++ next) ++ rest))
     pub done : List Blob
     pub tried : List Blob
     pub put : ArePut gone next done tried
-    pub stops : (before : A) → g.lists before after 1000 (Ok page) source → StopsAt g h before source_now old new after e done tried
+    pub stops : (before : A) → g.lists before after 1000 (Ok page) source → StopsAt g h before source_now old new after
+        e done tried

@@ -15,8 +15,9 @@ abbrev pub ForBoth : {A B : Type 0} → Ghosts A → Ghosts B → A → B → (B
 ForBoth g h source target P = ForSome (g.content source) (λ from. ForSome (h.content target) (λ to. P from to))
 
 module _ {A B : Type 0} (g : Ghosts A) (h : Ghosts B) where
-  -- Each page of the source was taken: the blobs of the refs that the target didn't list beside it were copied, and these and the other refs are
-  -- counted. Where both tell what they hold, these are the blobs of the source that the target lacked. The target listed its refs, if only once.
+  -- Each page of the source was taken: the blobs of the refs that the target didn't list beside it were copied, and
+  -- these and the other refs are counted. Where both tell what they hold, these are the blobs of the source that the
+  -- target lacked. The target listed its refs, if only once.
   pub record IsSynced (source source_now : A) (old new : B) (synced : Synced) : Type 0 where
     pub gone : List Blob
     pub copies : Copies g h source old new gone

@@ -30,7 +30,8 @@ pub enum SyncFault {
     Gone { r: Ref },
 }
 
-/// Copies each blob of the source whose ref the target lacks, in the order of refs. What the source holds stays as it is.
+/// Copies each blob of the source whose ref the target lacks, in the order of refs. What the source holds stays as it
+/// is.
 ///
 /// At `Ok`, whether or not the two tell what they hold: the source listed pages, each after the last ref of the one
 /// before, and then an empty one. Beside each page the target listed its own, up to the page's last ref. Each ref that
@@ -40,8 +41,8 @@ pub enum SyncFault {
 /// After an error the same holds of the pages before the one at hand, and of the first refs of that one. The error is
 /// what the call answered that came next, `Gone` a `None` for a ref that the source had listed, or want of memory.
 /// `Failed` comes only where that peer's count of faults rose, `Full` only of a target that has no room for the next
-/// blob, `BadReply`, `Refused` and `Damaged` never of a peer that tells what it holds, and `Gone` never where the source
-/// does.
+/// blob, `BadReply`, `Refused` and `Damaged` never of a peer that tells what it holds, and `Gone` never where the
+/// source does.
 ///
 /// Where both tell what they hold, the target then holds what it held and the blobs that it lacked; after an error it
 /// holds what it held and a front of them.

@@ -4,7 +4,7 @@ ghost use Rattle.top_frame.specs.Status.{code, word};
 
 use blobref::{NoMemory, Ref};
 use edge_base::{GetFault, PutFault};
-use file_cut::{CutFault, LONGEST_FILE};
+use file_cut::{CutFault, MAX_FILE};
 use file_tree::FileFault;
 use pack_store::OpenFault;
 use query_read::QueryFault;
@@ -32,8 +32,8 @@ pub enum InputFault {
     Deep { r: Ref },
     /// The keyring doesn't hold the key.
     NoKey,
-    /// A text is too long for its blob, which would have this number of bytes; or a file, its name, a query or a list of
-    /// changes is longer than it may be, the name with this number of bytes, the others with this number or more.
+    /// A text is too long for its blob, which would have this number of bytes; or a file, its name, a query or a list
+    /// of changes is longer than it may be, the name with this number of bytes, the others with this number or more.
     TooLong { len: u64 },
     /// The input is no query: its first fault.
     BadQuery(QueryFault),
@@ -214,9 +214,7 @@ impl From<CutFault> for Status {
 
     fn from(fault: CutFault) -> Status {
         match fault {
-            CutFault::TooLong => Status::BadInput(InputFault::TooLong {
-                len: LONGEST_FILE + 1,
-            }),
+            CutFault::TooLong => Status::BadInput(InputFault::TooLong { len: MAX_FILE + 1 }),
             CutFault::NameTooLong { len } => Status::BadInput(InputFault::TooLong { len }),
             CutFault::ReadFault => Status::ReadFault,
             CutFault::Put(fault) => Status::from(fault),

@@ -17,7 +17,7 @@ use std::alloc::Global;
 use top_frame::{Environment, InputFault, Status, read_input, told_too_long};
 
 // The most bytes that a list of changes may have.
-const LONGEST_CHANGES: usize = 1_048_576;
+const MAX_CHANGES_TEXT: usize = 1_048_576;
 
 /// Stores the blob of a key and a claim of this time that it signed, of the changes that the source lists, and writes
 /// the line of the claim's ref.
@@ -51,7 +51,7 @@ fn read_changes<S: Source>(alloc: Global, source: &mut S) -> Result<ChangeList, 
     ensures refused { IfErr result (RefusesChanges S.Source source.old source.new) }
     ensures later { S.faults source.old ≤ S.faults source.new }
 {
-    let text = match read_input(alloc, source, LONGEST_CHANGES) {
+    let text = match read_input(alloc, source, MAX_CHANGES_TEXT) {
         Ok(text) => text,
         Err(status) => return Err(told_too_long(status)),
     };

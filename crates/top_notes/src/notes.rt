@@ -90,6 +90,7 @@ fn signed_note<V: Signer>(
     requires short { length payload.now + signature_length ≤ longest_schema }
     ensures { IfOk result (IsNote (V.seals keys.now) name.now payload.now) }
 {
+    // The contract needs the form of a name, which the contract of `bytes` says.
     let _name = name.bytes();
     let sig = sealed_by(keys, name, payload);
     let blob = signed(alloc, payload, &sig)?;
@@ -122,10 +123,7 @@ pub(crate) fn random_of<R: Dice>(dice: &mut R) -> Result<[u8; 16], Failed>
     ensures told { IfOk result (λ bytes. ForSome (R.random dice.old) (λ random. bytes ≡ random)) }
     ensures cause { HasCause (R.faults dice.old) (R.faults dice.new) result }
 {
-    match dice.sixteen() {
-        Ok(random) => Ok(random),
-        Err(Failed) => Err(Failed),
-    }
+    dice.sixteen()
 }
 
 /// The time of a clock, as a date, which has a written text. `Failed` comes only where the clock's count of faults
@@ -139,6 +137,7 @@ pub(crate) fn date_of<C: Clock>(clock: &mut C) -> Result<Date, Failed>
     let Some(date) = Date::of(clock.now()?) else {
         unreachable!()
     };
+    // The contract of `text` says that the date has a written text.
     let _text = date.text();
     Ok(date)
 }

@@ -25,7 +25,7 @@ pub struct KeptIndex<V: Verifier> {
 impl<V: Verifier> Told for KeptIndex<V> {
     ghost use Rattle.std.specs.Prelude.{[]};
     ghost use Rattle.histories.specs.Indexes.{is_legal_index};
-    ghost use Rattle.index_history.specs.Telling.{IndexTells};
+    ghost use Rattle.index_history.specs.Represents.{IndexRepresents};
 
     type Entry = IndexEvent;
 
@@ -33,7 +33,7 @@ impl<V: Verifier> Told for KeptIndex<V> {
 
     ghost about = { λ k. k.index.index.keys };
 
-    ghost tells = { λ k h. IndexTells k.index h };
+    ghost tells = { λ k h. IndexRepresents k.index h };
 
     ghost begins = { λ k. [] };
 

@@ -8,7 +8,7 @@ use Rattle.histories.specs.History.{events}
 use Rattle.histories.specs.Stores.{StoreLimits, is_legal_store}
 use Rattle.pack_disk.specs.declared.disk.Disk.{Ghosts}
 use Rattle.pack_store.specs.Archive.{Archive}
-use Rattle.store_history.specs.Telling.{limits_of, is_told, may_stand, StoreTells}
+use Rattle.store_history.specs.Represents.{limits_of, is_told, may_stand, StoreRepresents}
 use Rattle.turn_store.specs.declared.store.StoreAbout.{StoreAbout}
 
 -- those of a store whose disk had counted so many faults when it was put into the lock
@@ -27,7 +27,7 @@ is_legal_within a h = is_legal_store (limits_in a) h && list_all (may_stand a.ma
 
 -- each history that a store stands for is legal in this sense
 pub legal_within : {D : Type 0} (g : Ghosts D) (made : ℕ) (s : Archive D) (h : List (Stamped StoreEvent))
-    → StoreTells g made s h → is_legal_within (about_of g made s) h ≡ true
+    → StoreRepresents g made s h → is_legal_within (about_of g made s) h ≡ true
 legal_within g made s h tells = and_from _ _ tells.legal tells.stands
 
 -- what a seat knows of them; each seat of a lock knows them

@@ -3,7 +3,7 @@ use Rattle.std.specs.Prelude.{◌≡◌, Bool, Some}
 use Rattle.pack_disk.specs.declared.disk.Disk.{Ghosts}
 use Rattle.pack_store.specs.declared.limits.Limits.{Limits}
 use Rattle.turn_cell.specs.Seats.{IsSeatOf, about, made_of, seen, turns}
-use Rattle.store_history.specs.Telling.{is_told}
+use Rattle.store_history.specs.Represents.{is_told}
 use Rattle.home_places.specs.Seats.{StoreSight}
 use Rattle.turn_store.specs.declared.store.StoreAbout.{StoreAbout}
 use Rattle.turn_store.specs.declared.store.TurnStore.{TurnStore}

@@ -44,7 +44,7 @@ pub struct KeptStore<D: Disk> {
 }
 
 impl<D: Disk> Told for KeptStore<D> {
-    ghost use Rattle.store_history.specs.Telling.{StoreTells};
+    ghost use Rattle.store_history.specs.Represents.{StoreRepresents};
     ghost use Rattle.store_history.specs.Beginning.{begins};
     ghost use Rattle.turn_store.specs.StoreAbout.{about_of, is_legal_within, legal_within};
 
@@ -54,7 +54,7 @@ impl<D: Disk> Told for KeptStore<D> {
 
     ghost about = { λ k. about_of D.Disk k.made k.store };
 
-    ghost tells = { λ k h. StoreTells D.Disk k.made k.store h };
+    ghost tells = { λ k h. StoreRepresents D.Disk k.made k.store h };
 
     ghost begins = { λ k. begins D.Disk k.store };
 

@@ -58,8 +58,8 @@ fn end_named(name: &str, at: u64) -> WireEnd {
     }
 }
 
-// Whether a row of an end, how many bytes stand before the request in which it comes, and the stream is right, whole and
-// one byte at a time.
+// Whether a row of an end, how many bytes stand before the request in which it comes, and the stream is right, whole
+// and one byte at a time.
 fn is_row(alloc: Global, row: &str) -> Result<bool, NoMemory> {
     let (name, rest) = row.split_once('|').unwrap_or(("", ""));
     let (at, stream) = rest.split_once('|').unwrap_or(("", ""));

@@ -15,10 +15,10 @@ use search_words::WordsFault;
 use std::alloc::Global;
 
 // The most bytes that a line may have.
-const LONGEST: usize = 1_024;
+const MAX_LINE: usize = 1_024;
 
 // The most constraints that may stand within one another.
-const DEEPEST: u32 = 32;
+const MAX_DEPTH: u32 = 32;
 
 /// The constraint that a line of search words asks (`docs/formats/search_words.md`), or why it isn't read: `TooLong`,
 /// else `Bad`, else `TooDeep`, and `NoMemory` at any time. It goes over the text once, and takes time in its length.
@@ -30,14 +30,14 @@ pub fn read_words(alloc: Global, text: &str) -> Result<Constraint, WordsFault>
     ensures fault { IfErr result (Says (words_fault text.now)) }
 {
     let len = text.len();
-    if len > LONGEST {
+    if len > MAX_LINE {
         return Err(WordsFault::TooLong { len: len as u64 });
     }
     let constraint = match read_short(alloc, text) {
         Ok(constraint) => constraint,
         Err(fault) => return Err(fault),
     };
-    if !nests_within(&constraint, DEEPEST) {
+    if !nests_within(&constraint, MAX_DEPTH) {
         return Err(WordsFault::TooDeep);
     }
     Ok(constraint)

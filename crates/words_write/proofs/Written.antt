@@ -1,5 +1,6 @@
 -- The line that is written for a constraint is read as it, and there is one where any line is.
-use Rattle.std.proofs.Common.{◌≡◌, ◌≢◌, ℕ, Bool, true, false, not, ◌&&◌, cond, List, [], ◌∷◌, ◌++◌, codes, refl, sym, ap, subst, ◌∙◌, Option, Some, None, is_none, option_map}
+use Rattle.std.proofs.Common.{◌≡◌, ◌≢◌, ℕ, Bool, true, false, not, ◌&&◌, cond, List, [], ◌∷◌, ◌++◌, codes, refl, sym}
+use Rattle.std.proofs.Common.{ap, subst, ◌∙◌, Option, Some, None, is_none, option_map}
 use Rattle.std.proofs.lemmas.List.{append_assoc, append-nil}
 use Rattle.std.proofs.lemmas.Slice.Eq.{bytes_eq-Decides}
 use Rattle.std.specs.List.{list_all}
@@ -9,12 +10,20 @@ use Rattle.search_query.specs.declared.query.Op.{Op}
 use Rattle.search_query.specs.declared.query.Op.TheVariants.{And, Or, Xor, Not}
 use Rattle.search_query.specs.declared.query.Kin.TheVariants.{Parent, Child}
 use Rattle.search_query.specs.declared.query.TextTest.{TextTest}
-use Rattle.search_query.specs.Mirror.{Leaves, TestLeaves, Asked, not_asked, asked, Joined, no_logical, logical, Tested, no_permanode, permanode, Related, no_relation, relation}
+use Rattle.search_query.specs.Mirror.{Leaves, TestLeaves, Asked, not_asked, asked, Joined, no_logical, logical, Tested}
+use Rattle.search_query.specs.Mirror.{no_permanode, permanode, Related, no_relation, relation}
 use Rattle.search_query.specs.Valid.{is_tested}
 use Rattle.search_query.specs.View.{is_asked}
-use Rattle.search_words.specs.Asking.{no_leaves, no_test_leaves, both, either, negation, tests, has_attr, has_value, contains}
-use Rattle.search_words.specs.Grammar.{is_bare, is_escaped, IsWithin, nothing, plain, escaped, IsText, bare, quoted, IsWord, tag, title, attr, has, ref, childrenof, IsAtom, word, group, IsUnit, atom, minus, IsAnd, unit, and, IsOr, one, or, IsLine, line}
-use Rattle.words_write.specs.Writing.{escaped_text, quoted_text, text_of, named, tag_line, attr_line, value_line, title_line, contains_only, attr_word, prefix_only, child_line, related_word, if_only, no_other, none_of, tested_word, ref_line, no_leaf, word_of, Rank, an_or, an_and, a_unit, an_atom, Made, made_as, in_group, ranked_and, ranked_unit, ranked_atom, or_made, and_made, not_made, only_made, joined_made, made, line_of}
+use Rattle.search_words.specs.Asking.{no_leaves, no_test_leaves, both, either, negation, tests, has_attr, has_value}
+use Rattle.search_words.specs.Asking.{contains}
+use Rattle.search_words.specs.Grammar.{is_bare, is_escaped, IsWithin, nothing, plain, escaped, IsText, bare, quoted}
+use Rattle.search_words.specs.Grammar.{IsWord, tag, title, attr, has, ref, childrenof, IsAtom, word, group, IsUnit}
+use Rattle.search_words.specs.Grammar.{atom, minus, IsAnd, unit, and, IsOr, one, or, IsLine, line}
+use Rattle.words_write.specs.Writing.{escaped_text, quoted_text, text_of, named, tag_line, attr_line, value_line}
+use Rattle.words_write.specs.Writing.{title_line, contains_only, attr_word, prefix_only, child_line, related_word}
+use Rattle.words_write.specs.Writing.{if_only, no_other, none_of, tested_word, ref_line, no_leaf, word_of, Rank, an_or}
+use Rattle.words_write.specs.Writing.{an_and, a_unit, an_atom, Made, made_as, in_group, ranked_and, ranked_unit}
+use Rattle.words_write.specs.Writing.{ranked_atom, or_made, and_made, not_made, only_made, joined_made, made, line_of}
 use Rattle.search_words.proofs.Tests.{and_both}
 use Rattle.search_words.proofs.WordSound.{if_some}
 

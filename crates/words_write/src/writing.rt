@@ -15,8 +15,8 @@ use std::alloc::Global;
 
 /// The line of search words that asks the constraint (`docs/formats/search_words.md`), with single spaces, texts bare
 /// where they can be, and no more parentheses outside quotes than any line that asks the same. None exactly where no
-/// line of any length asks it. The only error is want of memory. It takes time in the length of the line and in how much
-/// of the constraint there is, and its calls nest as deep as the constraint: 32 levels of a query's at most.
+/// line of any length asks it. The only error is want of memory. It takes time in the length of the line and in how
+/// much of the constraint there is, and its calls nest as deep as the constraint: 32 levels of a query's at most.
 pub fn words_of(alloc: Global, constraint: &Constraint) -> Result<Option<Text>, NoMemory>
     ensures line { IfOk result (λ line. line ≡ line_of (view constraint.now)) }
     ensures written { IfOk result (λ line. IsWritten (view constraint.now) line) }

@@ -5,7 +5,7 @@ ghost use Rattle.perkeep_top.specs.PutFile.{put_file_meaning};
 
 use blobref::NoMemory;
 use edge_base::{Clock, Dice, Sink, Source};
-use file_cut::{LONGEST_NAME, write_file};
+use file_cut::{MAX_NAME, write_file};
 use pack_disk::Disk;
 use peer_base::Peer;
 use perkeep_lines::ref_line;
@@ -24,7 +24,7 @@ pub(crate) fn put_file<D: Disk, P: Peer, S: Source, K: Sink, C: Clock, R: Dice, 
         (world_before disk environment.entry)
         (world_after result.0 environment.exit) result.1 }
 {
-    if name.len() > LONGEST_NAME {
+    if name.len() > MAX_NAME {
         let len = name.len() as u64;
         return (disk, Status::BadInput(InputFault::TooLong { len }));
     }

@@ -15,7 +15,7 @@ use std::alloc::Global;
 use top_frame::{Environment, Status, read_input, told_too_long, written};
 
 // The most bytes that a query may have.
-const LONGEST_QUERY: usize = 1_048_576;
+const MAX_QUERY: usize = 1_048_576;
 
 /// Writes the answer to the query that the source has left, over the blobs of the store.
 pub(crate) fn query<D: Disk, P: Peer, S: Source, K: Sink, C: Clock, R: Dice, V: Verifier>(
@@ -48,7 +48,7 @@ fn read_query<S: Source>(alloc: Global, source: &mut S) -> Result<Query, Status>
     ensures refused { IfErr result (RefusesQuery S.Source source.old source.new) }
     ensures later { S.faults source.old ≤ S.faults source.new }
 {
-    let text = match read_input(alloc, source, LONGEST_QUERY) {
+    let text = match read_input(alloc, source, MAX_QUERY) {
         Ok(text) => text,
         Err(status) => return Err(told_too_long(status)),
     };

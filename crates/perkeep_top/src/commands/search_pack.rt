@@ -15,7 +15,7 @@ use std::alloc::Global;
 use top_frame::{Environment, Status, written};
 
 // The most bytes of a pack that is searched: 2 ^ 30.
-const LONGEST_PACK: usize = 1_073_741_824;
+const MAX_PACK: usize = 1_073_741_824;
 
 /// Writes the answer to a search for an attribute's value, over the blobs salvaged from the pack that the source has
 /// left.
@@ -32,7 +32,7 @@ pub(crate) fn search_pack<D: Disk, P: Peer, S: Source, K: Sink, C: Clock, R: Dic
         (world_before disk environment.entry)
         (world_after result.0 environment.exit) result.1 }
 {
-    let facts = match read_facts(alloc, environment.source, LONGEST_PACK) {
+    let facts = match read_facts(alloc, environment.source, MAX_PACK) {
         Ok(facts) => facts,
         Err(status) => return (disk, status),
     };

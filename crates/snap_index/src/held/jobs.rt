@@ -22,7 +22,7 @@ use std::sync::Wait;
 use work_numbers::WorkNumbers;
 
 // The number of Inserts never reaches this.
-const MOST: u64 = 1 << 60;
+const MAX_INSERTS: u64 = 1 << 60;
 
 /// Takes the least waiting number in hand.
 #[derive(Drop)]
@@ -152,7 +152,8 @@ fn add<V: Verifier + Drop, H: Wait + Drop, R: Wait>(
     held: &mut SnapHeld<V, H>,
 ) -> Result<Inserted, NoMemory>
     requires told { (h : List (Stamped IndexEvent))
-        × HeldTells held.old (λ c. c.writer) (λ w. w.desk.shown.value) (λ w. drop w.behind w.log.items) h × Before turn h }
+        × HeldTells held.old (λ c. c.writer) (λ w. w.desk.shown.value) (λ w. drop w.behind w.log.items) h
+        × Before turn h }
     requires fresh { contains_key held.old.numbers.numbers prepared.made.0 ≡ false }
     ensures head { held.new.pusher.head ≡ held.old.pusher.head }
     ensures keys { held.new.keys ≡ held.old.keys }
@@ -165,7 +166,7 @@ fn add<V: Verifier + Drop, H: Wait + Drop, R: Wait>(
         → InsertSpec prepared.made.0 prepared.made.1 prepared.made.2 (events h) result
         (insert_entry prepared.made.0 prepared.made.1 prepared.made.2 result) }
 {
-    if held.pusher.front.count >= MOST {
+    if held.pusher.front.count >= MAX_INSERTS {
         return Err(NoMemory);
     }
     if !note(&mut held.numbers, prepared.made.number()) {

@@ -14,7 +14,7 @@ pub trait IndexJob<V: Verifier> {
     ghost use Rattle.histories.specs.declared.stamped.Stamped.{Stamped};
     ghost use Rattle.histories.specs.declared.events.IndexEvent.{IndexEvent};
     ghost use Rattle.histories.specs.History.{stamped};
-    ghost use Rattle.index_history.specs.Telling.{IndexTells};
+    ghost use Rattle.index_history.specs.Represents.{IndexRepresents};
 
     /// Its result.
     type Out;
@@ -33,9 +33,9 @@ pub trait IndexJob<V: Verifier> {
     fn go(self, index: &mut WorkIndex<V>) -> Self::Out
         requires { may self }
         ensures keys { index.new.index.keys ≡ index.old.index.keys }
-        ensures kept { (h : List (Stamped IndexEvent)) (turn : ℕ) → IndexTells index.old h
-            → IndexTells index.new (h ++ stamped turn (adds self result)) }
-        ensures says { (h : List (Stamped IndexEvent)) → IndexTells index.old h
+        ensures kept { (h : List (Stamped IndexEvent)) (turn : ℕ) → IndexRepresents index.old h
+            → IndexRepresents index.new (h ++ stamped turn (adds self result)) }
+        ensures says { (h : List (Stamped IndexEvent)) → IndexRepresents index.old h
             → says self (V.accepts index.old.index.keys) h result (adds self result) };
 }
 

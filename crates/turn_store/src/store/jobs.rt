@@ -5,7 +5,7 @@ use super::turns::StoreJob;
 use blobref::{BlobList, Listing, NoMemory, Ref, RefList};
 use edge_base::{GetFault, Put, PutFault};
 use pack_disk::Disk;
-use pack_store::{Found, Store};
+use pack_store::{Store, UncheckedBlob};
 use std::alloc::Global;
 
 /// Puts a blob under its own ref.
@@ -18,7 +18,7 @@ pub struct PutOwn<'a> {
 
 impl<'a, D: Disk> StoreJob<D> for PutOwn<'a> {
     ghost use Rattle.histories.specs.StoreCalls.{PutSpec};
-    ghost use Rattle.store_history.specs.Telling.{put_entry};
+    ghost use Rattle.store_history.specs.Represents.{put_entry};
     ghost use Rattle.turn_store.specs.StoreAbout.{limits_in};
 
     type Out = Result<Put, PutFault>;
@@ -42,13 +42,13 @@ impl<'a, D: Disk> StoreJob<D> for Find<'a> {
     ghost use Rattle.histories.specs.StoreCalls.{GetSpec};
     ghost use Rattle.store_history.specs.Finding.{find_entry, checked_get};
 
-    type Out = Result<Option<Found>, GetFault>;
+    type Out = Result<Option<UncheckedBlob>, GetFault>;
 
     ghost says = { λ j about before result entry. GetSpec about.tells j.r.now before (checked_get result) entry };
 
     ghost adds = { λ j result before now. find_entry result before now };
 
-    fn go(self, store: &mut Store<D>) -> Result<Option<Found>, GetFault> {
+    fn go(self, store: &mut Store<D>) -> Result<Option<UncheckedBlob>, GetFault> {
         store_history::find(store, self.r)
     }
 }
@@ -63,14 +63,14 @@ impl<D: Disk> StoreJob<D> for FindNumber {
     ghost use Rattle.histories.specs.StoreCalls.{ArrivalSpec};
     ghost use Rattle.store_history.specs.Finding.{find_entry, checked_arrival};
 
-    type Out = Result<Option<Found>, GetFault>;
+    type Out = Result<Option<UncheckedBlob>, GetFault>;
 
     ghost says = { λ j about before result entry.
         ArrivalSpec about.tells j.number before (checked_arrival result) entry };
 
     ghost adds = { λ j result before now. find_entry result before now };
 
-    fn go(self, store: &mut Store<D>) -> Result<Option<Found>, GetFault> {
+    fn go(self, store: &mut Store<D>) -> Result<Option<UncheckedBlob>, GetFault> {
         store_history::find_number(store, self.number)
     }
 }

@@ -1,7 +1,7 @@
 //! Makes the place and its seats.
 ghost use Rattle.std.specs.Prelude.{◌≡◌, [], map, IfOk, IfErr};
 ghost use Rattle.histories.specs.History.{stamp};
-ghost use Rattle.store_history.specs.Telling.{is_told, limits_of};
+ghost use Rattle.store_history.specs.Represents.{is_told, limits_of};
 ghost use Rattle.store_history.specs.Beginning.{begins};
 ghost use Rattle.turn_store.specs.StoreAbout.{about_of};
 ghost use Rattle.turn_store.specs.StoreSeats.{IsOfStore, store_sight, place_about, place_limits, place_tells};
@@ -12,7 +12,7 @@ use blobref::NoMemory;
 use pack_disk::Disk;
 use pack_store::Store;
 use std::alloc::Global;
-use store_history::{begins_tell, count};
+use store_history::{count, represents_beginning};
 use turn_cell::Turn;
 
 impl<D: Disk> TurnStore<D> {
@@ -34,7 +34,7 @@ impl<D: Disk> TurnStore<D> {
         }) }
         ensures given_back { IfErr result (λ e. e.0 ≡ store) }
     {
-        begins_tell(&store);
+        represents_beginning(&store);
         let count = count(&store);
         let made = store.faults();
         let kept = KeptStore {

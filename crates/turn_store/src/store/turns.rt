@@ -13,7 +13,7 @@ pub trait StoreJob<D: Disk> {
     ghost use Rattle.std.specs.Prelude.{◌≡◌, ℕ, List, Option};
     ghost use Rattle.histories.specs.declared.events.StoreEvent.{StoreEvent};
     ghost use Rattle.histories.specs.Stores.{Blob};
-    ghost use Rattle.store_history.specs.Telling.{AddsEntry};
+    ghost use Rattle.store_history.specs.Represents.{AddsEntry};
     ghost use Rattle.turn_store.specs.declared.store.StoreAbout.{StoreAbout};
     ghost use Rattle.turn_store.specs.StoreAbout.{about_of};
 

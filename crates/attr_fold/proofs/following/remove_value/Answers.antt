@@ -21,4 +21,5 @@ returns-clause-followed g c = λ on.
     let old = c.args.rows.now in
     let said = counted_before old.facts.ordered old.deletes old.changes k.2 c.args.moment.now in
     subst (λ (hs : Holders). IsFollowed k.2 (record { on = on; act = removes; attr = k.0; value = k.1 }) said old.holders hs) (sym c.drop_row.ensures.value)
-    (dropped k.2 k.0 k.1 on said old.holders (ap (λ (v : List ℕ). length v == 0) (sym c.value.ensures) ∙ sym c.if-is_empty.ensures))
+    (dropped k.2 k.0 k.1 on said old.holders
+    (ap (λ (v : List ℕ). length v == 0) (sym c.value.ensures) ∙ sym c.if-is_empty.ensures))

@@ -14,4 +14,5 @@ returns-clause-followed g c =
     let said = counted_before old.facts.ordered old.deletes old.changes k.2 c.args.moment.now in
     on_ok_weaker c.set.result (λ put on.
     subst (λ (hs : Holders). IsFollowed k.2 (record { on = on; act = sets; attr = k.0; value = k.1 }) said old.holders hs) (sym put)
-    (set_alone k.2 k.0 k.1 on said old.holders mid c.in_ok-drop_values.ensures.fewer c.in_ok-drop_values.ensures.gone)) c.set.ensures.ok
+    (set_alone k.2 k.0 k.1 on said old.holders mid c.in_ok-drop_values.ensures.fewer c.in_ok-drop_values.ensures.gone))
+    c.set.ensures.ok

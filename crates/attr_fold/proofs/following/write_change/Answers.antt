@@ -22,7 +22,8 @@ returns-in-Add-clause-followed g c =
     let old = c.args.rows.now in
     let said = counted_before old.facts.ordered old.deletes old.changes k.2 c.args.moment.now in
     on_ok_weaker c.raise.result (λ put on.
-    subst (λ (a : Act). IsFollowed k.2 (record { on = on; act = a; attr = k.0; value = k.1 }) said old.holders c.raise.new.self) (sym c.in-Add.is)
+    subst (λ (a : Act). IsFollowed k.2 (record { on = on; act = a; attr = k.0; value = k.1 }) said old.holders
+    c.raise.new.self) (sym c.in-Add.is)
     (subst (λ (hs : Holders). IsFollowed k.2 (record { on = on; act = adds; attr = k.0; value = k.1 }) said old.holders hs) (sym put)
     (added k.2 k.0 k.1 on said old.holders))) c.raise.ensures.ok
 

@@ -46,7 +46,8 @@ returns-in-None-clause-added g c =
     (all_behind old.changes key.2 c.permanode.result.now c.permanode.ensures c.walk.at c.in-Some.next
     c.in-Some.ensures.next old.facts.ordered old.deletes)
     ∙ taken_on key.0 key.1 (counted old.facts.ordered old.deletes (c.in-Some.next ∷ []))
-    (counted_after old.facts.ordered old.deletes old.changes key.2 c.in-Some.next) c.walk.times (sym c.in-None.is ∙ c.in_ok-more.ensures.added))
+    (counted_after old.facts.ordered old.deletes old.changes key.2 c.in-Some.next) c.walk.times
+    (sym c.in-None.is ∙ c.in_ok-more.ensures.added))
 
 pub returns-clause-added : goal.returns-clause-added
 returns-clause-added g c =

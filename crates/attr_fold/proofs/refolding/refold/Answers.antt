@@ -59,4 +59,11 @@ returns-in_err-turns-clause-ticks g c =
 pub returns-clause-ticks : goal.returns-clause-ticks
 returns-clause-ticks g c =
     let e = steps_some c.args.rows.now.facts.ordered c.args.rows.now.state c.args.rows.now.deletes c.args.rows.now.changes c.args.p.now _ c.in-Some.ensures.stands in
-    omega (arith, e, c.standing.ensures.ticks, c.turns_of.ensures.ticks, c.write_rows-written.ensures.ticks, c.in_ok-turns.ensures.few)
+    omega (
+      arith,
+      e,
+      c.standing.ensures.ticks,
+      c.turns_of.ensures.ticks,
+      c.write_rows-written.ensures.ticks,
+      c.in_ok-turns.ensures.few,
+    )

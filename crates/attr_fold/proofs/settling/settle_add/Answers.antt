@@ -22,7 +22,8 @@ returns-then-has_deleters-clause-settled g c = on_ok_weaker c.lower.result (λ p
     let old = c.args.rows.now in
     let front = counted_before old.facts.ordered old.deletes old.changes k.2 c.args.moment.now in
     let back = counted_after old.facts.ordered old.deletes old.changes k.2 c.args.moment.now in
-    subst (λ (hs : Holders). IsTurned (has_deleters old.state c.args.moment.now.1) k.2 (record { on = on; act = adds; attr = k.0; value = k.1 }) front back
+    subst (λ (hs : Holders). IsTurned (has_deleters old.state c.args.moment.now.1) k.2
+    (record { on = on; act = adds; attr = k.0; value = k.1 }) front back
     old.holders hs) (sym put)
     (turned_less k.2 k.0 k.1 on front back old.holders (sym c.if-is_taken_after.ensures.taken)
     (has_deleters old.state c.args.moment.now.1)
@@ -35,7 +36,8 @@ returns-else-has_deleters-clause-settled g c = on_ok_weaker c.raise.result (λ p
     let old = c.args.rows.now in
     let front = counted_before old.facts.ordered old.deletes old.changes k.2 c.args.moment.now in
     let back = counted_after old.facts.ordered old.deletes old.changes k.2 c.args.moment.now in
-    subst (λ (hs : Holders). IsTurned (has_deleters old.state c.args.moment.now.1) k.2 (record { on = on; act = adds; attr = k.0; value = k.1 }) front back
+    subst (λ (hs : Holders). IsTurned (has_deleters old.state c.args.moment.now.1) k.2
+    (record { on = on; act = adds; attr = k.0; value = k.1 }) front back
     old.holders hs) (sym put)
     (turned_more k.2 k.0 k.1 on front back old.holders (sym c.if-is_taken_after.ensures.taken)
     (has_deleters old.state c.args.moment.now.1)

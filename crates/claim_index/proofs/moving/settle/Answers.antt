@@ -5,6 +5,7 @@ use Rattle.index_rows.specs.declared.fact_rows.FactRows.{FactRows}
 use Rattle.index_rows.specs.Loose.{numbers_of}
 use Rattle.index_rows.specs.Touched.{touched_in}
 use Rattle.index_rows.specs.Waiting.{arrived}
+use Rattle.claim_index.specs.Additions.{IsAddedAlone}
 use Rattle.claim_index.specs.Halfway.{facts_in}
 use Rattle.claim_index.specs.Numbers.{with_numbers}
 use Rattle.claim_index.proofs.Settled.{moved_in, moved_one}
@@ -45,3 +46,12 @@ returns-clause-ticks g c = λ fresh.
     ≡ length (touched_in (arrived (facts_in old.facts) old.state) (facts_in old.facts) a r)
     = ap (λ (m : Facts). length (touched_in (arrived m old.state) m a r)) (moved_in old.facts now c.in_ok-move_all.ensures.none c.move_all.ensures.map) in
     omega (arith, c.move_all.ensures.ticks, t, same)
+
+pub returns-clause-few_ticks : goal.returns-clause-few_ticks
+returns-clause-few_ticks g c = λ fresh it.
+    let old = c.args.rows.now in
+    let now = c.move_all.new.facts in
+    let a = g.V.Verifier.accepts c.args.keys.now in
+    let t = c.take_up.ensures.few_ticks fresh (subst (λ (m : Facts). IsAddedAlone m a c.args.r.now)
+    (sym (moved_in old.facts now c.in_ok-move_all.ensures.none c.move_all.ensures.map)) it) in
+    omega (arith, c.move_all.ensures.ticks, t)

@@ -1,4 +1,4 @@
-use Rattle.std.proofs.Common.{sym, ap, ◌∙◌}
+use Rattle.std.proofs.Common.{[], sym, ap, ◌∙◌, arith}
 use Rattle.std.specs.FinMap.{contains_key}
 use Rattle.claim_model.specs.Facts.{Facts}
 use Rattle.index_rows.specs.Touched.{changed_refs}
@@ -9,6 +9,8 @@ use Rattle.claim_index.proofs.Finishable.{can_be_finished}
 use Rattle.claim_index.proofs.OneJudged.{ok_then}
 use Rattle.claim_index.proofs.Settleable.{can_be_settled}
 use Rattle.claim_index.proofs.Whole.{rests_once}
+use Rattle.claim_index.proofs.LoneTicks.{none_covered, finishes_at_once}
+use Rattle.claim_index.specs.Additions.{IsNoWork}
 use Rattle.claim_index.proofs.rebuilding.take_up.Goals as goal
 use Rattle.index_rows.proofs.LooseFacts.{in_order}
 
@@ -49,3 +51,27 @@ returns-clause-ticks g c = λ fresh.
     finished_ticks a rows r (c.requires fresh) c.take_last.new.rows told.facts told.taken none.deletes none.concerned work.deletes work.concerned c.none-work.ensures.deletes c.none-work.ensures.concerned told.adds told.halfway
     c.args.steps.now c.take_last.new.steps c.finish.new.steps
     (c.take_last.ensures.ticks _ (few_freed a rows r (c.requires fresh))) done
+
+pub returns-in_err-take_last-clause-few_ticks : goal.returns-in_err-take_last-clause-few_ticks
+returns-in_err-take_last-clause-few_ticks g c = λ fresh it. c.take_last.ensures.few_ticks it
+
+pub returns-clause-few_ticks : goal.returns-clause-few_ticks
+returns-clause-few_ticks g c = λ fresh it.
+    let a = g.V.Verifier.accepts c.args.keys.now in
+    let rows = c.args.rows.now in
+    let now = c.take_last.new.rows in
+    let told = c.in_ok-take_last.ensures in
+    let work = c.take_last.new.work in
+    let none = c.none-work.result in
+    let first : IsNoWork none.deletes none.concerned = record {
+      none_deleted = c.none-work.ensures.deletes;
+      none_concerned = c.none-work.ensures.concerned;
+    } in
+    let idle = told.idle it first in
+    let all = are_taken a rows c.args.r.now (c.requires fresh) now told.facts told.taken none.deletes none.concerned
+    work.deletes work.concerned c.none-work.ensures.deletes c.none-work.ensures.concerned told.adds told.halfway in
+    let done = c.finish.ensures.ticks a [] [] told.halfway all
+    (none_covered now.facts.ordered a work.deletes work.concerned idle) in
+    let nothing = finishes_at_once now.facts.ordered a work.deletes work.concerned idle in
+    let few = c.take_last.ensures.few_ticks it in
+    omega (arith, done, nothing, few)

@@ -11,6 +11,8 @@ use Rattle.claim_index.specs.Costs.{AreTaken}
 use Rattle.claim_index.proofs.OneFollowed.{judged_claim, half_taken, can_still, are_numbered, adds_taken, few_still}
 use Rattle.claim_index.proofs.Marking.{keys_stay}
 use Rattle.claim_index.proofs.Refolds.{IsSameBeside}
+use Rattle.claim_index.proofs.LoneTicks.{judge_few, no_delete, no_permanode, free}
+use Rattle.claim_index.specs.Additions.{IsAddedAlone}
 use Rattle.claim_index.proofs.taking.judge_one.Goals as goal
 use Rattle.index_rows.proofs.LooseFacts.{in_order}
 
@@ -228,3 +230,81 @@ returns-in-Changes-clause-more_ticks g c = λ h can all n few.
     (λ p u. few_still a old.facts.ordered new.facts.ordered (in_order e.facts) x n few p u)) in
     let j = c.judge.ensures.ticks in
     omega (arith, t, j)
+
+pub returns-in_err-judge-clause-few_ticks : goal.returns-in_err-judge-clause-few_ticks
+returns-in_err-judge-clause-few_ticks g c = λ alone last.
+    let few = judge_few c.args.rows.now.facts.ordered (g.V.Verifier.accepts c.args.keys.now) c.args.x.now last.adds in
+    omega (arith, few, c.judge.ensures.ticks)
+
+pub returns-in-Nothing-clause-few_ticks : goal.returns-in-Nothing-clause-few_ticks
+returns-in-Nothing-clause-few_ticks g c = λ alone last.
+    let few = judge_few c.args.rows.now.facts.ordered (g.V.Verifier.accepts c.args.keys.now) c.args.x.now last.adds in
+    omega (arith, few, c.judge.ensures.ticks)
+
+pub returns-in-Delete-clause-few_ticks : goal.returns-in-Delete-clause-few_ticks
+returns-in-Delete-clause-few_ticks g c = λ alone last.
+    let few = judge_few c.args.rows.now.facts.ordered (g.V.Verifier.accepts c.args.keys.now) c.args.x.now last.adds in
+    omega (arith, few, c.judge.ensures.ticks)
+
+pub returns-in-Permanode-clause-few_ticks : goal.returns-in-Permanode-clause-few_ticks
+returns-in-Permanode-clause-few_ticks g c = λ alone last.
+    absurd (no_permanode c.args.rows.now.facts.ordered (g.V.Verifier.accepts c.args.keys.now) c.args.x.now last.adds
+    (sym c.in_ok-judge.ensures.answer ∙ c.in-Permanode.is))
+
+pub returns-in-Delete-clause-idle : goal.returns-in-Delete-clause-idle
+returns-in-Delete-clause-idle g c = λ alone last none.
+    absurd (no_delete c.args.rows.now.facts.ordered (g.V.Verifier.accepts c.args.keys.now) c.args.x.now last.adds
+    (sym c.in_ok-judge.ensures.answer ∙ c.in-Delete.is))
+
+pub returns-in-Permanode-clause-idle : goal.returns-in-Permanode-clause-idle
+returns-in-Permanode-clause-idle g c = λ alone last none.
+    absurd (no_permanode c.args.rows.now.facts.ordered (g.V.Verifier.accepts c.args.keys.now) c.args.x.now last.adds
+    (sym c.in_ok-judge.ensures.answer ∙ c.in-Permanode.is))
+
+pub returns-in-Changes-clause-few_ticks : goal.returns-in-Changes-clause-few_ticks
+returns-in-Changes-clause-few_ticks g c = λ alone last.
+    let a = g.V.Verifier.accepts c.args.keys.now in
+    let old = c.args.rows.now in
+    let new = c.judge.new.rows in
+    let e = c.in_ok-judge.ensures in
+    let x = c.args.x.now in
+    let work = c.args.work.now in
+    let h = last.halfway in
+    let able = can_judge a old x [] work.deletes work.concerned h last.able in
+    let judged = judged_claim a old x [] work.deletes work.concerned h last.able new.state new.changes new.removals
+    e.state e.changes
+    (e.removals h.removals) (e.judged (taken old) [] able h.judged) (e.changed (taken old) [] able h.changed)
+    (sym e.answer ∙ c.in-Changes.is)
+    new (judged_is old new e.facts e.waiters e.deletes e.holders) in
+    let still : AreTaken new = λ y. keys_stay old.facts.ordered a old.state new.state x e.state y ∙ last.taken y
+    ∙ ap (λ (f : Facts). contains_key f y) (sym (in_order e.facts)) in
+    let it : IsAddedAlone new.facts.ordered a x
+    = subst (λ (f : Facts). IsAddedAlone f a x) (sym (in_order e.facts)) last.adds in
+    let is_free = free a new x it still judged.more.changed judged.more.removals in
+    let few = judge_few old.facts.ordered a x last.adds in
+    let t = c.take_changes.ensures.few_ticks alone is_free in
+    omega (arith, few, t, c.judge.ensures.ticks)
+
+pub returns-in-Changes-clause-idle : goal.returns-in-Changes-clause-idle
+returns-in-Changes-clause-idle g c = λ alone last none.
+    let a = g.V.Verifier.accepts c.args.keys.now in
+    let old = c.args.rows.now in
+    let new = c.judge.new.rows in
+    let e = c.in_ok-judge.ensures in
+    let x = c.args.x.now in
+    let work = c.args.work.now in
+    let h = last.halfway in
+    let able = can_judge a old x [] work.deletes work.concerned h last.able in
+    let judged = judged_claim a old x [] work.deletes work.concerned h last.able new.state new.changes new.removals
+    e.state e.changes
+    (e.removals h.removals) (e.judged (taken old) [] able h.judged) (e.changed (taken old) [] able h.changed)
+    (sym e.answer ∙ c.in-Changes.is)
+    new (judged_is old new e.facts e.waiters e.deletes e.holders) in
+    let still : AreTaken new = λ y. keys_stay old.facts.ordered a old.state new.state x e.state y ∙ last.taken y
+    ∙ ap (λ (f : Facts). contains_key f y) (sym (in_order e.facts)) in
+    let it : IsAddedAlone new.facts.ordered a x
+    = subst (λ (f : Facts). IsAddedAlone f a x) (sym (in_order e.facts)) last.adds in
+    let is_free = free a new x it still judged.more.changed judged.more.removals in
+    on_ok_weaker c.take_changes.result
+    (λ same. record { none_deleted = none.none_deleted; none_concerned = same ∙ none.none_concerned })
+    (c.take_changes.ensures.same alone is_free)

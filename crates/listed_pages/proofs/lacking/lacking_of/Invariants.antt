@@ -16,7 +16,8 @@ invariant-pages g l = record {
   ends : l.end ≡ last_ref l.held;
   sorted : T (is_sorted ref_cmp l.held);
   so_far : ListedSoFar g.B.Peer l.fn.target (option_copied l.fn.after) l.held l.target l.page l.refs.items;
-  left : ForSome (g.B.Peer.content l.fn.target) (λ held. (cursor : Option (List ℕ)) × (l.held ≡ listed cursor 1000 held) × (l.refs.items ≡ filter (lack (refs_of (up_to cursor (entries held)))) (refs_of l.page)));
+  left : ForSome (g.B.Peer.content l.fn.target) (λ held. (cursor : Option (List ℕ)) × (l.held ≡ listed cursor 1000 held)
+      × (l.refs.items ≡ filter (lack (refs_of (up_to cursor (entries held)))) (refs_of l.page)));
   reached : IsReached g.B.Peer l.fn.target l.target;
   told : g.B.Peer.content l.target ≡ g.B.Peer.content l.fn.target;
   later : g.B.Peer.faults l.fn.target ≤ g.B.Peer.faults l.target;

@@ -6,4 +6,5 @@ pub returns : goal.returns
 returns c =
     let page = c.args.page.now in
     let n = c.count_before.result in
-    take_all (length page - n) (drop n page) (omega (arith, length-drop n page)) ∙ ap (λ k. drop k page) c.count_before.ensures.count
+    take_all (length page - n) (drop n page) (omega (arith, length-drop n page))
+    ∙ ap (λ k. drop k page) c.count_before.ensures.count

@@ -26,9 +26,13 @@ returns-clause-says c =
     let date = c.text-date.result in
     let by = c.ref_text.ensures ∙ c.spell-signer.ensures.text in
     let at = c.as_text.ensures ∙ c.as_slice.ensures.text in
-    let text : c.in_ok-payload.payload.items ≡ claim_payload signer date what = c.in_ok-payload.ensures.text ∙ (λ i. claim_payload (by i) (at i) what) in
-    let ref : is_blobref signer ≡ true = subst (λ r. is_blobref r ≡ true) c.spell-signer.ensures.text c.spell-signer.ensures.form in
+    let text : c.in_ok-payload.payload.items ≡ claim_payload signer date what = c.in_ok-payload.ensures.text
+    ∙ (λ i. claim_payload (by i) (at i) what) in
+    let ref : is_blobref signer ≡ true = subst (λ r. is_blobref r ≡ true) c.spell-signer.ensures.text
+    c.spell-signer.ensures.form in
     drafted c.fitting.result c.in_ok-payload.payload.items (claim_payload signer date what) 80
-    (λ payload. HasAttribute what → SaysSigned signer payload (λ signed. Claim signed c.args.date.now what)) text c.fitting.ensures
-    (λ fits named sig h. claim_said signer c.args.date.now date what sig ref c.text-date.ensures.read c.text-date.ensures.text (c.in_ok-payload.ensures.form named) h
+    (λ payload. HasAttribute what → SaysSigned signer payload (λ signed. Claim signed c.args.date.now what)) text
+    c.fitting.ensures
+    (λ fits named sig h. claim_said signer c.args.date.now date what sig ref c.text-date.ensures.read
+    c.text-date.ensures.text (c.in_ok-payload.ensures.form named) h
     (signed_fits (claim_payload signer date what) sig h fits))

@@ -11,6 +11,8 @@ unfolding permanode_payload
 returns-clause-says c =
     let signer = c.args.signer.now in
     let random = c.args.random.now in
-    let ref : is_blobref signer ≡ true = subst (λ r. is_blobref r ≡ true) c.spell-signer.ensures.text c.spell-signer.ensures.form in
+    let ref : is_blobref signer ≡ true = subst (λ r. is_blobref r ≡ true) c.spell-signer.ensures.text
+    c.spell-signer.ensures.form in
     let whole : c.from_vec.result ≡ permanode_payload signer random = search rules in
-    subst (λ payload. SaysSigned signer payload Permanode) (sym whole) (λ sig h. permanode_read signer random sig ref (c.told-random, c.fits-random) h)
+    subst (λ payload. SaysSigned signer payload Permanode) (sym whole) (λ sig h. permanode_read signer random sig ref
+    (c.told-random, c.fits-random) h)

@@ -10,8 +10,10 @@ unfolding signed
 returns-clause-exact c =
     let payload = c.args.payload.now in
     let digits = encode_lower c.args.sig.now in
-    let pieces : c.from_vec.result ≡ ((payload ++ codes ",\"camliSig\":\"") ++ digits) ++ codes "\"}\n" = search rules in
+    let pieces : c.from_vec.result ≡ ((payload ++ codes ",\"camliSig\":\"") ++ digits) ++ codes "\"}\n" =
+    search rules in
     pieces ∙ signed_pieces payload digits
 
 pub returns-clause-length : goal.returns-clause-length
-returns-clause-length c = ap length (returns-clause-exact c) ∙ signed_long c.args.payload.now c.args.sig.now (c.told-sig, c.fits-sig)
+returns-clause-length c = ap length (returns-clause-exact c) ∙ signed_long c.args.payload.now c.args.sig.now
+    (c.told-sig, c.fits-sig)

@@ -13,7 +13,8 @@ invariant-pages g l = record {
   ends : l.end ≡ last_ref l.page;
   shape : IsPage l.after 1000 l.page;
   page : ForSome (g.A.Peer.content l.fn.source) (λ from. l.page ≡ listed l.after 1000 from);
-  far : (before : g.row.A.Denot) × g.A.Peer.lists before l.after 1000 (Ok l.page) l.source × IsFar g.A.Peer g.B.Peer l.fn.source before l.fn.target l.target l.after l.done.copied l.done.already;
+  far : (before : g.row.A.Denot) × g.A.Peer.lists before l.after 1000 (Ok l.page) l.source
+      × IsFar g.A.Peer g.B.Peer l.fn.source before l.fn.target l.target l.after l.done.copied l.done.already;
   reached : IfSome l.after (λ r. IsReached g.B.Peer l.fn.target l.target);
   told : g.A.Peer.content l.source ≡ g.A.Peer.content l.fn.source;
   source_later : g.A.Peer.faults l.fn.source ≤ g.A.Peer.faults l.source;

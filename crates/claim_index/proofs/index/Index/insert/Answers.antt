@@ -14,6 +14,8 @@ use Rattle.claim_index.proofs.InsertTicks.{inserted_ticks}
 use Rattle.claim_index.proofs.Marks.{len-more}
 use Rattle.claim_index.proofs.OneMore.{taken_out}
 use Rattle.claim_index.proofs.Settled.{all_ordered, put_more}
+use Rattle.claim_index.specs.Additions.{AddsAlone}
+use Rattle.claim_index.proofs.LoneTicks.{added_alone}
 use Rattle.claim_index.proofs.index.Index.insert.Goals as goal
 
 given : {T E P : Type 0} (r : Result T E) → is_err r ≡ false → OnOk r P → P
@@ -146,3 +148,50 @@ returns-in_err-put_in_order-clause-refused g c =
       numbers = c.put_in_order.ensures.same ∙ ap (λ (v : Indexed g.row.V.Denot). v.numbers) c.self.view_is;
     } in
     refused c.from_residual-in_err-put_in_order.result same
+
+-- a claim that adds one value
+
+pub returns-then-is_err-clause-few_ticks : goal.returns-then-is_err-clause-few_ticks
+returns-then-is_err-clause-few_ticks g c =
+    let a = c.self.inside in
+    let r = c.args.r.now in
+    let fact = c.args.fact in
+    subst (λ (v : Indexed g.row.V.Denot). v.stale ≡ false
+    → AddsAlone (insert v.facts r fact) (g.V.Verifier.accepts v.keys) r fact
+    → c.drop_row.new.steps ≤ c.args.steps.now + 25) c.self.view_is
+    (λ fresh lone.
+    let it = added_alone (g.V.Verifier.accepts a.keys) (facts_in a.rows.facts) c.put_in_order.new.facts.ordered r fact
+    c.in_ok-put_in_order.ensures.put lone in
+    let few = c.take_up-taken_up.ensures.few_ticks fresh it in
+    let none : length (numbers_of a.rows.facts.loose) ≡ 0
+    = ap (λ (ns : List ℕ). length ns) (c.self.invariant.1 fresh).none in
+    omega (arith, c.put_in_order.ensures.ticks, c.drop_row.ensures.ticks, few, none))
+
+pub returns-clause-few_ticks : goal.returns-clause-few_ticks
+returns-clause-few_ticks g c =
+    let a = c.self.inside in
+    let r = c.args.r.now in
+    let fact = c.args.fact in
+    subst (λ (v : Indexed g.row.V.Denot). v.stale ≡ false
+    → AddsAlone (insert v.facts r fact) (g.V.Verifier.accepts v.keys) r fact
+    → c.take_up-taken_up.new.steps ≤ c.args.steps.now + 25) c.self.view_is
+    (λ fresh lone.
+    let it = added_alone (g.V.Verifier.accepts a.keys) (facts_in a.rows.facts) c.put_in_order.new.facts.ordered r fact
+    c.in_ok-put_in_order.ensures.put lone in
+    let few = c.take_up-taken_up.ensures.few_ticks fresh it in
+    let none : length (numbers_of a.rows.facts.loose) ≡ 0
+    = ap (λ (ns : List ℕ). length ns) (c.self.invariant.1 fresh).none in
+    omega (arith, c.put_in_order.ensures.ticks, few, none))
+
+pub returns-in_err-put_in_order-clause-few_ticks : goal.returns-in_err-put_in_order-clause-few_ticks
+returns-in_err-put_in_order-clause-few_ticks g c =
+    let a = c.self.inside in
+    let r = c.args.r.now in
+    let fact = c.args.fact in
+    subst (λ (v : Indexed g.row.V.Denot). v.stale ≡ false
+    → AddsAlone (insert v.facts r fact) (g.V.Verifier.accepts v.keys) r fact
+    → c.put_in_order.new.steps ≤ c.args.steps.now + 25) c.self.view_is
+    (λ fresh lone.
+    let none : length (numbers_of a.rows.facts.loose) ≡ 0
+    = ap (λ (ns : List ℕ). length ns) (c.self.invariant.1 fresh).none in
+    omega (arith, c.put_in_order.ensures.ticks, none))

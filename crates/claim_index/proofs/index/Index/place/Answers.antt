@@ -7,10 +7,12 @@ use Rattle.std.specs.FinMap.{contains_key, insert, len}
 use Rattle.index_rows.specs.Loose.{LooseRow, numbers_of}
 use Rattle.index_rows.specs.Touched.{touched, touched_in}
 use Rattle.index_rows.specs.Waiting.{arrived}
+use Rattle.claim_index.specs.Additions.{AddsAlone, IsAddedAlone}
 use Rattle.claim_index.specs.Halfway.{facts_in, with_facts, HasOneMore}
 use Rattle.claim_index.specs.Indexed.{Indexed}
 use Rattle.claim_index.specs.Numbers.{NumberSet, with_numbers}
 use Rattle.claim_index.proofs.InsertTicks.{inserted_ticks}
+use Rattle.claim_index.proofs.LoneTicks.{added_alone}
 use Rattle.claim_index.proofs.Marks.{len-more}
 use Rattle.claim_index.proofs.Numbering.{with_one}
 use Rattle.claim_index.proofs.Settled.{put_more}
@@ -108,3 +110,23 @@ returns-clause-ticks g c =
     = subst (λ (r : List ℕ). c.settle-settled.new.steps ≤ (c.put_made.new.steps + 3 * length (numbers_of hung.loose)) + 12 + 16 * length (touched_in (arrived (facts_in hung) a.rows.state) (facts_in hung) accepts r)) c.r-r.ensures t in
     let h = inserted_ticks accepts a.rows c.args.made.1 fact settled lacks (facts_in hung) c.put_made.ensures.map (c.put_made.new.steps + 3 * length (numbers_of hung.loose)) c.settle-settled.new.steps u in
     omega (arith, c.put_made.ensures.ticks, h, moved))
+
+-- a claim that adds one value
+pub returns-clause-few_ticks : goal.returns-clause-few_ticks
+returns-clause-few_ticks g c =
+    let a = c.self.inside in
+    let r = c.args.made.1 in
+    let fact = c.args.made.2 in
+    subst (λ (v : Indexed g.row.V.Denot). v.stale ≡ false
+    → AddsAlone (insert v.facts r fact) (g.V.Verifier.accepts v.keys) r fact
+    → c.settle-settled.new.steps ≤ c.args.steps.now + 27) c.self.view_is
+    (λ fresh lone.
+    let accepts = g.V.Verifier.accepts a.keys in
+    let hung = c.put_made.new.self in
+    let moved : length (numbers_of hung.loose) ≡ 1
+    = ap (λ (rows : List LooseRow). length (numbers_of rows)) c.put_made.ensures.loose
+    ∙ ap (λ (ns : List ℕ). length (c.args.made.0 ∷ ns)) (c.self.invariant.1 fresh).none in
+    let it = added_alone accepts (facts_in a.rows.facts) (facts_in hung) r fact c.put_made.ensures.map lone in
+    let t = c.settle-settled.ensures.few_ticks fresh
+    (subst (λ (y : List ℕ). IsAddedAlone (facts_in hung) accepts y) (sym c.r-r.ensures) it) in
+    omega (arith, c.put_made.ensures.ticks, t, moved))

@@ -45,7 +45,7 @@ int clock_gettime(clockid_t clock, struct timespec *time) {
 """
 
 # Memory that is refused, by the numbers of requests.
-REFUSE = pathlib.Path(__file__).with_name("refuse.c").read_text(encoding="utf-8")
+REFUSE = pathlib.Path(__file__).resolve().parent.parent.joinpath("refuse.c").read_text(encoding="utf-8")
 
 
 def made_library(program, name, text):

@@ -1,5 +1,6 @@
--- Which histories a store of packs stands for, and the entries that its calls add (docs/store.md).
-use Rattle.std.specs.Prelude.{◌≡◌, ℕ, ◌≤◌, List, ◌++◌, Bool, true, not, nat_le, nat_lt, if◌then◌else◌, Option, Some, None, Result, Ok, Err}
+-- Which histories a store of packs represents, and the entries that its calls add (docs/store.md).
+use Rattle.std.specs.Prelude.{◌≡◌, ℕ, ◌≤◌, List, ◌++◌, Bool, true, not, nat_le, nat_lt, if◌then◌else◌, Option, Some}
+use Rattle.std.specs.Prelude.{None, Result, Ok, Err}
 use Rattle.std.specs.List.{list_all}
 use Rattle.std.specs.Option.{ForSome, is_some}
 use Rattle.edge_base.specs.Edge.{one_more}
@@ -40,11 +41,12 @@ is_pack_within most (store.Fault faults) = true
 is_pack_within most (store.Damage want is) = true
 is_pack_within most (store.Full blobs pack) = nat_le pack most
 
--- The store, whose disk had counted so many faults when it was put into its lock, stands for the history. The history
+-- The store, whose disk had counted so many faults when it was put into its lock, represents the history. The history
 -- is legal within the limits. Its arrivals have the refs and sizes of the rows and, if the disk tells, its bytes. Each
 -- entry is one that it may have; no Fault has a greater count than the disk has now, and no Full a greater pack than
 -- the store's greatest one, or 0 if there is none.
-pub record StoreTells {D : Type 0} (g : Ghosts D) (made : ℕ) (s : Archive D) (h : List (Stamped StoreEvent)) : Type 0 where
+pub record StoreRepresents {D : Type 0} (g : Ghosts D) (made : ℕ) (s : Archive D) (h : List (Stamped StoreEvent)) : Type
+    0 where
   pub legal : is_legal_store (limits_of s) h ≡ true
   pub rows : sizes_in s.rows ≡ sizes (arrivals h)
   pub told : ForSome (g.packs s.disk) (λ held. arrivals_in held s.rows ≡ arrivals h)
@@ -53,16 +55,16 @@ pub record StoreTells {D : Type 0} (g : Ghosts D) (made : ℕ) (s : Archive D) (
   pub stands : list_all (may_stand made (is_told g s)) (events h) ≡ true
   pub packs : list_all (is_pack_within (greatest s)) (events h) ≡ true
 
--- A call in a turn adds this entry to each history that the store stood for, and `says` holds for the blobs that
+-- A call in a turn adds this entry to each history that the store represented, and `says` holds for the blobs that
 -- arrived before.
 abbrev pub AddsEntry : {D : Type 0} → Ghosts D → ℕ → (old new : Archive D) → Option StoreEvent
     → (List Blob → Option StoreEvent → Type 0) → Type 0
-AddsEntry g made old new entry says = (h : List (Stamped StoreEvent)) (turn : ℕ) → StoreTells g made old h
-    → Before turn h → StoreTells g made new (h ++ stamped turn entry) × says (arrivals h) entry
+AddsEntry g made old new entry says = (h : List (Stamped StoreEvent)) (turn : ℕ) → StoreRepresents g made old h
+    → Before turn h → StoreRepresents g made new (h ++ stamped turn entry) × says (arrivals h) entry
 
 -- A call adds no entry, and `says` holds for the blobs that arrived.
 abbrev pub AddsNone : {D : Type 0} → Ghosts D → ℕ → Archive D → (List Blob → Option StoreEvent → Type 0) → Type 0
-AddsNone g made s says = (h : List (Stamped StoreEvent)) → StoreTells g made s h → says (arrivals h) None
+AddsNone g made s says = (h : List (Stamped StoreEvent)) → StoreRepresents g made s h → says (arrivals h) None
 
 -- a Fault with the disk's count after the turn, exactly if that is above the one before it
 abbrev pub fault_entry : (before now : ℕ) → Option StoreEvent

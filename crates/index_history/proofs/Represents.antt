@@ -1,5 +1,6 @@
--- Which histories an index with its numbers stands for after each change.
-use Rattle.std.proofs.Common.{◌≡◌, ℕ, Bool, true, false, ◌||◌, nat_eq, List, [], ◌∷◌, ◌++◌, Option, Some, None, Result, Ok, Err, refl, sym, ap, ◌∙◌}
+-- Which histories an index with its numbers represents after each change.
+use Rattle.std.proofs.Common.{◌≡◌, ℕ, Bool, true, false, ◌||◌, nat_eq, List, [], ◌∷◌, ◌++◌, Option, Some, None, Result}
+use Rattle.std.proofs.Common.{Ok, Err, refl, sym, ap, ◌∙◌}
 use Rattle.std.proofs.lemmas.Bool.{false≢true}
 use Rattle.std.proofs.lemmas.List.{append-nil}
 use mathlib.Core.List.{map-append}
@@ -23,7 +24,7 @@ use Rattle.work_numbers.proofs.Facts.{indexed_more}
 use Rattle.work_numbers.proofs.Numbers.{has_none}
 use Rattle.work_numbers.proofs.Tells.{kept_same, tells_noted}
 use Rattle.index_history.specs.declared.work_index.WorkIndex.{WorkIndex}
-use Rattle.index_history.specs.Telling.{IndexTells}
+use Rattle.index_history.specs.Represents.{IndexRepresents}
 
 -- a take and a return are no Inserts
 pub no_insert_take : (turn : ℕ) (r : Result (Option ℕ) NoMemory) → inserts (stamped turn (take_entry r)) ≡ []
@@ -36,30 +37,37 @@ no_insert_return turn n true = refl
 no_insert_return turn n false = refl
 
 -- what was inserted stays so
-still : (h more : List (Stamped IndexEvent)) (n : ℕ) → is_inserted n (events h) ≡ true → is_inserted n (events (h ++ more)) ≡ true
+still : (h more : List (Stamped IndexEvent)) (n : ℕ) → is_inserted n (events h) ≡ true →
+    is_inserted n (events (h ++ more)) ≡ true
 still h more n known = ap (is_inserted n) (map-append (λ (s : Stamped IndexEvent). s.entry) h more)
     ∙ inserted_append n (events h) (events more) ∙ ap (λ (b : Bool). b || is_inserted n (events more)) known
 
 module _ {V : Type 0} where
-  pub tells_fresh : (w : WorkIndex V) → w.index.facts ≡ empty → w.index.numbers ≡ empty → NumbersTell w.work [] → IndexTells w []
-  tells_fresh w facts numbers tells = record {
-    numbers = tells;
+  pub represents_fresh : (w : WorkIndex V) → w.index.facts ≡ empty → w.index.numbers ≡ empty → NumbersTell w.work [] →
+      IndexRepresents w []
+  represents_fresh w facts numbers work = record {
+    numbers = work;
     facts = facts;
-    within = λ n there. absurd (false≢true (sym (ap (λ (s : NumberSet). contains_key s n) numbers ∙ has_none (Unit {0}) n) ∙ there));
+    within = λ n there. absurd (false≢true (sym (ap (λ (s : NumberSet). contains_key s n) numbers
+        ∙ has_none (Unit {0}) n) ∙ there));
   }
 
-  module _ (old new : WorkIndex V) (h : List (Stamped IndexEvent)) (turn : ℕ) (t : IndexTells old h) where
+  module _ (old new : WorkIndex V) (h : List (Stamped IndexEvent)) (turn : ℕ) (t : IndexRepresents old h) where
     -- the index stays, and no Insert is added
-    pub rests : (e : Option IndexEvent) → new.index ≡ old.index → inserts (stamped turn e) ≡ [] → NumbersTell new.work (h ++ stamped turn e)
-        → IndexTells new (h ++ stamped turn e)
-    rests e same none tells = record {
-      numbers = tells;
-      facts = ap (λ i. i.facts) same ∙ t.facts ∙ sym (ap indexed (inserts_append h (stamped turn e) ∙ ap (λ (g : List Insertion). inserts h ++ g) none ∙ append-nil (inserts h)));
-      within = λ n there. still h (stamped turn e) n (t.within n (ap (λ i. contains_key i.numbers n) (sym same) ∙ there));
+    pub rests : (e : Option IndexEvent) → new.index ≡ old.index → inserts (stamped turn e) ≡ [] → NumbersTell new.work
+        (h ++ stamped turn e)
+        → IndexRepresents new (h ++ stamped turn e)
+    rests e same none work = record {
+      numbers = work;
+      facts = ap (λ i. i.facts) same ∙ t.facts
+          ∙ sym (ap indexed (inserts_append h (stamped turn e) ∙ ap (λ (g : List Insertion). inserts h ++ g) none
+          ∙ append-nil (inserts h)));
+      within = λ n there. still h (stamped turn e) n (t.within n (ap (λ i. contains_key i.numbers n) (sym same)
+          ∙ there));
     }
 
     -- nothing changed
-    pub undone : new.index ≡ old.index → new.work ≡ old.work → IndexTells new (h ++ stamped turn None)
+    pub undone : new.index ≡ old.index → new.work ≡ old.work → IndexRepresents new (h ++ stamped turn None)
     undone same work = rests None same refl (kept_same old.work new.work work h turn t.numbers)
 
     -- a number was inserted
@@ -77,13 +85,17 @@ module _ {V : Type 0} where
       number_or false false c e f = f e
 
       pub inserted : (contains_key old.index.numbers n ≡ false → new.index.facts ≡ with_fact old.index.facts r fact)
-          → ((m : ℕ) → contains_key new.index.numbers m ≡ true → (nat_eq n m || contains_key old.index.numbers m) ≡ true)
-          → new.work ≡ with_noted old.work n → IndexTells new (h ++ stamped turn (Some (Insert n r fact)))
+          → ((m : ℕ) → contains_key new.index.numbers m ≡ true → (nat_eq n m || contains_key old.index.numbers m)
+          ≡ true)
+          → new.work ≡ with_noted old.work n → IndexRepresents new (h ++ stamped turn (Some (Insert n r fact)))
       inserted facts numbers work = record {
         numbers = tells_noted old.work new.work h turn n r fact t.numbers fresh work;
         facts = facts no_fact ∙ ap (λ (f : Facts). with_fact f r fact) t.facts
-            ∙ sym (ap indexed (inserts_append h (stamped turn (Some (Insert n r fact)))) ∙ indexed_more (inserts h) (record { turn = turn; number = n; r = r; fact = fact }));
-        within = λ m there. ap (is_inserted m) (map-append (λ (s : Stamped IndexEvent). s.entry) h (stamped turn (Some (Insert n r fact))))
+            ∙ sym (ap indexed (inserts_append h (stamped turn (Some (Insert n r fact)))) ∙ indexed_more (inserts h)
+            (record { turn = turn; number = n; r = r; fact = fact }));
+        within = λ m there. ap (is_inserted m) (map-append (λ (s : Stamped IndexEvent). s.entry) h
+            (stamped turn (Some (Insert n r fact))))
             ∙ inserted_append m (events h) (Insert n r fact ∷ [])
-            ∙ number_or (is_inserted m (events h)) (nat_eq n m) (contains_key old.index.numbers m) (numbers m there) (t.within m);
+            ∙ number_or (is_inserted m (events h)) (nat_eq n m) (contains_key old.index.numbers m) (numbers m there)
+            (t.within m);
       }
