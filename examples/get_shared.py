@@ -153,7 +153,7 @@ def main() -> int:
     except Lacking as why:
         raise Refused(str(why)) from None
     if entry.fault is not None or entry.kind not in ("file", "symlink", "directory"):
-        raise Refused(str(entry.fault or f"{entry.ref} is no folder, file or link"))
+        raise Refused(str(entry.fault or f"{entry.ref} isn't a folder, file or link"))
     restoring = Restoring(shared, False, "give another PATH")
     try:
         restoring.restore(entry, place_of(entry, words.path))

@@ -274,7 +274,7 @@ def main() -> int:
     archive = Archive(words.folder, wanted.see)
     entry = archive.entry(wanted.ref())
     if entry.fault is not None or entry.kind not in ("file", "symlink", "directory"):
-        raise Refused(str(entry.fault or f"{entry.ref} is no folder, file or link"))
+        raise Refused(str(entry.fault or f"{entry.ref} isn't a folder, file or link"))
     restoring = Restoring(archive, words.force)
     try:
         restoring.restore(entry, os.fsencode(words.path))

@@ -187,7 +187,7 @@ def keyring_of(folder: pathlib.Path, given: Optional[str], is_needed: bool = Tru
     if is_there:
         return read_keyring(path)
     if not is_folder:
-        raise Refused(f"{folder} is no folder")
+        raise Refused(f"{folder} isn't a folder")
     if is_needed:
         raise Refused(f"{folder} has no file keyring, without which no note counts: give one by --keyring FILE")
     return {}

@@ -607,7 +607,7 @@ def main() -> int:
     key = key_of(pathlib.Path(words.keyring), words.key)
     top = os.fsencode(words.path)
     if not os.path.isdir(top):
-        raise Refused(f"{words.path} is no folder")
+        raise Refused(f"{words.path} isn't a folder")
     server = Server(words.address)
     note = ref_of(tree_note(key, words.name))
     server.standing([note])

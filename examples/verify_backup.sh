@@ -35,7 +35,7 @@ trap 'rm -rf "$work"' EXIT
 
 # Lists all blobs of a folder. A missing folder, or one without packs, would read as an empty store.
 list() {
-  [ -d "$1" ] || refuse "$1 is no folder, or can't be reached"
+  [ -d "$1" ] || refuse "$1 isn't a folder, or can't be reached"
   [ -r "$1" ] && [ -x "$1" ] || refuse "$1 can't be read"
   compgen -G "$1/pack-*.blobs" >/dev/null || refuse "$1 has no pack"
   "$perkeep" list "$1" --limit 4194304 || exit 2

@@ -84,24 +84,24 @@ def told_with(program, words, front=(), **streams):
 
 
 QUOTED = "'tag:a title:\"on the way\"'"
-QUOTES = f"TEXT is one word: put single quotes around it, as {QUOTED}, and -- before it where it begins with a dash"
+QUOTES = f"TEXT is one argument: put single quotes around it, as {QUOTED}, and -- before it if it begins with a dash"
 NO_LINE = (
-    f"input (from the mark on TEXT is no line of search words; one is typed with both kinds of quotes, as {QUOTED})"
+    f"input (from the mark on TEXT can't be read as search words; it is typed with both kinds of quotes, as {QUOTED})"
 )
 DIGITS = "0123456789" * 6
 MIDDLE, LATE, EARLY = f"tag:{DIGITS}({DIGITS}", f"(tag:{DIGITS}{DIGITS}", f"tga:{DIGITS}{DIGITS}"
-ENDS = "input (TEXT lacks something at its end: a search word, a value, a quote or a ))"
+ENDS = "input (something is missing at the end of TEXT: a search word, a value, a quote or a ))"
 NO_WORD = (
-    "input (the word at the mark is no search word: there are tag:, title:, attr:NAME:, has:, ref: and childrenof:, "
+    "input (the word at the mark isn't a search word; those are tag:, title:, attr:NAME:, has:, ref: and childrenof:, "
     "as in title:Letters)"
 )
-SMALL = "input (or is written small; a space alone means and, and - before a search word means not)"
+SMALL = "input (or is written in lower case; a space alone means and, and - before a search word means not)"
 # Lines of search words that aren't, the hint, what is shown of them, and the place in that at which they go wrong.
 MARKED = [
     ((), "tag:a or or", NO_LINE, "tag:a or or", 9),
     # What a shell leaves of title:"on the way".
     ((), "title:on the way", NO_LINE, "title:on the way", 10),
-    ((), "", "input (TEXT is empty: it takes a search word, as tag:letters)", "", 0),
+    ((), "", "input (TEXT is empty: give it a search word, as tag:letters)", "", 0),
     ((), "  ", ENDS, "  ", 2),
     ((), "tag:a or", ENDS, "tag:a or", 8),
     ((), "(tag:a", ENDS, "(tag:a", 6),
@@ -109,6 +109,8 @@ MARKED = [
     ((), "tag:a OR tag:b", SMALL, "tag:a OR tag:b", 6),
     ((), "NOT tag:a", SMALL, "NOT tag:a", 0),
     ((), "tag:a and tag:b", SMALL, "tag:a and tag:b", 7),
+    # The joining word isn't what is wrong here.
+    ((), 'title:"a OR b" tga:c', NO_LINE, 'title:"a OR b" tga:c', 16),
     ((), "Letters of 1998", NO_WORD, "Letters of 1998", 0),
     ((), "tag:é(", NO_LINE, "tag:é(", 5),
     (("--",), "- tag:a", NO_WORD, "- tag:a", 1),
@@ -119,15 +121,15 @@ MARKED = [
 ]
 
 
-NO_KEY = "each of its lines begins with the name of one"
-KEY_MISSING = "--key NAME is missing: the name of the key in the folder's keyring that signs"
+NO_KEY = "each of its lines begins with a key's name"
+KEY_MISSING = "--key NAME is missing: the name of the key in DIR/keyring to sign with"
 
 
 A_DATE = "a date has a time and a zone, as 2026-12-01T09:00:00Z"
 
 
 def no_date(text):
-    return f'input ("{text}" is no date: a date has a time and a zone, as 2026-12-01T09:00:00Z, or +01:00 for Z)'
+    return f'input ("{text}" isn't a date: a date has a time and a zone, as 2026-12-01T09:00:00Z, or with +01:00 for Z)'
 
 
 def marked_text(row):
@@ -138,8 +140,8 @@ def marked_text(row):
 
 def no_keyring(folder, key):
     made = f"(umask 077; printf '{key} %s\\n' \"$(openssl rand -hex 32)\" > '{folder}/keyring')"
-    copied = "copy the archive's, since notes count only with the key that signed them"
-    return f"input ({folder}/keyring isn't there: {copied}; only for a new archive make one, by {made})"
+    copied = "copy the archive's, since notes are found only with the key that signed them"
+    return f"input ({folder}/keyring doesn't exist: {copied}; only for a new archive make one, with {made})"
 
 
 def no_blob(folder, ref=ABSENT):
@@ -147,13 +149,13 @@ def no_blob(folder, ref=ABSENT):
 
 
 def no_ref(text):
-    form = "sha224- and 56 digits, 0 to 9 and a to f, as perkeep list prints it"
-    return f'input ("{text}" is no blobref, which is {form})'
+    form = "sha224- and 56 digits, 0 to 9 and a to f, as perkeep list prints them"
+    return f'input ("{text}" isn\'t a blobref: {form})'
 
 
 def no_file(blob):
-    hint = "a note's file is its camliContent, and examples/get_tree.py gets a folder"
-    return f"input ({ref_of(blob)} is no file: {hint})"
+    hint = "a note's file is its camliContent, and examples/get_tree.py restores a folder"
+    return f"input ({ref_of(blob)} isn't a file: {hint})"
 
 
 def no_limit(text):
@@ -161,13 +163,14 @@ def no_limit(text):
 
 
 def no_key_name(text):
-    return f'input ("{text}" can\'t be the name of a key: it has 1 to 64 of a to z, 0 to 9 and -)'
+    return f'input ("{text}" can\'t be a key\'s name: that is 1 to 64 characters, each a to z, 0 to 9 or -)'
 
 
 A_CHANGE = '{"changeType":"add-attribute","permaNode":"REF","attribute":"tag","value":"letters"}'
-NO_CHANGES = f"input (standard input is no list of changes, as [{A_CHANGE}] is)"
-DASHED = "-- goes before a dash"
-LOAD = "input (COUNT is a number from 1 to 100,000, START one from 0 to 2^64 - 1)"
+NO_CHANGES = f"input (standard input isn't a list of changes, as [{A_CHANGE}] is)"
+DASHED = "put -- before an argument that begins with a dash"
+BLOB_IS_READ = "the blob is read from standard input"
+LOAD = "input (COUNT takes a number from 1 to 100,000, and START one from 0 to 2^64 - 1)"
 
 
 def hints(program):
@@ -190,21 +193,21 @@ def hints(program):
         (["words", folder, "tag:a", "or", "tag:b", "--at", "2025-06-01"], 2, f"words ({QUOTES})"),
         (["words", folder, "tag:a", "-tag:b"], 2, f"words ({QUOTES})"),
         (["words", folder, "-tag:a"], 2, f"words ({QUOTES})"),
-        (["words", folder], 2, f"words (a word is missing: {LINES['words']})"),
+        (["words", folder], 2, f"words (an argument is missing: {LINES['words']})"),
         (["words", folder, "tag:a", "--at"], 2, f"words ({needs_value('words', 'at')})"),
         (["words", folder, "tag:" + "a" * 1_021], 4, "input (TEXT is longer than 1,024 bytes)"),
-        (["words", folder, " ".join(["tag:a"] * 33)], 4, "input (TEXT asks more than 32 constraints in one another)"),
+        (["words", folder, " ".join(["tag:a"] * 33)], 4, "input (TEXT nests constraints more than 32 deep)"),
         *((["words", *front, folder, text], 4, marked) for front, text, marked in map(marked_text, MARKED)),
         (["permanode", folder, "--key=a b"], 4, no_key_name("a b")),
         (["permanode", folder, "--key", ""], 4, no_key_name("")),
         (["get-file", folder, ref_of(b"abc")], 4, no_file(b"abc")),
         (["permanode", str(bare.path), "--key=me"], 4, no_keyring(bare.path, "me")),
-        (["permanode", nowhere, "--key=me"], 4, f"input ({nowhere} isn't there: is its name mistyped?)"),
-        (["permanode", "", "--key=me"], 4, "input (DIR is the empty text)"),
+        (["permanode", nowhere, "--key=me"], 4, f"input ({nowhere} doesn't exist: is its name mistyped?)"),
+        (["permanode", "", "--key=me"], 4, "input (DIR is an empty string)"),
         (["permanode", str(keyed.path), "--key=you"], 4, f"input ({keyed.path}/keyring has no key you: {NO_KEY})"),
         (["multi", str(keyed.path), "--key=jefe"], 4, NO_CHANGES),
-        (["words", folder, "tag:a", "--limit", "5"], 2, f'words ("--limit" can\'t stand there: {LINES["words"]})'),
-        (["words", folder, "tag:a", "-at", "x"], 2, f'words ("-at" can\'t stand there; {DASHED}: {LINES["words"]})'),
+        (["words", folder, "tag:a", "--limit", "5"], 2, f'words ("--limit" isn\'t expected: {LINES["words"]})'),
+        (["words", folder, "tag:a", "-at", "x"], 2, f'words ("-at" isn\'t expected; {DASHED}: {LINES["words"]})'),
     ]
     checks = [lambda row=row: is_told(program, *row) for row in rows]
     checks += [lambda check=check: check(program) for check in (misfits, numbers, keyrings, queries, damaged_chunk)]
@@ -240,47 +243,50 @@ LINES = lines_of_commands()
 
 
 def needs_value(command, option):
-    return f"--{option} needs a value, after = where that begins with a dash: {LINES[command]}"
+    return f"--{option} needs a value, after = if the value begins with a dash: {LINES[command]}"
 
 
 def misfits(program):
     """Which of the words is to blame."""
     *names, last = LINES
-    those = f"the commands are {', '.join(names)} and {last}; man perkeep describes them"
-    several = "can't stand there; a text of several words takes quotes"
-    no_words = 'standard input has the query, with its date as "at"; perkeep words takes search words'
-    kept = "can't stand there; > FILE keeps what is printed"
+    those = f"the commands are {', '.join(names)} and {last}; see man perkeep"
+    several = "isn't expected; put quotes around a value of several words"
+    no_words = "isn't expected; the query is read from standard input, with its date as \"at\""
+    no_words += "; for search words use perkeep words"
+    kept = "isn't expected; > FILE keeps the output"
+    kinds = "isn't expected; KIND is set, add or del"
     rows = [
-        ([], f"a command is missing, or a word isn't UTF-8; {those}"),
-        (["puts", "d"], f'"puts" is no command; {those}'),
-        (["--help"], f'"--help" is no command; {those}'),
-        (["put", "d", "letter.txt"], f'"letter.txt" can\'t stand there; standard input has the blob: {LINES["put"]}'),
+        ([], f"no command is given, or an argument isn't UTF-8; {those}"),
+        (["puts", "d"], f'"puts" isn't a command; {those}'),
+        (["--help"], f'"--help" isn't a command; {those}'),
+        (["put", "d", "letter.txt"], f'"letter.txt" isn\'t expected; {BLOB_IS_READ}: {LINES["put"]}'),
         (["get", "d", ABSENT, "more"], f'"more" {kept}: {LINES["get"]}'),
         (["get-file", "d", ABSENT, "letter.txt"], f'"letter.txt" {kept}: {LINES["get-file"]}'),
-        (["put-file", "d", "-letter"], f'"-letter" can\'t stand there; {DASHED}: {LINES["put-file"]}'),
-        (["stat", "d", ABSENT, "more"], f'"more" can\'t stand there: {LINES["stat"]}'),
-        (["list", "d", "--first", "1"], f'"--first" can\'t stand there: {LINES["list"]}'),
+        (["put-file", "d", "-letter"], f'"-letter" isn\'t expected; {DASHED}: {LINES["put-file"]}'),
+        (["stat", "d", ABSENT, "more"], f'"more" isn\'t expected: {LINES["stat"]}'),
+        (["list", "d", "--first", "1"], f'"--first" isn\'t expected: {LINES["list"]}'),
         (["list", "d", "--limit"], needs_value("list", "limit")),
         (["list", "d", "--limit", "-5"], needs_value("list", "limit")),
-        (["list", "d", "--limit=5", "--limit", "6"], f"--limit is there more than once: {LINES['list']}"),
+        (["list", "d", "--limit=5", "--limit", "6"], f"--limit is given more than once: {LINES['list']}"),
         (["search", "d"], f"--attr is missing: {LINES['search']}"),
         (["search", "d", "--attr=a"], f"--value is missing: {LINES['search']}"),
-        (["search", "--attr=a", "--value=a"], f"a word is missing: {LINES['search']}"),
+        (["search", "--attr=a", "--value=a"], f"an argument is missing: {LINES['search']}"),
         (["search", "d", *"--attr title --value Letters of 1998".split()], f'"of" {several}: {LINES["search"]}'),
         (["put-file", "d", "my", "letter"], f'"letter" {several}: {LINES["put-file"]}'),
-        (["claim", "d", "sett", ABSENT, "tag", "a", "--key=me"], f'"sett" {several}: {LINES["claim"]}'),
-        (["query", "d", "{}"], f"{no_words}: {LINES['query']}"),
-        (["query", "d", "--at", "2025-06-01T00:00:00Z"], f"{no_words}: {LINES['query']}"),
+        (["claim", "d", "sett", ABSENT, "tag", "a", "--key=me"], f'"sett" {kinds}: {LINES["claim"]}'),
+        (["claim", "d", "set", ABSENT, "tag", "a", "b", "--key=me"], f'"b" {several}: {LINES["claim"]}'),
+        (["query", "d", "{}"], f'"{{}}" {no_words}: {LINES["query"]}'),
+        (["query", "d", "--at", "2025-06-01T00:00:00Z"], f'"--at" {no_words}: {LINES["query"]}'),
         (["permanode", "d", "--key"], needs_value("permanode", "key")),
         (["serve", "d"], f"--port is missing: {LINES['serve']}"),
         (["serve", "d", "--port"], needs_value("serve", "port")),
-        (["serve", "d", "e", "--port=1"], f"a word is missing, too many or wrong: {LINES['serve']}"),
+        (["serve", "d", "e", "--port=1"], f"an argument is missing, unexpected or wrong: {LINES['serve']}"),
         (["serve-shares", "d"], f"--port is missing: {LINES['serve-shares']}"),
-        (["mirror", "d"], f"a word is missing, too many or wrong: {LINES['mirror']}"),
-        (["list", b"\xff"], f"a command is missing, or a word isn't UTF-8; {those}"),
+        (["mirror", "d"], f"an argument is missing, unexpected or wrong: {LINES['mirror']}"),
+        (["list", b"\xff"], f"no command is given, or an argument isn't UTF-8; {those}"),
     ]
     short = {name: line for name, line in LINES.items() if "--" not in line and name != "mirror"}
-    rows += [([name], f"a word is missing: {line}") for name, line in short.items()]
+    rows += [([name], f"an argument is missing: {line}") for name, line in short.items()]
     for words, text in rows:
         is_told(program, words, 2, f"words ({text})")
     for words in ("permanode d", f"claim d set {ABSENT} tag a", f"delete d {ABSENT}", "multi d"):
@@ -310,12 +316,12 @@ def load_numbers(program):
 
 def keyrings(program):
     """Which line of the keyring is to blame."""
-    no_key = "is no name, space, hexadecimal digits and line feed; the last line needs one too"
+    no_key = "isn't a name, a space, hexadecimal digits and a line feed, which the last line needs too"
     for content, line, text in [
         (b"me abc\n", 1, no_key),
         (b"me 00\nyou 00", 2, no_key),
         (b"me 00\nyou\n", 2, no_key),
-        (b"me 00\nyou 00\nme 01\n", 3, "has the name of an earlier one"),
+        (b"me 00\nyou 00\nme 01\n", 3, "has the name of an earlier line"),
     ]:
         store = Store(program, {0: pack(b"abc")}, {"keyring": content})
         is_told(program, store.words("list"), 4, f"input (line {line} of {store.path}/keyring {text})")
@@ -334,7 +340,7 @@ def queries(program):
         ('{"constraint":{"anything":true},"at":"2025-06-01"}', f'BadValue at "at": {A_DATE}'),
         ('{"constraint":{"permanode":{"at":"x"}}}', f'BadValue at "constraint/permanode/at": {A_DATE}'),
     ]:
-        text = f"input (standard input is no query: {fault})"
+        text = f"input (standard input isn't a query: {fault})"
         is_told(program, store.words("query"), 4, text, source=query.encode())
 
 
@@ -343,38 +349,38 @@ def damaged_chunk(program):
     chunk = b"a chunk of a file"
     file = file_blob("n", [part(len(chunk), ref_of(chunk))])
     store = Store(program, {0: pack(chunk, file).replace(chunk, b"b" + chunk[1:])})
-    needed = f"the store lacks {ref_of(chunk)}, which the file needs"
-    text = f"absent ({needed}: see perkeep salvage {store.path}, and the backup)"
+    needed = f"the file needs {ref_of(chunk)}, which the store lacks"
+    text = f"absent ({needed}: see perkeep salvage {store.path}, and your backup)"
     is_told(program, store.words("get-file", ref_of(file)), 3, text)
 
 
 def folders(program):
-    """A folder that isn't there reads as an empty store, or is made; a file is no folder."""
+    """A folder that isn't there reads as an empty store, or is made; a file isn't a folder."""
     nowhere, made, file = (str(program.new_path()) for _ in range(3))
-    empty = f"perkeep: {nowhere} isn't there, and reads as an empty store\n"
+    empty = f"perkeep: {nowhere} doesn't exist, and reads as an empty store\n"
     is_told(program, ["get", nowhere, ABSENT], 3, no_blob(nowhere), empty)
     got = told(program, ["list", nowhere])
     compare("a list of nothing", "status, output and what is told", (0, b"", empty.encode()), got)
-    is_made = f"perkeep: {made} wasn't there, and was made\n".encode()
+    is_made = f"perkeep: {made} didn't exist, and was made\n".encode()
     ref = f"{ref_of(b'abc')}\n".encode()
     compare("a put", "status, output and what is told", (0, ref, is_made), told(program, ["put", made], source=b"abc"))
     compare("another", "status, output and what is told", (0, ref, b""), told(program, ["put", made], source=b"abc"))
     with open(file, "wb"):
         pass
-    is_told(program, ["list", file], 7, f"disk ({file} is no folder)")
+    is_told(program, ["list", file], 7, f"disk ({file} isn't a folder)")
     within = f"{program.new_path()}/store"
-    is_told(program, ["put", within], 7, f"disk ({within}, or what it stands in, isn't there)")
-    is_told(program, ["list", ""], 7, "disk (DIR is the empty text)")
+    is_told(program, ["put", within], 7, f"disk ({within}, or the folder that it should be in, doesn't exist)")
+    is_told(program, ["list", ""], 7, "disk (DIR is an empty string)")
 
 
 def held(program):
     """A lock is waited for."""
     store = Store(program, {0: pack(b"abc")}, {"keyring": KEYRING})
     words = store.words("delete", ref_of(b"abc"), "--key=me")
-    waits = f"{PASSING}perkeep: waits for another program that holds {store.path}, ten seconds at most{PASSING}"
+    waits = f"{PASSING}perkeep: waiting for another program that has locked {store.path}, ten seconds at most{PASSING}"
     with Locked(store.path):
         is_told(program, words, 4, f"input ({store.path}/keyring has no key me: {NO_KEY})")
-        holds = f"another program holds {store.path}, perkeep serve or a command that writes"
+        holds = f"another program has locked {store.path}, perkeep serve or a command that writes"
         hint = f"disk ({holds}: upload to the server, stop it, or wait for its end)"
         is_told(program, store.words("put-file", "name"), 7, hint, waits)
 
@@ -384,7 +390,7 @@ def unread(program):
     bare, store = Store(program, {}), Store(program, {})
     (store.path / "keyring").mkdir()
     keyring = f"{store.path}/keyring can't be read"
-    what_it_is = "it is to be a file, or a link to one, that you may read"
+    what_it_is = "it must be a file, or a link to one, that you may read"
     is_told(program, store.words("list"), 5, f"read ({keyring}: {what_it_is})")
     is_told(program, store.words("put"), 5, f"read ({keyring}: {what_it_is})")
     text = b"perkeep: read (standard input is closed, is a folder, or can't be read)\n"
@@ -400,7 +406,7 @@ def unread(program):
 def keyless(program):
     """A search without a keyring, by which no note counts; what needs none says nothing of it."""
     store = Store(program, {0: pack(b"abc")})
-    none = f"perkeep: {store.path}/keyring isn't there, so no note is found\n".encode()
+    none = f"perkeep: {store.path}/keyring doesn't exist, so no note is found\n".encode()
     for command, words in (("search", ["--attr=a", "--value=b"]), ("words", ["tag:a"])):
         got = told(program, store.words(command, *words))
         compare(command, "status, output and what is told", (0, NOTHING_FOUND, none), got)
@@ -412,8 +418,8 @@ def unfound(program):
     notes = {0: pack(*EXAMPLE_BLOBS)}
     found = Store(program, notes, {"keyring": KEYRING})
     other = Store(program, notes, {"keyring": keyring_line(secret=OTHER_SECRET)})
-    start = f"perkeep: nothing is found; if a note should be, its key must be in {other.path}/keyring"
-    end = f"and its pack in {other.path}: perkeep salvage {other.path} says what is damaged"
+    start = "perkeep: nothing was found; notes are found only with the key that signed them, in"
+    end = f"{other.path}/keyring; perkeep salvage {other.path} says whether a pack is damaged"
     for command, words in (("search", ["--attr=tag", "--value=a"]), ("words", ["tag:a"])):
         got = told(program, other.words(command, *words))
         compare(command, "status, output and what is told", (0, NOTHING_FOUND, f"{start} {end}\n".encode()), got)
@@ -427,7 +433,7 @@ def unwritten(program):
     store = Store(program, {0: pack(b"abc")})
     with open("/dev/full", "wb") as full:
         got = told_with(program, store.words("list"), stdout=full)
-    text = b"perkeep: write (standard output can't be written: its reader has gone, or there is no room for it)\n"
+    text = b"perkeep: write (standard output can't be written: its reader has ended, or no space is left for it)\n"
     compare("no room for the output", "status, output and what is told", (6, None, text), got)
 
 
@@ -446,7 +452,7 @@ def files(program):
 
 
 def odd_pack(store, number):
-    return f"disk ({store.path}/{pack_name(number)} is no regular file)"
+    return f"disk ({store.path}/{pack_name(number)} isn't a regular file)"
 
 
 def folder_for_a_pack(program):
@@ -475,13 +481,13 @@ def odd_pack_of_a_server(program):
     (store.path / pack_name(0)).mkdir()
     status, out, text = told(program, ["serve", str(store.path), f"--port={port}"])
     compare("a server", "status and output", (7, b""), (status, out))
-    reads = f"perkeep: has port {port}, and reads the store\n"
+    reads = f"perkeep: has port {port}; reading the store\n"
     compare("a server", "what is told", f"{reads}perkeep: {odd_pack(store, 0)}\n".encode(), text)
 
 
 def last_pack(program):
     store = Store(program, {reference.LAST_PACK: b"x"}, {"keyring": b"me 00\n"})
-    text = f"full (no pack can follow {store.path}/{pack_name(reference.LAST_PACK)})"
+    text = f"full (no pack can come after {store.path}/{pack_name(reference.LAST_PACK)})"
     is_told(program, store.words("put-file", "name"), 9, text)
 
 
@@ -491,7 +497,7 @@ def open_keyring(program):
     keyring = store.path / "keyring"
     for mode, is_open in ((0o600, False), (0o664, False), (0o666, True), (0o602, True)):
         keyring.chmod(mode)
-        text = f"perkeep: everyone may write to {keyring}; chmod 600 mends it\n".encode() if is_open else b""
+        text = f"perkeep: everyone may write to {keyring}; chmod 600 protects it\n".encode() if is_open else b""
         compare(f"mode {mode:o}", "what is told", (0, b"abc", text), told(program, store.words("get", ref_of(b"abc"))))
 
 
@@ -502,17 +508,17 @@ def folder_of_others(program):
         with contextlib.suppress(OSError):
             os.chown(store.path, OTHER, OTHER)
             path = str(store.path)
-    check("no folder here is another user's", os.stat(path).st_uid != os.geteuid())
+    check("no folder here belongs to another user", os.stat(path).st_uid != os.geteuid())
     status, _, text = told(program, ["list", path])
-    expected = 0, f"perkeep: {path} is another user's\n".encode()
+    expected = 0, f"perkeep: {path} belongs to another user\n".encode()
     compare("a folder of another user's", "status and what is told", expected, (status, text))
 
 
 def refusals(program):
     """Why the disk failed. Its calls are refused by strace."""
     tracing.need_strace(program)
-    no_right = "you have no right to read or write {}, or a file in it"
-    rows = [("ENOSPC", "no room is left where {} is"), ("EACCES", no_right)]
+    no_right = "you aren't allowed to read or write {}, or a file in it"
+    rows = [("ENOSPC", "no space is left on the disk of {}"), ("EACCES", no_right)]
     return [lambda row=row: is_refused(program, *row) for row in rows] + [lambda: other_bytes(program)]
 
 
@@ -529,7 +535,8 @@ def other_bytes(program):
     store, log = Store(program, {0: pack(b"abc")}), program.new_path()
     poke = ("-e", "inject=pread64:poke_exit=@arg2=78:when=2", "-P", f"{store.path}/{pack_name(0)}")
     front = ("strace", "-f", "-o", str(log), "-e", "trace=pread64", *poke)
-    text = f"what came for {ref_of(b'abc')} is {ref_of(b'xbc')}; perkeep salvage {store.path} says what is whole"
+    stored = f"the bytes stored as {ref_of(b'abc')} have the ref {ref_of(b'xbc')}"
+    text = f"{stored}; perkeep salvage {store.path} says which blobs are undamaged"
     expected = 10, b"", f"perkeep: damaged ({text})\n".encode()
     got = told(program, store.words("get", ref_of(b"abc")), front)
     compare("other bytes", "status, output and what is told", expected, got)
@@ -563,7 +570,7 @@ def rounds(program):
 
 
 def turn(way, address):
-    return f"perkeep: copies {way} {address}\n"
+    return f"perkeep: copying {way} {address}\n"
 
 
 def copied(number, blob):
@@ -606,7 +613,7 @@ def copied_so_far(program):
 
 def named(program):
     store, nowhere = Store(program, {0: pack(b"abc")}), f"{HOST}:{PORTS.free()}"
-    hint = f"nobody answers at {nowhere}, or the way there broke: is perkeep serve running there?"
+    hint = f"no server answers at {nowhere}, or the connection broke: is perkeep serve running there?"
     with FalsePeer() as peer:
         got = told(program, store.words("mirror", peer.address, nowhere))
         refused = f"perkeep: peer ({hint})\n"
@@ -616,14 +623,14 @@ def named(program):
 
 def strangers(program):
     """Other programs at the address, and servers that refuse."""
-    other = "another program may listen there"
     no_room, not_found, damaged = (
         b"HTTP/1.1 %d X\r\nContent-Length: 0\r\n\r\n" % status for status in (507, 404, 500)
     )
-    unlike = f"doesn't answer as perkeep serve does: {other}"
+    unlike = "gave no whole reply of perkeep serve: it was stopped, or another program listens there"
+    other = "which perkeep serve doesn't: perhaps another program listens there"
     for text, hint in [
         (b"SSH-2.0-a\r\n", f"%s {unlike}"),
-        (not_found, f"%s answers 404, as perkeep serve doesn't: {other}"),
+        (not_found, f"%s answers 404, {other}"),
         (no_room, "the server at %s answers 507: its store is full"),
         (damaged, "the server at %s answers 500: a blob of its store is damaged; see perkeep salvage there"),
     ]:
@@ -640,7 +647,7 @@ def is_strange(program, command, text, hint):
 
 
 def unanswered(address):
-    return f"perkeep: {address} answers no connection\n"
+    return f"perkeep: {address} accepts no connection\n"
 
 
 def on_one_terminal(program, words):
@@ -672,7 +679,7 @@ def is_copied(what, got):
 
 
 def waits(program):
-    """What is waited for: a server, what is typed, and the bytes of files; and who answers no connection."""
+    """What is waited for: a server, what is typed, and the bytes of files; and who accepts no connection."""
     return [lambda check=check: check(program) for check in (first_byte, nobody, typed, file_read, file_written)]
 
 
@@ -682,7 +689,7 @@ def first_byte(program):
         status, out, text = told(program, Store(program, {}).words("pull", peer.address))
         compare("a late reply", "status and output", (0, b"copied 0 already 0\n"), (status, out))
         lines = text.decode().split(PASSING)
-        texts = [f"perkeep: waits for a reply of {peer.address}, {seconds} s so far" for seconds in (2, 3)]
+        texts = [f"perkeep: waiting for a reply from {peer.address}, {seconds} s so far" for seconds in (2, 3)]
         compare("a late reply", "what is told", ["", *texts, ""], lines)
 
 
@@ -694,13 +701,12 @@ def late(wire, due):
 def nobody(program):
     """Said before the store is read, and whatever becomes of that; and nothing of it without a terminal."""
     store, nowhere = Store(program, {0: pack(b"abc")}), f"{HOST}:{PORTS.free()}"
-    hint = f"nobody answers at {nowhere}, or the way there broke: is perkeep serve running there?"
-    rows = {nowhere: hint}
-    for address in ("nowhere", "localhost:80000", f"http://{nowhere}", "://:1"):
-        rows[address] = f'"{address}" isn\'t HOST:PORT, as 127.0.0.1:3179 is'
-    for address, hint in rows.items():
-        for command in ("push", "pull"):
-            is_told(program, store.words(command, address), 8, f"peer ({hint})", unanswered(address))
+    hint = f"no server answers at {nowhere}, or the connection broke: is perkeep serve running there?"
+    for command in ("push", "pull"):
+        is_told(program, store.words(command, nowhere), 8, f"peer ({hint})", unanswered(nowhere))
+        for address in ("nowhere", "localhost:80000", f"http://{nowhere}", "://:1"):
+            form = f'"{address}" isn\'t HOST:PORT, as 127.0.0.1:3179 is'
+            is_told(program, store.words(command, address), 8, f"peer ({form})")
     (store.path / pack_name(3)).mkdir()
     is_told(program, store.words("push", nowhere), 7, odd_pack(store, 3), unanswered(nowhere))
 
@@ -714,7 +720,7 @@ def typed(program):
         out = process.stdout.read()
     ref = ref_of(b"abc\n").encode() + b"\n"
     compare("what is typed", "status and output", (0, ref), (process.returncode, out))
-    told_line = b"perkeep: reads what is typed, until Ctrl-D at the beginning of a line\n"
+    told_line = b"perkeep: reading what is typed, until Ctrl-D at the beginning of a line\n"
     compare("what is typed", "what is told", told_line, text)
 
 
@@ -763,8 +769,8 @@ def server(program):
     """A server tells that it has its port, and then that it listens."""
     store, port, nowhere = Store(program, {0: pack(b"abc")}, {"keyring": KEYRING}), PORTS.free(), program.new_path()
     serves(program, "serve", store.path, port, "", "")
-    keyless = f"perkeep: {nowhere}/keyring isn't there, so no note is found\n"
-    serves(program, "serve", nowhere, PORTS.free(), keyless, f"perkeep: {nowhere} wasn't there, and was made\n")
+    keyless = f"perkeep: {nowhere}/keyring doesn't exist, so no note is found\n"
+    serves(program, "serve", nowhere, PORTS.free(), keyless, f"perkeep: {nowhere} didn't exist, and was made\n")
 
 
 def taken_port(program):
@@ -772,7 +778,7 @@ def taken_port(program):
     store = Store(program, {}, {"keyring": KEYRING})
     with socket.create_server((HOST, 0)) as listener:
         port = listener.getsockname()[1]
-        text = f"listener (port {port} is taken, or no connection could be accepted; --port takes another one)"
+        text = f"listener (port {port} is in use, or no connection could be accepted; --port takes another one)"
         for command in ("serve", "serve-shares"):
             is_told(program, store.words(command, f"--port={port}"), 14, text)
 
@@ -780,12 +786,13 @@ def taken_port(program):
 def server_of_shares(program):
     """It tells that there is no such folder, and serves the empty store."""
     path, port = program.new_path(), PORTS.free()
-    keyless = f"perkeep: {path}/keyring isn't there, so no share is found\n"
-    serves(program, "serve-shares", path, port, keyless, f"perkeep: {path} isn't there, and reads as an empty store\n")
+    keyless = f"perkeep: {path}/keyring doesn't exist, so no share is found\n"
+    empty = f"perkeep: {path} doesn't exist, and reads as an empty store\n"
+    serves(program, "serve-shares", path, port, keyless, empty)
 
 
 def serves(program, command, path, port, before, between):
-    expected = f"{before}perkeep: has port {port}, and reads the store\n{between}"
+    expected = f"{before}perkeep: has port {port}; reading the store\n{between}"
     expected += f"perkeep: listening on http://127.0.0.1:{port}\n"
     terminal = Terminal()
     with terminal.start(program, [command, str(path), f"--port={port}"]) as process:

@@ -539,7 +539,7 @@ def no_folder(program):
     one_key = ("--name", "t", "--keyring")
     refused = rf"no reply of a server at {HOST}:{port}: Connection refused; is it running there\?"
     lines = [
-        (bench.put_words(port), f"{os.fsdecode(bench.folder)} is no folder"),
+        (bench.put_words(port), f"{os.fsdecode(bench.folder)} isn't a folder"),
         ((f"{HOST}:{port}", path, *usual), refused),
         (("nowhere", path, *usual), "'nowhere' is no HOST:PORT"),
         ((f"{HOST}:{port}", path, *one_key, path / "keyring"), r"\S+ has 2 keys: .*"),
@@ -1002,7 +1002,7 @@ def no_tree(program):
         ((empty, "other", nowhere), r"no tree other: no key of the keyring has made one\. TREE may be the ref .*"),
         ((store, chunk, nowhere), rf"{chunk} is no schema blob"),
         ((store, inputs.ABSENT, nowhere), rf"{inputs.ABSENT} isn't there"),
-        ((nowhere, TREE, nowhere), rf"{nowhere} is no folder"),
+        ((nowhere, TREE, nowhere), rf"{nowhere} isn't a folder"),
         ((bench.cache, TREE, nowhere, "--keyring", store / "keyring"), rf"there is no pack in {bench.cache}: .*"),
         ((store, TREE, nowhere / "within"), rf"{nowhere}/within: No such file or directory"),
     ]
@@ -1146,7 +1146,7 @@ def locked_backup(program):
     with closed(backup) as front:
         got = shell(program, "verify_backup.sh", archive, backup, refs, front=front)
     compare(what, "status and messages", (2, "", f"verify_backup.sh: {backup} can't be read\n"), got)
-    no_folder = "is no folder, or can't be reached"
+    no_folder = "isn't a folder, or can't be reached"
     for path, why in ((refs, no_folder), (archive / "keyring", no_folder), (bench.cache, "has no pack")):
         got = shell(program, "verify_backup.sh", archive, path, refs)
         compare(what, "status and messages", (2, "", f"verify_backup.sh: {path} {why}\n"), got)

@@ -34,7 +34,7 @@ class Row(NamedTuple):
     """A run that succeeds.
 
     Its arguments, in which FOLDER, ADDRESS and SECOND stand for those of the store and of the peers. Its output, except
-    that of a copy. The packs before it, or None if there is no folder. Its input. The blobs that it puts in order, if
+    that of a copy. The packs before it, or None if there isn't a folder. Its input. The blobs that it puts in order, if
     they aren't there. The blobs of a peer and of a second one, if it has them. Whether it writes as it goes, and may
     therefore have written something if it ends early."""
 

@@ -68,7 +68,7 @@ impl<'a> Read for ShownIn<'a> {
     fn read(&mut self, buf: &mut [u8]) -> io::Result<usize> {
         if self.is_typed && !self.was_read {
             self.screen.tell(
-                "perkeep: reads what is typed, until Ctrl-D at the beginning of a line",
+                "perkeep: reading what is typed, until Ctrl-D at the beginning of a line",
             );
         }
         self.was_read = true;

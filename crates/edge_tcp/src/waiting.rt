@@ -44,7 +44,9 @@ impl<'a> Watch<'a> {
             return;
         }
         if let Some((screen, addr)) = self.shown {
-            screen.pass(format_args!("perkeep: waits for a reply of {addr}, {seconds} s so far"));
+            screen.pass(format_args!(
+                "perkeep: waiting for a reply from {addr}, {seconds} s so far"
+            ));
         }
     }
 }

@@ -13,7 +13,7 @@ pub enum Cause {
     NoRight,
     /// Another program held the folder for as long as it was waited for.
     Held,
-    /// The path leads to something that is no folder.
+    /// The path leads to something that isn't a folder.
     NotAFolder,
     /// The path no longer leads where it did.
     Gone,

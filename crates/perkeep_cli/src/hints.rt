@@ -2,6 +2,7 @@
 use edge_os::again::uninterrupted;
 use edge_os::{Screen, is_own};
 use edge_tcp::answers;
+use perkeep_hints::is_address;
 use perkeep_top::Status;
 use std::fs;
 use std::io::ErrorKind;
@@ -28,7 +29,7 @@ fn odd_pack(rt: &HostRuntime, folder: &str) -> Option<String> {
         if let Ok(entry) = entry {
             let name = entry.file_name();
             if is_pack_name(name) && !is_regular(rt, folder, name) {
-                return format!(in rt.alloc(); "{folder}/{name} is no regular file").ok();
+                return format!(in rt.alloc(); "{folder}/{name} isn't a regular file").ok();
             }
         }
     }
@@ -38,7 +39,7 @@ fn odd_pack(rt: &HostRuntime, folder: &str) -> Option<String> {
 // The last pack that there may be, where it is there.
 fn last_pack(rt: &HostRuntime, folder: &str) -> Option<String> {
     if is_regular(rt, folder, LAST_PACK) {
-        format!(in rt.alloc(); "no pack can follow {folder}/{LAST_PACK}").ok()
+        format!(in rt.alloc(); "no pack can come after {folder}/{LAST_PACK}").ok()
     } else {
         None
     }
@@ -64,7 +65,7 @@ fn is_regular(rt: &HostRuntime, folder: &str, name: &str) -> bool {
     }
 }
 
-/// Tells a person of a folder that is another user's, and of a keyring in it to which everyone may write.
+/// Tells a person of a folder that belongs to another user, and of a keyring in it to which everyone may write.
 pub(crate) fn tell_of_others(rt: &HostRuntime, screen: &Screen<'_>, folder: &str) {
     if !screen.is_shown() || folder.is_empty() {
         return;
@@ -74,22 +75,22 @@ pub(crate) fn tell_of_others(rt: &HostRuntime, screen: &Screen<'_>, folder: &str
     };
     if let Ok(found) = uninterrupted(|| fs::metadata(rt, folder)) {
         if !is_own(&found) {
-            screen.tell(format_args!("perkeep: {folder} is another user's"));
+            screen.tell(format_args!("perkeep: {folder} belongs to another user"));
         }
     }
     if let Ok(found) = uninterrupted(|| fs::metadata(rt, &keyring)) {
         if found.mode() & BY_ALL != 0 {
             screen.tell(format_args!(
-                "perkeep: everyone may write to {keyring}; chmod 600 mends it"
+                "perkeep: everyone may write to {keyring}; chmod 600 protects it"
             ));
         }
     }
 }
 
-/// Tells a person of a peer at an address that answers no connection now. What tries it is another connection than
+/// Tells a person of a peer at an address that accepts no connection now. What tries it is another connection than
 /// those of the command.
 pub(crate) fn tell_of_peer(rt: &HostRuntime, screen: &Screen<'_>, address: &str) {
-    if screen.is_shown() && !address.is_empty() && !answers(rt, address) {
-        screen.tell(format_args!("perkeep: {address} answers no connection"));
+    if screen.is_shown() && is_address(address) && !answers(rt, address) {
+        screen.tell(format_args!("perkeep: {address} accepts no connection"));
     }
 }

@@ -60,7 +60,9 @@ pub(crate) fn tell_of_no_keyring(
     sought: &str,
 ) {
     if screen.is_shown() && !folder.is_empty() && !has_keyring(rt, folder) {
-        screen.tell(format_args!("perkeep: {folder}/keyring isn't there, so no {sought} is found"));
+        screen.tell(format_args!(
+            "perkeep: {folder}/keyring doesn't exist, so no {sought} is found"
+        ));
     }
 }
 

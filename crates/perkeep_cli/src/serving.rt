@@ -40,7 +40,7 @@ pub(crate) fn serve<R: Threads + Wait + Sync>(
     let Ok(listener) = TcpListener::bind(rt, address) else {
         return Ending::of(Status::ListenerFault);
     };
-    console.screen().tell(format_args!("perkeep: has port {}, and reads the store", plan.port));
+    console.screen().tell(format_args!("perkeep: has port {}; reading the store", plan.port));
     Ending::of(serve_folder(threads, threads, console, folder, &keys, &listener, plan))
 }
 

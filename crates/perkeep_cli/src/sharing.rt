@@ -29,7 +29,7 @@ pub(crate) fn serve_folder_shares<R: Wait>(
     let Ok(listener) = TcpListener::bind(rt, address) else {
         return Ending::of(Status::ListenerFault);
     };
-    screen.tell(format_args!("perkeep: has port {}, and reads the store", plan.port));
+    screen.tell(format_args!("perkeep: has port {}; reading the store", plan.port));
     let ready = Readiness::new(screen, plan.port);
     let mut accepting = TcpListenerOn::new(rt, &listener, &ready, Door::Anyone);
     let disk = FolderDisk::new(rt, screen, console.trouble(), folder, Access::Read);

@@ -64,7 +64,7 @@ impl<'a, P> ShownPeer<'a, P> {
         if self.is_of_round {
             let way = if self.was_asked { "to" } else { "from" };
             self.screen
-                .tell(format_args!("perkeep: copies {way} {}", self.address));
+                .tell(format_args!("perkeep: copying {way} {}", self.address));
         }
     }
 }

@@ -9,6 +9,6 @@ pub enum BadKeyring {
     TooLong,
     /// This line isn't that of a key.
     NoKey { line: u64 },
-    /// This line has the name of an earlier one.
+    /// This line has the name of an earlier line.
     Twice { line: u64 },
 }

@@ -71,7 +71,7 @@ fn absent_text(alloc: Global, words: &[Text], folder: &str, lacks: &Ref) -> Opti
         ).ok()
     } else {
         format!(in alloc;
-            "the store lacks {lacks}, which the file needs: see perkeep salvage {folder}, and the backup"
+            "the file needs {lacks}, which the store lacks: see perkeep salvage {folder}, and your backup"
         ).ok()
     }
 }
@@ -82,7 +82,7 @@ fn damaged_text(alloc: Global, folder: &str, want: &Ref, is: &Ref) -> Option<Str
     let is = is.spell();
     let (want, is) = (spelled(&want), spelled(&is));
     format!(in alloc;
-        "what came for {want} is {is}; perkeep salvage {folder} says what is whole"
+        "the bytes stored as {want} have the ref {is}; perkeep salvage {folder} says which blobs are undamaged"
     ).ok()
 }
 
@@ -94,7 +94,7 @@ fn spelled(text: &RefText) -> &str {
 fn port_text(alloc: Global, words: &[Text]) -> Option<String> {
     let port = value_of(words, "port")?;
     format!(in alloc;
-        "port {port} is taken, or no connection could be accepted; --port takes another one"
+        "port {port} is in use, or no connection could be accepted; --port takes another one"
     ).ok()
 }
 
@@ -105,7 +105,7 @@ fn no_ref_text(alloc: Global, words: &[Text]) -> Option<String> {
         None => ref_in(words)?,
     };
     format!(in alloc;
-        "{text:?} is no blobref, which is sha224- and 56 digits, 0 to 9 and a to f, as perkeep list prints it"
+        "{text:?} isn't a blobref: sha224- and 56 digits, 0 to 9 and a to f, as perkeep list prints them"
     ).ok()
 }
 
@@ -128,7 +128,7 @@ fn no_file_text(alloc: Global, r: &Ref) -> Option<String> {
     let r = r.spell();
     let r = spelled(&r);
     format!(in alloc;
-        "{r} is no file: a note's file is its camliContent, and examples/get_tree.py gets a folder"
+        "{r} isn't a file: a note's file is its camliContent, and examples/get_tree.py restores a folder"
     ).ok()
 }
 
@@ -136,7 +136,7 @@ fn no_file_text(alloc: Global, r: &Ref) -> Option<String> {
 fn date_text(alloc: Global, words: &[Text]) -> Option<String> {
     let date = value_of(words, "at")?;
     format!(in alloc;
-        "{date:?} is no date: a date has a time and a zone, as 2026-12-01T09:00:00Z, or +01:00 for Z"
+        "{date:?} isn't a date: a date has a time and a zone, as 2026-12-01T09:00:00Z, or with +01:00 for Z"
     ).ok()
 }
 
@@ -144,7 +144,7 @@ fn date_text(alloc: Global, words: &[Text]) -> Option<String> {
 fn query_text(alloc: Global, fault: &QueryFault) -> Option<String> {
     match fault {
         QueryFault::NotJson | QueryFault::NoMemory => {
-            format!(in alloc; "standard input is no query: NotJson").ok()
+            format!(in alloc; "standard input isn't a query: NotJson").ok()
         }
         QueryFault::BadKey { at } => query_fault_text(alloc, "BadKey", at),
         QueryFault::BadValue { at } => query_fault_text(alloc, "BadValue", at),
@@ -156,10 +156,10 @@ fn query_fault_text(alloc: Global, kind: &str, at: &Text) -> Option<String> {
     let at = at.as_str();
     if is_date_place(at) {
         format!(in alloc;
-            "standard input is no query: {kind} at {at:?}: a date has a time and a zone, as 2026-12-01T09:00:00Z"
+            "standard input isn't a query: {kind} at {at:?}: a date has a time and a zone, as 2026-12-01T09:00:00Z"
         ).ok()
     } else {
-        format!(in alloc; "standard input is no query: {kind} at {at:?}").ok()
+        format!(in alloc; "standard input isn't a query: {kind} at {at:?}").ok()
     }
 }
 
@@ -173,7 +173,7 @@ fn name_text(alloc: Global, words: &[Text]) -> Option<String> {
     match value_of(words, "key") {
         Some(key) if KeyName::read(key.as_bytes()).is_none() => {
             format!(in alloc;
-                "{key:?} can't be the name of a key: it has 1 to 64 of a to z, 0 to 9 and -"
+                "{key:?} can't be a key's name: that is 1 to 64 characters, each a to z, 0 to 9 or -"
             ).ok()
         }
         _ => format!(in alloc; "the name of an attribute is empty").ok(),
@@ -186,11 +186,11 @@ fn key_text(alloc: Global, words: &[Text], seen: Seen<'_>) -> Option<String> {
     if folder.is_empty() {
         no_folder_text(alloc)
     } else if !seen.is_there {
-        format!(in alloc; "{folder} isn't there: is its name mistyped?").ok()
+        format!(in alloc; "{folder} doesn't exist: is its name mistyped?").ok()
     } else if seen.has_keyring {
         let key = value_of(words, "key").unwrap_or("");
         format!(in alloc;
-            "{folder}/keyring has no key {key}: each of its lines begins with the name of one"
+            "{folder}/keyring has no key {key}: each of its lines begins with a key's name"
         ).ok()
     } else {
         no_keyring_text(alloc, folder, value_of(words, "key").unwrap_or("me"))
@@ -200,15 +200,15 @@ fn key_text(alloc: Global, words: &[Text], seen: Seen<'_>) -> Option<String> {
 // That there is no keyring, and how one with a key is made.
 fn no_keyring_text(alloc: Global, folder: &str, key: &str) -> Option<String> {
     format!(in alloc;
-        "{folder}/keyring isn't there: copy the archive's, since notes count only with the key that signed \
-        them; only for a new archive make one, by (umask 077; \
+        "{folder}/keyring doesn't exist: copy the archive's, since notes are found only with the key \
+        that signed them; only for a new archive make one, with (umask 077; \
         printf '{key} %s\\n' \"$(openssl rand -hex 32)\" > '{folder}/keyring')"
     )
     .ok()
 }
 
 fn no_folder_text(alloc: Global) -> Option<String> {
-    format!(in alloc; "DIR is the empty text").ok()
+    format!(in alloc; "DIR is an empty string").ok()
 }
 
 /// What is wrong with the keyring of a folder.
@@ -216,7 +216,7 @@ pub fn keyring_text(alloc: Global, folder: &str, fault: BadKeyring) -> Option<St
     match fault {
         BadKeyring::Unreadable => {
             format!(in alloc;
-                "{folder}/keyring can't be read: it is to be a file, or a link to one, that you may read"
+                "{folder}/keyring can't be read: it must be a file, or a link to one, that you may read"
             ).ok()
         }
         BadKeyring::TooLong => {
@@ -224,13 +224,15 @@ pub fn keyring_text(alloc: Global, folder: &str, fault: BadKeyring) -> Option<St
         }
         BadKeyring::NoKey { line } => {
             format!(in alloc;
-                "line {line} of {folder}/keyring is no name, space, hexadecimal digits and line feed; \
-                the last line needs one too"
+                "line {line} of {folder}/keyring isn't a name, a space, hexadecimal digits and a line feed, \
+                which the last line needs too"
             )
             .ok()
         }
         BadKeyring::Twice { line } => {
-            format!(in alloc; "line {line} of {folder}/keyring has the name of an earlier one").ok()
+            format!(in alloc;
+                "line {line} of {folder}/keyring has the name of an earlier line"
+            ).ok()
         }
     }
 }
@@ -241,20 +243,22 @@ fn disk_text(alloc: Global, folder: &str, cause: Cause) -> Option<String> {
         return no_folder_text(alloc);
     }
     match cause {
-        Cause::NoRoom => format!(in alloc; "no room is left where {folder} is").ok(),
+        Cause::NoRoom => format!(in alloc; "no space is left on the disk of {folder}").ok(),
         Cause::NoRight => {
-            format!(in alloc; "you have no right to read or write {folder}, or a file in it").ok()
+            format!(in alloc; "you aren't allowed to read or write {folder}, or a file in it").ok()
         }
         Cause::Held => held_text(alloc, folder),
-        Cause::NotAFolder => format!(in alloc; "{folder} is no folder").ok(),
-        Cause::Gone => format!(in alloc; "{folder}, or what it stands in, isn't there").ok(),
+        Cause::NotAFolder => format!(in alloc; "{folder} isn't a folder").ok(),
+        Cause::Gone => format!(in alloc;
+            "{folder}, or the folder that it should be in, doesn't exist"
+        ).ok(),
         Cause::Unknown => None,
     }
 }
 
 fn held_text(alloc: Global, folder: &str) -> Option<String> {
     format!(in alloc;
-        "another program holds {folder}, perkeep serve or a command that writes: \
+        "another program has locked {folder}, perkeep serve or a command that writes: \
         upload to the server, stop it, or wait for its end"
     )
     .ok()

@@ -16,8 +16,8 @@ pub(crate) fn quoting_hint(words: &[Text]) -> Option<&'static str> {
     let (command, behind) = words.split_first()?;
     if command.as_str() == "words" && has_loose_text(behind) {
         Some(
-            "TEXT is one word: put single quotes around it, as 'tag:a title:\"on the way\"', \
-            and -- before it where it begins with a dash",
+            "TEXT is one argument: put single quotes around it, as 'tag:a title:\"on the way\"', \
+            and -- before it if it begins with a dash",
         )
     } else {
         None

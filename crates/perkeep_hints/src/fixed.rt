@@ -8,21 +8,23 @@ pub fn fixed_hint(status: &Status, words: &[Text]) -> Option<&'static str> {
     match status {
         Status::BadInput(InputFault::Words(fault)) => Some(hint_of_words(fault, words)),
         Status::BadInput(InputFault::TooBig { .. }) if is_put(words) => {
-            Some("standard input is longer than a blob, 16 MiB; perkeep put-file takes any length")
+            Some(
+                "standard input is longer than a blob may be, 16 MiB; perkeep put-file stores files of any length",
+            )
         }
         Status::BadInput(fault) => hint_of_input(fault),
         Status::Disk => Some("the folder, or a file in it, can't be read or written"),
         Status::ReadFault => Some("standard input is closed, is a folder, or can't be read"),
         Status::WriteFault => Some(
-            "standard output can't be written: its reader has gone, or there is no room for it",
+            "standard output can't be written: its reader has ended, or no space is left for it",
         ),
         Status::Peer => Some(
-            "nobody answers there, or the way there broke: is perkeep serve running there?",
+            "no server answers there, or the connection broke: is perkeep serve running there?",
         ),
         Status::BadReply(fault) => Some(hint_of_reply(fault)),
         Status::Full { .. } => Some("the store has as many blobs or packs as it may have"),
         Status::ListenerFault => Some(
-            "the port is taken, or no connection could be accepted; --port takes another one",
+            "the port is in use, or no connection could be accepted; --port takes another one",
         ),
         _ => None,
     }
@@ -37,23 +39,23 @@ fn is_put(words: &[Text]) -> bool {
 
 fn hint_of_input(fault: &InputFault) -> Option<&'static str> {
     match fault {
-        InputFault::BadRef => Some("a text that should be a blobref is none"),
+        InputFault::BadRef => Some("an argument that should be a blobref isn't one"),
         InputFault::BadDate => Some(
-            "a text that should be a date, as 2026-12-01T09:00:00Z, is none",
+            "an argument that should be a date, as 2026-12-01T09:00:00Z, isn't one",
         ),
         InputFault::BadNumber => {
-            Some("COUNT is a number from 1 to 100,000, START one from 0 to 2^64 - 1")
+            Some("COUNT takes a number from 1 to 100,000, and START one from 0 to 2^64 - 1")
         }
-        InputFault::TooBig { .. } => Some("standard input is longer than it may be"),
+        InputFault::TooBig { .. } => Some("standard input is longer than allowed"),
         InputFault::NotAFile { .. } => {
-            Some("a blob that should be a file, or a part of one, is none")
+            Some("a blob that should be a file, or a part of one, isn't one")
         }
         InputFault::Short { .. } | InputFault::Deep { .. } => {
             Some("the blobs of the file don't fit together")
         }
-        InputFault::TooLong { .. } => Some("a text, a file or a query is longer than it may be"),
+        InputFault::TooLong { .. } => Some("a value, a file or a query is longer than allowed"),
         InputFault::BadChanges => Some(
-            "standard input is no list of changes, as [{\"changeType\":\"add-attribute\",\"permaNode\":\"REF\",\
+            "standard input isn't a list of changes, as [{\"changeType\":\"add-attribute\",\"permaNode\":\"REF\",\
             \"attribute\":\"tag\",\"value\":\"letters\"}] is",
         ),
         InputFault::BadName | InputFault::NoKey | InputFault::BadQuery(_) | InputFault::Words(_) =>
@@ -64,7 +66,7 @@ fn hint_of_input(fault: &InputFault) -> Option<&'static str> {
 fn hint_of_reply(fault: &ReplyFault) -> &'static str {
     match fault {
         ReplyFault::Grammar => {
-            "it doesn't answer as perkeep serve does: another program may listen there"
+            "no whole reply of perkeep serve came: it was stopped, or another program listens there"
         }
         ReplyFault::Refused { .. } => {
             "it refuses: its disk failed, its store is full, or another program listens there"

@@ -17,4 +17,5 @@ pub use bad_keyring::BadKeyring;
 pub use blame::{Seen, blamed, keyring_text};
 pub use excerpt::{Excerpt, excerpt_of};
 pub use fixed::fixed_hint;
+pub use peers::is_address;
 pub use seeking::{found_no_note, no_note_text, seeks_notes};

@@ -29,7 +29,7 @@ pub(crate) fn words_text(alloc: Global, words: &[Text]) -> Option<String> {
     }
     let Some((first, behind)) = words.split_first() else {
         return format!(in alloc;
-            "a command is missing, or a word isn't UTF-8; the commands are {COMMANDS}; man perkeep describes them"
+            "no command is given, or an argument isn't UTF-8; the commands are {COMMANDS}; see man perkeep"
         ).ok();
     };
     match first.as_str() {
@@ -43,16 +43,16 @@ pub(crate) fn words_text(alloc: Global, words: &[Text]) -> Option<String> {
 fn command_text(alloc: Global, name: &str, behind: &[Text]) -> Option<String> {
     let Some(command) = CommandName::of(name) else {
         return format!(in alloc;
-            "{name:?} is no command; the commands are {COMMANDS}; man perkeep describes them"
+            "{name:?} isn't a command; the commands are {COMMANDS}; see man perkeep"
         ).ok();
     };
     if let Some(word) = first_unknown(command, behind) {
-        return unknown_text(alloc, command, name, word);
+        return unknown_text(alloc, command, name, word, behind);
     }
     match first_missing(command, behind) {
         Some("key") => {
             format!(in alloc;
-                "--key NAME is missing: the name of the key in the folder's keyring that signs"
+                "--key NAME is missing: the name of the key in DIR/keyring to sign with"
             ).ok()
         }
         Some(option) => missing_text(alloc, name, option),
@@ -60,39 +60,47 @@ fn command_text(alloc: Global, name: &str, behind: &[Text]) -> Option<String> {
     }
 }
 
-// Why a line of a command doesn't go on with a word.
-fn unknown_text(alloc: Global, command: CommandName, name: &str, word: &str) -> Option<String> {
+// Why a command doesn't expect a word, which is one of those after its name.
+fn unknown_text(
+    alloc: Global,
+    command: CommandName,
+    name: &str,
+    word: &str,
+    behind: &[Text],
+) -> Option<String> {
     let line = line_of(name);
     if let Some(option) = option_of(command, word) {
         return needs_value_text(alloc, name, option);
     }
+    match cure_of(command, word, behind) {
+        Some(cure) => format!(in alloc; "{word:?} isn't expected; {cure}: {line}").ok(),
+        None => format!(in alloc; "{word:?} isn't expected: {line}").ok(),
+    }
+}
+
+// What may be done about a word that a command doesn't expect, where that is likely.
+fn cure_of(command: CommandName, word: &str, behind: &[Text]) -> Option<&'static str> {
     if is_dashed(word) {
-        return format!(in alloc; "{word:?} can't stand there; -- goes before a dash: {line}").ok();
+        return Some("put -- before an argument that begins with a dash");
     }
     match command {
-        CommandName::Query => {
-            format!(in alloc;
-                "standard input has the query, with its date as \"at\"; perkeep words takes search words: {line}"
-            ).ok()
-        }
-        CommandName::Get | CommandName::GetFile => {
-            format!(in alloc;
-                "{word:?} can't stand there; > FILE keeps what is printed: {line}"
-            ).ok()
-        }
-        CommandName::Put => {
-            format!(in alloc;
-                "{word:?} can't stand there; standard input has the blob: {line}"
-            ).ok()
-        }
+        CommandName::Query => Some(
+            "the query is read from standard input, with its date as \"at\"; for search words use perkeep words",
+        ),
+        CommandName::Get | CommandName::GetFile => Some("> FILE keeps the output"),
+        CommandName::Put => Some("the blob is read from standard input"),
+        CommandName::Claim if !has_kind(behind) => Some("KIND is set, add or del"),
         CommandName::Search | CommandName::SearchPack | CommandName::Claim | CommandName::PutFile =>
-            {
-                format!(in alloc;
-                    "{word:?} can't stand there; a text of several words takes quotes: {line}"
-                ).ok()
-            }
-        _ => format!(in alloc; "{word:?} can't stand there: {line}").ok(),
+            Some("put quotes around a value of several words"),
+        _ => None,
     }
+}
+
+// Whether one of the words after `claim` is a kind.
+fn has_kind(behind: &[Text]) -> bool {
+    behind
+        .iter()
+        .any(|word| matches!(word.as_str(), "set" | "add" | "del"))
 }
 
 // Whether a word begins with a single dash.
@@ -113,7 +121,7 @@ fn option_of(command: CommandName, word: &str) -> Option<&'static str> {
 fn needs_value_text(alloc: Global, command: &str, option: &str) -> Option<String> {
     let line = line_of(command);
     format!(in alloc;
-        "--{option} needs a value, after = where that begins with a dash: {line}"
+        "--{option} needs a value, after = if the value begins with a dash: {line}"
     ).ok()
 }
 
@@ -156,7 +164,7 @@ fn missing_text(alloc: Global, command: &str, option: &str) -> Option<String> {
 
 fn misfit_text(alloc: Global, command: &str) -> Option<String> {
     let line = line_of(command);
-    format!(in alloc; "a word is missing, too many or wrong: {line}").ok()
+    format!(in alloc; "an argument is missing, unexpected or wrong: {line}").ok()
 }
 
 // What words lack that a line may go on with: an option is there twice, or else positions are missing.
@@ -165,10 +173,10 @@ fn short_text(alloc: Global, command: CommandName, name: &str, behind: &[Text]) 
     for option in command.form().options {
         let option = option.name;
         if is_twice(behind, option) {
-            return format!(in alloc; "--{option} is there more than once: {line}").ok();
+            return format!(in alloc; "--{option} is given more than once: {line}").ok();
         }
     }
-    format!(in alloc; "a word is missing: {line}").ok()
+    format!(in alloc; "an argument is missing: {line}").ok()
 }
 
 // The first word with which no line of the command goes on: it isn't known with the next word either, which may be the

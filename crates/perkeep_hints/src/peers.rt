@@ -10,7 +10,7 @@ use top_frame::ReplyFault;
 pub(crate) fn way_text(alloc: Global, address: &str) -> Option<String> {
     if is_address(address) {
         format!(in alloc;
-            "nobody answers at {address}, or the way there broke: is perkeep serve running there?"
+            "no server answers at {address}, or the connection broke: is perkeep serve running there?"
         ).ok()
     } else {
         format!(in alloc; "{address:?} isn't HOST:PORT, as 127.0.0.1:3179 is").ok()
@@ -22,7 +22,7 @@ pub(crate) fn reply_text(alloc: Global, address: &str, fault: &ReplyFault) -> Op
     match fault {
         ReplyFault::Grammar => {
             format!(in alloc;
-                "{address} doesn't answer as perkeep serve does: another program may listen there"
+                "{address} gave no whole reply of perkeep serve: it was stopped, or another program listens there"
             ).ok()
         }
         ReplyFault::Refused { status: 503 } => {
@@ -40,7 +40,7 @@ pub(crate) fn reply_text(alloc: Global, address: &str, fault: &ReplyFault) -> Op
         }
         ReplyFault::Refused { status } => {
             format!(in alloc;
-                "{address} answers {status}, as perkeep serve doesn't: another program may listen there"
+                "{address} answers {status}, which perkeep serve doesn't: perhaps another program listens there"
             ).ok()
         }
         ReplyFault::Gone { .. } => {
@@ -58,7 +58,8 @@ pub(crate) fn address_in(words: &[Text]) -> Option<&str> {
     Some(words.get(place)?.as_str())
 }
 
-fn is_address(text: &str) -> bool {
+/// Whether a text is an address as `push` takes one, HOST:PORT.
+pub fn is_address(text: &str) -> bool {
     match text.rsplit_once(':') {
         Some((host, port)) => is_host(host) && is_number(port, MAX_PORT),
         None => false,

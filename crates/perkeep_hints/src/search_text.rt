@@ -7,43 +7,50 @@ use search_words::WordsFault;
 pub(crate) fn hint_of_words(fault: &WordsFault, words: &[Text]) -> &'static str {
     match fault {
         WordsFault::TooLong { .. } => "TEXT is longer than 1,024 bytes",
-        WordsFault::TooDeep => "TEXT asks more than 32 constraints in one another",
+        WordsFault::TooDeep => "TEXT nests constraints more than 32 deep",
         WordsFault::Bad { at } => hint_at(searched_text(words).unwrap_or(""), *at),
         WordsFault::NoMemory => QUOTES,
     }
 }
 
 const QUOTES: &str =
-    "from the mark on TEXT is no line of search words; one is typed with both kinds of quotes, \
+    "from the mark on TEXT can't be read as search words; it is typed with both kinds of quotes, \
     as 'tag:a title:\"on the way\"'";
 
 // What is wrong with a text of which so many bytes begin a line.
 fn hint_at(text: &str, at: u64) -> &'static str {
     if text.is_empty() {
-        "TEXT is empty: it takes a search word, as tag:letters"
+        "TEXT is empty: give it a search word, as tag:letters"
     } else if (text.len() as u64) <= at {
-        "TEXT lacks something at its end: a search word, a value, a quote or a )"
-    } else if has_joining_word(text) {
-        "or is written small; a space alone means and, and - before a search word means not"
+        "something is missing at the end of TEXT: a search word, a value, a quote or a )"
+    } else if joins(word_at(text, at)) {
+        "or is written in lower case; a space alone means and, and - before a search word means not"
     } else if has_colon_before(text, at) {
         QUOTES
     } else {
-        "the word at the mark is no search word: there are tag:, title:, attr:NAME:, has:, ref: and childrenof:, \
+        "the word at the mark isn't a search word; those are tag:, title:, attr:NAME:, has:, ref: and childrenof:, \
         as in title:Letters"
     }
 }
 
-// Whether a text has a word that another language would join words by.
-fn has_joining_word(text: &str) -> bool {
+// The word of a text that is at a place, where spaces separate words; empty after the last one.
+fn word_at(text: &str, at: u64) -> &str {
+    let mut end = 0u64;
     for word in text.split(' ') {
-        if matches!(
-            word,
-            "OR" | "AND" | "NOT" | "Or" | "And" | "Not" | "and" | "not"
-        ) {
-            return true;
+        end = end.saturating_add(word.len() as u64).saturating_add(1);
+        if at < end {
+            return word;
         }
     }
-    false
+    ""
+}
+
+// Whether other search languages join words by this one.
+fn joins(word: &str) -> bool {
+    matches!(
+        word,
+        "OR" | "AND" | "NOT" | "Or" | "And" | "Not" | "and" | "not"
+    )
 }
 
 // Whether a colon is among the first so many bytes.

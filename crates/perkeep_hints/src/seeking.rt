@@ -21,8 +21,8 @@ pub fn found_no_note(words: &[Text], written: u64) -> bool {
 /// What may be wrong with a folder in which no note is found, where one should be.
 pub fn no_note_text(alloc: Global, folder: &str) -> Option<String> {
     format!(in alloc;
-        "nothing is found; if a note should be, its key must be in {folder}/keyring and its pack in {folder}: \
-        perkeep salvage {folder} says what is damaged"
+        "nothing was found; notes are found only with the key that signed them, in {folder}/keyring; \
+        perkeep salvage {folder} says whether a pack is damaged"
     )
     .ok()
 }
