@@ -15,7 +15,7 @@ it keeps its mode and times then. Each blob is checked against its ref. Modes an
 folders and links too; of the bits that make a file run as its owner or its group's the archive gives none back, since
 owners aren't kept. Standard error says what can't be restored, and nothing of that is left.
 
-Status: 0 all is restored, 1 something isn't, 2 bad words, 3 it couldn't be done.
+Status: 0 all is restored, 1 something isn't, 2 bad arguments, 3 it couldn't be done.
 """
 
 from __future__ import annotations

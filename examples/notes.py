@@ -13,7 +13,7 @@ order.
 With --claims a line for each claim that counts follows a note, in their order: its ref, its date, and what it does to
 the note. `perkeep delete` with that ref takes the claim back.
 
-Status: 0 all was printed, 2 bad words, 3 it couldn't be done, as where REF is no note.
+Status: 0 all was printed, 2 bad arguments, 3 it couldn't be done, as where REF is no note.
 """
 
 from __future__ import annotations

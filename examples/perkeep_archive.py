@@ -596,6 +596,8 @@ class Notes:
         self.signers: dict[str, Key] = {}
         self.signed: dict[str, bytes] = {}
         self.permanodes: set[str] = set()
+        # How many permanodes no key of the keyring is known to have signed.
+        self.others = 0
         self.claims: list[Claim] = []
         self.deletions: dict[str, list[Claim]] = {}
 
@@ -610,7 +612,9 @@ class Notes:
         """Keeps what is genuine among the seen blobs, with the claims in the order in which they count."""
         for ref, blob in self.signed.items():
             body = self.genuine(blob)
-            if body is not None and body["camliType"] == "permanode":
+            if body is None:
+                self.others += is_signed_permanode(blob)
+            elif body["camliType"] == "permanode":
                 self.permanodes.add(ref)
             claim = claim_in(ref, body) if body is not None and body["camliType"] == "claim" else None
             if claim is not None:
@@ -650,6 +654,12 @@ class Notes:
                 if change.note in notes:
                     apply(change, notes[change.note])
         return {ref: {name: some for name, some in sorted(note.items()) if some} for ref, note in notes.items()}
+
+
+def is_signed_permanode(blob: bytes) -> bool:
+    """Whether a blob has the form of a signed permanode, whoever signed it."""
+    found = signed_in(blob)
+    return found is not None and is_schema(found[0]) and found[0]["camliType"] == "permanode"
 
 
 def apply(change: Change, note: dict[str, list[str]]) -> None:
@@ -734,6 +744,9 @@ class Server:
         if answer.get("error") == "disk":
             fault = f"is full, or has failed ({status} disk): free some room there, and run this again"
             return f"the disk of the server at {self.address} {fault}"
+        if answer.get("error") == "full":
+            fault = f"is full ({status} full): no blob can be added to it, so start another archive"
+            return f"the store of the server at {self.address} {fault}"
         why = {key: value for key, value in answer.items() if key != "received"}
         return f"the server at {self.address} refuses {target} by {status} {compact(why)}"
 

@@ -30,7 +30,7 @@ Not kept: owners, hard links (each name is a file of its own), extended attribut
 gets another note, and tags stay on the old one. Use another TREE for each machine: otherwise each would consider the
 other's files gone.
 
-Status: 0 all is stored, 1 something was left out, 2 bad words, 3 it couldn't be done.
+Status: 0 all is stored, 1 something was left out, 2 bad arguments, 3 it couldn't be done.
 """
 
 from __future__ import annotations
