@@ -3,9 +3,9 @@
 #
 #     verify_backup.sh ARCHIVE BACKUP [REFS]
 #
-# Each blob that ARCHIVE had at the last good check must be found in both folders, so renew BACKUP between two checks. At
-# the first check, each blob of one folder must be in the other, so make BACKUP just before. Each blob is read and
-# checked against its ref; a damaged one isn't found. The list of ARCHIVE's blobs is kept in the file REFS, by default
+# Each blob that ARCHIVE had at the last good check must be found in both folders, so renew BACKUP between checks. At the
+# first check, each blob of one folder must be in the other, so make BACKUP just before. Each blob is read and checked
+# against its ref; a damaged one isn't found. The list of ARCHIVE's blobs is kept in the file REFS, by default
 # ~/.local/state/perkeep/refs. If a loss can't be mended, remove that file to begin a new list.
 #
 # If a folder lacks such blobs, the script prints how many, and the folder's broken packs. The last line says how many
@@ -65,7 +65,7 @@ list "$archive" >"$work/archive"
 list "$backup" >"$work/backup"
 status=0
 if [ -e "$kept" ]; then
-  known=$kept in_archive="$archive had the last time" in_backup=$in_archive
+  known=$kept in_archive="$archive had at the last good check" in_backup=$in_archive
 else
   known=$work/known in_archive="$archive has" in_backup="$backup has"
   sort -u "$work/archive" "$work/backup" >"$known"

@@ -1288,7 +1288,7 @@ def is_verified(program):
         told = ran.stdout.decode().splitlines()
         compare(f"{what}: {ran.stderr}", "status and lines", (status, list(lines)), (ran.returncode, told))
 
-    def lacks(folder, blob, whose=f"{archive} had the last time"):
+    def lacks(folder, blob, whose=f"{archive} had at the last good check"):
         return f"{folder} lacks 1 blob that {whose}, the first of them {ref_of(blob)} {len(blob)}"
 
     def more(count):
@@ -1307,7 +1307,7 @@ def is_verified(program):
     (archive / "pack-00001.blobs").write_bytes(writing.pack(b"ghi", b"jkl"))
     tells(0, more(2))
     (archive / "pack-00002.blobs").write_bytes(writing.pack(b"mno"))
-    two = f"{backup} lacks 2 blobs that {archive} had the last time, the first of them "
+    two = f"{backup} lacks 2 blobs that {archive} had at the last good check, the first of them "
     first = min(f"{ref_of(blob)} {len(blob)}" for blob in (b"ghi", b"jkl"))
     tells(1, two + first, more(3))
     shutil.copy(archive / "pack-00001.blobs", backup)
