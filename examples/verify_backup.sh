@@ -3,9 +3,9 @@
 #
 #     verify_backup.sh ARCHIVE BACKUP [REFS]
 #
-# Each blob that ARCHIVE had at the last good check must be found in both folders, so renew BACKUP between checks. At the
-# first check, each blob of one folder must be in the other, so make BACKUP just before. Each blob is read and checked
-# against its ref; a damaged one isn't found. The list of ARCHIVE's blobs is kept in the file REFS, by default
+# Each blob that ARCHIVE had at the last good check must be found in both folders, so renew BACKUP between checks. At
+# the first check, each blob of one folder must be in the other, so make BACKUP just before. Each blob is read and
+# checked against its ref; a damaged one isn't found. The list of ARCHIVE's blobs is kept in the file REFS, by default
 # ~/.local/state/perkeep/refs. If a loss can't be mended, remove that file to begin a new list.
 #
 # If a folder lacks such blobs, the script prints how many, and the folder's broken packs. The last line says how many
