@@ -714,6 +714,12 @@ MOST_FOUND = 1_000_000
 PAUSES = (0, 0, 0.5, 2, 5, 10, 20)
 # A server that has just been started reads its store before its first reply.
 PATIENCE = 600
+# The faults of a server itself: whose they are, and what can be done.
+FAULTS = {
+    "disk": ("the disk of the server", "is full, or has failed {}: free some room there, and run this again"),
+    "full": ("the store of the server", "is full {}: no blob can be added to it, so start another archive"),
+    "memory": ("the server", "has no memory left {}: run this again once it has some"),
+}
 
 
 class Server:
@@ -741,12 +747,10 @@ class Server:
         return answer
 
     def why_refused(self, target: str, status: int, answer: dict) -> str:
-        if answer.get("error") == "disk":
-            fault = f"is full, or has failed ({status} disk): free some room there, and run this again"
-            return f"the disk of the server at {self.address} {fault}"
-        if answer.get("error") == "full":
-            fault = f"is full ({status} full): no blob can be added to it, so start another archive"
-            return f"the store of the server at {self.address} {fault}"
+        fault = answer.get("error")
+        if fault in FAULTS:
+            whose, what_to_do = FAULTS[fault]
+            return f"{whose} at {self.address} {what_to_do.format(f'({status} {fault})')}"
         why = {key: value for key, value in answer.items() if key != "received"}
         return f"the server at {self.address} refuses {target} by {status} {compact(why)}"
 
