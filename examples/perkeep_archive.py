@@ -747,7 +747,7 @@ class Server:
         return answer
 
     def why_refused(self, target: str, status: int, answer: dict) -> str:
-        fault = answer.get("error")
+        fault = str(answer.get("error"))
         if fault in FAULTS:
             whose, what_to_do = FAULTS[fault]
             return f"{whose} at {self.address} {what_to_do.format(f'({status} {fault})')}"
