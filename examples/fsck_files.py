@@ -12,10 +12,11 @@ checked against its ref. A blob that is damaged in one pack and whole in another
                        the path of the first;
   note REF TITLE: ..   for each note whose camliContent isn't there, for which the keyring is needed.
 
-`perkeep salvage` says which packs are broken, and docs/guide.md how to repair one with a copy. With --all each file
-that is whole is printed too, with its ref and its name. The last line has the counts.
+Notes that no key of the keyring has signed aren't checked; standard error says how many. `perkeep salvage` says which
+packs are broken, and docs/guide.md how to repair one with a copy. With --all each file that is whole is printed too,
+with its ref and its name. The last line has the counts.
 
-Status: 0 all is whole, 1 something isn't, 2 bad words, 3 it couldn't be done.
+Status: 0 all is whole, 1 something isn't, 2 bad arguments, 3 it couldn't be done.
 """
 
 from __future__ import annotations
@@ -204,6 +205,17 @@ def named(check: Check, ref: str) -> str:
     return f"{ref} {shown(octets_text(check.nodes[ref].name))}"
 
 
+def report_unchecked(notes: Notes, folder: pathlib.Path, given: Optional[str]) -> None:
+    """Says which notes aren't checked, if any aren't: those that no key of the keyring has signed."""
+    if not notes.keys:
+        why = f"{given} has no key" if given else f"{folder} has no keyring with a key"
+        report(f"fsck_files.py: no note is checked, since {shown(why)}: give one by --keyring FILE")
+    elif notes.others:
+        some, them = ("1 note isn't", "it") if notes.others == 1 else (f"{notes.others} notes aren't", "them")
+        keyring = shown(given or str(folder / "keyring"))
+        report(f"fsck_files.py: {some} checked, since no key of {keyring} is known to have signed {them}")
+
+
 def main() -> int:
     parser = parser_of(__doc__)
     parser.add_argument("folder", metavar="DIR", type=pathlib.Path, help="the folder of the archive, or of a copy")
@@ -214,9 +226,7 @@ def main() -> int:
     seen = Seen(notes)
     check = Check(Archive(words.folder, seen.see), seen)
     notes.settle()
-    if not notes.keys:
-        why = f"{words.keyring} has no key" if words.keyring else f"{words.folder} has no keyring with a key"
-        report(f"fsck_files.py: no note is checked, since {shown(why)}: give one by --keyring FILE")
+    report_unchecked(notes, words.folder, words.keyring)
     standing = notes.attributes()
     if words.all:
         for ref, why in check.files.items():

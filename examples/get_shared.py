@@ -12,7 +12,7 @@ working folder. Nothing is written outside it, whatever names and links the owne
 already is left alone and reported. Each blob is checked against its ref. A connection that breaks is made again.
 Standard error says what can't be downloaded, and nothing of that is left.
 
-Status: 0 all is there, 1 something isn't, 2 bad words, 3 it couldn't be done.
+Status: 0 all is there, 1 something isn't, 2 bad arguments, 3 it couldn't be done.
 """
 
 from __future__ import annotations

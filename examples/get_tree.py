@@ -4,18 +4,18 @@
     get_tree.py ~/archive photos ~/photos.back
     get_tree.py ~/archive photos ~/photos.then 2026-01-31T18:30:00Z
 
-DIR is the folder of the archive, or a copy of it: its packs are read, also while a server runs. A backup that has no
-keyring is given one by --keyring. TREE is the name that put_tree.py was given, whatever the title of its note is now;
-or in its place a ref: of a note, as notes.py prints it, or of a folder, file or link (docs/formats/trees.md). At DATE
-the note has what it had then: what had been removed by then isn't restored, nor what came later.
+DIR is the folder of the archive, or a copy of it. Its packs are read, even while a server runs. For a backup without a
+keyring, give one by --keyring. TREE is the name that put_tree.py was given, even if the title of the tree's note has
+changed since. Instead of it you can give a ref: of a note, as notes.py prints it, or of a folder, file or link
+(docs/formats/trees.md). With DATE the tree is restored as it was then.
 
-PATH is made, or, where it is a folder already, added to. Nothing is written outside it, whatever names and links the
-tree has. A file that is there already is left alone and reported, unless --force is given; a folder with something in
-it keeps its mode and times then. Each blob is checked against its ref. Modes and times of change come back, those of
-folders and links too; of the bits that make a file run as its owner or its group's the archive gives none back, since
-owners aren't kept. Standard error says what can't be restored, and nothing of that is left.
+PATH is made, or added to if it is a folder already. Nothing is written outside it, whatever names and links the tree
+has. Unless --force is given, a file that is there already is left alone and reported, and a folder with something in it
+keeps its mode and times. Each blob is checked against its ref. Modes and times of change are restored, those of folders
+and links too; but a file's set-user-ID and set-group-ID bits aren't, since owners aren't kept. Standard error says what
+can't be restored, and nothing of that is left.
 
-Status: 0 all is restored, 1 something isn't, 2 bad words, 3 it couldn't be done.
+Status: 0 all is restored, 1 something isn't, 2 bad arguments, 3 it couldn't be done.
 """
 
 from __future__ import annotations
@@ -266,7 +266,7 @@ def main() -> int:
     parser.add_argument("tree", metavar="TREE|REF", help="a tree's name, or the ref of a note, folder, file or link")
     parser.add_argument("path", metavar="PATH", help="where it is restored to")
     parser.add_argument("moment", metavar="DATE", nargs="?", type=moment_word, default=ALWAYS, help="as it was then")
-    parser.add_argument("--keyring", metavar="FILE", help="a keyring, where it isn't that of DIR")
+    parser.add_argument("--keyring", metavar="FILE", help="a keyring other than that of DIR")
     parser.add_argument("--force", action="store_true", help="replaces files and links that are there")
     words = parser.parse_intermixed_args()
     notes = Notes(keyring_of(words.folder, words.keyring, is_needed=not is_ref(words.tree)))

@@ -15,7 +15,7 @@ after its next start (docs/shares.md). Whoever knows the ref of the share can re
 
 `perkeep delete DIR SHARE --key NAME` takes a share back. It is served until serve-shares is restarted.
 
-Status: 0 it is stored, 2 bad words, 3 it couldn't be done.
+Status: 0 it is stored, 2 bad arguments, 3 it couldn't be done.
 """
 
 from __future__ import annotations

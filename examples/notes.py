@@ -5,15 +5,14 @@
     notes.py ~/archive 2026-01-31T18:30:00Z
     notes.py ~/archive sha224-..
 
-DIR is the folder of the archive, or a copy of it: its packs are read, also while a server runs. A backup that has no
-keyring is given one by --keyring. With DATE each note has the values that it had then, and those that had none then are
-left out, as are those that were deleted by then. With REF that note alone is printed. DATE and REF may come in either
-order.
+DIR is the folder of the archive, or a copy of it. Its packs are read, even while a server runs. For a backup without a
+keyring, give one by --keyring. With DATE each note is printed with the values that it had then; notes that had none, or
+were deleted by then, are left out. With REF only that note is printed. DATE and REF may come in either order.
 
-With --claims a line for each claim that counts follows a note, in their order: its ref, its date, and what it does to
-the note. `perkeep delete` with that ref takes the claim back.
+With --claims each note is followed by a line for each claim on it that counts, in their order: its ref, its date, and
+what it does to the note. `perkeep delete` with that ref takes the claim back.
 
-Status: 0 all was printed, 2 bad words, 3 it couldn't be done, as where REF is no note.
+Status: 0 all was printed, 2 bad arguments, 3 it couldn't be done, for example since REF isn't a note.
 """
 
 from __future__ import annotations
@@ -71,7 +70,7 @@ def main() -> int:
     parser = parser_of(__doc__)
     parser.add_argument("folder", metavar="DIR", type=pathlib.Path, help="the folder of the archive, or of a copy")
     parser.add_argument("which", metavar="DATE|REF", nargs="*", type=date_or_ref, help="a date, a note's ref, or both")
-    parser.add_argument("--keyring", metavar="FILE", help="a keyring, where it isn't that of DIR")
+    parser.add_argument("--keyring", metavar="FILE", help="a keyring other than that of DIR")
     parser.add_argument("--claims", action="store_true", help="prints the claims of each note, too")
     words = parser.parse_intermixed_args()
     moments = [one for one in words.which if isinstance(one, int)]

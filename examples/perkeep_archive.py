@@ -596,6 +596,8 @@ class Notes:
         self.signers: dict[str, Key] = {}
         self.signed: dict[str, bytes] = {}
         self.permanodes: set[str] = set()
+        # How many permanodes no key of the keyring is known to have signed.
+        self.others = 0
         self.claims: list[Claim] = []
         self.deletions: dict[str, list[Claim]] = {}
 
@@ -610,7 +612,9 @@ class Notes:
         """Keeps what is genuine among the seen blobs, with the claims in the order in which they count."""
         for ref, blob in self.signed.items():
             body = self.genuine(blob)
-            if body is not None and body["camliType"] == "permanode":
+            if body is None:
+                self.others += is_signed_permanode(blob)
+            elif body["camliType"] == "permanode":
                 self.permanodes.add(ref)
             claim = claim_in(ref, body) if body is not None and body["camliType"] == "claim" else None
             if claim is not None:
@@ -650,6 +654,12 @@ class Notes:
                 if change.note in notes:
                     apply(change, notes[change.note])
         return {ref: {name: some for name, some in sorted(note.items()) if some} for ref, note in notes.items()}
+
+
+def is_signed_permanode(blob: bytes) -> bool:
+    """Whether a blob has the form of a signed permanode, whoever signed it."""
+    found = signed_in(blob)
+    return found is not None and is_schema(found[0]) and found[0]["camliType"] == "permanode"
 
 
 def apply(change: Change, note: dict[str, list[str]]) -> None:
@@ -704,6 +714,12 @@ MOST_FOUND = 1_000_000
 PAUSES = (0, 0, 0.5, 2, 5, 10, 20)
 # A server that has just been started reads its store before its first reply.
 PATIENCE = 600
+# The faults of a server itself: whose they are, and what can be done.
+FAULTS = {
+    "disk": ("the disk of the server", "is full, or has failed {}: free some room there, and run this again"),
+    "full": ("the store of the server", "is full {}: no blob can be added to it, so start another archive"),
+    "memory": ("the server", "has no memory left {}: run this again once it has some"),
+}
 
 
 class Server:
@@ -731,9 +747,10 @@ class Server:
         return answer
 
     def why_refused(self, target: str, status: int, answer: dict) -> str:
-        if answer.get("error") == "disk":
-            fault = f"is full, or has failed ({status} disk): free some room there, and run this again"
-            return f"the disk of the server at {self.address} {fault}"
+        fault = str(answer.get("error"))
+        if fault in FAULTS:
+            whose, what_to_do = FAULTS[fault]
+            return f"{whose} at {self.address} {what_to_do.format(f'({status} {fault})')}"
         why = {key: value for key, value in answer.items() if key != "received"}
         return f"the server at {self.address} refuses {target} by {status} {compact(why)}"
 

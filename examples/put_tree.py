@@ -3,24 +3,24 @@
 
     put_tree.py 127.0.0.1:3179 ~/photos --name photos --keyring ~/archive/keyring
 
-Stored is what Perkeep itself would store (docs/formats/trees.md). The archive gets
+The blobs of the folder are those that Perkeep itself would store (docs/formats/trees.md). The archive gets
 
-  one note for the tree, whose title is TREE, and whose camliContent is the top folder. The note is made first, by which
-      it is seen whether the server has the key. The content is set once everything else is stored, so at each moment
-      TREE is the old folder or the new one, whole;
-  one note for each file, to be searched for: its title (set once, so it is yours to change), its camliContent, and its
-      path, which is TREE/.. with bytes that aren't UTF-8 as %XX.
+  one note for the tree, whose title is TREE, and whose camliContent is the top folder. The note is made first, which
+      shows whether the server has the key. The content is set once everything else is stored, so at each moment TREE is
+      the old folder or the new one, whole;
+  one note for each file, so that it can be searched for: its title (set only once, so you may change it), its
+      camliContent, and its path, which is TREE/.. with bytes that aren't UTF-8 as %XX.
 
 A second run stores what has changed since. A file whose size, mtime and ctime are those of the last run isn't read
 again, as long as the server has all of its blobs. When a file has gone, camliContent is taken from its note, which
-keeps its title, its tags and its history. get_tree.py restores the folder, also as it was at an earlier date.
+keeps its title, its tags and its history. get_tree.py restores the folder, as it is now or was at an earlier date.
 
 One line is printed for each file that is new or has changed, once the server has acknowledged it: the ref of the
-file, that of its note, and its path; for each that has gone `gone`, its note, and its path where that is known; and in
-the end one for the tree. Standard error says what is left out: what can't be read, is no file, folder or link, or is
-changed while it is read.
+file, that of its note, and its path. For each file that has gone there is a line with `gone`, its note, and its path if
+that is known. The last line is the tree's. Standard error says what is left out: what can't be read, isn't a file,
+folder or link, or was changed while it was read.
 
-Left out as well, with a line and without status 1: folders that have packs (pack-NNNNN.blobs), such as the archive's
+Left out as well, with a line but without status 1: folders that have packs (pack-NNNNN.blobs), such as the archive's
 own, and the keyring: the file given by --keyring, and files named `keyring` that have its key.
 
 If nothing is in PATH although TREE has files, nothing is stored, since a disk may not be mounted; with --empty TREE
@@ -30,7 +30,7 @@ Not kept: owners, hard links (each name is a file of its own), extended attribut
 gets another note, and tags stay on the old one. Use another TREE for each machine: otherwise each would consider the
 other's files gone.
 
-Status: 0 all is stored, 1 something was left out, 2 bad words, 3 it couldn't be done.
+Status: 0 all is stored, 1 something was left out, 2 bad arguments, 3 it couldn't be done.
 """
 
 from __future__ import annotations
@@ -598,9 +598,9 @@ def main() -> int:
     parser.add_argument("path", metavar="PATH", help="the folder to be stored")
     parser.add_argument("--name", metavar="TREE", required=True, help="the tree's name, a text without a slash")
     parser.add_argument("--keyring", metavar="FILE", required=True, help="the keyring that has the key")
-    parser.add_argument("--key", metavar="NAME", help="the key that signs; it may be left out where there is one")
+    parser.add_argument("--key", metavar="NAME", help="the key that signs; not needed if there is only one")
     parser.add_argument("--cache", metavar="FILE", help="what is kept between runs, else a file in ~/.cache/perkeep")
-    parser.add_argument("--empty", action="store_true", help="stores PATH also if it is empty and TREE isn't")
+    parser.add_argument("--empty", action="store_true", help="stores PATH even if it is empty and TREE isn't")
     words = parser.parse_intermixed_args()
     if not is_tree_name(words.name):
         parser.error("TREE is a text without a slash")

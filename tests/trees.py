@@ -405,8 +405,8 @@ def an_older_cache(program):
 # What is left out
 
 def left_out(program):
-    cases = (no_files, growing, left_out_and_gone, own_archive, nothing_there, no_folder, no_key, failed_disk)
-    return [lambda one=one: one(program) for one in cases]
+    cases = (no_files, growing, left_out_and_gone, own_archive, nothing_there, no_folder, no_key)
+    return [lambda one=one: one(program) for one in (*cases, failed_disk, full_store)]
 
 
 def no_files(program):
@@ -610,6 +610,15 @@ def failed_disk(program):
         words = (f"{HOST}:{server.port}", bench.folder, "--name", TREE, "--keyring", keyring, "--key", writing.NAME)
         told = rf"put_tree\.py: the disk of the server at {HOST}:{server.port} is full, or has failed \(503 disk\): "
         run(bench.cache, "put_tree.py", *words, status=3, err=told + "free some room there, and run this again\n")
+
+
+def full_store(program):
+    """A server whose store takes no further blob: that is told, too."""
+    bench = Bench(program, {99_999: b"x"})
+    os.mkdir(bench.folder)
+    with bench.serve() as server:
+        told = rf"put_tree\.py: the store of the server at {HOST}:{server.port} is full \(507 full\): no blob can be "
+        bench.put(server.port, status=3, err=told + "added to it, so start another archive\n")
 
 
 # Doors
@@ -1187,6 +1196,22 @@ def without_keyring(bench):
     compare("without a keyring", "what is told", ["5 files, 1 trees, 0 notes: 0 not whole"], lines)
     last = run(bench.cache, "fsck_files.py", store, "--keyring", bench.store.path / "keyring")
     compare("with one that is given", "what is told", ["5 files, 1 trees, 6 notes: 0 not whole"], last)
+    other = bench.program.new_path()
+    for line in (writing.keyring_line("other"), writing.keyring_line(secret=b"another")):
+        other.write_bytes(line)
+        told = unchecked("6 notes aren't", other, "them")
+        lines = run(bench.cache, "fsck_files.py", store, "--keyring", other, err=told)
+        compare("with other keys", "what is told", ["5 files, 1 trees, 0 notes: 0 not whole"], lines)
+    one = writing.permanode(signer=ref_of(writing.key_blob("other")))
+    (store / "pack-00001.blobs").write_bytes(writing.pack(writing.key_blob("other"), one))
+    keyring = bench.store.path / "keyring"
+    lines = run(bench.cache, "fsck_files.py", store, "--keyring", keyring, err=unchecked("1 note isn't", keyring, "it"))
+    compare("with a note of another key", "what is told", ["5 files, 1 trees, 6 notes: 0 not whole"], lines)
+
+
+def unchecked(some, keyring, them):
+    """What is told of notes that no key of a keyring has signed."""
+    return rf"fsck_files\.py: {some} checked, since no key of {keyring} is known to have signed {them}\n"
 
 
 def tells_fault(program, blobs, ref, how):
@@ -1202,7 +1227,9 @@ def tells_fault(program, blobs, ref, how):
         (bench.store.path / "pack-00001.blobs").write_bytes(writing.pack(blobs[ref]))
     left = blobs if how == "copied" else {one: blob for one, blob in blobs.items() if one != ref}
     expected = faults_of(left)
-    lines = run(bench.cache, "fsck_files.py", bench.store.path, status=1 if expected else 0)
+    is_key_gone = ref == writing.KEY and ref not in left
+    told = unchecked("6 notes aren't", bench.store.path / "keyring", "them") if is_key_gone else ""
+    lines = run(bench.cache, "fsck_files.py", bench.store.path, status=1 if expected else 0, err=told)
     told = [tuple(line.split()[:2]) for line in lines[:-1]]
     compare(what, "what is told", sorted(expected), sorted((kind, one.rstrip(":")) for kind, one in told))
     word = f"{ref} is damaged in pack-00000.blobs at " if how == "damaged" and blobs[ref] else f"{ref} isn't there"
@@ -1261,22 +1288,34 @@ def is_verified(program):
         told = ran.stdout.decode().splitlines()
         compare(f"{what}: {ran.stderr}", "status and lines", (status, list(lines)), (ran.returncode, told))
 
-    def lost(folder, blob):
-        return f"{folder} has lost 1 blobs, the first of them {ref_of(blob)} {len(blob)}"
+    def lacks(folder, blob, whose=f"{archive} had at the last good check"):
+        return f"{folder} lacks 1 blob that {whose}, the first of them {ref_of(blob)} {len(blob)}"
 
     def more(count):
-        return f"{count} blobs of {archive} aren't in {backup} yet"
+        some, are = ("1 blob", "isn't") if count == 1 else (f"{count} blobs", "aren't")
+        return f"{some} of {archive} {are} in {backup} yet"
 
+    whole, broken = writing.pack(b"abc", b"def"), f"pack-00000.blobs broken {len(writing.pack(b'abc'))}"
+    damaged = whole[:-1] + b"X"
+    (backup / "pack-00000.blobs").write_bytes(damaged)
+    tells(1, lacks(backup, b"def", f"{archive} has"), broken, more(1))
+    (backup / "pack-00000.blobs").write_bytes(whole)
+    (archive / "pack-00000.blobs").write_bytes(damaged)
+    tells(1, lacks(archive, b"def", f"{backup} has"), broken, more(0))
+    (archive / "pack-00000.blobs").write_bytes(whole)
     tells(0, more(0))
-    (archive / "pack-00001.blobs").write_bytes(writing.pack(b"ghi"))
-    tells(0, more(1))
-    tells(1, lost(backup, b"ghi"), more(1))
+    (archive / "pack-00001.blobs").write_bytes(writing.pack(b"ghi", b"jkl"))
+    tells(0, more(2))
+    (archive / "pack-00002.blobs").write_bytes(writing.pack(b"mno"))
+    two = f"{backup} lacks 2 blobs that {archive} had at the last good check, the first of them "
+    first = min(f"{ref_of(blob)} {len(blob)}" for blob in (b"ghi", b"jkl"))
+    tells(1, two + first, more(3))
     shutil.copy(archive / "pack-00001.blobs", backup)
+    tells(0, more(1))
+    shutil.copy(archive / "pack-00002.blobs", backup)
     tells(0, more(0))
-    whole = writing.pack(b"abc", b"def")
-    (archive / "pack-00000.blobs").write_bytes(whole[:-1] + b"X")
-    broken = f"pack-00000.blobs broken {len(writing.pack(b'abc'))}"
-    tells(1, lost(archive, b"def"), broken, more(0))
+    (archive / "pack-00000.blobs").write_bytes(damaged)
+    tells(1, lacks(archive, b"def"), broken, more(0))
     (archive / "pack-00000.blobs").write_bytes(whole)
     tells(0, more(0))
     shutil.rmtree(backup)
