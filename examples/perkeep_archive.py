@@ -819,7 +819,7 @@ def moment_word(text: str) -> int:
     """The DATE of a command line."""
     moment = moment_in(text)
     if moment is None:
-        raise argparse.ArgumentTypeError(f"{text!r} is no date: write it as 2026-01-31T18:30:00Z, or with +01:00 for Z")
+        raise argparse.ArgumentTypeError(f"{text!r} isn't a date: write it as 2026-01-31T18:30:00Z, or with +01:00 for Z")
     return moment
 
 

@@ -1019,7 +1019,7 @@ def no_tree(program):
         run(bench.cache, "get_tree.py", *words, status=3, err=rf"get_tree\.py: {err}\n")
     check(f"{nowhere} is made", not nowhere.exists())
     for date in ("2026-01-01", ""):
-        run(bench.cache, "get_tree.py", store, TREE, nowhere, date, status=2, err=r".*is no date: write it as .*\n")
+        run(bench.cache, "get_tree.py", store, TREE, nowhere, date, status=2, err=r".*isn't a date: write it as .*\n")
     check(f"{nowhere} is made", not nowhere.exists())
 
 
