@@ -129,7 +129,7 @@ A_DATE = "a date has a time and a zone, as 2026-12-01T09:00:00Z"
 
 
 def no_date(text):
-    return f'input ("{text}" isn't a date: a date has a time and a zone, as 2026-12-01T09:00:00Z, or with +01:00 for Z)'
+    return f'input ("{text}" isn\'t a date: a date has a time and a zone, as 2026-12-01T09:00:00Z, or with +01:00 for Z)'
 
 
 def marked_text(row):
@@ -257,8 +257,8 @@ def misfits(program):
     kinds = "isn't expected; KIND is set, add or del"
     rows = [
         ([], f"no command is given, or an argument isn't UTF-8; {those}"),
-        (["puts", "d"], f'"puts" isn't a command; {those}'),
-        (["--help"], f'"--help" isn't a command; {those}'),
+        (["puts", "d"], f'"puts" isn\'t a command; {those}'),
+        (["--help"], f'"--help" isn\'t a command; {those}'),
         (["put", "d", "letter.txt"], f'"letter.txt" isn\'t expected; {BLOB_IS_READ}: {LINES["put"]}'),
         (["get", "d", ABSENT, "more"], f'"more" {kept}: {LINES["get"]}'),
         (["get-file", "d", ABSENT, "letter.txt"], f'"letter.txt" {kept}: {LINES["get-file"]}'),
