@@ -129,7 +129,8 @@ A_DATE = "a date has a time and a zone, as 2026-12-01T09:00:00Z"
 
 
 def no_date(text):
-    return f'input ("{text}" isn\'t a date: a date has a time and a zone, as 2026-12-01T09:00:00Z, or with +01:00 for Z)'
+    form = "a date has a time and a zone, as 2026-12-01T09:00:00Z, or with +01:00 for Z"
+    return f'input ("{text}" isn\'t a date: {form})'
 
 
 def marked_text(row):
